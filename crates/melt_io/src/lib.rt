@@ -1,0 +1,12 @@
+//! The outside of the program as traits, so that a contract can speak of what was read and written:
+//! sources, sinks, disks of stale objects and their readers, and gates. Beside them forms in memory,
+//! adapters over the real outside, and the two calls that read all and write all.
+//!
+//! Two kinds of meaning stand on each trait. What an object tells of its content is an `Option`: the
+//! forms in memory tell theirs, the adapters tell none, and no call changes whether an object tells.
+//! Counts of faults are always there. They never fall, and a fault is answered only where one rose.
+#![tactic(auto)]
+
+pub mod outside;
+
+pub use outside::{Failed, Gate, LendRefusal, RecordReader, Sink, Source, StaleDisk};

@@ -1,0 +1,13 @@
+//! The model of a heap that never collects: plain types, and in `specs/` the definitions that every
+//! contract of the workspace cites.
+#![tactic(auto)]
+
+pub mod history;
+pub mod operations;
+pub mod reports;
+pub mod words;
+
+pub use history::{Act, Entries, Entry, Slot, Value};
+pub use operations::{Op, Replies, Reply};
+pub use reports::{Halt, Journal, Journals, Phase, Report, ThreadEnd, ThreadReport, ThreadReports};
+pub use words::{NoMemory, Words};
