@@ -1,0 +1,97 @@
+-- What a call of the program does, from the words and the bytes read to the bytes written.
+use Rattle.std.specs.Prelude.{◌≡◌, ℕ, ◌<◌, ◌≤◌, List, [], length, take, Option, None, Some, IfSome}
+use Rattle.melt_io.specs.Outside.{Rose, TakesFront, Appends}
+use Rattle.melt_model.specs.declared.reports.Report.{Report}
+use Rattle.melt_trace.specs.Script.{Script}
+use Rattle.melt_trace.specs.Grammar.{Spells, FirstBad}
+use Rattle.melt_top.specs.Text.{text, usage_text, read_fault_text, refused_text}
+use Rattle.melt_top.specs.Command.{status_of}
+use Rattle.melt_top.specs.Run.{IsStepReport}
+use Rattle.melt_top.specs.declared.command.Command.{Command}
+use Rattle.melt_top.specs.declared.command.Command.TheVariants.{Step}
+use Rattle.melt_top.specs.declared.status.Status.{Status}
+use Rattle.melt_top.specs.declared.status.Status.TheVariants as status
+
+-- What a source or a sink had before a call and after it: its bytes, where it tells them, and its faults.
+pub record Change : Type 0 where
+  pub before : Option (List ℕ)
+  pub after : Option (List ℕ)
+  pub faults_before : ℕ
+  pub faults_after : ℕ
+
+-- nothing was read
+pub record IsUntouched (input : Change) : Type 0 where
+  pub bytes : input.after ≡ input.before
+  pub faults : input.faults_after ≡ input.faults_before
+
+-- These bytes were read: all that there were, or one more than a trace may have.
+pub record WasRead (input : Change) (bytes : List ℕ) : Type 0 where
+  pub front : TakesFront input.before bytes input.after
+  pub whole : length bytes ≤ 16777216 → IfSome input.after (λ left. left ≡ [])
+  pub no_more : length bytes ≤ 16777217
+
+-- The bytes read spell no trace, and the output says where and why.
+pub record Refused (input : Change) (output : List ℕ) : Type 0 where
+  pub bytes : List ℕ
+  pub read : WasRead input bytes
+  pub line : ℕ
+  pub reason : ℕ
+  pub first_bad : FirstBad bytes line reason
+  pub told : output ≡ refused_text line reason
+
+-- The bytes read spell a trace, and the output is the text of a report of it, whose replies are those of one
+-- legal history.
+pub record Ran (input : Change) (due : Status) (output : List ℕ) : Type 0 where
+  pub bytes : List ℕ
+  pub read : WasRead input bytes
+  pub short : length bytes ≤ 16777216
+  pub script : Script
+  pub spelled : Spells bytes script
+  pub report : Report
+  pub reported : IsStepReport script report
+  pub told : output ≡ text report
+  pub status : due ≡ status_of report
+
+-- the reading failed
+pub record CouldNotRead (input : Change) (output : List ℕ) : Type 0 where
+  pub fault : Rose input.faults_before input.faults_after
+  pub told : output ≡ read_fault_text
+
+-- what `step` has to write and to answer
+abbrev pub StepDue : Change → Status → List ℕ → Type 0
+StepDue input status.Trace output = Refused input output
+StepDue input status.ReadFault output = CouldNotRead input output
+StepDue input due output = Ran input due output
+
+-- the words mean nothing: nothing is read
+pub record NotUnderstood (input : Change) (due : Status) (output : List ℕ) : Type 0 where
+  pub untouched : IsUntouched input
+  pub status : due ≡ status.Usage
+  pub told : output ≡ usage_text
+
+-- What a command has to write and to answer.
+abbrev pub Due : Option Command → Change → Status → List ℕ → Type 0
+Due None input due output = NotUnderstood input due output
+Due (Some Step) input due output = StepDue input due output
+
+-- everything that was due was written
+pub record WroteAll (command : Option Command) (input out : Change) (answered : Status) : Type 0 where
+  pub output : List ℕ
+  pub due : Due command input answered output
+  pub written : Appends out.before output out.after
+
+-- the writing failed, when a proper front of what was due had been written
+pub record WrotePart (command : Option Command) (input out : Change) : Type 0 where
+  pub status : Status
+  pub output : List ℕ
+  pub due : Due command input status output
+  pub count : ℕ
+  pub proper : count < length output
+  pub written : Appends out.before (take count output) out.after
+  pub fault : Rose out.faults_before out.faults_after
+
+-- What a call did, by the status that it answered.
+abbrev pub Outcome : Option Command → Change → Change → Status → Type 0
+Outcome command input out status.NoMemory = Appends out.before [] out.after
+Outcome command input out status.WriteFault = WrotePart command input out
+Outcome command input out answered = WroteAll command input out answered

@@ -1,0 +1,4 @@
+pub mod Text
+pub mod Command
+pub mod Run
+pub mod Headline

@@ -1,0 +1,7 @@
+//! Melt: runs a trace of heap operations, and prints each thread's replies.
+#![tactic(auto)]
+
+mod command;
+mod status;
+
+fn main(rt: HostRuntime) {}
