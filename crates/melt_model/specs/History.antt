@@ -1,5 +1,5 @@
 -- Histories of a heap that never collects.
-use Rattle.std.specs.Prelude.{◌≡◌, ℕ, ◌<◌, ◌≤◌, Bool, false, ◌==◌, ◌&&◌, if◌then◌else◌, List, [], ◌∷◌, length, take, fold, Option, None, Some, IfSome, IsSomeAnd, slice_get}
+use Rattle.std.specs.Prelude.{◌≡◌, ℕ, ◌<◌, ◌≤◌, Bool, false, ◌==◌, ◌&&◌, if◌then◌else◌, List, length, take, fold, Option, None, Some, IfSome, IsSomeAnd, slice_get}
 use Rattle.std.specs.List.{filter_map}
 use Rattle.melt_model.specs.declared.history.Value.{Value}
 use Rattle.melt_model.specs.declared.history.Value.TheVariants.{Nil, Ref, Num}
@@ -14,8 +14,9 @@ pub record Shape : Type 0 where
   pub refs : ℕ
   pub nums : ℕ
 
--- What an act is to the rest of the model is said by three functions: the shape of the object that it
--- makes, the slot that it reads with the value found there, and the slot that it writes with the value.
+-- What an act is to the rest of the model is said by four functions: the shape of the object that it makes,
+-- the slot that it reads with the value found there, the slot that it writes with the value, and, below,
+-- what it gives to its thread.
 abbrev pub shape_made : Act → Option Shape
 shape_made (Make refs nums) = Some (record { refs = refs; nums = nums })
 shape_made (Read slot value) = None

@@ -37,8 +37,8 @@ pub record Deed : Type 0 where
   pub registers : List Value
 
 -- no entry, and registers as before
-abbrev pub refused : List Value → Reply → Deed
-refused registers r = record { act = None; reply = r; registers = registers }
+abbrev pub unchanged : List Value → Reply → Deed
+unchanged registers r = record { act = None; reply = r; registers = registers }
 
 abbrev pub value_eq : Value → Value → Bool
 value_eq Nil Nil = true
@@ -70,10 +70,10 @@ number (Num v) = v
 -- An operation on part k of the object in a register, of which the object has as many as its shape says:
 -- `nil` where the register holds none, `range` where it has fewer parts.
 abbrev pub on_part : (Shape → ℕ) → List Entry → List Value → Value → ℕ → (ℕ → Deed) → Deed
-on_part parts h registers Nil k deed = refused registers reply.Nil
-on_part parts h registers (Num v) k deed = refused registers reply.Nil
+on_part parts h registers Nil k deed = unchanged registers reply.Nil
+on_part parts h registers (Num v) k deed = unchanged registers reply.Nil
 on_part parts h registers (Ref n) k deed =
-    if nat_lt k (option_map_or parts (shape h n) 0) then deed n else refused registers reply.Range
+    if nat_lt k (option_map_or parts (shape h n) 0) then deed n else unchanged registers reply.Range
 
 -- What one operation does, by the registers before it, where `x` is what its entry gives.
 abbrev pub does : List Entry → List Value → Op → Value → Deed
@@ -88,10 +88,10 @@ does h regs (op.Put obj j v) x = on_part (λ z. z.nums) h regs (value_in regs ob
     record { act = Some (Write (Cell n j) (Num v)); reply = reply.Done; registers = regs })
 does h regs (op.GLoad dst g) x = record { act = Some (Read (Global g) x); reply = found x; registers = slice_set regs dst x }
 does h regs (op.GStore g src) x = record { act = Some (Write (Global g) (value_in regs src)); reply = reply.Done; registers = regs }
-does h regs (op.Same a b) x = refused regs (if value_eq (value_in regs a) (value_in regs b) then reply.Yes else reply.No)
+does h regs (op.Same a b) x = unchanged regs (if value_eq (value_in regs a) (value_in regs b) then reply.Yes else reply.No)
 does h regs (op.Copy dst src) x = record { act = None; reply = reply.Done; registers = slice_set regs dst (value_in regs src) }
 does h regs (op.Drop r) x = record { act = None; reply = reply.Done; registers = slice_set regs r Nil }
-does h regs op.Collect x = refused regs reply.Done
+does h regs op.Collect x = unchanged regs reply.Done
 
 -- A thread between two operations: its registers, and the places of its entries that are still to come.
 pub record Thread : Type 0 where

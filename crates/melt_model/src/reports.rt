@@ -23,7 +23,8 @@ pub struct Journal {
     pub end: u32,
 }
 
-/// How a thread ended. All numbers but `word`, which is a word of a record, count words.
+/// How a thread ended. `held` and `need` count words; `home` is a place on disk, `at` a place in the
+/// record there, and `word` the word found.
 #[derive(Clone, Copy, Debug, PartialEq, Eq)]
 pub enum ThreadEnd {
     Done,

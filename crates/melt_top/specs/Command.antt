@@ -54,6 +54,21 @@ halted_by_full (Some halt.DiskFault) = false
 abbrev pub ended : (ThreadEnd → Bool) → Report → Bool
 ended test report = list_any (λ (r : ThreadReport). test r.end) report.threads
 
+-- what the process answers for a status
+abbrev pub number_of : Status → ℕ
+number_of status.Done = 0
+number_of status.Usage = 1
+number_of status.Trace = 2
+number_of status.ReadFault = 3
+number_of status.DiskFault = 4
+number_of status.OutOfHeap = 5
+number_of status.DiskFull = 6
+number_of status.WriteFault = 7
+number_of status.NoMemory = 8
+number_of status.Damaged = 9
+number_of status.BadDump = 10
+number_of status.Illegal = 11
+
 -- the status of a report: the first of these that applies
 abbrev pub status_of : Report → Status
 status_of report =

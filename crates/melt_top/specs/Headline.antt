@@ -1,5 +1,5 @@
 -- What a call of the program does, from the words and the bytes read to the bytes written.
-use Rattle.std.specs.Prelude.{◌≡◌, ℕ, ◌<◌, ◌≤◌, List, [], length, take, Option, None, Some, IfSome}
+use Rattle.std.specs.Prelude.{◌≡◌, ℕ, ◌<◌, ◌≤◌, List, [], length, take, Option, None, Some, IfSome, IfNone}
 use Rattle.melt_io.specs.Outside.{Rose, TakesFront, Appends}
 use Rattle.melt_model.specs.declared.reports.Report.{Report}
 use Rattle.melt_trace.specs.Script.{Script}
@@ -49,11 +49,14 @@ pub record Ran (input : Change) (due : Status) (output : List ℕ) : Type 0 wher
   pub spelled : Spells bytes script
   pub report : Report
   pub reported : IsStepReport script report
-  pub told : output ≡ text report
+  pub told : output ≡ text (record { report = report })
   pub status : due ≡ status_of report
 
--- the reading failed
+-- the reading failed, behind these bytes
 pub record CouldNotRead (input : Change) (output : List ℕ) : Type 0 where
+  pub bytes : List ℕ
+  pub front : TakesFront input.before bytes input.after
+  pub no_more : length bytes ≤ 16777217
   pub fault : Rose input.faults_before input.faults_after
   pub told : output ≡ read_fault_text
 
@@ -90,8 +93,13 @@ pub record WrotePart (command : Option Command) (input out : Change) : Type 0 wh
   pub written : Appends out.before (take count output) out.after
   pub fault : Rose out.faults_before out.faults_after
 
+-- memory was wanted: nothing was written, and nothing was read for words that mean nothing
+pub record GaveUp (command : Option Command) (input out : Change) : Type 0 where
+  pub written : Appends out.before [] out.after
+  pub unread : IfNone command (IsUntouched input)
+
 -- What a call did, by the status that it answered.
 abbrev pub Outcome : Option Command → Change → Change → Status → Type 0
-Outcome command input out status.NoMemory = Appends out.before [] out.after
+Outcome command input out status.NoMemory = GaveUp command input out
 Outcome command input out status.WriteFault = WrotePart command input out
 Outcome command input out answered = WroteAll command input out answered

@@ -40,9 +40,12 @@ abbrev pub thread_lines : ℕ → List ThreadReport → List ℕ
 thread_lines t [] = []
 thread_lines t (r ∷ rs) = line (codes "thread") (t ∷ []) ++ flat_map reply_line r.replies ++ end_line r.end ++ thread_lines (t + 1) rs
 
--- what is written of a report
-abbrev pub text : Report → List ℕ
-text report = thread_lines 0 report.threads ++ halt_line report.halt
+-- what is printed
+pub record Printed : Type 0 where
+  pub report : Report
+
+abbrev pub text : Printed → List ℕ
+text printed = thread_lines 0 printed.report.threads ++ halt_line printed.report.halt
 
 -- what is written in place of a report
 abbrev pub usage_text : List ℕ
