@@ -47,7 +47,7 @@ IsReference-append h k (Ref n) r = omega (arith, made-append h k)
 IsReference-append h k (Num v) r = r
 
 -- a place in a list with one more element is one of the list's, or the new one
-last_place : {A : Type 0} (xs : List A) (x : A) (p : ℕ) (y : A) → slice_get (xs ++ x ∷ []) p ≡ Some y → ((p < length xs) × (slice_get xs p ≡ Some y)) ⊎ ((p ≡ length xs) × (x ≡ y))
+pub last_place : {A : Type 0} (xs : List A) (x : A) (p : ℕ) (y : A) → slice_get (xs ++ x ∷ []) p ≡ Some y → ((p < length xs) × (slice_get xs p ≡ Some y)) ⊎ ((p ≡ length xs) × (x ≡ y))
 last_place [] x zero y e = inr (refl, cc)
 last_place [] x (suc p) y e = absurd (cc)
 last_place (z ∷ xs) x zero y e = inl (omega arith, e)

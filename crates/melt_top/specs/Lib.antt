@@ -1,4 +1,6 @@
 pub mod Text
 pub mod Command
 pub mod Run
+pub mod Plain
+pub mod PlainHeap
 pub mod Headline

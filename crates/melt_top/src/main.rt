@@ -2,6 +2,7 @@
 #![tactic(auto)]
 
 mod command;
+mod plain;
 mod status;
 
 fn main(rt: HostRuntime) {}

@@ -1,0 +1,36 @@
+-- The plain heap as contracts see it.
+use Rattle.std.specs.Prelude.{◌≡◌, ℕ, ◌∷◌, [], ◌++◌, slice_set}
+use Rattle.melt_model.specs.declared.history.Value.{Value}
+use Rattle.melt_model.specs.declared.history.Slot.{Slot}
+use Rattle.melt_model.specs.declared.history.Act.{Act}
+use Rattle.melt_model.specs.declared.history.Act.TheVariants.{Read, Write}
+use Rattle.melt_model.specs.declared.operations.Op.{Op}
+use Rattle.melt_model.specs.declared.operations.Reply.{Reply}
+use Rattle.melt_model.specs.declared.operations.Reply.TheVariants as reply
+use Rattle.melt_model.specs.Thread.{found}
+use Rattle.melt_top.specs.Plain.{StandsFor, Answers, entry}
+use Rattle.melt_top.specs.declared.plain.PlainHeap.{PlainHeap}
+
+-- the heap stands for the history that it stored
+abbrev pub IsPlain : PlainHeap → Type 0
+IsPlain heap = StandsFor heap.objects.items heap.globals.items heap.registers heap.log.items
+
+-- a slot was read into a register
+pub record HasRead (old new : PlainHeap) (dst : ℕ) (slot : Slot) (value : Value) (r : Reply) : Type 0 where
+  pub stands : IsPlain new
+  pub globals : new.globals.items ≡ old.globals.items
+  pub told : found value ≡ r
+  pub registers : new.registers ≡ slice_set old.registers dst value
+  pub history : new.log.items ≡ old.log.items ++ entry (Read slot value) ∷ []
+
+-- a slot was written
+pub record HasWritten (old new : PlainHeap) (slot : Slot) (value : Value) (r : Reply) : Type 0 where
+  pub stands : IsPlain new
+  pub told : reply.Done ≡ r
+  pub registers : new.registers ≡ old.registers
+  pub history : new.log.items ≡ old.log.items ++ entry (Write slot value) ∷ []
+
+-- an operation was answered
+pub record HasAnswered (old new : PlainHeap) (o : Op) (r : Reply) : Type 0 where
+  pub stands : IsPlain new
+  pub answers : Answers old.log.items old.registers o r new.log.items new.registers
