@@ -12,3 +12,6 @@ pub use error::{ParseRefusal, TraceError};
 pub use reader::{one_reading, parse};
 pub use script::Item;
 pub use trace::{Cursor, Trace};
+
+#[cfg(test)]
+mod tests;
