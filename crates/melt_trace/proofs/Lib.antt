@@ -1,1 +1,6 @@
 pub mod Expansion
+pub mod Prefixes
+pub mod Numbers
+pub mod Operations
+pub mod Texts
+pub mod Front

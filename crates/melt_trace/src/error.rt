@@ -18,6 +18,15 @@ pub struct TraceError {
     pub reason: u32,
 }
 
+impl TraceError {
+    pub(crate) const TOO_LONG: TraceError = TraceError { line: 0, reason: 1 };
+
+    pub(crate) const OTHER_FORM: TraceError = TraceError {
+        line: 0,
+        reason: 15,
+    };
+}
+
 impl fmt::Display for TraceError {
     fn fmt<W: fmt::Write>(&self, f: &mut fmt::Formatter<W>) -> fmt::Result {
         let line = self.line;
