@@ -8,5 +8,7 @@
 #![tactic(auto)]
 
 pub mod outside;
+pub mod whole;
 
 pub use outside::{Failed, Gate, LendRefusal, RecordReader, Sink, Source, StaleDisk};
+pub use whole::write_all;
