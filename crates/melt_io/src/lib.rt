@@ -11,4 +11,4 @@ pub mod outside;
 pub mod whole;
 
 pub use outside::{Failed, Gate, LendRefusal, RecordReader, Sink, Source, StaleDisk};
-pub use whole::write_all;
+pub use whole::{ReadRefusal, read_all, write_all};
