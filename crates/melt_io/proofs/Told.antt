@@ -1,7 +1,8 @@
 -- Laws of the words that speak of bytes which may not be told.
-use Rattle.std.proofs.Common.{◌≡◌, ℕ, ◌+◌, List, [], ◌∷◌, ◌++◌, length, ◌-◌, take, drop, length-drop, length-append, Option, None, Some, append_assoc, sym, ◌∙◌, ap, subst, refl, arith, IfSome}
+use Rattle.std.proofs.Common.{◌≡◌, ℕ, ◌+◌, List, [], ◌∷◌, ◌++◌, length, ◌-◌, take, drop, length-append, Option, None, Some, append_assoc, sym, ◌∙◌, ap, subst, refl, arith, IfSome}
 use Rattle.std.proofs.lemmas.List.{append-nil}
-use Rattle.std.proofs.Math.Seq.{take-add, take-length, drop-append_seam, drop-append-add}
+use Rattle.std.proofs.Math.Seq.{take-add, drop-append_seam, drop-append-add}
+use Rattle.melt_io.proofs.Fronts.{take-rest}
 use Rattle.melt_io.specs.Outside.{Appends, TakesFront}
 use Rattle.melt_io.specs.Whole.{TakesCount}
 
@@ -18,11 +19,6 @@ Appends-append (Some old) None new first second one two = elim one [ ]
 Appends-append (Some old) (Some mid) None first second one two = elim two [ ]
 Appends-append (Some old) (Some mid) (Some new) first second one two =
     two ∙ ap (λ bytes. bytes ++ second) one ∙ append_assoc old first second
-
--- the rest of the bytes, as a slice gives it
-pub take-rest : (bytes : List ℕ) (at : ℕ) → take (length bytes - at) (drop at bytes) ≡ drop at bytes
-take-rest bytes at =
-    ap (λ n. take n (drop at bytes)) (sym (length-drop at bytes)) ∙ take-length (drop at bytes)
 
 -- the next n bytes after the first `at`
 pub Appends-take : (old mid new : Option (List ℕ)) (bytes : List ℕ) (at n : ℕ) → Appends old (take at bytes) mid → Appends mid (take n (take (length bytes - at) (drop at bytes))) new → Appends old (take (at + n) bytes) new

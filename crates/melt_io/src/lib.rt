@@ -7,8 +7,10 @@
 //! Counts of faults are always there. They never fall, and a fault is answered only where one rose.
 #![tactic(auto)]
 
+pub mod memory;
 pub mod outside;
 pub mod whole;
 
+pub use memory::{MemSink, MemSource};
 pub use outside::{Failed, Gate, LendRefusal, RecordReader, Sink, Source, StaleDisk};
 pub use whole::{ReadRefusal, read_all, write_all};
