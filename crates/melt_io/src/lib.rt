@@ -7,6 +7,14 @@
 //! Counts of faults are always there. They never fall, and a fault is answered only where one rose.
 #![tactic(auto)]
 
+pub mod adapters;
+pub mod memory;
 pub mod outside;
+pub mod steady;
+pub mod whole;
 
+pub use adapters::{OpenGate, StdSink, StdSource};
+pub use memory::{MemSink, MemSource};
 pub use outside::{Failed, Gate, LendRefusal, RecordReader, Sink, Source, StaleDisk};
+pub use steady::{SteadyDisk, SteadyReader, SteadySink, SteadySource};
+pub use whole::{ReadRefusal, read_all, write_all};

@@ -1,0 +1,68 @@
+-- A disk's words, with zeros past their end.
+use Rattle.std.proofs.Common.{◌≡◌, ℕ, ◌+◌, ◌-◌, ◌≤◌, List, ◌++◌, length, min, take, drop, replicate, arith, inl, inr, sym, ◌∙◌, ap, length-drop, length-append}
+use Rattle.std.proofs.lemmas.List.{drop_all, take_all, take-append-le, take-replicate, drop-replicate, length-replicate, append-nil}
+use Rattle.std.proofs.lemmas.Bool.{cases_lt}
+use Rattle.std.proofs.Math.Seq.{take-append-add, take-append_seam}
+use Rattle.melt_io.proofs.Fronts.{drop-min, take-rest}
+use Rattle.melt_io.specs.Outside.{words_at, with_words}
+
+-- the first words, where zeros enough stand behind
+pub take-padded : (at k : ℕ) (xs : List ℕ) → at ≤ length xs + k → take at (xs ++ replicate k 0) ≡ take at xs ++ replicate (at - length xs) 0
+take-padded at k xs h = elim (cases_lt (length xs) at) [
+  | inl past ↦
+      let at_is : at ≡ length xs + (at - length xs) = omega arith in
+      let short : at - length xs ≤ k = omega arith in
+      let zeros = take-replicate (at - length xs) k 0 short in
+      ap (λ n. take n (xs ++ replicate k 0)) at_is ∙ take-append-add xs (replicate k 0) (at - length xs)
+      ∙ ap (λ bytes. xs ++ bytes) zeros ∙ ap (λ bytes. bytes ++ replicate (at - length xs) 0) (sym (take_all at xs (omega arith)))
+  | inr within ↦
+      let none : at - length xs ≡ 0 = omega arith in
+      take-append-le at xs (replicate k 0) within ∙ sym (append-nil (take at xs)) ∙ ap (λ n. take at xs ++ replicate n 0) (sym none)
+]
+
+-- as many of the first words as there are
+take-min : (n k : ℕ) (xs : List ℕ) → k ≡ min n (length xs) → take k xs ≡ take n xs
+take-min n k xs e = elim (cases_lt (length xs) n) [
+  | inl past ↦ let all : k ≡ length xs = omega arith in take_all k xs (omega arith) ∙ sym (take_all n xs (omega arith))
+  | inr within ↦ let same : k ≡ n = omega arith in ap (λ m. take m xs) same
+]
+
+-- what lies past the zeros
+pub drop-padded : (end : ℕ) (xs : List ℕ) → drop end (xs ++ replicate (end - length xs) 0) ≡ drop end xs
+drop-padded end xs = elim (cases_lt end (length xs)) [
+  | inl within ↦
+      let none : end - length xs ≡ 0 = omega arith in
+      ap (λ n. drop end (xs ++ replicate n 0)) none ∙ ap (λ words. drop end words) (append-nil xs)
+  | inr past ↦
+      let padded : length (xs ++ replicate (end - length xs) 0) ≤ end = simp (length-append, length-replicate) (omega arith) in
+      drop_all end (xs ++ replicate (end - length xs) 0) padded ∙ sym (drop_all end xs past)
+]
+
+-- a copy of what is left, and zeros behind it, in a buffer of n words
+pub copied_words : (image : List ℕ) (at start n k : ℕ) (front : List ℕ) → start ≡ min (length image) at → k ≡ min n (length image - start) → front ≡ take k (take (length image - start) (drop start image)) → front ++ drop k (replicate n 0) ≡ words_at image at n
+copied_words image at start n k front begins count e =
+    let left : drop start image ≡ drop at image = ap (λ m. drop m image) begins ∙ drop-min at image in
+    let len : length (drop at image) ≡ length image - start = sym (ap length left) ∙ length-drop start image in
+    let copied : front ≡ take k (drop at image) = e ∙ ap (λ words. take k words) (take-rest image start ∙ left) in
+    let whole : take k (drop at image) ≡ take n (drop at image) = take-min n k (drop at image) (omega arith) in
+    let zeros : n - k ≡ n - length (drop at image) = omega arith in
+    let fits : n ≤ length (drop at image) + n = omega arith in
+    ap (λ words. front ++ words) (drop-replicate k n 0 ∙ ap (λ m. replicate m 0) zeros)
+    ∙ ap (λ words. words ++ replicate (n - length (drop at image)) 0) (copied ∙ whole)
+    ∙ sym (take-padded n n (drop at image) fits)
+
+-- words put into an image that reaches far enough
+pub put_words : (image long new : List ℕ) (at : ℕ) (words : List ℕ) → long ≡ image ++ replicate (at + length words - length image) 0 → new ≡ take at long ++ words ++ drop (at + length words) long → new ≡ with_words image at words
+put_words image long new at words reached e =
+    let end : ℕ = at + length words in
+    let near : at ≤ length image + (end - length image) = omega arith in
+    let far : at ≤ length image + at = omega arith in
+    let front : take at long ≡ take at (image ++ replicate at 0)
+    = ap (λ w. take at w) reached ∙ take-padded at (end - length image) image near ∙ sym (take-padded at at image far) in
+    let behind : drop end long ≡ drop end image = ap (λ w. drop end w) reached ∙ drop-padded end image in
+    e ∙ ap (λ w. w ++ words ++ drop end long) front ∙ ap (λ w. take at (image ++ replicate at 0) ++ words ++ w) behind
+
+-- What is written back over all of a vector is all of it.
+pub written_back : (n : ℕ) (new old : List ℕ) → length new ≡ n → take n (new ++ drop (length new) old) ≡ new
+written_back n new old e =
+    ap (λ m. take m (new ++ drop (length new) old)) (sym e) ∙ take-append_seam new (drop (length new) old)
