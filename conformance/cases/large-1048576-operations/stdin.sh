@@ -1,0 +1,3 @@
+printf 'melt 1\nthreads 1\nglobals 0\nthread 0\n'
+yes 'same 0 0' | head -n 1048576
+echo done

@@ -1,0 +1,4 @@
+printf 'melt 1\nthreads 1\nglobals 0\nthread 0\n'
+yes 'same 0 0' | head -n 2
+echo done
+head -c 16777216 /dev/zero
