@@ -119,6 +119,10 @@ field_again limit n rest below lt ends =
     ap (λ (o : Option (ℕ × List ℕ)). o >>= λ n. cond (ltb n.0 limit) (Some n) None) (number_again n rest lt ends)
     ∙ ap (λ (t : Bool). cond t (Some (n, rest)) None) (lt-ltb n limit below)
 
+-- what stands behind the number, in another form
+pub followed : (n : ℕ) (bytes rest text : List ℕ) → bytes ≡ spaced n rest → rest ≡ text → bytes ≡ spaced n text
+followed n bytes rest text is same = is ∙ ap (spaced n) same
+
 pub two_takes : (a b : ℕ) (bytes : List ℕ) (x : ℕ × ℕ × List ℕ) → two_at a b bytes ≡ Some x → (bytes ≡ spaced x.0 (spaced x.1 (10 ∷ x.2))) × (x.0 < a) × (x.1 < b)
 unfolding two_at
 two_takes a b bytes x e =
@@ -128,7 +132,7 @@ two_takes a b bytes x e =
     let p = field_takes a bytes first.0 first.1 in
     let q = field_takes b first.0.1 second.0 second.1 in
     let r = after_takes (codes "\n") second.0.1 end.0 end.1 in
-    subst (λ (y : ℕ × ℕ × List ℕ). (bytes ≡ spaced y.0 (spaced y.1 (10 ∷ y.2))) × (y.0 < a) × (y.1 < b)) (same_Some (first.0.0, second.0.0, end.0) x end.2) (p.0 ∙ ap (spaced first.0.0) (q.0 ∙ ap (spaced second.0.0) r), p.1, q.1)
+    subst (λ (y : ℕ × ℕ × List ℕ). (bytes ≡ spaced y.0 (spaced y.1 (10 ∷ y.2))) × (y.0 < a) × (y.1 < b)) {x = (first.0.0, second.0.0, end.0)} {y = x} (same_Some (first.0.0, second.0.0, end.0) x end.2) (followed first.0.0 bytes first.0.1 (spaced second.0.0 (10 ∷ end.0)) p.0 (followed second.0.0 first.0.1 second.0.1 (10 ∷ end.0) q.0 r), p.1, q.1)
 
 pub two_again : (a b x y : ℕ) (rest : List ℕ) → x < a → y < b → x < 100 → y < 100 → two_at a b (spaced x (spaced y (10 ∷ rest))) ≡ Some (x, y, rest)
 unfolding two_at
@@ -146,7 +150,7 @@ three_takes a b c bytes x e =
     let q = field_takes b first.0.1 second.0 second.1 in
     let r = field_takes c second.0.1 third.0 third.1 in
     let s = after_takes (codes "\n") third.0.1 end.0 end.1 in
-    subst (λ (y : ℕ × ℕ × ℕ × List ℕ). (bytes ≡ spaced y.0 (spaced y.1 (spaced y.2 (10 ∷ y.3)))) × (y.0 < a) × (y.1 < b) × (y.2 < c)) (same_Some (first.0.0, second.0.0, third.0.0, end.0) x end.2) (p.0 ∙ ap (spaced first.0.0) (q.0 ∙ ap (spaced second.0.0) (r.0 ∙ ap (spaced third.0.0) s)), p.1, q.1, r.1)
+    subst (λ (y : ℕ × ℕ × ℕ × List ℕ). (bytes ≡ spaced y.0 (spaced y.1 (spaced y.2 (10 ∷ y.3)))) × (y.0 < a) × (y.1 < b) × (y.2 < c)) {x = (first.0.0, second.0.0, third.0.0, end.0)} {y = x} (same_Some (first.0.0, second.0.0, third.0.0, end.0) x end.2) (followed first.0.0 bytes first.0.1 (spaced second.0.0 (spaced third.0.0 (10 ∷ end.0))) p.0 (followed second.0.0 first.0.1 second.0.1 (spaced third.0.0 (10 ∷ end.0)) q.0 (followed third.0.0 second.0.1 third.0.1 (10 ∷ end.0) r.0 s)), p.1, q.1, r.1)
 
 pub three_again : (a b c x y z : ℕ) (rest : List ℕ) → x < a → y < b → z < c → x < 100 → y < 100 → z < 100 → three_at a b c (spaced x (spaced y (spaced z (10 ∷ rest)))) ≡ Some (x, y, z, rest)
 unfolding three_at

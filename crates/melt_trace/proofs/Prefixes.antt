@@ -40,3 +40,7 @@ after_takes (c ∷ text) (b ∷ bytes) rest e =
     let head : b ≡ c = eqb-true b c found.0 in
     let tail : bytes ≡ text ++ rest = after_takes text bytes rest found.1 in
     cc
+
+-- what stands behind the text, in another form
+pub begun : (text bytes rest other : List ℕ) → bytes ≡ text ++ rest → rest ≡ other → bytes ≡ text ++ other
+begun text bytes rest other is same = is ∙ ap (λ (r : List ℕ). text ++ r) same

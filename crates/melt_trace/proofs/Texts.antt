@@ -17,8 +17,8 @@ use Rattle.melt_trace.specs.Script.{Script}
 use Rattle.melt_trace.specs.Small.{one_thread}
 use Rattle.melt_trace.specs.Grammar.{line, op_line, item_line, program_lines, canonical, InRange, IsBuilt, IsSmall, Spells, FirstBad}
 use Rattle.melt_trace.specs.Reading.{◌>>=◌, after, field_at, word_at, operation_at, opening_at, Reads}
-use Rattle.melt_trace.proofs.Prefixes.{bind_some, after_takes}
-use Rattle.melt_trace.proofs.Numbers.{spaced, field_takes, field_again}
+use Rattle.melt_trace.proofs.Prefixes.{bind_some, after_takes, begun}
+use Rattle.melt_trace.proofs.Numbers.{spaced, followed, field_takes, field_again}
 use Rattle.melt_trace.proofs.Operations.{line_text, operation_again}
 
 -- ---- the lines of operations
@@ -72,8 +72,8 @@ opening_takes bytes x e =
     let p = after_takes (codes "melt 1\nthreads 1\nglobals") bytes front.0 front.1 in
     let q = field_takes 65 front.0 globals.0 globals.1 in
     let r = after_takes (codes "\nthread 0\n") globals.0.1 end.0 end.1 in
-    subst (λ (y : ℕ × List ℕ). (bytes ≡ opened y.0 y.1) × (y.0 ≤ 64)) (same_Some (globals.0.0, end.0) x end.2)
-    (p ∙ ap (λ (r : List ℕ). codes "melt 1\nthreads 1\nglobals" ++ r) (q.0 ∙ ap (spaced globals.0.0) r), omega (arith, q.1))
+    subst (λ (y : ℕ × List ℕ). (bytes ≡ opened y.0 y.1) × (y.0 ≤ 64)) {x = (globals.0.0, end.0)} {y = x} (same_Some (globals.0.0, end.0) x end.2)
+    (begun (codes "melt 1\nthreads 1\nglobals") bytes front.0 (spaced globals.0.0 (codes "\nthread 0\n" ++ end.0)) p (followed globals.0.0 front.0 globals.0.1 (codes "\nthread 0\n" ++ end.0) q.0 r), omega (arith, q.1))
 
 opening_again : (globals : ℕ) (rest : List ℕ) → globals ≤ 64 → opening_at (opened globals rest) ≡ Some (globals, rest)
 unfolding opening_at

@@ -1,5 +1,6 @@
 //! Why bytes are refused.
-ghost use Rattle.std.specs.Prelude.{◌≡◌};
+ghost use Rattle.std.specs.Prelude.{◌≡◌, Some};
+ghost use Rattle.melt_trace.specs.Refusal.{trace_error_text, refusal_text};
 ghost use Rattle.melt_trace.specs.declared.error.ParseRefusal.TheVariants.{NoMemory};
 
 use std::alloc::AllocFailed;
@@ -28,6 +29,8 @@ impl TraceError {
 }
 
 impl fmt::Display for TraceError {
+    ghost output = { λ error. Some (trace_error_text error.line error.reason) };
+
     fn fmt<W: fmt::Write>(&self, f: &mut fmt::Formatter<W>) -> fmt::Result {
         let line = self.line;
         let reason = self.reason;
@@ -45,6 +48,8 @@ pub enum ParseRefusal {
 }
 
 impl fmt::Display for ParseRefusal {
+    ghost output = { λ refusal. Some (refusal_text refusal) };
+
     fn fmt<W: fmt::Write>(&self, f: &mut fmt::Formatter<W>) -> fmt::Result {
         match self {
             ParseRefusal::Bad(error) => write!(f, "{error}"),
