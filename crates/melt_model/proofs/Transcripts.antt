@@ -6,6 +6,7 @@ use Rattle.std.specs.Prelude.{fold, nat_lt, Option, None, Some, unwrap_or, repli
 use Rattle.std.specs.Option.{option_map_or}
 use Rattle.melt_model.specs.History.{Shape, shape, given, IsReference}
 use Rattle.melt_model.specs.Thread.{own_from, own, given_at, Deed, unchanged, value_in, on_part, does, Thread, beginning, next_given, deed, places_left, thread_after, registers_after, Takes, Answered, Transcript}
+use Rattle.melt_model.specs.Standing.{HoldReferences, Reaches, Stands}
 use Rattle.melt_model.specs.declared.history.Value.{Value}
 use Rattle.melt_model.specs.declared.history.Value.TheVariants.{Nil, Ref, Num}
 use Rattle.melt_model.specs.declared.history.Act.{Act}
@@ -16,22 +17,10 @@ use Rattle.melt_model.specs.declared.operations.Reply.{Reply}
 use Rattle.melt_model.specs.declared.operations.Reply.TheVariants as reply
 use Rattle.melt_model.proofs.Histories.{shape-append, IsReference-append, own-push_own, own-push_other, act_at-append, given_at-append, slice_get-append_seam}
 
--- each register holds Nil or an object that was made
-abbrev pub HoldReferences : List Entry → List Value → Type 0
-HoldReferences h registers = (r : ℕ) → IsReference h (value_in registers r)
-
 -- all places are in the history
 abbrev pub Within : List Entry → List ℕ → Type 0
 Within h [] = Unit {0}
 Within h (p ∷ places) = (p < length h) × Within h places
-
--- From a on the operations get these replies, one each, and the thread is then b.
-abbrev pub Reaches : List Entry → Thread → List Op → List Reply → Thread → Type 0
-Reaches h a [] [] b = a ≡ b
-Reaches h a (o ∷ ops) (r ∷ replies) b =
-    HoldReferences h a.registers × ((deed h a o).reply ≡ r) × Takes h (deed h a o).act a.places × Reaches h (thread_after h a o) ops replies b
-Reaches h a [] (r ∷ replies) b = ⊥
-Reaches h a (o ∷ ops) [] b = ⊥
 
 -- one operation more
 Reaches-push : (h : List Entry) (a b : Thread) (ops : List Op) (replies : List Reply) (o : Op) → Reaches h a ops replies b → HoldReferences h b.registers → Takes h (deed h b o).act b.places → Reaches h a (ops ++ o ∷ []) (replies ++ (deed h b o).reply ∷ []) (thread_after h b o)
@@ -165,12 +154,6 @@ within_from h front (e ∷ rest) t is =
 Within-own : (h : List Entry) (t : ℕ) → Within h (own h t)
 Within-own h t = within_from h [] h t refl
 
--- What a thread was told by a history: the operations that were answered, their replies, and the registers
--- now, each of which holds a reference. All of its entries are taken.
-pub record Stands (h : List Entry) (t : ℕ) (ops : List Op) (replies : List Reply) (registers : List Value) : Type 0 where
-  pub reached : Reaches h (beginning h t) ops replies (record { registers = registers; places = [] })
-  pub references : HoldReferences h registers
-
 -- a list of Nil holds Nil everywhere
 all_nil : (n : ℕ) (r : ℕ) → IsReference [] (value_in (replicate n Nil) r)
 all_nil zero r = tt
@@ -258,3 +241,13 @@ registers_so_far h t ops more replies registers stands =
     let b : Thread = record { registers = registers; places = [] } in
     ap (λ (os : List Op). (fold (thread_after h) (beginning h t) os).registers) (take-append_seam ops more)
     ∙ ap (λ (x : Thread). x.registers) (reached_thread h (beginning h t) b ops replies stands.reached)
+
+-- each operation has one reply
+replies_count : (h : List Entry) (a b : Thread) (ops : List Op) (replies : List Reply) → Reaches h a ops replies b → length replies ≡ length ops
+replies_count h a b [] [] reached = refl
+replies_count h a b (o ∷ ops) (r ∷ replies) reached = ap suc (replies_count h (thread_after h a o) b ops replies reached.3)
+replies_count h a b [] (r ∷ replies) reached = absurd reached
+replies_count h a b (o ∷ ops) [] reached = absurd reached
+
+pub one_reply_each : (h : List Entry) (t : ℕ) (ops : List Op) (replies : List Reply) (registers : List Value) → Stands h t ops replies registers → length replies ≡ length ops
+one_reply_each h t ops replies registers stands = replies_count h (beginning h t) (record { registers = registers; places = [] }) ops replies stands.reached

@@ -212,24 +212,25 @@ slot_reference os gs rs h n i o v s at is = subst (IsReference h) (sym (is ∙ (
 pub load_answers : (os : List Object) (gs rs : List Value) (h : List Entry) (dst src i n : ℕ) (o : Object) (v : Value) (r : Reply) (h' : List Entry) (rs' : List Value) → StandsFor os gs rs h → value_in rs src ≡ Ref n → slice_get os n ≡ Some o → i < o.refs → found v ≡ r → rs' ≡ set rs dst v → h' ≡ h ++ entry (Read (Field n i) v) ∷ [] → Answers h rs (op.Load dst src i) r h' rs'
 load_answers os gs rs h dst src i n o v r h' rs' s is at below told registers history =
     Answers_by h rs (op.Load dst src i) v (record { act = Some (Read (Field n i) v); reply = found v; registers = set rs dst v }) r h' rs'
-      (part_there (λ (z : Shape). z.refs) h rs (value_in rs src) n i o.refs (λ m. record { act = Some (Read (Field m i) v); reply = found v; registers = set rs dst v }) is (s.objects n o at).refs below)
-      refl told registers history
+    (part_there (λ (z : Shape). z.refs) h rs (value_in rs src) n i o.refs (λ m. record { act = Some (Read (Field m i) v); reply = found v; registers = set rs dst v }) is (s.objects n o at).refs below)
+    refl told registers history
 
 -- a store to a slot that is there
 pub store_answers : (os : List Object) (gs rs : List Value) (h : List Entry) (obj i src n : ℕ) (o : Object) (r : Reply) (h' : List Entry) (rs' : List Value) → StandsFor os gs rs h → value_in rs obj ≡ Ref n → slice_get os n ≡ Some o → i < o.refs → reply.Done ≡ r → rs' ≡ rs → h' ≡ h ++ entry (Write (Field n i) (value_in rs src)) ∷ [] → Answers h rs (op.Store obj i src) r h' rs'
 store_answers os gs rs h obj i src n o r h' rs' s is at below told registers history =
     Answers_by h rs (op.Store obj i src) Nil (record { act = Some (Write (Field n i) (value_in rs src)); reply = reply.Done; registers = rs }) r h' rs'
-      (part_there (λ (z : Shape). z.refs) h rs (value_in rs obj) n i o.refs (λ m. record { act = Some (Write (Field m i) (value_in rs src)); reply = reply.Done; registers = rs }) is (s.objects n o at).refs below)
-      refl told registers history
+    (part_there (λ (z : Shape). z.refs) h rs (value_in rs obj) n i o.refs (λ m. record { act = Some (Write (Field m i) (value_in rs src)); reply = reply.Done; registers = rs }) is (s.objects n o at).refs below)
+    refl told registers history
 
 -- a make
 pub make_answers : (os os' : List Object) (gs rs : List Value) (h h' : List Entry) (dst refs nums n : ℕ) (o : Object) → StandsFor os gs rs h → refs ≤ 62 → nums ≤ 62 → o.refs ≡ refs → o.slots.items ≡ [] → n ≡ length os → os' ≡ os ++ o ∷ [] → h' ≡ h ++ entry (Make refs nums) ∷ [] → StandsFor os' gs (set rs dst (Ref n)) h' × Answers h rs (op.New dst refs nums) reply.Done h' (set rs dst (Ref n))
 make_answers os os' gs rs h h' dst refs nums n o s few_refs few_nums o_refs o_slots count objects history =
     let stands : StandsFor (os ++ o ∷ []) gs (set rs dst (Ref (length os))) (h ++ entry (Make refs nums) ∷ []) =
-        StandsFor_make os gs rs h (entry (Make refs nums)) dst refs nums o s refl few_refs few_nums o_refs o_slots in
+    StandsFor_make os gs rs h (entry (Make refs nums)) dst refs nums o s refl few_refs few_nums o_refs o_slots in
     let at_n : StandsFor (os ++ o ∷ []) gs (set rs dst (Ref n)) (h ++ entry (Make refs nums) ∷ []) =
-        subst (λ (m : ℕ). StandsFor (os ++ o ∷ []) gs (set rs dst (Ref m)) (h ++ entry (Make refs nums) ∷ [])) (sym count) stands in
+    subst (λ (m : ℕ). StandsFor (os ++ o ∷ []) gs (set rs dst (Ref m)) (h ++ entry (Make refs nums) ∷ [])) (sym count) stands in
     let with_objects : StandsFor os' gs (set rs dst (Ref n)) (h ++ entry (Make refs nums) ∷ []) =
-        subst (λ (xs : List Object). StandsFor xs gs (set rs dst (Ref n)) (h ++ entry (Make refs nums) ∷ [])) (sym objects) at_n in
-    (subst (λ (k : List Entry). StandsFor os' gs (set rs dst (Ref n)) k) (sym history) with_objects,
-     Answers_by h rs (op.New dst refs nums) (Ref n) (record { act = Some (Make refs nums); reply = reply.Done; registers = set rs dst (Ref n) }) reply.Done h' (set rs dst (Ref n)) refl (ap Ref (sym (count ∙ s.count))) refl refl history)
+    subst (λ (xs : List Object). StandsFor xs gs (set rs dst (Ref n)) (h ++ entry (Make refs nums) ∷ [])) (sym objects) at_n in (
+      subst (λ (k : List Entry). StandsFor os' gs (set rs dst (Ref n)) k) (sym history) with_objects,
+      Answers_by h rs (op.New dst refs nums) (Ref n) (record { act = Some (Make refs nums); reply = reply.Done; registers = set rs dst (Ref n) }) reply.Done h' (set rs dst (Ref n)) refl (ap Ref (sym (count ∙ s.count))) refl refl history,
+    )

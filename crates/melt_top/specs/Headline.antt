@@ -1,5 +1,5 @@
 -- What a call of the program does, from the words and the bytes read to the bytes written.
-use Rattle.std.specs.Prelude.{◌≡◌, ℕ, ◌<◌, ◌≤◌, List, [], length, take, Option, None, Some, IfSome, IfNone}
+use Rattle.std.specs.Prelude.{◌≡◌, ℕ, ◌<◌, ◌≤◌, List, [], length, take, Option, None, Some, IfSome, IfNone, ◌⊎◌}
 use Rattle.melt_io.specs.Outside.{Rose, TakesFront, Appends}
 use Rattle.melt_model.specs.declared.reports.Report.{Report}
 use Rattle.melt_trace.specs.Script.{Script}
@@ -30,41 +30,47 @@ pub record WasRead (input : Change) (bytes : List ℕ) : Type 0 where
   pub whole : length bytes ≤ 16777216 → IfSome input.after (λ left. left ≡ [])
   pub no_more : length bytes ≤ 16777217
 
--- The bytes read spell no trace, and the output says where and why.
-pub record Refused (input : Change) (output : List ℕ) : Type 0 where
-  pub bytes : List ℕ
-  pub read : WasRead input bytes
+-- The bytes spell no trace, and the output says where and why.
+pub record TraceRefused (bytes : List ℕ) (due : Status) (output : List ℕ) : Type 0 where
   pub line : ℕ
   pub reason : ℕ
   pub first_bad : FirstBad bytes line reason
+  pub status : due ≡ status.Trace
   pub told : output ≡ refused_text line reason
 
--- The bytes read spell a trace, and the output is the text of a report of it, whose replies are those of one
--- legal history.
-pub record Ran (input : Change) (due : Status) (output : List ℕ) : Type 0 where
-  pub bytes : List ℕ
-  pub read : WasRead input bytes
+-- The bytes spell a trace, and the output is the text of a report of it, whose replies are those of one legal
+-- history.
+pub record TraceRan (bytes : List ℕ) (due : Status) (output : List ℕ) : Type 0 where
   pub short : length bytes ≤ 16777216
   pub script : Script
   pub spelled : Spells bytes script
   pub report : Report
   pub reported : IsStepReport script report
-  pub told : output ≡ text (record { report = report })
   pub status : due ≡ status_of report
+  pub told : output ≡ text (record { report = report })
+
+-- what is due for the bytes of a trace
+abbrev pub TraceDue : List ℕ → Status → List ℕ → Type 0
+TraceDue bytes due output = TraceRefused bytes due output ⊎ TraceRan bytes due output
 
 -- the reading failed, behind these bytes
-pub record CouldNotRead (input : Change) (output : List ℕ) : Type 0 where
+pub record CouldNotRead (input : Change) (due : Status) (output : List ℕ) : Type 0 where
   pub bytes : List ℕ
   pub front : TakesFront input.before bytes input.after
   pub no_more : length bytes ≤ 16777217
   pub fault : Rose input.faults_before input.faults_after
+  pub status : due ≡ status.ReadFault
   pub told : output ≡ read_fault_text
+
+-- the input was read
+pub record CouldRead (input : Change) (due : Status) (output : List ℕ) : Type 0 where
+  pub bytes : List ℕ
+  pub read : WasRead input bytes
+  pub trace : TraceDue bytes due output
 
 -- what `step` has to write and to answer
 abbrev pub StepDue : Change → Status → List ℕ → Type 0
-StepDue input status.Trace output = Refused input output
-StepDue input status.ReadFault output = CouldNotRead input output
-StepDue input due output = Ran input due output
+StepDue input due output = CouldNotRead input due output ⊎ CouldRead input due output
 
 -- the words mean nothing: nothing is read
 pub record NotUnderstood (input : Change) (due : Status) (output : List ℕ) : Type 0 where

@@ -35,10 +35,14 @@ halt_line None = []
 halt_line (Some (halt.DiskFull at need limit)) = line (codes "halt disk-full") (at ∷ need ∷ limit ∷ [])
 halt_line (Some halt.DiskFault) = line (codes "halt disk-fault") []
 
--- thread t and those behind it: its number, its replies, its end
+-- a thread: its number, its replies, its end
+abbrev pub thread_text : ℕ → ThreadReport → List ℕ
+thread_text t r = line (codes "thread") (t ∷ []) ++ flat_map reply_line r.replies ++ end_line r.end
+
+-- thread t and those behind it
 abbrev pub thread_lines : ℕ → List ThreadReport → List ℕ
 thread_lines t [] = []
-thread_lines t (r ∷ rs) = line (codes "thread") (t ∷ []) ++ flat_map reply_line r.replies ++ end_line r.end ++ thread_lines (t + 1) rs
+thread_lines t (r ∷ rs) = thread_text t r ++ thread_lines (t + 1) rs
 
 -- what is printed
 pub record Printed : Type 0 where

@@ -3,6 +3,9 @@
 
 mod command;
 mod plain;
+mod run;
 mod status;
+mod text;
+mod top;
 
 fn main(rt: HostRuntime) {}

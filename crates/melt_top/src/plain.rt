@@ -6,7 +6,7 @@ ghost use Rattle.melt_trace.specs.Grammar.{InRange, IsBuilt};
 ghost use Rattle.melt_model.specs.History.{last, IsSlot, IsReference};
 ghost use Rattle.melt_model.specs.declared.history.Slot.TheVariants.{Field, Global};
 ghost use Rattle.melt_top.specs.Plain.{WritesPart, WritesSlot};
-ghost use Rattle.melt_top.specs.PlainHeap.{IsPlain, HasRead, HasWritten, HasAnswered};
+ghost use Rattle.melt_top.specs.PlainHeap.{IsPlain, IsFresh, HasRead, HasWritten, HasAnswered};
 
 use melt_model::{Act, Entry, NoMemory, Op, Reply, Slot, Value};
 use std::alloc::Global;
@@ -66,6 +66,19 @@ pub struct PlainHeap {
 }
 
 impl PlainHeap {
+    /// A heap without objects, with room for the entries of `count` operations.
+    pub fn new(alloc: Global, globals: u32, count: usize) -> Result<PlainHeap, NoMemory>
+        ensures fresh { IfOk result IsFresh }
+        ensures globals { IfOk result (λ heap. length heap.globals.items ≡ globals) }
+    {
+        Ok(PlainHeap {
+            objects: Vec::new(alloc),
+            globals: vec![in alloc; Value::Nil; globals as usize]?,
+            registers: [Value::Nil; 16],
+            log: Vec::with_capacity(alloc, count)?,
+        })
+    }
+
     /// Reads a slot that holds `value` into a register.
     fn read(&mut self, dst: u8, slot: Slot, value: Value) -> Result<Reply, NoMemory>
         requires stands { IsPlain self.old }

@@ -1,7 +1,7 @@
 //! A trace that was read, and one thread's way through its operations.
 ghost use Rattle.std.specs.Prelude.{◌≡◌, ◌<◌, ◌≤◌, length, IfSome, slice_get, drop};
 ghost use Rattle.melt_trace.specs.Script.{operations};
-ghost use Rattle.melt_trace.specs.Grammar.{InRange, IsSmall};
+ghost use Rattle.melt_trace.specs.Grammar.{InRange, IsBuilt, IsSmall};
 ghost use Rattle.melt_trace.specs.Small.{one_thread};
 
 use melt_model::Op;
@@ -83,14 +83,14 @@ pub struct Cursor<'a> {
 
 impl<'a> Model for Cursor<'a> {
     ghost use Rattle.std.specs.Prelude.{All};
-    ghost use Rattle.melt_trace.specs.Grammar.{InRange};
+    ghost use Rattle.melt_trace.specs.Grammar.{InRange, IsBuilt};
     ghost use Rattle.melt_trace.specs.Small.{Ahead};
 
     ghost Value = { Ahead };
 
     ghost view = { λ cursor. record { globals = cursor.globals; operations = cursor.ops.now } };
 
-    ghost invariant = { λ cursor. All (InRange cursor.globals) cursor.ops.now };
+    ghost invariant = { λ cursor. All (InRange cursor.globals) cursor.ops.now × All IsBuilt cursor.ops.now };
 }
 
 impl Cursor<'_> {
@@ -100,6 +100,7 @@ impl Cursor<'_> {
         ensures rest { self.new.operations ≡ drop 1 self.old.operations }
         ensures globals { self.new.globals ≡ self.old.globals }
         ensures in_range { IfSome result (InRange self.old.globals) }
+        ensures built { IfSome result IsBuilt }
     {
         let (first, rest) = self.ops.split_first()?;
         self.ops = rest;

@@ -21,5 +21,6 @@ returns c =
     let at = object_at heap.objects.items c.in-Ref.n c.index-object.result.now (held_object heap.objects.items heap.globals.items heap.registers heap.log.items c.args.src c.in-Ref.n c.requires.stands in_register) c.index-object.ensures in
     IfOk-weaker c.read.result _ _ (λ r read. record {
       stands = read.stands;
+      globals_stay = read.globals_stay;
       answers = load_answers heap.objects.items heap.globals.items heap.registers heap.log.items c.args.dst c.args.src c.args.i c.in-Ref.n c.index-object.result.now c.value_at-value.result r c.read.new.self.log.items c.read.new.self.registers c.requires.stands in_register at c.if-i-object.false read.told read.registers read.history;
     }) c.read.ensures

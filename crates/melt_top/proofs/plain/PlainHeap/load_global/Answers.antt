@@ -9,5 +9,5 @@ pub read-requires-clause-reference : goal.read-requires-clause-reference
 read-requires-clause-reference c =
     let heap = c.args.self.now in
     subst (IsReference heap.log.items)
-      (sym (c.value_at-value.ensures ∙ (ap (λ vs. slice_index_or vs c.args.g Nil) c.deref.ensures.value ∙ c.requires.stands.globals c.args.g)))
-      (global_reference heap.objects.items heap.globals.items heap.registers heap.log.items c.args.g c.requires.stands)
+    (sym (c.value_at-value.ensures ∙ (ap (λ vs. slice_index_or vs c.args.g Nil) c.deref.ensures.value ∙ c.requires.stands.globals c.args.g)))
+    (global_reference heap.objects.items heap.globals.items heap.registers heap.log.items c.args.g c.requires.stands)

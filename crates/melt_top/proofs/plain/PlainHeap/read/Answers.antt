@@ -13,7 +13,7 @@ returns c =
       stands = subst (λ (log : List Entry). StandsFor heap.objects.items heap.globals.items (slice_set heap.registers c.args.dst c.args.value) log)
           (sym c.in_ok-push.ensures.items)
           (StandsFor_read heap.objects.items heap.globals.items heap.registers heap.log.items (entry (Read c.args.slot c.args.value)) c.args.dst c.args.slot c.args.value c.requires.stands refl c.requires.slot c.requires.value c.requires.reference);
-      globals = refl;
+      globals_stay = refl;
       told = sym c.found.ensures;
       registers = refl;
       history = c.in_ok-push.ensures.items;

@@ -13,6 +13,7 @@ returns c =
       stands = subst (λ (log : List Entry). StandsFor c.put_slot.new.objects.items heap.globals.items heap.registers log)
           (sym c.in_ok-push.ensures.items)
           (StandsFor_write_field heap.objects.items c.put_slot.new.objects.items heap.globals.items heap.registers heap.log.items (entry (Write (Field c.args.n c.args.i) c.args.value)) c.args.n c.args.i c.args.value c.requires.stands refl c.requires.slot c.requires.reference c.in_ok-put_slot.ensures);
+      globals_stay = refl;
       told = refl;
       registers = refl;
       history = c.in_ok-push.ensures.items;

@@ -1,4 +1,5 @@
 use Rattle.std.proofs.Common.{List, sym, refl, subst}
+use Rattle.std.proofs.Math.ListN.{length-set}
 use Rattle.std.specs.Prelude.{slice_set}
 use Rattle.melt_model.specs.declared.history.Entry.{Entry}
 use Rattle.melt_model.specs.declared.history.Slot.TheVariants.{Global}
@@ -14,6 +15,7 @@ returns c =
       stands = subst (λ (log : List Entry). StandsFor heap.objects.items (slice_set heap.globals.items c.args.g c.args.value) heap.registers log)
           (sym c.in_ok-push.ensures.items)
           (StandsFor_write_global heap.objects.items heap.globals.items heap.registers heap.log.items (entry (Write (Global c.args.g) c.args.value)) c.args.g c.args.value c.requires.stands refl c.requires.global c.requires.reference);
+      globals_stay = length-set heap.globals.items c.args.g c.args.value;
       told = refl;
       registers = refl;
       history = c.in_ok-push.ensures.items;

@@ -1,0 +1,115 @@
+//! The whole program, over any source and any sink.
+ghost use Rattle.std.specs.Prelude.{◌≡◌, map, string_bytes, IfOk, IfNone, OnErr};
+ghost use Rattle.melt_trace.specs.Grammar.{line};
+ghost use Rattle.melt_top.specs.Command.{meant};
+ghost use Rattle.melt_top.specs.Text.{refused_text};
+ghost use Rattle.melt_top.specs.Headline.{IsUntouched, TraceDue, StepDue, Due, Outcome};
+
+use crate::command::{Command, command_of};
+use crate::run::run_plain;
+use crate::status::{Status, status_for};
+use crate::text::{push_line, report_text};
+use melt_io::{Gate, ReadRefusal, Sink, Source, StaleDisk, read_all, write_all};
+use melt_model::NoMemory;
+use melt_trace::{ParseRefusal, TraceError, parse};
+use std::alloc::Global;
+use std::thread::Threads;
+
+/// The longest input of a trace, in bytes.
+const MAX_INPUT: usize = 16_777_216;
+
+/// A status, and the text that is to be written with it.
+#[derive(Debug, Drop)]
+struct Answer {
+    status: Status,
+    text: Vec<u8>,
+}
+
+impl Answer {
+    /// One line.
+    fn line(alloc: Global, status: Status, word: &[u8], numbers: &[u64]) -> Result<Answer, NoMemory>
+        ensures { IfOk result (λ answer. (answer.status ≡ status) × (answer.text.items ≡ line word.now numbers.now)) }
+    {
+        let mut text = Vec::new(alloc);
+        push_line(&mut text, word, numbers)?;
+        Ok(Answer { status, text })
+    }
+
+    fn refused(alloc: Global, error: TraceError) -> Result<Answer, NoMemory>
+        ensures { IfOk result (λ answer. (answer.status ≡ Status.Trace) × (answer.text.items ≡ refused_text error.line error.reason)) }
+    {
+        let numbers = [u64::from(error.line), u64::from(error.reason)];
+        Answer::line(alloc, Status::Trace, b"error trace", &numbers)
+    }
+}
+
+/// What is due for the bytes of a trace.
+fn trace_answer(alloc: Global, bytes: &[u8]) -> Result<Answer, NoMemory>
+    ensures { IfOk result (λ answer. TraceDue bytes.now answer.status answer.text.items) }
+{
+    match parse(alloc, bytes) {
+        Ok(trace) => {
+            let report = run_plain(alloc, &trace)?;
+            let text = report_text(alloc, &report)?;
+            Ok(Answer {
+                status: status_for(&report),
+                text,
+            })
+        }
+        Err(ParseRefusal::Bad(error)) => Answer::refused(alloc, error),
+        Err(ParseRefusal::NoMemory) => Err(NoMemory),
+    }
+}
+
+/// What is due for the input of `step`.
+fn step_answer<S: Source>(alloc: Global, input: &mut S) -> Result<Answer, NoMemory>
+    ensures { IfOk result (λ answer. StepDue
+        (record { before = S.left input.old; after = S.left input.new; faults_before = S.faults input.old; faults_after = S.faults input.new })
+        answer.status answer.text.items) }
+{
+    match read_all(alloc, input, MAX_INPUT) {
+        Ok(bytes) => trace_answer(alloc, &bytes),
+        Err(ReadRefusal::Fault) => Answer::line(alloc, Status::ReadFault, b"error read", &[]),
+        Err(ReadRefusal::TooLong) => Answer::refused(alloc, TraceError { line: 0, reason: 1 }),
+        Err(ReadRefusal::NoMemory) => Err(NoMemory),
+    }
+}
+
+/// What is due for the words. Nothing is read where they mean nothing.
+fn answer_to<S: Source>(alloc: Global, words: &[String], input: &mut S) -> Result<Answer, NoMemory>
+    ensures due { IfOk result (λ answer. Due (meant (map string_bytes words.now))
+        (record { before = S.left input.old; after = S.left input.new; faults_before = S.faults input.old; faults_after = S.faults input.new })
+        answer.status answer.text.items) }
+    ensures unread { OnErr result (IfNone (meant (map string_bytes words.now))
+        (IsUntouched (record { before = S.left input.old; after = S.left input.new; faults_before = S.faults input.old; faults_after = S.faults input.new }))) }
+{
+    match command_of(words) {
+        None => Answer::line(alloc, Status::Usage, b"error usage", &[]),
+        Some(Command::Step) => step_answer(alloc, input),
+    }
+}
+
+/// Runs the program on the words that stand behind its name, and answers how it ended. What is written
+/// is made whole before the first byte of it goes out.
+pub fn melt<X: Threads + Sync, S: Source, K: Sink, D: StaleDisk, G: Gate + Sync>(
+    _rt: &X,
+    alloc: Global,
+    words: &[String],
+    input: &mut S,
+    out: &mut K,
+    _disk: &mut D,
+    _gate: &G,
+) -> Status
+    ensures headline { Outcome (meant (map string_bytes words.now))
+        (record { before = S.left input.old; after = S.left input.new; faults_before = S.faults input.old; faults_after = S.faults input.new })
+        (record { before = K.written out.old; after = K.written out.new; faults_before = K.faults out.old; faults_after = K.faults out.new })
+        result }
+{
+    let Ok(answer) = answer_to(alloc, words, input) else {
+        return Status::NoMemory;
+    };
+    match write_all(out, &answer.text) {
+        Ok(()) => answer.status,
+        Err(_) => Status::WriteFault,
+    }
+}
