@@ -12,7 +12,7 @@ take-padded at k xs h = elim (cases_lt (length xs) at) [
   | inl past ↦
       let at_is : at ≡ length xs + (at - length xs) = omega arith in
       let short : at - length xs ≤ k = omega arith in
-      let zeros = take-replicate (at - length xs) k 0 short in
+      let zeros : take (at - length xs) (replicate k 0) ≡ replicate (at - length xs) 0 = take-replicate (at - length xs) k 0 short in
       ap (λ n. take n (xs ++ replicate k 0)) at_is ∙ take-append-add xs (replicate k 0) (at - length xs)
       ∙ ap (λ bytes. xs ++ bytes) zeros ∙ ap (λ bytes. bytes ++ replicate (at - length xs) 0) (sym (take_all at xs (omega arith)))
   | inr within ↦

@@ -29,13 +29,14 @@ pub struct MemSink {
 
 impl MemSource {
     /// A source of these bytes, from the first on, of which no read fails.
-    pub fn new(alloc: Global, bytes: Vec<u8>) -> MemSource
+    pub fn new(bytes: Vec<u8>) -> MemSource
         ensures bytes { result.bytes.items ≡ bytes.items }
         ensures unread { result.pos ≡ 0 }
         ensures uncalled { result.calls ≡ 0 }
         ensures sound { result.fail.items ≡ [] }
         ensures no_faults { result.faults ≡ 0 }
     {
+        let alloc = *bytes.allocator();
         MemSource {
             bytes,
             pos: 0,

@@ -181,7 +181,7 @@ impl StaleDisk for SteadyDisk {
     }
 
     fn give_back(&mut self, _reader: SteadyReader) {
-        // Its value is a word, and so stands still when nothing is added.
+        // Reading the count shows that it is a word, so it stands still where nothing is added.
         let _read_faults = self.read_faults;
     }
 }
