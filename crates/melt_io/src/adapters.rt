@@ -28,16 +28,20 @@ pub struct StdSink<W> {
 pub struct OpenGate;
 
 impl<R: Read> StdSource<R> {
+    /// A source over this reader, of which no read has failed.
     pub fn new(reader: R) -> StdSource<R>
-        ensures { result.faults ≡ 0 }
+        ensures reader { result.reader ≡ reader }
+        ensures no_faults { result.faults ≡ 0 }
     {
         StdSource { reader, faults: 0 }
     }
 }
 
 impl<W: Write> StdSink<W> {
+    /// A sink over this writer, of which no write has failed.
     pub fn new(writer: W) -> StdSink<W>
-        ensures { result.faults ≡ 0 }
+        ensures writer { result.writer ≡ writer }
+        ensures no_faults { result.faults ≡ 0 }
     {
         StdSink { writer, faults: 0 }
     }
