@@ -12,9 +12,10 @@ take-padded at k xs h = elim (cases_lt (length xs) at) [
   | inl past ↦
       let at_is : at ≡ length xs + (at - length xs) = omega arith in
       let short : at - length xs ≤ k = omega arith in
-      let zeros = take-replicate (at - length xs) k 0 short in
+      let whole : take at xs ≡ xs = take_all at xs (omega arith) in
+      let zeros : take (at - length xs) (replicate k 0) ≡ replicate (at - length xs) 0 = take-replicate (at - length xs) k 0 short in
       ap (λ n. take n (xs ++ replicate k 0)) at_is ∙ take-append-add xs (replicate k 0) (at - length xs)
-      ∙ ap (λ bytes. xs ++ bytes) zeros ∙ ap (λ bytes. bytes ++ replicate (at - length xs) 0) (sym (take_all at xs (omega arith)))
+      ∙ ap (λ bytes. xs ++ bytes) zeros ∙ ap (λ bytes. bytes ++ replicate (at - length xs) 0) (sym whole)
   | inr within ↦
       let none : at - length xs ≡ 0 = omega arith in
       take-append-le at xs (replicate k 0) within ∙ sym (append-nil (take at xs)) ∙ ap (λ n. take at xs ++ replicate n 0) (sym none)
@@ -38,18 +39,24 @@ drop-padded end xs = elim (cases_lt end (length xs)) [
       drop_all end (xs ++ replicate (end - length xs) 0) padded ∙ sym (drop_all end xs past)
 ]
 
+-- a copy of the first words, and zeros behind it
+front_padded : (left : List ℕ) (n k : ℕ) (front : List ℕ) → k ≡ min n (length left) → front ≡ take k left → front ++ drop k (replicate n 0) ≡ take n (left ++ replicate n 0)
+front_padded left n k front count e =
+    let zeros : n - k ≡ n - length left = omega arith in
+    let fits : n ≤ length left + n = omega arith in
+    ap (λ words. front ++ words) (drop-replicate k n 0)
+    ∙ ap (λ m. front ++ replicate m 0) zeros
+    ∙ ap (λ words. words ++ replicate (n - length left) 0) (e ∙ take-min n k left count)
+    ∙ sym (take-padded n n left fits)
+
 -- a copy of what is left, and zeros behind it, in a buffer of n words
 pub copied_words : (image : List ℕ) (at start n k : ℕ) (front : List ℕ) → start ≡ min (length image) at → k ≡ min n (length image - start) → front ≡ take k (take (length image - start) (drop start image)) → front ++ drop k (replicate n 0) ≡ words_at image at n
 copied_words image at start n k front begins count e =
     let left : drop start image ≡ drop at image = ap (λ m. drop m image) begins ∙ drop-min at image in
     let len : length (drop at image) ≡ length image - start = sym (ap length left) ∙ length-drop start image in
     let copied : front ≡ take k (drop at image) = e ∙ ap (λ words. take k words) (take-rest image start ∙ left) in
-    let whole : take k (drop at image) ≡ take n (drop at image) = take-min n k (drop at image) (omega arith) in
-    let zeros : n - k ≡ n - length (drop at image) = omega arith in
-    let fits : n ≤ length (drop at image) + n = omega arith in
-    ap (λ words. front ++ words) (drop-replicate k n 0 ∙ ap (λ m. replicate m 0) zeros)
-    ∙ ap (λ words. words ++ replicate (n - length (drop at image)) 0) (copied ∙ whole)
-    ∙ sym (take-padded n n (drop at image) fits)
+    let count_left : k ≡ min n (length (drop at image)) = omega arith in
+    front_padded (drop at image) n k front count_left copied
 
 -- words put into an image that reaches far enough
 pub put_words : (image long new : List ℕ) (at : ℕ) (words : List ℕ) → long ≡ image ++ replicate (at + length words - length image) 0 → new ≡ take at long ++ words ++ drop (at + length words) long → new ≡ with_words image at words

@@ -18,3 +18,6 @@ pub use memory::{MemSink, MemSource};
 pub use outside::{Failed, Gate, LendRefusal, RecordReader, Sink, Source, StaleDisk};
 pub use steady::{SteadyDisk, SteadyReader, SteadySink, SteadySource};
 pub use whole::{ReadRefusal, read_all, write_all};
+
+#[cfg(test)]
+mod tests;

@@ -29,13 +29,14 @@ pub struct MemSink {
 
 impl MemSource {
     /// A source of these bytes, from the first on, of which no read fails.
-    pub fn new(alloc: Global, bytes: Vec<u8>) -> MemSource
+    pub fn new(bytes: Vec<u8>) -> MemSource
         ensures bytes { result.bytes.items ≡ bytes.items }
         ensures unread { result.pos ≡ 0 }
         ensures uncalled { result.calls ≡ 0 }
         ensures sound { result.fail.items ≡ [] }
         ensures no_faults { result.faults ≡ 0 }
     {
+        let alloc = *bytes.allocator();
         MemSource {
             bytes,
             pos: 0,
@@ -71,6 +72,7 @@ impl Source for MemSource {
     fn read(&mut self, buf: &mut [u8]) -> Result<usize, Failed>
         ensures within { IfOk result (λ n. n ≤ length buf.old) }
         ensures taken { IfOk result (λ n. drop self.old.pos self.old.bytes.items ≡ take n buf.new ++ drop self.new.pos self.new.bytes.items) }
+        ensures no_fault { OnOk result (self.new.faults ≡ self.old.faults) }
         ensures failed { OnErr result (Rose self.old.faults self.new.faults) }
         ensures untouched { OnErr result (drop self.new.pos self.new.bytes.items ≡ drop self.old.pos self.old.bytes.items) }
         ensures count { self.old.faults ≤ self.new.faults }
@@ -95,6 +97,7 @@ impl Sink for MemSink {
 
     fn write(&mut self, piece: &[u8]) -> Result<usize, Failed>
         ensures appended { IfOk result (λ n. self.new.bytes.items ≡ self.old.bytes.items ++ take n piece.now) }
+        ensures no_fault { OnOk result (self.new.faults ≡ self.old.faults) }
         ensures failed { OnErr result (Rose self.old.faults self.new.faults) }
         ensures untouched { OnErr result (self.new.bytes.items ≡ self.old.bytes.items) }
         ensures count { self.old.faults ≤ self.new.faults }

@@ -102,6 +102,7 @@ impl Sink for SteadySink {
     fn write(&mut self, piece: &[u8]) -> Result<usize, Failed>
         ensures whole { IfOk result (λ n. n ≡ length piece.now) }
         ensures appended { OnOk result (self.new.bytes.items ≡ self.old.bytes.items ++ piece.now) }
+        ensures no_fault { OnOk result (self.new.faults ≡ self.old.faults) }
         ensures failed { OnErr result (Rose self.old.faults self.new.faults) }
         ensures untouched { OnErr result (self.new.bytes.items ≡ self.old.bytes.items) }
         ensures count { self.old.faults ≤ self.new.faults }
@@ -151,6 +152,7 @@ impl StaleDisk for SteadyDisk {
         requires in_range { at + length words.now ≤ 2 ^ 32 }
         ensures written { OnOk result (self.new.image.items ≡ with_words self.old.image.items at words.now) }
         ensures others { OnErr result (self.new.image.items ≡ self.old.image.items) }
+        ensures no_fault { OnOk result (self.new.faults ≡ self.old.faults) }
         ensures failed { OnErr result (Rose self.old.faults self.new.faults) }
         ensures count { self.old.faults ≤ self.new.faults }
         ensures full { OnErr result (vec_capacity self.old.image < at + length words.now) }
@@ -181,7 +183,7 @@ impl StaleDisk for SteadyDisk {
     }
 
     fn give_back(&mut self, _reader: SteadyReader) {
-        // Its value is a word, and so stands still when nothing is added.
+        // Reading the count shows that it is a word, so it stands still where nothing is added.
         let _read_faults = self.read_faults;
     }
 }
