@@ -1,12 +1,15 @@
 //! Slow bodies of the definitions, for small inputs and for tests. Nothing of the program calls
 //! them.
-ghost use Rattle.std.specs.Prelude.{◌≡◌, IfOk, MatchOption};
-ghost use Rattle.melt_model.specs.History.{made, write_of, slot_eq, first_value, after_write, last, shape};
+ghost use Rattle.std.specs.Prelude.{◌≡◌, ◌↔◌, IsTrue, IfOk, MatchOption};
+ghost use Rattle.melt_model.specs.History.{made, write_of, slot_eq, first_value, after_write, last, shape, IsSlot, IsReference, CanHold, MayFollow, Legal};
 ghost use Rattle.melt_model.specs.Thread.{own};
 
 use crate::history::{Act, Entry, Slot, Value};
 use crate::words::NoMemory;
 use std::alloc::Global;
+
+/// The most reference slots, and the most number words, that an object may have.
+const MOST_PARTS: u8 = 62;
 
 /// How many objects were made.
 pub fn made(history: &[Entry]) -> u64
@@ -95,4 +98,61 @@ fn shape_of(history: &[Entry], object: u64) -> Option<Shape>
         }
     }
     None
+}
+
+/// Whether the slot is one of an object that was made, or one of the globals.
+fn is_slot(history: &[Entry], globals: u8, slot: Slot) -> bool
+    ensures { IsTrue result ↔ IsSlot history.now globals slot }
+{
+    match slot {
+        Slot::Field(object, i) => shape_of(history, object).is_some_and(|shape| i < shape.refs),
+        Slot::Cell(object, j) => shape_of(history, object).is_some_and(|shape| j < shape.nums),
+        Slot::Global(g) => g < globals,
+    }
+}
+
+/// Whether the value is Nil, or an object that was made.
+fn is_reference(history: &[Entry], value: Value) -> bool
+    ensures { IsTrue result ↔ IsReference history.now value }
+{
+    match value {
+        Value::Nil => true,
+        Value::Ref(object) => object < made(history),
+        Value::Num(_) => false,
+    }
+}
+
+/// Whether a slot of this kind may hold the value.
+fn can_hold(history: &[Entry], slot: Slot, value: Value) -> bool
+    ensures { IsTrue result ↔ CanHold history.now slot value }
+{
+    match slot {
+        Slot::Field(..) | Slot::Global(_) => is_reference(history, value),
+        Slot::Cell(..) => matches!(value, Value::Num(_)),
+    }
+}
+
+/// Whether the act may stand behind these entries.
+fn may_follow(before: &[Entry], globals: u8, act: Act) -> bool
+    ensures { IsTrue result ↔ MayFollow before.now globals act }
+{
+    match act {
+        Act::Make { refs, nums } => refs <= MOST_PARTS && nums <= MOST_PARTS,
+        Act::Read { slot, value } => is_slot(before, globals, slot) && value == last(before, slot),
+        Act::Write { slot, value } => {
+            is_slot(before, globals, slot) && can_hold(before, slot, value)
+        }
+    }
+}
+
+/// Whether each entry may stand where it stands.
+pub fn is_legal(history: &[Entry], globals: u8) -> bool
+    ensures { IsTrue result ↔ Legal history.now globals }
+{
+    for (place, entry) in history.iter().enumerate() {
+        if !may_follow(&history[..place], globals, entry.act) {
+            return false;
+        }
+    }
+    true
 }
