@@ -1,10 +1,12 @@
 //! Slow bodies of the definitions, for small inputs and for tests. Nothing of the program calls
 //! them.
-ghost use Rattle.std.specs.Prelude.{◌≡◌, ◌↔◌, IsTrue, IfOk, MatchOption};
+ghost use Rattle.std.specs.Prelude.{◌≡◌, ◌↔◌, IsTrue, IfOk, MatchOption, MatchResult, slice_set};
 ghost use Rattle.melt_model.specs.History.{made, write_of, slot_eq, first_value, after_write, last, shape, IsSlot, IsReference, CanHold, MayFollow, Legal};
-ghost use Rattle.melt_model.specs.Thread.{own};
+ghost use Rattle.melt_model.specs.Thread.{own, value_in, unchanged, found, number, does};
+ghost use Rattle.melt_model.specs.Plain.{deed_of, HasField, LacksField, HasCell, LacksCell};
 
 use crate::history::{Act, Entry, Slot, Value};
+use crate::operations::{Op, Reply};
 use crate::words::NoMemory;
 use std::alloc::Global;
 
@@ -155,4 +157,88 @@ pub fn is_legal(history: &[Entry], globals: u8) -> bool
         }
     }
     true
+}
+
+/// What one operation does: the act of its entry, if it has one, the reply, and the registers
+/// after it.
+#[derive(Clone, Copy, Debug, PartialEq, Eq)]
+pub struct Deed {
+    pub act: Option<Act>,
+    pub reply: Reply,
+    pub registers: [Value; 16],
+}
+
+/// The value in a register, or Nil where there is no such register.
+fn value_in(registers: &[Value; 16], r: u8) -> Value
+    ensures { result ≡ value_in registers.now r }
+{
+    registers.get(usize::from(r)).copied().unwrap_or(Value::Nil)
+}
+
+/// The registers with another value in one, if there is such a register.
+fn with_register(mut registers: [Value; 16], r: u8, value: Value) -> [Value; 16]
+    ensures { result ≡ slice_set registers r value }
+{
+    let place = usize::from(r);
+    if place < registers.len() {
+        registers[place] = value;
+    }
+    registers
+}
+
+/// A deed with no entry that leaves the registers as they were.
+fn unchanged(registers: [Value; 16], reply: Reply) -> Deed
+    ensures { deed_of result ≡ unchanged registers reply }
+{
+    Deed {
+        act: None,
+        reply,
+        registers,
+    }
+}
+
+/// The reply to a load that found this value.
+fn found(value: Value) -> Reply
+    ensures { result ≡ found value }
+{
+    match value {
+        Value::Nil => Reply::Null,
+        Value::Ref(_) | Value::Num(_) => Reply::Ref,
+    }
+}
+
+/// The number that a number word holds.
+fn number(value: Value) -> u64
+    ensures { result ≡ number value }
+{
+    match value {
+        Value::Num(number) => number,
+        Value::Nil | Value::Ref(_) => 0,
+    }
+}
+
+/// The reference slot `i` of the object in a register; the reply where there is none.
+fn field_of(history: &[Entry], registers: &[Value; 16], r: u8, i: u8) -> Result<Slot, Reply>
+    ensures { MatchResult result (HasField history.now (value_in registers.now r) i) (LacksField history.now (value_in registers.now r) i) }
+{
+    let Value::Ref(object) = value_in(registers, r) else {
+        return Err(Reply::Nil);
+    };
+    match shape_of(history, object) {
+        Some(shape) if i < shape.refs => Ok(Slot::Field(object, i)),
+        _ => Err(Reply::Range),
+    }
+}
+
+/// The number word `j` of the object in a register; the reply where there is none.
+fn cell_of(history: &[Entry], registers: &[Value; 16], r: u8, j: u8) -> Result<Slot, Reply>
+    ensures { MatchResult result (HasCell history.now (value_in registers.now r) j) (LacksCell history.now (value_in registers.now r) j) }
+{
+    let Value::Ref(object) = value_in(registers, r) else {
+        return Err(Reply::Nil);
+    };
+    match shape_of(history, object) {
+        Some(shape) if j < shape.nums => Ok(Slot::Cell(object, j)),
+        _ => Err(Reply::Range),
+    }
 }
