@@ -242,3 +242,81 @@ fn cell_of(history: &[Entry], registers: &[Value; 16], r: u8, j: u8) -> Result<S
         _ => Err(Reply::Range),
     }
 }
+
+/// What a load does that found the value in this slot.
+fn load(registers: [Value; 16], dst: u8, slot: Slot, value: Value) -> Deed
+    ensures { deed_of result ≡ record { act = Some (Act.Read slot value); reply = found value; registers = slice_set registers dst value } }
+{
+    Deed {
+        act: Some(Act::Read { slot, value }),
+        reply: found(value),
+        registers: with_register(registers, dst, value),
+    }
+}
+
+/// What a store of the value into this slot does.
+fn store(registers: [Value; 16], slot: Slot, value: Value) -> Deed
+    ensures { deed_of result ≡ record { act = Some (Act.Write slot value); reply = Reply.Done; registers = registers } }
+{
+    Deed {
+        act: Some(Act::Write { slot, value }),
+        reply: Reply::Done,
+        registers,
+    }
+}
+
+/// What a get does that found the number in this slot.
+fn get(registers: [Value; 16], slot: Slot, found: u64) -> Deed
+    ensures { deed_of result ≡ record { act = Some (Act.Read slot (Value.Num found)); reply = Reply.Num found; registers = registers } }
+{
+    Deed {
+        act: Some(Act::Read {
+            slot,
+            value: Value::Num(found),
+        }),
+        reply: Reply::Num(found),
+        registers,
+    }
+}
+
+/// What one operation does, by the entries, the registers before it, and the value that its entry
+/// gives.
+pub fn does(history: &[Entry], registers: [Value; 16], op: Op, given: Value) -> Deed
+    ensures { deed_of result ≡ does history.now registers op given }
+{
+    match op {
+        Op::New { dst, refs, nums } => Deed {
+            act: Some(Act::Make { refs, nums }),
+            reply: Reply::Done,
+            registers: with_register(registers, dst, given),
+        },
+        Op::Load { dst, src, i } => match field_of(history, &registers, src, i) {
+            Ok(slot) => load(registers, dst, slot, given),
+            Err(reply) => unchanged(registers, reply),
+        },
+        Op::Store { obj, i, src } => match field_of(history, &registers, obj, i) {
+            Ok(slot) => store(registers, slot, value_in(&registers, src)),
+            Err(reply) => unchanged(registers, reply),
+        },
+        Op::Get { src, j } => match cell_of(history, &registers, src, j) {
+            Ok(slot) => get(registers, slot, number(given)),
+            Err(reply) => unchanged(registers, reply),
+        },
+        Op::Put { obj, j, v } => match cell_of(history, &registers, obj, j) {
+            Ok(slot) => store(registers, slot, Value::Num(v)),
+            Err(reply) => unchanged(registers, reply),
+        },
+        Op::GLoad { dst, g } => load(registers, dst, Slot::Global(g), given),
+        Op::GStore { g, src } => store(registers, Slot::Global(g), value_in(&registers, src)),
+        Op::Same { a, b } => {
+            let same = value_in(&registers, a) == value_in(&registers, b);
+            unchanged(registers, if same { Reply::Yes } else { Reply::No })
+        }
+        Op::Copy { dst, src } => {
+            let value = value_in(&registers, src);
+            unchanged(with_register(registers, dst, value), Reply::Done)
+        }
+        Op::Drop { r } => unchanged(with_register(registers, r, Value::Nil), Reply::Done),
+        Op::Collect => unchanged(registers, Reply::Done),
+    }
+}
