@@ -1,8 +1,8 @@
 //! Slow bodies of the definitions, for small inputs and for tests. Nothing of the program calls
 //! them.
 ghost use Rattle.std.specs.Prelude.{◌≡◌, ◌↔◌, IsTrue, IfOk, MatchOption, MatchResult, slice_set};
-ghost use Rattle.melt_model.specs.History.{made, write_of, slot_eq, first_value, after_write, last, shape, IsSlot, IsReference, CanHold, MayFollow, Legal};
-ghost use Rattle.melt_model.specs.Thread.{own, value_in, unchanged, found, number, does};
+ghost use Rattle.melt_model.specs.History.{made, write_of, slot_eq, first_value, after_write, last, shape, given, IsSlot, IsReference, CanHold, MayFollow, Legal};
+ghost use Rattle.melt_model.specs.Thread.{own, value_in, unchanged, found, number, does, act_at, given_at, next_given, Takes, places_left, Transcript};
 ghost use Rattle.melt_model.specs.Plain.{deed_of, HasField, LacksField, HasCell, LacksCell};
 
 use crate::history::{Act, Entry, Slot, Value};
@@ -319,4 +319,88 @@ pub fn does(history: &[Entry], registers: [Value; 16], op: Op, given: Value) -> 
         Op::Drop { r } => unchanged(with_register(registers, r, Value::Nil), Reply::Done),
         Op::Collect => unchanged(registers, Reply::Done),
     }
+}
+
+/// The act that stands at a place.
+fn act_at(history: &[Entry], place: usize) -> Option<Act>
+    ensures { result ≡ act_at history.now place }
+{
+    history.get(place).map(|entry| entry.act)
+}
+
+/// What an act gives to its thread, behind these entries.
+fn given(before: &[Entry], act: Act) -> Option<Value>
+    ensures { result ≡ given before.now act }
+{
+    match act {
+        Act::Make { .. } => Some(Value::Ref(made(before))),
+        Act::Read { value, .. } => Some(value),
+        Act::Write { .. } => None,
+    }
+}
+
+/// What the entry at a place gives.
+fn given_at(history: &[Entry], place: usize) -> Option<Value>
+    ensures { result ≡ given_at history.now place }
+{
+    let act = act_at(history, place)?;
+    given(&history[..place], act)
+}
+
+/// What the entry at the first of the places gives.
+fn next_given(history: &[Entry], places: &[usize]) -> Value
+    ensures { result ≡ next_given history.now places.now }
+{
+    match places {
+        [place, ..] => given_at(history, *place).unwrap_or(Value::Nil),
+        [] => Value::Nil,
+    }
+}
+
+/// Whether the act, if there is one, stands at the first of the places.
+fn takes(history: &[Entry], act: Option<Act>, places: &[usize]) -> bool
+    ensures { IsTrue result ↔ Takes history.now act places.now }
+{
+    match (act, places) {
+        (None, _) => true,
+        (Some(_), []) => false,
+        (Some(act), [place, ..]) => act_at(history, *place) == Some(act),
+    }
+}
+
+/// The places that are left by an operation with this act.
+fn places_left(act: Option<Act>, places: &[usize]) -> &[usize]
+    ensures { result.now ≡ places_left act places.now }
+{
+    match (act, places) {
+        (Some(_), [_, left @ ..]) => left,
+        _ => places,
+    }
+}
+
+/// Whether the history gives the thread these replies to the first of its operations.
+pub fn is_transcript(
+    alloc: Global,
+    history: &[Entry],
+    thread: u8,
+    ops: &[Op],
+    replies: &[Reply],
+) -> Result<bool, NoMemory>
+    ensures { IfOk result (λ yes. IsTrue yes ↔ Transcript history.now thread ops.now replies.now) }
+{
+    let places = own(alloc, history, thread)?;
+    let mut left = places.as_slice();
+    let mut registers = [Value::Nil; 16];
+    for (k, reply) in replies.iter().enumerate() {
+        let Some(op) = ops.get(k) else {
+            return Ok(false);
+        };
+        let deed = does(history, registers, *op, next_given(history, left));
+        if deed.reply != *reply || !takes(history, deed.act, left) {
+            return Ok(false);
+        }
+        left = places_left(deed.act, left);
+        registers = deed.registers;
+    }
+    Ok(left.is_empty())
 }
