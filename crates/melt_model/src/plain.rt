@@ -404,3 +404,6 @@ pub fn is_transcript(
     }
     Ok(left.is_empty())
 }
+
+#[cfg(test)]
+mod tests;
