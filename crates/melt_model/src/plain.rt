@@ -3,7 +3,7 @@
 ghost use Rattle.std.specs.Prelude.{◌≡◌, ◌↔◌, IsTrue, IfOk, MatchOption, MatchResult, slice_set};
 ghost use Rattle.melt_model.specs.History.{made, write_of, slot_eq, first_value, after_write, last, shape, given, IsSlot, IsReference, CanHold, MayFollow, Legal};
 ghost use Rattle.melt_model.specs.Thread.{own, value_in, unchanged, found, number, does, act_at, given_at, next_given, Takes, places_left, Transcript};
-ghost use Rattle.melt_model.specs.Plain.{deed_of, HasField, LacksField, HasCell, LacksCell};
+ghost use Rattle.melt_model.specs.Plain.{deed_of, HasPart, LacksPart};
 
 use crate::history::{Act, Entry, Slot, Value};
 use crate::operations::{Op, Reply};
@@ -80,7 +80,7 @@ pub fn own(alloc: Global, history: &[Entry], thread: u8) -> Result<Vec<usize>, N
 }
 
 /// How many reference slots and how many number words an object has.
-#[derive(Clone, Copy, Debug, PartialEq, Eq)]
+#[derive(Clone, Copy)]
 struct Shape {
     refs: u8,
     nums: u8,
@@ -88,7 +88,10 @@ struct Shape {
 
 /// The shape of an object, if it was made.
 fn shape_of(history: &[Entry], object: u64) -> Option<Shape>
-    ensures { MatchOption result (shape history.now object ≡ None) (λ found. shape history.now object ≡ Some (record { refs = found.refs; nums = found.nums })) }
+    ensures { let made = shape history.now object in
+        MatchOption result
+        (made ≡ None)
+        (λ found. made ≡ Some (record { refs = found.refs; nums = found.nums })) }
 {
     let mut left = object;
     for entry in history {
@@ -219,7 +222,10 @@ fn number(value: Value) -> u64
 
 /// The reference slot `i` of the object in a register; the reply where there is none.
 fn field_of(history: &[Entry], registers: &[Value; 16], r: u8, i: u8) -> Result<Slot, Reply>
-    ensures { MatchResult result (HasField history.now (value_in registers.now r) i) (LacksField history.now (value_in registers.now r) i) }
+    ensures { let object = value_in registers.now r in
+        MatchResult result
+        (HasPart (λ z. z.refs) (λ n. Slot.Field n i) history.now object i)
+        (LacksPart (λ z. z.refs) history.now object i) }
 {
     let Value::Ref(object) = value_in(registers, r) else {
         return Err(Reply::Nil);
@@ -232,7 +238,10 @@ fn field_of(history: &[Entry], registers: &[Value; 16], r: u8, i: u8) -> Result<
 
 /// The number word `j` of the object in a register; the reply where there is none.
 fn cell_of(history: &[Entry], registers: &[Value; 16], r: u8, j: u8) -> Result<Slot, Reply>
-    ensures { MatchResult result (HasCell history.now (value_in registers.now r) j) (LacksCell history.now (value_in registers.now r) j) }
+    ensures { let object = value_in registers.now r in
+        MatchResult result
+        (HasPart (λ z. z.nums) (λ n. Slot.Cell n j) history.now object j)
+        (LacksPart (λ z. z.nums) history.now object j) }
 {
     let Value::Ref(object) = value_in(registers, r) else {
         return Err(Reply::Nil);
@@ -245,7 +254,11 @@ fn cell_of(history: &[Entry], registers: &[Value; 16], r: u8, j: u8) -> Result<S
 
 /// What a load does that found the value in this slot.
 fn load(registers: [Value; 16], dst: u8, slot: Slot, value: Value) -> Deed
-    ensures { deed_of result ≡ record { act = Some (Act.Read slot value); reply = found value; registers = slice_set registers dst value } }
+    ensures { deed_of result ≡ record {
+      act = Some (Act.Read slot value);
+      reply = found value;
+      registers = slice_set registers dst value;
+    } }
 {
     Deed {
         act: Some(Act::Read { slot, value }),
@@ -256,7 +269,11 @@ fn load(registers: [Value; 16], dst: u8, slot: Slot, value: Value) -> Deed
 
 /// What a store of the value into this slot does.
 fn store(registers: [Value; 16], slot: Slot, value: Value) -> Deed
-    ensures { deed_of result ≡ record { act = Some (Act.Write slot value); reply = Reply.Done; registers = registers } }
+    ensures { deed_of result ≡ record {
+      act = Some (Act.Write slot value);
+      reply = Reply.Done;
+      registers = registers;
+    } }
 {
     Deed {
         act: Some(Act::Write { slot, value }),
@@ -266,15 +283,19 @@ fn store(registers: [Value; 16], slot: Slot, value: Value) -> Deed
 }
 
 /// What a get does that found the number in this slot.
-fn get(registers: [Value; 16], slot: Slot, found: u64) -> Deed
-    ensures { deed_of result ≡ record { act = Some (Act.Read slot (Value.Num found)); reply = Reply.Num found; registers = registers } }
+fn get(registers: [Value; 16], slot: Slot, number: u64) -> Deed
+    ensures { deed_of result ≡ record {
+      act = Some (Act.Read slot (Value.Num number));
+      reply = Reply.Num number;
+      registers = registers;
+    } }
 {
     Deed {
         act: Some(Act::Read {
             slot,
-            value: Value::Num(found),
+            value: Value::Num(number),
         }),
-        reply: Reply::Num(found),
+        reply: Reply::Num(number),
         registers,
     }
 }

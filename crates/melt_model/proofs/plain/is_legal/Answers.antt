@@ -1,4 +1,4 @@
-use Rattle.std.proofs.Common.{◌≡◌, ℕ, ◌<◌, length, take, refl, subst, below_more, arith}
+use Rattle.std.proofs.Common.{◌<◌, length, take, refl, subst, below_more, arith}
 use Rattle.std.proofs.lemmas.Option.{slice_get_within, get_or_from_slice_get}
 use Rattle.melt_model.specs.History.{MayFollow}
 use Rattle.melt_model.specs.declared.history.Act.TheVariants.{Make}

@@ -1,4 +1,4 @@
-use Rattle.std.proofs.Common.{◌≡◌, ℕ, ◌+◌, ◌≤◌, ◌++◌, drop}
+use Rattle.std.proofs.Common.{◌≡◌, ◌++◌, drop}
 use Rattle.melt_model.specs.Thread.{own_from, own}
 use Rattle.melt_model.proofs.plain.own.Given as goal
 

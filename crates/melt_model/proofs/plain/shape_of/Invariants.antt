@@ -1,4 +1,4 @@
-use Rattle.std.proofs.Common.{◌≡◌, ℕ, drop}
+use Rattle.std.proofs.Common.{◌≡◌, drop}
 use Rattle.melt_model.specs.History.{shape}
 use Rattle.melt_model.proofs.plain.shape_of.Given as goal
 
