@@ -1,3 +1,4 @@
 pub mod History
+pub mod Plain
 pub mod Thread
 pub mod Standing

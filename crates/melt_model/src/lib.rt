@@ -4,6 +4,7 @@
 
 pub mod history;
 pub mod operations;
+pub mod plain;
 pub mod reports;
 pub mod words;
 
