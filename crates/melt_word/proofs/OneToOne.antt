@@ -1,9 +1,8 @@
--- A word stands for one value at most.
-use Rattle.std.proofs.Common.{◌≡◌, ℕ, ◌+◌, ◌*◌, ◌<◌, Bool, true, false, refl, ap, arith}
-use Rattle.std.specs.Prelude.{Option, None, Some}
-use Rattle.melt_word.specs.Words.{IsRef, ref_word, IsHeader, bit, header_word, IsHome, home_word}
+-- Each of the three words stands for one value at most: values in range that have the same word are equal.
+use Rattle.std.proofs.Common.{◌≡◌, arith}
+use Rattle.std.specs.Prelude.{Option}
+use Rattle.melt_word.specs.Words.{IsRef, ref_word, IsHeader, header_word, IsHome, home_word}
 use Rattle.melt_word.specs.declared.reference.Ref.{Ref}
-use Rattle.melt_word.specs.declared.reference.Ref.TheVariants.{Null, Clean, Stale, Disk}
 use Rattle.melt_word.specs.declared.header.Header.{Header}
 use Rattle.melt_word.specs.declared.home.HomeWord.{HomeWord}
 
