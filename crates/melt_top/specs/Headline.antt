@@ -109,3 +109,18 @@ abbrev pub Outcome : Option Command → Change → Change → Status → Type 0
 Outcome command input out status.NoMemory = GaveUp command input out
 Outcome command input out status.WriteFault = WrotePart command input out
 Outcome command input out answered = WroteAll command input out answered
+
+-- the statuses that a command has today
+abbrev pub IsBuilt : Status → Type 0
+IsBuilt status.Done = Unit {0}
+IsBuilt status.Usage = Unit {0}
+IsBuilt status.Trace = Unit {0}
+IsBuilt status.ReadFault = Unit {0}
+IsBuilt status.DiskFault = ⊥
+IsBuilt status.OutOfHeap = ⊥
+IsBuilt status.DiskFull = ⊥
+IsBuilt status.WriteFault = Unit {0}
+IsBuilt status.NoMemory = Unit {0}
+IsBuilt status.Damaged = ⊥
+IsBuilt status.BadDump = ⊥
+IsBuilt status.Illegal = ⊥

@@ -8,4 +8,37 @@ mod status;
 mod text;
 mod top;
 
-fn main(rt: HostRuntime) {}
+use melt_io::{OpenGate, StdSink, StdSource, SteadyDisk};
+use status::Status;
+use std::alloc::{AllocError, Global};
+use std::process::ExitCode;
+use std::{env, io};
+use top::melt;
+
+/// The words behind the program's name. A word that is no text means nothing, and so do all of them then.
+fn words<R: Env + AllocGlobal>(rt: &R) -> Result<Vec<String>, AllocError> {
+    match env::args(rt) {
+        Ok(all) => all.skip(1).collect(rt.alloc()),
+        Err(error) if error.kind() == io::ErrorKind::OutOfMemory => Err(AllocError),
+        Err(_) => Ok(Vec::new(rt.alloc())),
+    }
+}
+
+fn main(rt: HostRuntime) -> ExitCode {
+    let mut input = StdSource::new(rt.stdin());
+    let mut out = StdSink::new(rt.stdout());
+    let mut disk = SteadyDisk::new(rt.alloc());
+    let status = match words(&rt) {
+        Ok(words) => melt(
+            &rt,
+            rt.alloc(),
+            &words,
+            &mut input,
+            &mut out,
+            &mut disk,
+            &OpenGate,
+        ),
+        Err(AllocError) => Status::NoMemory,
+    };
+    ExitCode::from(status.code())
+}

@@ -1,9 +1,10 @@
 //! The whole program, over any source and any sink.
-ghost use Rattle.std.specs.Prelude.{◌≡◌, map, string_bytes, IfOk, IfNone, OnErr};
+ghost use Rattle.std.specs.Prelude.{◌≡◌, map, string_bytes, IfOk, IfNone, IsNone, OnErr};
+ghost use Rattle.melt_io.specs.Outside.{Rose};
 ghost use Rattle.melt_trace.specs.Grammar.{line};
 ghost use Rattle.melt_top.specs.Command.{meant};
 ghost use Rattle.melt_top.specs.Text.{refused_text};
-ghost use Rattle.melt_top.specs.Headline.{IsUntouched, TraceDue, StepDue, Due, Outcome};
+ghost use Rattle.melt_top.specs.Headline.{IsUntouched, TraceDue, StepDue, Due, Outcome, IsBuilt};
 
 use crate::command::{Command, command_of};
 use crate::run::run_plain;
@@ -104,6 +105,11 @@ pub fn melt<X: Threads + Sync, S: Source, K: Sink, D: StaleDisk, G: Gate + Sync>
         (record { before = S.left input.old; after = S.left input.new; faults_before = S.faults input.old; faults_after = S.faults input.new })
         (record { before = K.written out.old; after = K.written out.new; faults_before = K.faults out.old; faults_after = K.faults out.new })
         result }
+    // Each answer by itself. Want of memory alone has no cause.
+    ensures usage { result ≡ Status.Usage → IsNone (meant (map string_bytes words.now)) }
+    ensures read_fault { result ≡ Status.ReadFault → Rose (S.faults input.old) (S.faults input.new) }
+    ensures write_fault { result ≡ Status.WriteFault → Rose (K.faults out.old) (K.faults out.new) }
+    ensures no_others { IsBuilt result }
 {
     let Ok(answer) = answer_to(alloc, words, input) else {
         return Status::NoMemory;

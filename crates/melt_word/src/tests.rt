@@ -1,0 +1,49 @@
+use super::*;
+use std::fmt::InlineText;
+
+#[test]
+fn words_of_references(rt: HostRuntime) {
+    assert_eq!(rt; encode_ref(Ref::Null), 0);
+    assert_eq!(rt; encode_ref(Ref::Clean(1)), 4);
+    assert_eq!(rt; encode_ref(Ref::Stale(1)), 5);
+    assert_eq!(rt; encode_ref(Ref::Disk(1)), 7);
+    for (word, found) in [
+        (0, Ok(Ref::Null)),
+        (2, Err(BadWord)),
+        (4, Ok(Ref::Clean(1))),
+        (5, Ok(Ref::Stale(1))),
+        (7, Ok(Ref::Disk(1))),
+    ] {
+        assert_eq!(rt; decode_ref(word), found, "at {word}");
+    }
+}
+
+#[test]
+fn words_of_headers(rt: HostRuntime) {
+    let shape = Shape { refs: 0, nums: 1 };
+    assert_eq!(rt; cost(shape), 3);
+    for (stale, word) in [(false, 65_537), (true, 65_539)] {
+        let header = Header { shape, stale };
+        assert_eq!(rt; encode_header(header), word);
+        assert_eq!(rt; decode_header(word), Ok(header));
+    }
+}
+
+#[test]
+fn words_of_homes(rt: HostRuntime) {
+    let home = Some(HomeWord { home: 1, scion: 1 });
+    assert_eq!(rt; encode_home(None), 0);
+    assert_eq!(rt; decode_home(0), Ok(None));
+    assert_eq!(rt; encode_home(home), 4_294_967_300);
+    assert_eq!(rt; decode_home(4_294_967_300), Ok(home));
+}
+
+#[test]
+fn texts_of_errors(rt: HostRuntime) {
+    assert_eq!(rt;
+        InlineText::<32>::of(BadWord).as_str(),
+        "bad reference word"
+    );
+    assert_eq!(rt; InlineText::<32>::of(BadHeader).as_str(), "bad header word");
+    assert_eq!(rt; InlineText::<32>::of(BadHome).as_str(), "bad home word");
+}
