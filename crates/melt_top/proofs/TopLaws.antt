@@ -1,15 +1,22 @@
 -- Laws of what is due, and of what was written.
-use Rattle.std.proofs.Common.{◌≡◌, ℕ, ◌+◌, ◌<◌, ◌≤◌, Bool, true, false, List, [], ◌++◌, length, take, drop, refl, sym, ◌∙◌, ap, subst, arith, ◌⊎◌, inl, inr}
+use Rattle.std.proofs.Common.{◌≡◌, ℕ, ◌+◌, ◌<◌, ◌≤◌, Bool, true, false, List, [], ◌∷◌, ◌++◌, length, take, drop, refl, sym, ◌∙◌, ap, subst, arith, ◌⊎◌, inl, inr}
 use Rattle.std.proofs.lemmas.Bool.{lt-ltb}
 use Rattle.std.proofs.lemmas.List.{length-take-le, take-append-drop, length-replicate}
 use Rattle.std.specs.Prelude.{Option, None, Some, IfSome, nat_lt, replicate, MatchBool, ◌||◌, if◌then◌else◌}
+use Rattle.std.specs.List.{list_any, AllByRecursion}
+use Rattle.std.proofs.lemmas.List.Elements.{recursion_from_All}
 use Rattle.melt_io.specs.Outside.{Rose, TakesFront, Appends}
 use Rattle.melt_io.specs.Whole.{TakesCount}
 use Rattle.melt_model.specs.declared.reports.Report.{Report}
+use Rattle.melt_model.specs.declared.reports.ThreadReport.{ThreadReport}
+use Rattle.melt_model.specs.declared.reports.ThreadEnd.{ThreadEnd}
+use Rattle.melt_model.specs.declared.reports.ThreadEnd.TheVariants as end
+use Rattle.melt_trace.specs.Script.{Script}
+use Rattle.melt_top.specs.Run.{RanToTheEnd}
 use Rattle.melt_trace.specs.Grammar.{Spells, FirstBad}
 use Rattle.melt_top.specs.Text.{read_fault_text, refused_text}
 use Rattle.melt_top.specs.Command.{status_of, ended, is_disk_fault, is_damaged, is_out_of_heap, halted_by_fault, halted_by_full}
-use Rattle.melt_top.specs.Headline.{Change, WasRead, TraceRefused, TraceRan, CouldNotRead, CouldRead, StepDue, NotUnderstood, Due, WroteAll, Outcome}
+use Rattle.melt_top.specs.Headline.{Change, WasRead, StepDue, Due, IsBuilt}
 use Rattle.melt_top.specs.declared.command.Command.{Command}
 use Rattle.melt_top.specs.declared.command.Command.TheVariants.{Step}
 use Rattle.melt_top.specs.declared.status.Status.{Status}
@@ -42,3 +49,41 @@ too_long input n due output long count is told =
       read = record { front = t.2; whole = λ short. absurd (omega (arith, t.1, long)); no_more = omega (arith, t.1, long) };
       trace = inl (record { line = 0; reason = 1; first_bad = long_refused t.0 (omega (arith, t.1, long)); status = is; told = told });
     })
+
+-- where each thread ended Done no thread ended otherwise
+none_ended : (test : ThreadEnd → Bool) (threads : List ThreadReport) → test end.Done ≡ false → AllByRecursion (λ (r : ThreadReport). r.end ≡ end.Done) threads → list_any (λ (r : ThreadReport). test r.end) threads ≡ false
+none_ended test [] not_done all = refl
+none_ended test (r ∷ threads) not_done all =
+    ap (λ (e : ThreadEnd). test e || list_any (λ (x : ThreadReport). test x.end) threads) all.0
+    ∙ (ap (λ (b : Bool). b || list_any (λ (x : ThreadReport). test x.end) threads) not_done ∙ none_ended test threads not_done all.1)
+
+chosen : (a b c d : Bool) → a ≡ false → b ≡ false → c ≡ false → d ≡ false → (if a then status.DiskFault else if b then status.Damaged else if c then status.DiskFull else if d then status.OutOfHeap else status.Done) ≡ status.Done
+chosen true b c d p q r s = absurd (cc)
+chosen false true c d p q r s = absurd (cc)
+chosen false false true d p q r s = absurd (cc)
+chosen false false false true p q r s = absurd (cc)
+chosen false false false false p q r s = refl
+
+either : (a b : Bool) → a ≡ false → b ≡ false → (a || b) ≡ false
+either true b p q = p
+either false b p q = q
+
+-- a run to the end is Done
+ran_status : (script : Script) (report : Report) → RanToTheEnd script report → status_of report ≡ status.Done
+ran_status script report ran =
+    let all = recursion_from_All (λ (r : ThreadReport). r.end ≡ end.Done) report.threads ran.done in
+    chosen (ended is_disk_fault report || halted_by_fault report.halt) (ended is_damaged report) (halted_by_full report.halt) (ended is_out_of_heap report)
+      (either (ended is_disk_fault report) (halted_by_fault report.halt) (none_ended is_disk_fault report.threads refl all) (ap halted_by_fault ran.no_halt))
+      (none_ended is_damaged report.threads refl all) (ap halted_by_full ran.no_halt) (none_ended is_out_of_heap report.threads refl all)
+
+step_built : (input : Change) (due : Status) (output : List ℕ) → StepDue input due output → IsBuilt due
+step_built input due output (inl failed) = subst IsBuilt (sym failed.status) tt
+step_built input due output (inr read) = elim read.trace [
+      inl refused ↦ subst IsBuilt (sym refused.status) tt
+    | inr ran ↦ subst IsBuilt (sym (ran.status ∙ ran_status ran.script ran.report ran.reported.ends)) tt
+    ]
+
+-- what is due has a status of today
+pub due_built : (command : Option Command) (input : Change) (due : Status) (output : List ℕ) → Due command input due output → IsBuilt due
+due_built None input due output is = subst IsBuilt (sym is.status) tt
+due_built (Some Step) input due output is = step_built input due output is

@@ -12,6 +12,7 @@ use melt_io::{OpenGate, StdSink, StdSource, SteadyDisk};
 use status::Status;
 use std::alloc::{AllocError, Global};
 use std::process::ExitCode;
+use std::rt::Env;
 use std::{env, io};
 use top::melt;
 
