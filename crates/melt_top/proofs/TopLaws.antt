@@ -73,15 +73,15 @@ ran_status : (script : Script) (report : Report) → RanToTheEnd script report �
 ran_status script report ran =
     let all = recursion_from_All (λ (r : ThreadReport). r.end ≡ end.Done) report.threads ran.done in
     chosen (ended is_disk_fault report || halted_by_fault report.halt) (ended is_damaged report) (halted_by_full report.halt) (ended is_out_of_heap report)
-      (either (ended is_disk_fault report) (halted_by_fault report.halt) (none_ended is_disk_fault report.threads refl all) (ap halted_by_fault ran.no_halt))
-      (none_ended is_damaged report.threads refl all) (ap halted_by_full ran.no_halt) (none_ended is_out_of_heap report.threads refl all)
+    (either (ended is_disk_fault report) (halted_by_fault report.halt) (none_ended is_disk_fault report.threads refl all) (ap halted_by_fault ran.no_halt))
+    (none_ended is_damaged report.threads refl all) (ap halted_by_full ran.no_halt) (none_ended is_out_of_heap report.threads refl all)
 
 step_built : (input : Change) (due : Status) (output : List ℕ) → StepDue input due output → IsBuilt due
 step_built input due output (inl failed) = subst IsBuilt (sym failed.status) tt
 step_built input due output (inr read) = elim read.trace [
-      inl refused ↦ subst IsBuilt (sym refused.status) tt
-    | inr ran ↦ subst IsBuilt (sym (ran.status ∙ ran_status ran.script ran.report ran.reported.ends)) tt
-    ]
+  | inl refused ↦ subst IsBuilt (sym refused.status) tt
+  | inr ran ↦ subst IsBuilt (sym (ran.status ∙ ran_status ran.script ran.report ran.reported.ends)) tt
+]
 
 -- what is due has a status of today
 pub due_built : (command : Option Command) (input : Change) (due : Status) (output : List ℕ) → Due command input due output → IsBuilt due
