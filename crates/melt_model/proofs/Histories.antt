@@ -144,21 +144,30 @@ slice_get_some_within [] n P is = absurd is
 slice_get_some_within (x ∷ xs) zero P is = omega arith
 slice_get_some_within (x ∷ xs) (suc n) P is = let below : n < length xs = slice_get_some_within xs n P is in omega arith
 
--- an object with a slot was made
-made_slot : (before : List Entry) (globals n i : ℕ) → IsSlot before globals (Field n i) → n < made before
-made_slot before globals n i is = slice_get_some_within (shapes before) n _ is
+-- an object with a part was made
+pub made_field : (before : List Entry) (globals n i : ℕ) → IsSlot before globals (Field n i) → n < made before
+made_field before globals n i is = slice_get_some_within (shapes before) n _ is
+
+pub made_cell : (before : List Entry) (globals n j : ℕ) → IsSlot before globals (Cell n j) → n < made before
+made_cell before globals n j is = slice_get_some_within (shapes before) n _ is
 
 -- nothing was written to an object that was not made
-unmade_write : (before : List Entry) (globals n i : ℕ) (write : Option (Slot × Value)) → IfSome write (λ w. IsSlot before globals w.0) → made before ≤ n → after_write (Field n i) write Nil ≡ Nil
-unmade_write before globals n i None slots above = refl
-unmade_write before globals n i (Some w) slots above =
-    cond_both (slot_eq w.0 (Field n i)) w.1 Nil (λ v. v ≡ Nil)
-    (λ e. absurd (let below : n < made before = made_slot before globals n i (subst (IsSlot before globals) (same_slot w.0 (Field n i) e) slots) in omega arith))
+unmade_write : (before : List Entry) (globals n : ℕ) (slot : Slot) (write : Option (Slot × Value)) → (IsSlot before globals slot → n < made before) → IfSome write (λ w. IsSlot before globals w.0) → made before ≤ n → after_write slot write (first_value slot) ≡ first_value slot
+unmade_write before globals n slot None needs slots above = refl
+unmade_write before globals n slot (Some w) needs slots above =
+    cond_both (slot_eq w.0 slot) w.1 (first_value slot) (λ v. v ≡ first_value slot)
+    (λ e. absurd (let below : n < made before = needs (subst (IsSlot before globals) (same_slot w.0 slot e) slots) in omega arith))
     (λ e. refl)
 
-pub last_unmade : (h : List Entry) (globals n i : ℕ) → Legal h globals → made h ≤ n → last h (Field n i) ≡ Nil
-last_unmade h globals n i legal =
-    Legal-induction h globals (λ k. made k ≤ n → last k (Field n i) ≡ Nil) legal (λ above. refl)
+unmade_slot : (h : List Entry) (globals n : ℕ) (slot : Slot) → ((before : List Entry) → IsSlot before globals slot → n < made before) → Legal h globals → made h ≤ n → last h slot ≡ first_value slot
+unmade_slot h globals n slot needs legal =
+    Legal-induction h globals (λ k. made k ≤ n → last k slot ≡ first_value slot) legal (λ above. refl)
     (λ before e follows holds above.
     let under : made before ≤ n = omega (arith, made-append before (e ∷ [])) in
-    last-push before e (Field n i) ∙ (ap (after_write (Field n i) (write_of e.act)) (holds under) ∙ unmade_write before globals n i (write_of e.act) follows.write_slot under))
+    last-push before e slot ∙ (ap (after_write slot (write_of e.act)) (holds under) ∙ unmade_write before globals n slot (write_of e.act) (needs before) follows.write_slot under))
+
+pub last_unmade : (h : List Entry) (globals n i : ℕ) → Legal h globals → made h ≤ n → last h (Field n i) ≡ Nil
+last_unmade h globals n i = unmade_slot h globals n (Field n i) (λ before is. made_field before globals n i is)
+
+pub last_unmade_cell : (h : List Entry) (globals n j : ℕ) → Legal h globals → made h ≤ n → last h (Cell n j) ≡ Num 0
+last_unmade_cell h globals n j = unmade_slot h globals n (Cell n j) (λ before is. made_cell before globals n j is)

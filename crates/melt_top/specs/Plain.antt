@@ -1,11 +1,12 @@
 -- The plain list of objects, and the history that it stands for.
-use Rattle.std.specs.Prelude.{◌≡◌, ℕ, ◌<◌, ◌≤◌, ◌==◌, ◌&&◌, if◌then◌else◌, List, [], ◌∷◌, ◌++◌, length, slice_get, slice_index_or, slice_set, Option, None, Some, unwrap_or}
+use Rattle.std.specs.Prelude.{◌≡◌, ℕ, ◌<◌, ◌≤◌, ◌==◌, if◌then◌else◌, List, [], ◌∷◌, ◌++◌, length, slice_get, slice_index, slice_index_or, slice_set, Option, None, Some, unwrap_or}
 use Rattle.std.specs.Option.{option_map}
-use Rattle.melt_model.specs.History.{Shape, shape, made, given, last, IsReference, Legal}
+use Rattle.melt_model.specs.History.{Shape, shape, made, given, after_write, last, IsReference, Legal}
 use Rattle.melt_model.specs.Thread.{does, value_in}
 use Rattle.melt_model.specs.declared.history.Value.{Value}
-use Rattle.melt_model.specs.declared.history.Value.TheVariants.{Nil, Ref}
-use Rattle.melt_model.specs.declared.history.Slot.TheVariants.{Field, Global}
+use Rattle.melt_model.specs.declared.history.Value.TheVariants.{Nil, Ref, Num}
+use Rattle.melt_model.specs.declared.history.Slot.{Slot}
+use Rattle.melt_model.specs.declared.history.Slot.TheVariants.{Field, Cell, Global}
 use Rattle.melt_model.specs.declared.history.Act.{Act}
 use Rattle.melt_model.specs.declared.history.Entry.{Entry}
 use Rattle.melt_model.specs.declared.operations.Op.{Op}
@@ -16,20 +17,28 @@ use Rattle.melt_top.specs.declared.plain.Object.{Object}
 abbrev pub WritesPart : List Value → List Value → ℕ → Value → Type 0
 WritesPart old new at value = (k : ℕ) → slice_index_or new k Nil ≡ (if at == k then value else slice_index_or old k Nil)
 
--- an object after a write to slot i of object n
-pub record IsWritten (old new : Object) (m n i : ℕ) (value : Value) : Type 0 where
-  pub refs : new.refs ≡ old.refs
-  pub slots : (k : ℕ) → slice_index_or new.slots.items k Nil ≡ (if (n == m) && (i == k) then value else slice_index_or old.slots.items k Nil)
+-- one number is written, and each other reads as before
+abbrev pub WritesNumber : List ℕ → List ℕ → ℕ → ℕ → Type 0
+WritesNumber old new at number = (k : ℕ) → slice_index new k ≡ (if at == k then number else slice_index old k)
 
--- slot i of object n is written, and all else is as before
-pub record WritesSlot (old new : List Object) (n i : ℕ) (value : Value) : Type 0 where
+-- object m after a write to a slot
+pub record IsWritten (old new : Object) (m : ℕ) (slot : Slot) (value : Value) : Type 0 where
+  pub refs : new.refs ≡ old.refs
+  pub nums : new.nums ≡ old.nums
+  pub slots : (k : ℕ) → slice_index_or new.slots.items k Nil ≡ after_write (Field m k) (Some (slot, value)) (slice_index_or old.slots.items k Nil)
+  pub cells : (k : ℕ) → Num (slice_index new.cells.items k) ≡ after_write (Cell m k) (Some (slot, value)) (Num (slice_index old.cells.items k))
+
+-- a slot of an object is written, and all else is as before
+pub record WritesSlot (old new : List Object) (slot : Slot) (value : Value) : Type 0 where
   pub count : length new ≡ length old
-  pub each : (m : ℕ) (o : Object) → slice_get new m ≡ Some o → (was : Object) × (slice_get old m ≡ Some was) × IsWritten was o m n i value
+  pub each : (m : ℕ) (o : Object) → slice_get new m ≡ Some o → (was : Object) × (slice_get old m ≡ Some was) × IsWritten was o m slot value
 
 -- object n of a history
 pub record IsObject (log : List Entry) (n : ℕ) (o : Object) : Type 0 where
   pub refs : option_map (λ (z : Shape). z.refs) (shape log n) ≡ Some o.refs
+  pub nums : option_map (λ (z : Shape). z.nums) (shape log n) ≡ Some o.nums
   pub slots : (i : ℕ) → slice_index_or o.slots.items i Nil ≡ last log (Field n i)
+  pub cells : (j : ℕ) → Num (slice_index o.cells.items j) ≡ last log (Cell n j)
 
 -- the objects, the globals and the registers stand for a legal history
 pub record StandsFor (os : List Object) (gs rs : List Value) (log : List Entry) : Type 0 where

@@ -35,6 +35,14 @@ pub record HasWritten (old new : PlainHeap) (slot : Slot) (value : Value) (r : R
   pub registers : new.registers ≡ old.registers
   pub history : new.log.items ≡ old.log.items ++ entry (Write slot value) ∷ []
 
+-- a register was set
+pub record HasSet (old new : PlainHeap) (dst : ℕ) (value : Value) (r : Reply) : Type 0 where
+  pub stands : IsPlain new
+  pub globals_stay : length new.globals.items ≡ length old.globals.items
+  pub told : reply.Done ≡ r
+  pub registers : new.registers ≡ slice_set old.registers dst value
+  pub history : new.log.items ≡ old.log.items
+
 -- an operation was answered
 pub record HasAnswered (old new : PlainHeap) (o : Op) (r : Reply) : Type 0 where
   pub stands : IsPlain new

@@ -1,21 +1,24 @@
 //! A heap without a limit: every object that was made stands in one list, and none is ever collected.
-ghost use Rattle.std.specs.Prelude.{◌≡◌, ◌<◌, ◌≤◌, ◌==◌, if◌then◌else◌, slice_index_or, length, vec_len, IfOk, OnOk};
+ghost use Rattle.std.specs.Prelude.{◌≡◌, ◌<◌, ◌≤◌, ◌==◌, if◌then◌else◌, slice_index, slice_index_or, length, vec_len, IfOk, OnOk};
 ghost use Rattle.melt_model.specs.Thread.{found as found_in};
 ghost use Rattle.melt_model.specs.declared.history.Value.TheVariants.{Nil};
-ghost use Rattle.melt_trace.specs.Grammar.{InRange, IsBuilt};
+ghost use Rattle.melt_trace.specs.Grammar.{InRange};
 ghost use Rattle.melt_model.specs.History.{last, IsSlot, IsReference};
-ghost use Rattle.melt_model.specs.declared.history.Slot.TheVariants.{Field, Global};
-ghost use Rattle.melt_top.specs.Plain.{WritesPart, WritesSlot};
-ghost use Rattle.melt_top.specs.PlainHeap.{IsPlain, IsFresh, HasRead, HasWritten, HasAnswered};
+ghost use Rattle.melt_model.specs.declared.history.Slot.TheVariants.{Field, Cell, Global};
+ghost use Rattle.melt_top.specs.Plain.{WritesPart, WritesNumber, WritesSlot};
+ghost use Rattle.melt_top.specs.PlainHeap.{IsPlain, IsFresh, HasRead, HasWritten, HasSet, HasAnswered};
 
 use melt_model::{Act, Entry, NoMemory, Op, Reply, Slot, Value};
 use std::alloc::Global;
 
-/// An object. Its slots behind the last one that was written hold Nil, and take no memory.
+/// An object. Its slots behind the last one that was written hold Nil, its number words (cells) behind the
+/// last one that was written hold 0, and neither take memory.
 #[derive(Debug, Drop)]
 pub struct Object {
     pub refs: u8,
+    pub nums: u8,
     pub slots: Vec<Value>,
+    pub cells: Vec<u64>,
 }
 
 /// What a load that found this value replies.
@@ -47,13 +50,41 @@ fn put(values: &mut Vec<Value>, at: usize, value: Value) -> Result<(), NoMemory>
     Ok(())
 }
 
+/// The number at a place, or 0 behind the last one.
+fn number_at(numbers: &[u64], at: usize) -> u64
+    ensures { result ≡ slice_index numbers.now at }
+{
+    numbers.get(at).copied().unwrap_or(0)
+}
+
+/// Writes a number at a place, with 0 between where there were fewer.
+fn put_number(numbers: &mut Vec<u64>, at: usize, number: u64) -> Result<(), NoMemory>
+    requires { at < 64 }
+    ensures { OnOk result (WritesNumber numbers.old.items numbers.new.items at number) }
+{
+    if numbers.len() <= at {
+        numbers.resize(at + 1, 0)?;
+    }
+    numbers[at] = number;
+    Ok(())
+}
+
 /// Writes slot `i` of object `n`.
 fn put_slot(objects: &mut Vec<Object>, n: usize, i: usize, value: Value) -> Result<(), NoMemory>
     requires object { n < vec_len objects.old }
     requires slot { i < 64 }
-    ensures { OnOk result (WritesSlot objects.old.items objects.new.items n i value) }
+    ensures { OnOk result (WritesSlot objects.old.items objects.new.items (Slot.Field n i) value) }
 {
     put(&mut objects[n].slots, i, value)
+}
+
+/// Writes number word `j` of object `n`.
+fn put_cell(objects: &mut Vec<Object>, n: usize, j: usize, number: u64) -> Result<(), NoMemory>
+    requires object { n < vec_len objects.old }
+    requires cell { j < 64 }
+    ensures { OnOk result (WritesSlot objects.old.items objects.new.items (Slot.Cell n j) (Value.Num number)) }
+{
+    put_number(&mut objects[n].cells, j, number)
 }
 
 /// The objects, the globals and the registers of the one thread, and the history so far.
@@ -113,6 +144,23 @@ impl PlainHeap {
         Ok(Reply::Done)
     }
 
+    /// Writes a number word of an object.
+    fn write_cell(&mut self, n: u64, j: u8, number: u64) -> Result<Reply, NoMemory>
+        requires stands { IsPlain self.old }
+        requires slot { IsSlot self.old.log.items (length self.old.globals.items) (Cell n j) }
+        requires place { j < 64 }
+        ensures { IfOk result (HasWritten self.old self.new (Slot.Cell n j) (Value.Num number)) }
+    {
+        let slot = Slot::Cell(n, j);
+        let value = Value::Num(number);
+        put_cell(&mut self.objects, n as usize, j as usize, number)?;
+        self.log.push(Entry {
+            thread: 0,
+            act: Act::Write { slot, value },
+        })?;
+        Ok(Reply::Done)
+    }
+
     /// Writes a global.
     fn write_global(&mut self, g: u8, value: Value) -> Result<Reply, NoMemory>
         requires stands { IsPlain self.old }
@@ -137,7 +185,9 @@ impl PlainHeap {
         let value = Value::Ref(self.objects.len() as u64);
         self.objects.push(Object {
             refs,
+            nums,
             slots: Vec::new(alloc),
+            cells: Vec::new(alloc),
         })?;
         self.log.push(Entry {
             thread: 0,
@@ -194,6 +244,54 @@ impl PlainHeap {
         self.write_global(g, self.registers[src as usize])
     }
 
+    fn get(&mut self, src: u8, j: u8) -> Result<Reply, NoMemory>
+        requires stands { IsPlain self.old }
+        requires range { InRange (length self.old.globals.items) (Op.Get src j) }
+        ensures { IfOk result (HasAnswered self.old self.new (Op.Get src j)) }
+    {
+        let Value::Ref(n) = self.registers[src as usize] else {
+            return Ok(Reply::Nil);
+        };
+        let object = &self.objects[n as usize];
+        if j >= object.nums {
+            return Ok(Reply::Range);
+        }
+        let number = number_at(&object.cells, j as usize);
+        self.log.push(Entry {
+            thread: 0,
+            act: Act::Read {
+                slot: Slot::Cell(n, j),
+                value: Value::Num(number),
+            },
+        })?;
+        Ok(Reply::Num(number))
+    }
+
+    fn put(&mut self, obj: u8, j: u8, number: u64) -> Result<Reply, NoMemory>
+        requires stands { IsPlain self.old }
+        requires range { InRange (length self.old.globals.items) (Op.Put obj j number) }
+        ensures { IfOk result (HasAnswered self.old self.new (Op.Put obj j number)) }
+    {
+        let Value::Ref(n) = self.registers[obj as usize] else {
+            return Ok(Reply::Nil);
+        };
+        if j >= self.objects[n as usize].nums {
+            return Ok(Reply::Range);
+        }
+        self.write_cell(n, j, number)
+    }
+
+    /// Sets a register. Nothing of this is in the history.
+    fn set_register(&mut self, dst: u8, value: Value) -> Reply
+        requires stands { IsPlain self.old }
+        requires register { dst < 16 }
+        requires reference { IsReference self.old.log.items value }
+        ensures { HasSet self.old self.new dst value result }
+    {
+        self.registers[dst as usize] = value;
+        Reply::Done
+    }
+
     fn same(&self, a: u8, b: u8) -> Reply
         requires stands { IsPlain self.now }
         requires range { InRange (length self.now.globals.items) (Op.Same a b) }
@@ -210,19 +308,20 @@ impl PlainHeap {
     pub fn answer(&mut self, alloc: Global, op: Op) -> Result<Reply, NoMemory>
         requires stands { IsPlain self.old }
         requires range { InRange (length self.old.globals.items) op }
-        requires built { IsBuilt op }
         ensures { IfOk result (HasAnswered self.old self.new op) }
     {
         match op {
             Op::New { dst, refs, nums } => self.make(alloc, dst, refs, nums),
             Op::Load { dst, src, i } => self.load(dst, src, i),
             Op::Store { obj, i, src } => self.store(obj, i, src),
+            Op::Get { src, j } => self.get(src, j),
+            Op::Put { obj, j, v } => self.put(obj, j, v),
             Op::GLoad { dst, g } => self.load_global(dst, g),
             Op::GStore { g, src } => self.store_global(g, src),
             Op::Same { a, b } => Ok(self.same(a, b)),
-            Op::Get { .. } | Op::Put { .. } | Op::Copy { .. } | Op::Drop { .. } | Op::Collect => {
-                unreachable!()
-            }
+            Op::Copy { dst, src } => Ok(self.set_register(dst, self.registers[src as usize])),
+            Op::Drop { r } => Ok(self.set_register(r, Value::Nil)),
+            Op::Collect => Ok(Reply::Done),
         }
     }
 }
