@@ -1,11 +1,11 @@
 -- Laws of what is due, and of what was written.
-use Rattle.std.proofs.Common.{◌≡◌, ℕ, ◌+◌, ◌<◌, ◌≤◌, Bool, true, false, List, [], ◌∷◌, ◌++◌, length, take, drop, refl, sym, ◌∙◌, ap, subst, arith, ◌⊎◌, inl, inr}
+use Rattle.std.proofs.Common.{◌≡◌, ℕ, ◌<◌, ◌≤◌, Bool, true, false, List, [], ◌∷◌, ◌++◌, length, take, refl, sym, ◌∙◌, ap, subst, arith, inl, inr}
 use Rattle.std.proofs.lemmas.Bool.{lt-ltb}
 use Rattle.std.proofs.lemmas.List.{length-take-le, take-append-drop, length-replicate}
-use Rattle.std.specs.Prelude.{Option, None, Some, IfSome, nat_lt, replicate, MatchBool, ◌||◌, if◌then◌else◌}
+use Rattle.std.specs.Prelude.{Option, None, Some, replicate, MatchBool, ◌||◌, if◌then◌else◌}
 use Rattle.std.specs.List.{list_any, AllByRecursion}
 use Rattle.std.proofs.lemmas.List.Elements.{recursion_from_All}
-use Rattle.melt_io.specs.Outside.{Rose, TakesFront, Appends}
+use Rattle.melt_io.specs.Outside.{Rose, TakesFront}
 use Rattle.melt_io.specs.Whole.{TakesCount}
 use Rattle.melt_model.specs.declared.reports.Report.{Report}
 use Rattle.melt_model.specs.declared.reports.ThreadReport.{ThreadReport}
@@ -16,7 +16,7 @@ use Rattle.melt_top.specs.Run.{RanToTheEnd}
 use Rattle.melt_trace.specs.Grammar.{Spells, FirstBad}
 use Rattle.melt_top.specs.Text.{read_fault_text, refused_text}
 use Rattle.melt_top.specs.Command.{status_of, ended, is_disk_fault, is_damaged, is_out_of_heap, halted_by_fault, halted_by_full}
-use Rattle.melt_top.specs.Headline.{Change, WasRead, StepDue, Due, IsBuilt}
+use Rattle.melt_top.specs.Headline.{Change, StepDue, Due, IsBuilt}
 use Rattle.melt_top.specs.declared.command.Command.{Command}
 use Rattle.melt_top.specs.declared.command.Command.TheVariants.{Step}
 use Rattle.melt_top.specs.declared.status.Status.{Status}

@@ -1,5 +1,5 @@
 -- What a report says of a trace.
-use Rattle.std.specs.Prelude.{◌≡◌, ℕ, ◌<◌, List, [], length, All, slice_get, Option, None, Some}
+use Rattle.std.specs.Prelude.{◌≡◌, ℕ, ◌<◌, List, [], length, All, slice_get, None, Some}
 use Rattle.melt_model.specs.History.{Legal}
 use Rattle.melt_model.specs.Thread.{Transcript}
 use Rattle.melt_model.specs.declared.history.Entry.{Entry}

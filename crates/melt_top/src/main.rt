@@ -5,6 +5,8 @@ mod command;
 mod plain;
 mod run;
 mod status;
+#[cfg(test)]
+mod tests;
 mod text;
 mod top;
 

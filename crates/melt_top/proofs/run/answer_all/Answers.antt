@@ -1,4 +1,4 @@
-use Rattle.std.proofs.Common.{◌≡◌, List, ◌++◌, ◌∷◌, [], sym, subst, ap, ◌∙◌}
+use Rattle.std.proofs.Common.{List, ◌++◌, ◌∷◌, [], sym, subst, ap, ◌∙◌}
 use Rattle.melt_model.specs.Standing.{Stands}
 use Rattle.melt_model.specs.declared.operations.Reply.{Reply}
 use Rattle.melt_model.specs.declared.operations.Op.{Op}

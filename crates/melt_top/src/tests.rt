@@ -1,0 +1,195 @@
+use crate::status::{Status, status_for};
+use crate::text::report_text;
+use crate::top::melt;
+use melt_io::{MemSink, MemSource, OpenGate, Sink, Source, SteadyDisk, SteadySink, SteadySource};
+use melt_model::{
+    Entries, Halt, Journals, Replies, Reply, Report, ThreadEnd, ThreadReport, ThreadReports,
+};
+use std::alloc::Global;
+use std::test::Fail;
+use std::thread::Threads;
+
+const TRACE: &[u8] = b"melt 1\nthreads 1\nglobals 0\nthread 0\nnew 0 1 0\nsame 0 0\ndone\n";
+
+fn call<R: Threads + Sync + AllocGlobal, S: Source, K: Sink>(
+    rt: &R,
+    words: &[&str],
+    input: &mut S,
+    out: &mut K,
+) -> Result<Status, Fail> {
+    let alloc = rt.alloc();
+    let mut owned = Vec::new(alloc);
+    for word in words {
+        owned.push(String::from_str(alloc, word)?)?;
+    }
+    let mut disk = SteadyDisk::new(alloc);
+    Ok(melt(rt, alloc, &owned, input, out, &mut disk, &OpenGate))
+}
+
+fn report(
+    alloc: Global,
+    replies: &[Reply],
+    ends: &[ThreadEnd],
+    halt: Option<Halt>,
+) -> Result<Report, Fail> {
+    let mut items = Vec::new(alloc);
+    for end in ends {
+        items.push(ThreadReport {
+            replies: Replies {
+                items: replies.to_vec(alloc)?,
+            },
+            end: *end,
+        })?;
+    }
+    Ok(Report {
+        threads: ThreadReports { items },
+        journal: Journals {
+            items: Vec::new(alloc),
+        },
+        halt,
+        log: Entries {
+            items: Vec::new(alloc),
+        },
+    })
+}
+
+#[test]
+fn step_writes_each_reply(rt: HostRuntime) -> Result<(), Fail> {
+    let cases = [
+        (TRACE, b"thread 0\nok\nyes\nend done\n".as_slice()),
+        (
+            b"melt 1\nthreads 1\nglobals 0\nthread 0\nnew 0 1 0\nload 1 2 0\nload 1 0 1\nload 1 0 0\nsame 1 2\ndone\n",
+            b"thread 0\nok\nnil\nrange\nnull\nyes\nend done\n",
+        ),
+        (
+            b"melt 1\nthreads 1\nglobals 1\nthread 0\nnew 0 1 0\nstore 0 0 0\nload 1 0 0\nsame 1 0\ngload 2 0\ngstore 0 1\ngload 2 0\nsame 2 3\ndone\n",
+            b"thread 0\nok\nok\nref\nyes\nnull\nok\nref\nno\nend done\n",
+        ),
+        (
+            b"melt  1\nthreads 1\nglobals 0\nthread 0\ndone\n",
+            b"error trace 0 15\n",
+        ),
+    ];
+    for (trace, text) in cases {
+        let mut source = SteadySource::new(trace.to_vec(rt.alloc())?);
+        let mut sink = SteadySink::new(rt.alloc());
+        let status = call(&rt, &["step"], &mut source, &mut sink)?;
+        assert_eq!(rt; sink.bytes.as_slice(), text);
+        let refused = text.starts_with(b"error");
+        assert_eq!(rt; status, if refused { Status::Trace } else { Status::Done });
+    }
+    Ok(())
+}
+
+#[test]
+fn a_sink_that_fails_has_nothing(rt: HostRuntime) -> Result<(), Fail> {
+    for word in ["step", "run"] {
+        let mut source = MemSource::new(TRACE.to_vec(rt.alloc())?);
+        let mut sink = MemSink::new(rt.alloc());
+        sink.fail.push(1)?;
+        assert_eq!(rt;
+            call(&rt, &[word], &mut source, &mut sink)?,
+            Status::WriteFault
+        );
+        assert_eq!(rt; sink.bytes.len(), 0);
+        assert_eq!(rt; sink.faults, 1);
+    }
+    Ok(())
+}
+
+#[test]
+fn a_source_that_fails_is_told(rt: HostRuntime) -> Result<(), Fail> {
+    let mut source = MemSource::new(TRACE.to_vec(rt.alloc())?);
+    source.fail.push(1)?;
+    let mut sink = MemSink::new(rt.alloc());
+    assert_eq!(rt;
+        call(&rt, &["step"], &mut source, &mut sink)?,
+        Status::ReadFault
+    );
+    assert_eq!(rt; sink.bytes.as_slice(), b"error read\n".as_slice());
+    assert_eq!(rt; source.faults, 1);
+    Ok(())
+}
+
+#[test]
+fn words_that_mean_nothing_read_nothing(rt: HostRuntime) -> Result<(), Fail> {
+    let cases = [[].as_slice(), &["run"], &["step", "x"]];
+    for words in cases {
+        let mut source = MemSource::new(TRACE.to_vec(rt.alloc())?);
+        let mut sink = MemSink::new(rt.alloc());
+        assert_eq!(rt; call(&rt, words, &mut source, &mut sink)?, Status::Usage);
+        assert_eq!(rt; sink.bytes.as_slice(), b"error usage\n".as_slice());
+        assert_eq!(rt; (source.pos, source.calls), (0, 0));
+    }
+    Ok(())
+}
+
+#[test]
+fn a_report_has_each_reply_end_and_halt(rt: HostRuntime) -> Result<(), Fail> {
+    let replies = [
+        Reply::Done,
+        Reply::Null,
+        Reply::Ref,
+        Reply::Num(18_446_744_073_709_551_615),
+        Reply::Yes,
+        Reply::No,
+        Reply::Nil,
+        Reply::Range,
+    ];
+    let end = ThreadEnd::Done;
+    let full = Halt::DiskFull {
+        end: 7,
+        need: 0,
+        limit: 12,
+    };
+    let whole = report(rt.alloc(), &replies, &[end], Some(full))?;
+    assert_eq!(rt;
+        report_text(rt.alloc(), &whole)?.as_slice(),
+        b"thread 0\nok\nnull\nref\n18446744073709551615\nyes\nno\nnil\nrange\nend done\nhalt disk-full 7 0 12\n".as_slice()
+    );
+    let ends = [
+        ThreadEnd::OutOfHeap { held: 3, need: 64 },
+        ThreadEnd::DiskFault,
+        ThreadEnd::Damaged {
+            home: 2,
+            at: 0,
+            word: 9,
+        },
+        ThreadEnd::Halted,
+    ];
+    let broken = report(rt.alloc(), &[], &ends, Some(Halt::DiskFault))?;
+    assert_eq!(rt;
+        report_text(rt.alloc(), &broken)?.as_slice(),
+        b"thread 0\nend out-of-heap 3 64\nthread 1\nend disk-fault\nthread 2\nend damaged 2 0 9\nthread 3\nend halted\nhalt disk-fault\n".as_slice()
+    );
+    Ok(())
+}
+
+#[test]
+fn a_report_has_the_status_of_its_worst_end(rt: HostRuntime) -> Result<(), Fail> {
+    let out = ThreadEnd::OutOfHeap { held: 3, need: 64 };
+    let damaged = ThreadEnd::Damaged {
+        home: 2,
+        at: 0,
+        word: 9,
+    };
+    let full = Halt::DiskFull {
+        end: 7,
+        need: 0,
+        limit: 12,
+    };
+    let cases = [
+        ([ThreadEnd::Done, ThreadEnd::Halted], None, Status::Done, 0),
+        ([ThreadEnd::Done, out], None, Status::OutOfHeap, 5),
+        ([out, ThreadEnd::Halted], Some(full), Status::DiskFull, 6),
+        ([out, damaged], Some(full), Status::Damaged, 9),
+        ([damaged, ThreadEnd::DiskFault], None, Status::DiskFault, 4),
+        ([damaged, out], Some(Halt::DiskFault), Status::DiskFault, 4),
+    ];
+    for (ends, halt, status, code) in cases {
+        let report = report(rt.alloc(), &[], &ends, halt)?;
+        assert_eq!(rt; status_for(&report), status);
+        assert_eq!(rt; status.code(), code);
+    }
+    Ok(())
+}
