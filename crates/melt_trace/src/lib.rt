@@ -2,6 +2,7 @@
 #![tactic(auto)]
 
 pub mod error;
+mod language;
 mod fields;
 mod lines;
 mod reader;
