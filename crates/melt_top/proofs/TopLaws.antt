@@ -1,8 +1,8 @@
 -- Laws of what is due, and of what was written.
 use Rattle.std.proofs.Common.{◌≡◌, ℕ, ◌<◌, ◌≤◌, Bool, true, false, List, [], ◌∷◌, ◌++◌, length, take, refl, sym, ◌∙◌, ap, subst, arith, inl, inr}
-use Rattle.std.proofs.lemmas.Bool.{lt-ltb}
+use Rattle.std.proofs.lemmas.Bool.{cond-false, lt-leb}
 use Rattle.std.proofs.lemmas.List.{length-take-le, take-append-drop, length-replicate}
-use Rattle.std.specs.Prelude.{Option, None, Some, replicate, MatchBool, ◌||◌, if◌then◌else◌}
+use Rattle.std.specs.Prelude.{Option, None, Some, replicate, nat_le, Err, ◌||◌, if◌then◌else◌}
 use Rattle.std.specs.List.{list_any, AllByRecursion}
 use Rattle.std.proofs.lemmas.List.Elements.{recursion_from_All}
 use Rattle.melt_io.specs.Outside.{Rose, TakesFront}
@@ -13,7 +13,7 @@ use Rattle.melt_model.specs.declared.reports.ThreadEnd.{ThreadEnd}
 use Rattle.melt_model.specs.declared.reports.ThreadEnd.TheVariants as end
 use Rattle.melt_trace.specs.Script.{Script}
 use Rattle.melt_top.specs.Run.{RanToTheEnd}
-use Rattle.melt_trace.specs.Grammar.{Spells, FirstBad}
+use Rattle.melt_trace.specs.Language.{script_of}
 use Rattle.melt_top.specs.Text.{read_fault_text, refused_text}
 use Rattle.melt_top.specs.Command.{status_of, ended, is_disk_fault, is_damaged, is_out_of_heap, halted_by_fault, halted_by_full}
 use Rattle.melt_top.specs.Headline.{Change, StepDue, Due, IsBuilt}
@@ -37,9 +37,8 @@ read_failed input n due output few count rose is told =
     inl (record { bytes = t.0; front = t.2; no_more = omega (arith, t.1); fault = rose; status = is; told = told })
 
 -- more bytes than a trace may have
-long_refused : (bytes : List ℕ) → 16777216 < length bytes → FirstBad bytes 0 1
-long_refused bytes long =
-    (refl, let P : Bool → Type 0 = λ b. MatchBool b (◌≡◌ {A = ℕ} 1 1) ((◌≡◌ {A = ℕ} 1 15) × ((script : _) → Spells bytes script → ⊥)) in subst P (sym (lt-ltb 16777216 (length bytes) long)) refl)
+long_refused : (bytes : List ℕ) → 16777216 < length bytes → script_of bytes ≡ Err (0, 1)
+long_refused bytes long = cond-false (nat_le (length bytes) 16777216) _ _ (lt-leb (length bytes) 16777216 long)
 
 pub too_long : (input : Change) (n : ℕ) (due : Status) (output : List ℕ) → n ≡ 16777217 → TakesCount input.before n input.after → due ≡ status.Trace → output ≡ refused_text 0 1 → StepDue input due output
 too_long input n due output long count is told =
@@ -80,7 +79,10 @@ step_built : (input : Change) (due : Status) (output : List ℕ) → StepDue inp
 step_built input due output (inl failed) = subst IsBuilt (sym failed.status) tt
 step_built input due output (inr read) = elim read.trace [
   | inl refused ↦ subst IsBuilt (sym refused.status) tt
-  | inr ran ↦ subst IsBuilt (sym (ran.status ∙ ran_status ran.script ran.report ran.reported.ends)) tt
+  | inr other ↦ elim other [
+    | inl form ↦ subst IsBuilt (sym form.status) tt
+    | inr ran ↦ subst IsBuilt (sym (ran.status ∙ ran_status ran.script ran.report ran.reported.ends)) tt
+  ]
 ]
 
 -- what is due has a status of today

@@ -1,9 +1,9 @@
 -- What a call of the program does, from the words and the bytes read to the bytes written.
-use Rattle.std.specs.Prelude.{◌≡◌, ℕ, ◌<◌, ◌≤◌, List, [], length, take, Option, None, Some, IfSome, IfNone, ◌⊎◌}
+use Rattle.std.specs.Prelude.{◌≡◌, ℕ, ◌<◌, ◌≤◌, List, [], length, take, Option, None, Some, IfSome, IfNone, ◌⊎◌, Result, Ok, Err}
 use Rattle.melt_io.specs.Outside.{Rose, TakesFront, Appends}
 use Rattle.melt_model.specs.declared.reports.Report.{Report}
 use Rattle.melt_trace.specs.Script.{Script}
-use Rattle.melt_trace.specs.Grammar.{Spells, FirstBad}
+use Rattle.melt_trace.specs.Language.{script_of, IsOneThread}
 use Rattle.melt_top.specs.Text.{text, usage_text, read_fault_text, refused_text}
 use Rattle.melt_top.specs.Command.{status_of}
 use Rattle.melt_top.specs.Run.{IsStepReport}
@@ -30,20 +30,28 @@ pub record WasRead (input : Change) (bytes : List ℕ) : Type 0 where
   pub whole : length bytes ≤ 16777216 → IfSome input.after (λ left. left ≡ [])
   pub no_more : length bytes ≤ 16777217
 
--- The bytes spell no trace, and the output says where and why.
+-- The bytes are no trace, and the output has the first bad line and why it is bad.
 pub record TraceRefused (bytes : List ℕ) (due : Status) (output : List ℕ) : Type 0 where
   pub line : ℕ
   pub reason : ℕ
-  pub first_bad : FirstBad bytes line reason
+  pub first_bad : script_of bytes ≡ Err (line, reason)
   pub status : due ≡ status.Trace
   pub told : output ≡ refused_text line reason
 
--- The bytes spell a trace, and the output is the text of a report of it, whose replies are those of one legal
+-- The bytes are a trace of a form that cannot be run yet, and the output says so, of the whole input.
+pub record TraceNotBuilt (bytes : List ℕ) (due : Status) (output : List ℕ) : Type 0 where
+  pub script : Script
+  pub says : script_of bytes ≡ Ok script
+  pub other : IsOneThread script → ⊥
+  pub status : due ≡ status.Trace
+  pub told : output ≡ refused_text 0 15
+
+-- The bytes are a trace, and the output is the text of a report of it, whose replies are those of one legal
 -- history.
 pub record TraceRan (bytes : List ℕ) (due : Status) (output : List ℕ) : Type 0 where
-  pub short : length bytes ≤ 16777216
   pub script : Script
-  pub spelled : Spells bytes script
+  pub says : script_of bytes ≡ Ok script
+  pub one_thread : IsOneThread script
   pub report : Report
   pub reported : IsStepReport script report
   pub status : due ≡ status_of report
@@ -51,7 +59,7 @@ pub record TraceRan (bytes : List ℕ) (due : Status) (output : List ℕ) : Type
 
 -- what is due for the bytes of a trace
 abbrev pub TraceDue : List ℕ → Status → List ℕ → Type 0
-TraceDue bytes due output = TraceRefused bytes due output ⊎ TraceRan bytes due output
+TraceDue bytes due output = TraceRefused bytes due output ⊎ (TraceNotBuilt bytes due output ⊎ TraceRan bytes due output)
 
 -- the reading failed, behind these bytes
 pub record CouldNotRead (input : Change) (due : Status) (output : List ℕ) : Type 0 where

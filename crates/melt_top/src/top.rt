@@ -19,6 +19,12 @@ use std::thread::Threads;
 /// The longest input of a trace, in bytes.
 const MAX_INPUT: usize = 16_777_216;
 
+/// What is told of a trace of a form that cannot be run yet.
+const NOT_BUILT: TraceError = TraceError {
+    line: 0,
+    reason: 15,
+};
+
 /// A status, and the text that is to be written with it.
 #[derive(Debug, Drop)]
 struct Answer {
@@ -49,6 +55,9 @@ fn trace_answer(alloc: Global, bytes: &[u8]) -> Result<Answer, NoMemory>
     ensures { IfOk result (λ answer. TraceDue bytes.now answer.status answer.text.items) }
 {
     match parse(alloc, bytes) {
+        Ok(trace) if trace.threads() > 1 => {
+            Answer::refused(alloc, NOT_BUILT)
+        }
         Ok(trace) => {
             let report = run_plain(alloc, &trace)?;
             let text = report_text(alloc, &report)?;
