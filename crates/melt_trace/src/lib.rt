@@ -7,12 +7,14 @@ pub mod error;
 mod fields;
 mod language;
 mod lines;
+mod printing;
 mod reader;
 pub mod script;
 pub mod trace;
 
 pub use cursor::Cursor;
 pub use error::{ParseRefusal, TraceError};
+pub use printing::{print, push_line};
 pub use reader::{one_reading, parse};
 pub use script::Item;
 pub use trace::{Program, Trace};

@@ -138,6 +138,20 @@ impl Trace {
         self.orders[k as usize]
     }
 
+    /// All turns that are ordered first.
+    pub(crate) fn all_orders(&self) -> &[(u32, u32)]
+        ensures { result.now ≡ self.now.orders }
+    {
+        &self.orders
+    }
+
+    /// The threads' programs.
+    pub(crate) fn programs(&self) -> &[Program]
+        ensures { result.now ≡ self.now.programs }
+    {
+        &self.programs
+    }
+
     /// How many operations the thread has, each block written out.
     pub fn count(&self, thread: u32) -> u64
         requires { thread < length self.now.programs }
