@@ -1,4 +1,5 @@
 pub mod Expansion
+pub mod Unrolling
 pub mod Prefixes
 pub mod Numbers
 pub mod Operations

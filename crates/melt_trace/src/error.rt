@@ -3,6 +3,7 @@ ghost use Rattle.std.specs.Prelude.{◌≡◌, Some};
 ghost use Rattle.melt_trace.specs.Refusal.{trace_error_text, refusal_text};
 ghost use Rattle.melt_trace.specs.declared.error.ParseRefusal.TheVariants.{NoMemory};
 
+use melt_model::NoMemory;
 use std::alloc::AllocFailed;
 use std::error::Error;
 use std::fmt;
@@ -64,6 +65,14 @@ impl<T: Drop> From<AllocFailed<T>> for ParseRefusal {
     ghost from_gives = { λ _ refusal. refusal ≡ NoMemory };
 
     fn from(_error: AllocFailed<T>) -> ParseRefusal {
+        ParseRefusal::NoMemory
+    }
+}
+
+impl From<NoMemory> for ParseRefusal {
+    ghost from_gives = { λ _ refusal. refusal ≡ NoMemory };
+
+    fn from(_error: NoMemory) -> ParseRefusal {
         ParseRefusal::NoMemory
     }
 }

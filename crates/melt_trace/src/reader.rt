@@ -46,7 +46,7 @@ pub fn parse(alloc: Global, bytes: &[u8]) -> Result<Trace, ParseRefusal>
     if rest != b"done\n".as_slice() {
         return Err(ParseRefusal::Bad(TraceError::OTHER_FORM));
     }
-    Ok(Trace::of_one_thread(u32::from(globals), ops))
+    Ok(Trace::of_one_thread(alloc, u32::from(globals), &ops)?)
 }
 
 /// No two traces have one text.

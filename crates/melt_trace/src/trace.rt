@@ -1,38 +1,108 @@
-//! A trace that was read, and one thread's way through its operations.
-ghost use Rattle.std.specs.Prelude.{◌≡◌, ◌<◌, ◌≤◌, length, IfSome, slice_get, drop};
-ghost use Rattle.melt_trace.specs.Script.{operations};
-ghost use Rattle.melt_trace.specs.Grammar.{InRange, IsBuilt, IsSmall};
+//! A trace that was read.
+ghost use Rattle.std.specs.Prelude.{◌≡◌, ◌<◌, ◌≤◌, length, map, slice_get, Some, IfOk};
+ghost use Rattle.melt_trace.specs.Script.{expand, operations};
+ghost use Rattle.melt_trace.specs.Grammar.{IsSmall};
+ghost use Rattle.melt_trace.specs.Language.{IsScript};
 ghost use Rattle.melt_trace.specs.Small.{one_thread};
 
-use melt_model::Op;
+use crate::cursor::Cursor;
+use crate::script::Item;
+use melt_model::{NoMemory, Op};
+use std::alloc::Global;
 use std::marker::Model;
 
-/// The operations of each thread, and the number of globals that they share.
+/// The lines of a thread's program, and how many operations they stand for.
+#[derive(Debug, Drop)]
+pub struct Program {
+    items: Vec<Item>,
+    count: u64,
+}
+
+impl Model for Program {
+    ghost use Rattle.std.specs.Prelude.{◌≡◌, List, length};
+    ghost use Rattle.melt_trace.specs.declared.script.Item.{Item};
+    ghost use Rattle.melt_trace.specs.Script.{expand};
+
+    ghost Value = { List Item };
+
+    ghost view = { λ program. program.items.items };
+
+    ghost invariant = { λ program. program.count ≡ length (expand program.items.items) };
+}
+
+impl Program {
+    /// A program of these lines, which stand for so many operations.
+    pub(crate) fn new(items: Vec<Item>, count: u64) -> Program
+        requires { count ≡ length (expand items.items) }
+        ensures { result ≡ items.items }
+    {
+        Program { items, count }
+    }
+
+    /// Its lines.
+    pub(crate) fn items(&self) -> &[Item]
+        ensures { result.now ≡ self.now }
+    {
+        &self.items
+    }
+
+    /// How many operations it has, each block written out.
+    pub(crate) fn count(&self) -> u64
+        ensures { result ≡ length (expand self.now) }
+    {
+        self.count
+    }
+}
+
+/// The program of each thread, the turns that are ordered first (a thread and a number of events), and
+/// the number of globals that the threads share.
 #[derive(Debug, Drop)]
 pub struct Trace {
     globals: u32,
-    ops: Vec<Op>,
+    orders: Vec<(u32, u32)>,
+    programs: Vec<Program>,
 }
 
 impl Model for Trace {
     ghost use Rattle.melt_trace.specs.Script.{Script};
-    ghost use Rattle.melt_trace.specs.Grammar.{IsSmall};
-    ghost use Rattle.melt_trace.specs.Small.{one_thread};
+    ghost use Rattle.melt_trace.specs.Language.{IsScript};
 
     ghost Value = { Script };
 
-    ghost view = { λ trace. one_thread trace.globals trace.ops.items };
+    ghost view = { λ trace. record { globals = trace.globals; orders = trace.orders.items; programs = trace.programs.items } };
 
-    ghost invariant = { λ trace. IsSmall (one_thread trace.globals trace.ops.items) trace.ops.items };
+    ghost invariant = { λ trace. IsScript (record { globals = trace.globals; orders = trace.orders.items; programs = trace.programs.items }) };
+}
+
+fn lines_of(alloc: Global, ops: &[Op]) -> Result<Vec<Item>, NoMemory>
+    ensures { IfOk result (λ items. items.items ≡ map (λ op. Item.Op op) ops.now) }
+{
+    let items = ops.iter().map(|op| Item::Op(*op)).collect(alloc)?;
+    Ok(items)
 }
 
 impl Trace {
-    /// A trace of one thread.
-    pub(crate) fn of_one_thread(globals: u32, ops: Vec<Op>) -> Trace
-        requires { IsSmall (one_thread globals ops.items) ops.items }
-        ensures { result ≡ one_thread globals ops.items }
+    /// A trace of these parts.
+    pub(crate) fn of_parts(globals: u32, orders: Vec<(u32, u32)>, programs: Vec<Program>) -> Trace
+        requires { IsScript (record { globals = globals; orders = orders.items; programs = programs.items }) }
+        ensures { result ≡ record { globals = globals; orders = orders.items; programs = programs.items } }
     {
-        Trace { globals, ops }
+        Trace {
+            globals,
+            orders,
+            programs,
+        }
+    }
+
+    /// A trace of one thread, which makes these operations.
+    pub(crate) fn of_one_thread(alloc: Global, globals: u32, ops: &[Op]) -> Result<Trace, NoMemory>
+        requires { IsSmall (one_thread globals ops.now) ops.now }
+        ensures { IfOk result (λ trace. trace ≡ one_thread globals ops.now) }
+    {
+        let items = lines_of(alloc, ops)?;
+        let mut programs = Vec::new(alloc);
+        programs.push(Program::new(items, ops.len() as u64))?;
+        Ok(Trace::of_parts(globals, Vec::new(alloc), programs))
     }
 
     /// How many threads there are.
@@ -40,8 +110,7 @@ impl Trace {
         ensures count { result ≡ length self.now.programs }
         ensures within { (1 ≤ result) × (result ≤ 8) }
     {
-        let _ops = &self.ops;
-        1
+        self.programs.len() as u32
     }
 
     /// How many globals there are.
@@ -52,13 +121,44 @@ impl Trace {
         self.globals
     }
 
-    /// How many operations the thread has.
+    /// How many turns are ordered first.
+    pub fn orders(&self) -> u32
+        ensures { result ≡ length self.now.orders }
+    {
+        self.orders.len() as u32
+    }
+
+    /// The k-th of the turns that are ordered first: a thread, and a number of events.
+    pub fn order(&self, k: u32) -> (u32, u32)
+        requires { k < length self.now.orders }
+        ensures value { slice_get self.now.orders k ≡ Some result }
+        ensures thread { result.0 < length self.now.programs }
+        ensures events { (1 ≤ result.1) × (result.1 ≤ 1048576) }
+    {
+        self.orders[k as usize]
+    }
+
+    /// All turns that are ordered first.
+    pub(crate) fn all_orders(&self) -> &[(u32, u32)]
+        ensures { result.now ≡ self.now.orders }
+    {
+        &self.orders
+    }
+
+    /// The threads' programs.
+    pub(crate) fn programs(&self) -> &[Program]
+        ensures { result.now ≡ self.now.programs }
+    {
+        &self.programs
+    }
+
+    /// How many operations the thread has, each block written out.
     pub fn count(&self, thread: u32) -> u64
         requires { thread < length self.now.programs }
         ensures value { result ≡ length (operations self.now thread) }
         ensures within { result ≤ 1048576 }
     {
-        self.ops.len() as u64
+        self.programs[thread as usize].count()
     }
 
     /// The thread's operations, from the first one on.
@@ -67,43 +167,6 @@ impl Trace {
         ensures rest { result.operations ≡ operations self.now thread }
         ensures globals { result.globals ≡ self.now.globals }
     {
-        Cursor {
-            globals: self.globals,
-            ops: &self.ops,
-        }
-    }
-}
-
-/// The operations of a thread that are still to come. What is asked after the last one is told `None`.
-#[derive(Drop)]
-pub struct Cursor<'a> {
-    globals: u32,
-    ops: &'a [Op],
-}
-
-impl<'a> Model for Cursor<'a> {
-    ghost use Rattle.std.specs.Prelude.{All};
-    ghost use Rattle.melt_trace.specs.Grammar.{InRange, IsBuilt};
-    ghost use Rattle.melt_trace.specs.Small.{Ahead};
-
-    ghost Value = { Ahead };
-
-    ghost view = { λ cursor. record { globals = cursor.globals; operations = cursor.ops.now } };
-
-    ghost invariant = { λ cursor. All (InRange cursor.globals) cursor.ops.now × All IsBuilt cursor.ops.now };
-}
-
-impl Cursor<'_> {
-    /// The next operation.
-    pub fn next(&mut self) -> Option<Op>
-        ensures operation { result ≡ slice_get self.old.operations 0 }
-        ensures rest { self.new.operations ≡ drop 1 self.old.operations }
-        ensures globals { self.new.globals ≡ self.old.globals }
-        ensures in_range { IfSome result (InRange self.old.globals) }
-        ensures built { IfSome result IsBuilt }
-    {
-        let (first, rest) = self.ops.split_first()?;
-        self.ops = rest;
-        Some(*first)
+        Cursor::new(self.globals, self.programs[thread as usize].items())
     }
 }

@@ -12,8 +12,8 @@ returns-then-ne-clause-refused c =
 
 pub of_one_thread-requires : goal.of_one_thread-requires
 of_one_thread-requires c =
-    rw c.from.ensures (small_from_reads c.args.bytes.now c.in-Some.globals c.in-Some.rest.now c.in_ok-ops.ops.items c.in_ok-ops.rest.now c.in-Some.ensures c.in_ok-ops.ensures)
+    rw (c.from.ensures, c.deref.ensures.value) (small_from_reads c.args.bytes.now c.in-Some.globals c.in-Some.rest.now c.in_ok-ops.ops.items c.in_ok-ops.rest.now c.in-Some.ensures c.in_ok-ops.ensures)
 
 pub returns-clause-found : goal.returns-clause-found
 returns-clause-found c =
-    rw (c.of_one_thread.ensures, c.from.ensures) (spells_from_reads c.args.bytes.now c.in-Some.globals c.in-Some.rest.now c.in_ok-ops.ops.items c.in_ok-ops.rest.now c.in-Some.ensures c.in_ok-ops.ensures (is_done c.in_ok-ops.rest.now c.as_slice.result.now c.ne.result c.ne.ensures c.as_slice.ensures c.if-ne.false))
+    rw (c.in_ok-of_one_thread.ensures, c.from.ensures, c.deref.ensures.value) (spells_from_reads c.args.bytes.now c.in-Some.globals c.in-Some.rest.now c.in_ok-ops.ops.items c.in_ok-ops.rest.now c.in-Some.ensures c.in_ok-ops.ensures (is_done c.in_ok-ops.rest.now c.as_slice.result.now c.ne.result c.ne.ensures c.as_slice.ensures c.if-ne.false))
