@@ -4,3 +4,5 @@ pub mod Numbers
 pub mod Operations
 pub mod Texts
 pub mod Front
+pub mod Cuts
+pub mod Digits

@@ -2,9 +2,10 @@
 #![tactic(auto)]
 
 pub mod error;
-mod language;
 mod fields;
+mod language;
 mod lines;
+mod parser;
 mod reader;
 pub mod script;
 pub mod trace;

@@ -1,0 +1,5 @@
+//! The parser of whole traces.
+mod fields;
+mod lines;
+mod number;
+mod words;
