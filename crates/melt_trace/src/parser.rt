@@ -2,4 +2,5 @@
 mod fields;
 mod lines;
 mod number;
+mod numbers;
 mod words;

@@ -1,20 +1,19 @@
 //! The fields of a line.
-ghost use Rattle.std.specs.Prelude.{◌≡◌, ◌==◌, not, [], ◌∷◌, position, MatchOption};
+ghost use Rattle.std.specs.Prelude.{◌≡◌, ◌==◌, not, ℕ, List, [], ◌∷◌, position, MatchOption};
 ghost use Rattle.std.specs.List.{list_all};
 ghost use Rattle.melt_trace.specs.Language.{fields_of, is_printable};
-ghost use Rattle.melt_trace.specs.Fields.{AreFields};
+ghost use Rattle.melt_trace.specs.Parsing.{AreArguments};
 
 use crate::parser::lines::place;
 
-/// The first four fields of a line at most.
-pub enum Fields<'a> {
+/// The fields of a line behind its first one.
+pub enum Arguments<'a> {
     None,
     One(&'a [u8]),
     Two(&'a [u8], &'a [u8]),
     Three(&'a [u8], &'a [u8], &'a [u8]),
-    Four(&'a [u8], &'a [u8], &'a [u8], &'a [u8]),
-    /// Five or more, of which the first is told.
-    Many(&'a [u8]),
+    /// Four or more: no line has so many.
+    Many,
 }
 
 /// Whether each byte is one from 32 to 126.
@@ -45,24 +44,30 @@ fn next_field(bytes: &[u8]) -> Option<(&[u8], &[u8])>
     }
 }
 
-/// The fields of a line.
-pub fn split_fields(line: &[u8]) -> Fields<'_>
-    ensures { AreFields result (fields_of line.now) }
+fn other_fields(bytes: &[u8]) -> Arguments<'_>
+    ensures { AreArguments result (fields_of bytes.now) }
 {
-    let Some((first, rest)) = next_field(line) else {
-        return Fields::None;
+    let Some((first, rest)) = next_field(bytes) else {
+        return Arguments::None;
     };
     let Some((second, rest)) = next_field(rest) else {
-        return Fields::One(first);
+        return Arguments::One(first);
     };
     let Some((third, rest)) = next_field(rest) else {
-        return Fields::Two(first, second);
-    };
-    let Some((fourth, rest)) = next_field(rest) else {
-        return Fields::Three(first, second, third);
+        return Arguments::Two(first, second);
     };
     match next_field(rest) {
-        None => Fields::Four(first, second, third, fourth),
-        Some(_) => Fields::Many(first),
+        None => Arguments::Three(first, second, third),
+        Some(_) => Arguments::Many,
     }
+}
+
+/// The first field of a line, and the fields behind it.
+pub fn split_fields(line: &[u8]) -> Option<(&[u8], Arguments<'_>)>
+    ensures { MatchOption result (fields_of line.now ≡ []) (λ x. (fields : List (List ℕ)) × (fields_of line.now ≡ x.0.now ∷ fields) × AreArguments x.1 fields) }
+{
+    let Some((first, rest)) = next_field(line) else {
+        return None;
+    };
+    Some((first, other_fields(rest)))
 }

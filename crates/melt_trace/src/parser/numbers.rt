@@ -1,0 +1,94 @@
+//! The numbers of a line, each in its range.
+ghost use Rattle.std.specs.Prelude.{◌≡◌, ◌≤◌, ℕ, List, [], ◌∷◌, IfOk};
+ghost use Rattle.melt_trace.specs.Language.{number_of, checked, numbers, global};
+ghost use Rattle.melt_trace.specs.Parsing.{AreArguments, Gives, range_of};
+
+use crate::parser::fields::Arguments;
+use crate::parser::number::number;
+
+const COUNT: u32 = 7;
+
+const NO_NUMBER: u32 = 8;
+
+const NO_REGISTER: u32 = 9;
+
+const OUT_OF_RANGE: u32 = 10;
+
+/// What a number may be, and the reason to refuse another.
+#[derive(Clone, Copy)]
+pub struct Limits {
+    pub low: u64,
+    pub high: u64,
+    pub reason: u32,
+}
+
+impl Limits {
+    pub const REGISTER: Limits = Limits {
+        low: 0,
+        high: 15,
+        reason: NO_REGISTER,
+    };
+
+    /// How many parts of a kind an object has.
+    pub const PARTS: Limits = Limits { low: 0, high: 62, reason: OUT_OF_RANGE };
+
+    /// Which part of an object it is.
+    pub const PART: Limits = Limits { low: 0, high: 63, reason: OUT_OF_RANGE };
+
+    pub const WORD: Limits = Limits { low: 0, high: u64::MAX, reason: OUT_OF_RANGE };
+}
+
+/// The number that the field spells, in its range.
+fn number_in(limits: Limits, field: &[u8]) -> Result<u64, u32>
+    ensures value { result ≡ checked (range_of limits) (number_of field.now) }
+    ensures within { IfOk result (λ n. (limits.low ≤ n) × (n ≤ limits.high)) }
+{
+    match number(field) {
+        None => Err(NO_NUMBER),
+        Some(n) if limits.low <= n && n <= limits.high => Ok(n),
+        Some(_) => Err(limits.reason),
+    }
+}
+
+/// No numbers.
+pub fn none(arguments: &Arguments<'_>) -> Result<(), u32>
+    ensures { (fields : List (List ℕ)) → AreArguments arguments.now fields → Gives (λ _. []) result (numbers [] fields) }
+{
+    match arguments {
+        Arguments::None => Ok(()),
+        _ => Err(COUNT),
+    }
+}
+
+/// One number.
+pub fn one(arguments: &Arguments<'_>, a: Limits) -> Result<u64, u32>
+    ensures value { (fields : List (List ℕ)) → AreArguments arguments.now fields → Gives (λ x. x ∷ []) result (numbers (range_of a ∷ []) fields) }
+    ensures within { IfOk result (λ x. x ≤ a.high) }
+{
+    match arguments {
+        Arguments::One(x) => number_in(a, x),
+        _ => Err(COUNT),
+    }
+}
+
+/// Two numbers.
+pub fn two(arguments: &Arguments<'_>, a: Limits, b: Limits) -> Result<(u64, u64), u32>
+    ensures value { (fields : List (List ℕ)) → AreArguments arguments.now fields → Gives (λ x. x.0 ∷ x.1 ∷ []) result (numbers (range_of a ∷ range_of b ∷ []) fields) }
+    ensures within { IfOk result (λ x. (x.0 ≤ a.high) × (x.1 ≤ b.high)) }
+{
+    match arguments {
+        Arguments::Two(x, y) => Ok((number_in(a, x)?, number_in(b, y)?)),
+        _ => Err(COUNT),
+    }
+}
+
+/// Three numbers.
+pub fn three(arguments: &Arguments<'_>, a: Limits, b: Limits, c: Limits) -> Result<(u64, u64, u64), u32>
+    ensures value { (fields : List (List ℕ)) → AreArguments arguments.now fields → Gives (λ x. x.0 ∷ x.1 ∷ x.2 ∷ []) result (numbers (range_of a ∷ range_of b ∷ range_of c ∷ []) fields) }
+    ensures within { IfOk result (λ x. (x.0 ≤ a.high) × (x.1 ≤ b.high) × (x.2 ≤ c.high)) }
+{
+    match arguments {
+        Arguments::Three(x, y, z) => Ok((number_in(a, x)?, number_in(b, y)?, number_in(c, z)?)),
+        _ => Err(COUNT),
+    }
+}
