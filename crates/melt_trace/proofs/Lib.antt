@@ -6,3 +6,5 @@ pub mod Texts
 pub mod Front
 pub mod Cuts
 pub mod Digits
+pub mod Tally
+pub mod Steps

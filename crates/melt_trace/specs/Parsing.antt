@@ -1,9 +1,12 @@
 -- What the parser's functions answer.
-use Rattle.std.specs.Prelude.{◌≡◌, ℕ, ◌<◌, List, [], ◌∷◌, length, Result, Ok, Err}
+use Rattle.std.specs.Prelude.{◌≡◌, ℕ, ◌<◌, List, [], ◌∷◌, length, Some, Result, Ok, Err}
 use Rattle.melt_trace.specs.declared.parser.fields.Arguments.{Arguments}
 use Rattle.melt_trace.specs.declared.parser.fields.Arguments.TheVariants as arguments
 use Rattle.melt_trace.specs.declared.parser.numbers.Limits.{Limits}
-use Rattle.melt_trace.specs.Language.{Range}
+use Rattle.melt_model.specs.declared.operations.Op.{Op}
+use Rattle.melt_trace.specs.declared.language.Word.{Word}
+use Rattle.melt_trace.specs.declared.language.Word.TheVariants as word
+use Rattle.melt_trace.specs.Language.{Range, Place, and_then, numbers, ranges_of, after_line, after_operation}
 
 -- These are the fields behind the first. Of four or more it is known only that they are as many.
 abbrev pub AreArguments : Arguments → List (List ℕ) → Type 0
@@ -20,3 +23,23 @@ Gives view (Err reason) read = read ≡ Err reason
 
 abbrev pub range_of : Limits → Range
 range_of limits = record { low = limits.low; high = limits.high; reason = limits.reason }
+
+-- the place behind a line that may stand here, with this word and these fields behind it
+abbrev pub after_arguments : Place → Word → List (List ℕ) → Result Place ℕ
+after_arguments place w fields = and_then (numbers (ranges_of place w) fields) (after_line place w)
+
+-- the operation that was read is the one of the line
+abbrev pub IsOperationOf : Place → Word → List (List ℕ) → Result Op ℕ → Type 0
+IsOperationOf place w fields (Ok o) = after_arguments place w fields ≡ after_operation place (Some o)
+IsOperationOf place w fields (Err reason) = after_arguments place w fields ≡ Err reason
+
+-- the word of an operation with two numbers or fewer
+abbrev pub IsShort : Word → Type 0
+IsShort word.Get = Unit {0}
+IsShort word.GLoad = Unit {0}
+IsShort word.GStore = Unit {0}
+IsShort word.Same = Unit {0}
+IsShort word.Copy = Unit {0}
+IsShort word.Drop = Unit {0}
+IsShort word.Collect = Unit {0}
+IsShort w = ⊥

@@ -30,12 +30,40 @@ impl Limits {
     };
 
     /// How many parts of a kind an object has.
-    pub const PARTS: Limits = Limits { low: 0, high: 62, reason: OUT_OF_RANGE };
+    pub const PARTS: Limits = Limits {
+        low: 0,
+        high: 62,
+        reason: OUT_OF_RANGE,
+    };
 
     /// Which part of an object it is.
-    pub const PART: Limits = Limits { low: 0, high: 63, reason: OUT_OF_RANGE };
+    pub const PART: Limits = Limits {
+        low: 0,
+        high: 63,
+        reason: OUT_OF_RANGE,
+    };
 
-    pub const WORD: Limits = Limits { low: 0, high: u64::MAX, reason: OUT_OF_RANGE };
+    pub const WORD: Limits = Limits {
+        low: 0,
+        high: u64::MAX,
+        reason: OUT_OF_RANGE,
+    };
+
+    /// A global, of which there are this many.
+    pub fn global(globals: u32) -> Limits
+        ensures range { range_of result ≡ global globals }
+        ensures high { result.high ≤ globals }
+    {
+        let (low, high) = match globals {
+            0 => (1, 0),
+            _ => (0, u64::from(globals) - 1),
+        };
+        Limits {
+            low,
+            high,
+            reason: OUT_OF_RANGE,
+        }
+    }
 }
 
 /// The number that the field spells, in its range.
@@ -83,7 +111,12 @@ pub fn two(arguments: &Arguments<'_>, a: Limits, b: Limits) -> Result<(u64, u64)
 }
 
 /// Three numbers.
-pub fn three(arguments: &Arguments<'_>, a: Limits, b: Limits, c: Limits) -> Result<(u64, u64, u64), u32>
+pub fn three(
+    arguments: &Arguments<'_>,
+    a: Limits,
+    b: Limits,
+    c: Limits,
+) -> Result<(u64, u64, u64), u32>
     ensures value { (fields : List (List ℕ)) → AreArguments arguments.now fields → Gives (λ x. x.0 ∷ x.1 ∷ x.2 ∷ []) result (numbers (range_of a ∷ range_of b ∷ range_of c ∷ []) fields) }
     ensures within { IfOk result (λ x. (x.0 ≤ a.high) × (x.1 ≤ b.high) × (x.2 ≤ c.high)) }
 {
