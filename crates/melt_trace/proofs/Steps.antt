@@ -1,6 +1,6 @@
 -- What one line does to a place.
-use Rattle.std.proofs.Common.{◌≡◌, ℕ, ◌+◌, ◌<◌, ◌≤◌, Bool, false, cond, eqb, List, [], ◌∷◌, ◌++◌, length, map, Ok, Err, Result, refl, sym, ap, ◌∙◌, arith}
-use Rattle.std.proofs.lemmas.Bool.{lt-ltb, le-ltb, le-leb, lt-leb}
+use Rattle.std.proofs.Common.{◌≡◌, ℕ, ◌+◌, ◌<◌, ◌≤◌, Bool, false, not, cond, eqb, List, [], ◌∷◌, ◌++◌, length, map, Ok, Err, Result, refl, sym, ap, ◌∙◌, arith}
+use Rattle.std.proofs.lemmas.Bool.{ne_eqb, lt-ltb, le-ltb, le-leb, lt-leb}
 use Rattle.std.proofs.lemmas.List.{map_push}
 use Rattle.std.proofs.lemmas.List.Sums.{sum_by_push}
 use Rattle.melt_trace.specs.declared.script.Item.{Item}
@@ -9,7 +9,7 @@ use Rattle.melt_trace.specs.declared.language.Stage.{Stage}
 use Rattle.melt_trace.specs.declared.language.Stage.TheVariants as stage
 use Rattle.melt_trace.specs.declared.parser.draft.Block.{Block}
 use Rattle.melt_trace.specs.Script.{Script, expand}
-use Rattle.melt_trace.specs.Language.{Place, operation_count, with_operation, with_program, after_done, after_end, after_repeat}
+use Rattle.melt_trace.specs.Language.{Place, operation_count, with_operation, with_program, after_done, after_end, after_repeat, has_open}
 use Rattle.melt_trace.specs.Drafts.{blocks_of, capped, IsTallied}
 use Rattle.melt_trace.proofs.Tally.{tallied_done}
 
@@ -70,3 +70,9 @@ behind_done s other threads globals orders programs others items blocks e f g h 
     ∙ ap (λ (k : List (List Item)). Ok (at_place s threads (record { globals = globals; orders = orders; programs = k }) items blocks)) f
     ∙ ap (λ (k : List Item). Ok (at_place s threads (record { globals = globals; orders = orders; programs = programs }) k blocks)) g
     ∙ ap (λ (k : List Bool). Ok (at_place s threads (record { globals = globals; orders = orders; programs = programs }) [] k)) h)
+
+pub some_open : (count : ℕ) (blocks : List Block) → not (eqb (length blocks) 0) ≡ has_open (blocks_of count blocks)
+some_open count [] = refl
+some_open count (block ∷ around) =
+    let some : length (block ∷ around) ≡ 0 → ⊥ = omega arith in
+    ap not (ne_eqb (length (block ∷ around)) 0 some)

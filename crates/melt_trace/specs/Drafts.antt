@@ -1,12 +1,14 @@
 -- What a script that is being read stands for.
 use Rattle.std.specs.Prelude.{◌≡◌, ℕ, ◌<◌, ◌≤◌, ◌+◌, ◌-◌, ◌*◌, ◌^◌, min, Bool, nat_lt, List, [], ◌∷◌, ◌++◌, length, map, Result, Ok, Err}
 use Rattle.melt_trace.specs.declared.script.Item.{Item}
+use Rattle.melt_trace.specs.declared.error.ParseRefusal.{ParseRefusal}
+use Rattle.melt_trace.specs.declared.error.ParseRefusal.TheVariants as refusal
 use Rattle.melt_trace.specs.declared.parser.fault.Fault.{Fault}
 use Rattle.melt_trace.specs.declared.parser.fault.Fault.TheVariants as fault
 use Rattle.melt_trace.specs.declared.parser.draft.Block.{Block}
 use Rattle.melt_trace.specs.declared.parser.draft.Draft.{Draft}
 use Rattle.melt_trace.specs.Script.{levels}
-use Rattle.melt_trace.specs.Language.{Place, operation_count}
+use Rattle.melt_trace.specs.Language.{Place, operation_count, start, lines_of, script_from, script_of}
 
 -- ---- the place
 
@@ -82,3 +84,14 @@ abbrev pub LeadsTo : {X : Type 0} → Result X Fault → Draft → Result Place 
 LeadsTo (Ok x) draft read = (read ≡ Ok (place_of draft)) × IsSound draft
 LeadsTo (Err (fault.Bad reason)) draft read = read ≡ Err reason
 LeadsTo (Err fault.NoMemory) draft read = Unit {0}
+
+-- what a refusal says of the bytes; of memory that was refused it says nothing
+abbrev pub IsRefusalOf : List ℕ → ParseRefusal → Type 0
+IsRefusalOf bytes (refusal.Bad error) = script_of bytes ≡ Err (error.line, error.reason)
+IsRefusalOf bytes refusal.NoMemory = Unit {0}
+
+-- the lines that are left lead to what all lines say
+pub record IsReadTo (bytes : List ℕ) (draft : Draft) (rest : List ℕ) (number : ℕ) : Type 0 where
+  pub sound : IsSound draft
+  pub same : script_from number (place_of draft) (lines_of rest) ≡ script_from 1 start (lines_of bytes)
+  pub few : number + length rest ≤ 1 + length bytes

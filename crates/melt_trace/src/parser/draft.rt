@@ -1,6 +1,6 @@
 //! A script that is being read.
 ghost use Rattle.std.specs.Prelude.{◌≡◌, ◌==◌, ◌<◌, ◌≤◌, if◌then◌else◌, [], ◌∷◌};
-ghost use Rattle.melt_trace.specs.Language.{after_repeat, after_end, after_done, after_thread, after_order};
+ghost use Rattle.melt_trace.specs.Language.{after_repeat, after_end, after_done, after_order};
 ghost use Rattle.melt_trace.specs.Language.{after_operation};
 ghost use Rattle.melt_trace.specs.Drafts.{place_of, IsSound, LeadsTo};
 
@@ -141,16 +141,17 @@ impl Draft {
         Ok(())
     }
 
-    /// Begins a program.
-    pub fn thread(&mut self) -> Result<(), Fault>
+    /// Begins a stage in which no program has a line.
+    pub fn restart(&mut self, stage: Stage, threads: u32)
         requires { IsSound self.old }
-        ensures { LeadsTo result self.new (after_thread (place_of self.old)) }
+        ensures place { place_of self.new ≡ record { stage = stage; threads = threads; script = (place_of self.old).script; items = []; blocks = [] } }
+        ensures sound { IsSound self.new }
     {
-        self.stage = Stage::Inside;
+        self.stage = stage;
+        self.threads = threads;
         self.items.clear();
         self.blocks.clear();
         self.count = 0;
-        Ok(())
     }
 
     pub fn order(&mut self, thread: u32, events: u32) -> Result<(), Fault>

@@ -7,6 +7,7 @@ ghost use Rattle.melt_trace.specs.Parsing.{AreArguments};
 use crate::parser::lines::place;
 
 /// The fields of a line behind its first one.
+#[derive(Drop)]
 pub enum Arguments<'a> {
     None,
     One(&'a [u8]),

@@ -1,10 +1,11 @@
 //! The numbers of a line, each in its range.
-ghost use Rattle.std.specs.Prelude.{◌≡◌, ◌≤◌, ℕ, List, [], ◌∷◌, IfOk};
-ghost use Rattle.melt_trace.specs.Language.{number_of, checked, numbers, global};
+ghost use Rattle.std.specs.Prelude.{◌≡◌, ◌≤◌, ◌-◌, ℕ, List, [], ◌∷◌, IfOk};
+ghost use Rattle.melt_trace.specs.Language.{number_of, checked, numbers, from_to, global, heading};
 ghost use Rattle.melt_trace.specs.Parsing.{AreArguments, Gives, range_of};
 
 use crate::parser::fields::Arguments;
 use crate::parser::number::number;
+use crate::parser::words::is;
 
 const COUNT: u32 = 7;
 
@@ -49,6 +50,37 @@ impl Limits {
         reason: OUT_OF_RANGE,
     };
 
+    /// How often a block stands, and how many events a turn has.
+    pub const COUNT: Limits = Limits {
+        low: 1,
+        high: 1_048_576,
+        reason: OUT_OF_RANGE,
+    };
+
+    /// This number alone.
+    pub fn only(n: u64) -> Limits
+        ensures { range_of result ≡ from_to n n }
+    {
+        let reason = OUT_OF_RANGE;
+        Limits {
+            low: n,
+            high: n,
+            reason,
+        }
+    }
+
+    /// One of so many threads.
+    pub fn thread(threads: u32) -> Limits
+        ensures range { range_of result ≡ from_to 0 (threads - 1) }
+        ensures high { result.high ≤ threads }
+    {
+        Limits {
+            low: 0,
+            high: u64::from(threads.saturating_sub(1)),
+            reason: OUT_OF_RANGE,
+        }
+    }
+
     /// A global, of which there are this many.
     pub fn global(globals: u32) -> Limits
         ensures range { range_of result ≡ global globals }
@@ -91,7 +123,7 @@ pub fn none(arguments: &Arguments<'_>) -> Result<(), u32>
 /// One number.
 pub fn one(arguments: &Arguments<'_>, a: Limits) -> Result<u64, u32>
     ensures value { (fields : List (List ℕ)) → AreArguments arguments.now fields → Gives (λ x. x ∷ []) result (numbers (range_of a ∷ []) fields) }
-    ensures within { IfOk result (λ x. x ≤ a.high) }
+    ensures within { IfOk result (λ x. (a.low ≤ x) × (x ≤ a.high)) }
 {
     match arguments {
         Arguments::One(x) => number_in(a, x),
@@ -123,5 +155,27 @@ pub fn three(
     match arguments {
         Arguments::Three(x, y, z) => Ok((number_in(a, x)?, number_in(b, y)?, number_in(c, z)?)),
         _ => Err(COUNT),
+    }
+}
+
+/// The number of one of the first three lines, which has this text before it.
+pub fn heading(
+    first: &[u8],
+    arguments: &Arguments<'_>,
+    text: &[u8],
+    limits: Limits,
+) -> Result<u64, u32>
+    ensures value { (fields : List (List ℕ)) → AreArguments arguments.now fields → result ≡ heading text.now limits.low limits.high limits.reason (first.now ∷ fields) }
+    ensures within { IfOk result (λ n. (limits.low ≤ n) × (n ≤ limits.high)) }
+{
+    let Arguments::One(field) = arguments else {
+        return Err(limits.reason);
+    };
+    if !is(first, text) {
+        return Err(limits.reason);
+    }
+    match number(field) {
+        Some(n) if limits.low <= n && n <= limits.high => Ok(n),
+        _ => Err(limits.reason),
     }
 }
