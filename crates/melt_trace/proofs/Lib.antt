@@ -5,3 +5,7 @@ pub mod Numbers
 pub mod Operations
 pub mod Texts
 pub mod Front
+pub mod Cuts
+pub mod Digits
+pub mod Tally
+pub mod Steps

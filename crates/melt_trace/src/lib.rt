@@ -8,6 +8,7 @@ mod fields;
 mod language;
 mod lines;
 mod printing;
+mod parser;
 mod reader;
 pub mod script;
 pub mod trace;

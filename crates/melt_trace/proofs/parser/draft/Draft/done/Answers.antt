@@ -1,0 +1,39 @@
+use Rattle.std.proofs.Common.{◌≡◌, ◌≤◌, ◌++◌, [], ◌∷◌, length, map, cond, eqb, sym, ap, subst, ◌∙◌}
+use Rattle.std.proofs.lemmas.List.{length-map}
+use Rattle.melt_trace.specs.declared.language.Stage.TheVariants as stage
+use Rattle.melt_trace.specs.Language.{operation_count}
+use Rattle.melt_trace.specs.Drafts.{place_of, blocks_of, programs_of, IsTallied}
+use Rattle.melt_trace.proofs.Tally.{tallied_none}
+use Rattle.melt_trace.proofs.Steps.{no_blocks, too_many, few_enough, programs_pushed, behind_done}
+use Rattle.melt_trace.proofs.parser.draft.Draft.done.Goals as goal
+
+pub returns-then-total-gt-MAX_OPERATIONS : goal.returns-then-total-gt-MAX_OPERATIONS
+returns-then-total-gt-MAX_OPERATIONS c =
+    let draft = c.args.self.now in
+    let whole = subst (IsTallied draft.items.items draft.count) (no_blocks draft.count draft.blocks.items c.requires.closed) c.requires.sound.tallied in
+    too_many (place_of draft) draft.total draft.count c.requires.sound.total c.requires.sound.few whole (rw (← c.saturating_add-total.ensures) c.if-total-gt-MAX_OPERATIONS.true)
+
+pub returns : goal.returns
+returns c =
+    let draft = c.args.self.now in
+    let new = c.push.new.self.items in
+    let closed : draft.blocks.items ≡ [] = no_blocks draft.count draft.blocks.items c.requires.closed in
+    let whole = subst (IsTallied draft.items.items draft.count) closed c.requires.sound.tallied in
+    let few : c.saturating_add-total.result ≤ 1048576 = c.if-total-gt-MAX_OPERATIONS.false in
+    let step = few_enough (place_of draft) draft.total draft.count c.requires.sound.total c.requires.sound.few whole (rw (← c.saturating_add-total.ensures) few) in
+    let pushed : map (λ p. p.items) new ≡ programs_of draft ++ draft.items.items ∷ [] =
+    programs_pushed _ new draft.programs.items c.replace-program.result draft.items.items c.in_ok-push.ensures.items (ap (λ p. p.items) c.replace-program.ensures.value)
+    in
+    let none : c.replace-program.new.dest.items ≡ [] = ap (λ v. v.items) c.replace-program.ensures.after ∙ c.new.ensures.items in
+    let many : c.len.result ≡ length (programs_of draft ++ draft.items.items ∷ []) =
+    c.len.ensures ∙ c.push.new.self.ok.0 ∙ sym (length-map new (λ p. p.items)) ∙ ap length pushed
+    in
+    let next = c.behind-self.ensures ∙ ap (λ n. cond (eqb n draft.threads) stage.Over stage.Between) many in (
+      step.1 ∙ behind_done _ c.behind-self.result draft.threads draft.globals draft.orders.items _ (map (λ p. p.items) new) c.replace-program.new.dest.items (blocks_of 0 draft.blocks.items) next pushed none (ap (blocks_of 0) closed),
+      record {
+        globals = c.requires.sound.globals;
+        tallied = rw (none, closed) tallied_none;
+        total = c.saturating_add-total.ensures ∙ step.0 ∙ ap operation_count (sym pushed);
+        few = few;
+      },
+    )

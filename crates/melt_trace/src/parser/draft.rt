@@ -1,0 +1,167 @@
+//! A script that is being read.
+ghost use Rattle.std.specs.Prelude.{◌≡◌, ◌==◌, ◌<◌, ◌≤◌, if◌then◌else◌, [], ◌∷◌};
+ghost use Rattle.melt_trace.specs.Language.{after_repeat, after_end, after_done, after_order};
+ghost use Rattle.melt_trace.specs.Language.{after_operation};
+ghost use Rattle.melt_trace.specs.Drafts.{place_of, IsSound, LeadsTo};
+
+use crate::language::Stage;
+use crate::parser::fault::Fault;
+use crate::script::Item;
+use melt_model::Op;
+use std::alloc::Global;
+use std::collections::VecDeque;
+use std::mem;
+
+const OUT_OF_PLACE: u32 = 6;
+
+const MANY_ORDERS: u32 = 10;
+
+const TOO_DEEP: u32 = 11;
+
+const EMPTY_BLOCK: u32 = 12;
+
+const MANY_OPERATIONS: u32 = 13;
+
+const MAX_DEPTH: usize = 4;
+
+const MAX_ORDERS: usize = 65_536;
+
+const MAX_OPERATIONS: u32 = 1_048_576;
+
+/// What is wanted behind so many programs.
+fn behind(programs: usize, threads: u32) -> Stage
+    ensures { result ≡ (if programs == threads then Stage.Over else Stage.Between) }
+{
+    if programs == threads as usize {
+        Stage::Over
+    } else {
+        Stage::Between
+    }
+}
+
+/// An open block: how often it stands, and how many operations what is around it has in front of it.
+#[derive(Clone, Copy)]
+pub struct Block {
+    pub times: u32,
+    pub before: u32,
+}
+
+/// What the lines so far say. Counts of operations stay at the highest `u32` once they reach it.
+#[derive(Drop)]
+pub struct Draft {
+    pub stage: Stage,
+    pub threads: u32,
+    pub globals: u32,
+    pub orders: Vec<(u32, u32)>,
+    pub programs: Vec<Vec<Item>>,
+    /// How many operations these programs have, each block written out.
+    pub total: u32,
+    /// The lines of the program that is open.
+    pub items: Vec<Item>,
+    /// Its open blocks, the innermost first.
+    pub blocks: VecDeque<Block>,
+    /// How many operations the innermost of them has so far, or the program, where no block is open.
+    pub count: u32,
+}
+
+impl Draft {
+    /// No orders and no programs.
+    pub fn empty(alloc: Global, stage: Stage, threads: u32, globals: u32) -> Draft
+        requires { globals ≤ 64 }
+        ensures place { place_of result ≡ record { stage = stage; threads = threads; script = record { globals = globals; orders = []; programs = [] }; items = []; blocks = [] } }
+        ensures sound { IsSound result }
+    {
+        Draft {
+            stage,
+            threads,
+            globals,
+            orders: Vec::new(alloc),
+            programs: Vec::new(alloc),
+            total: 0,
+            items: Vec::new(alloc),
+            blocks: VecDeque::new(alloc),
+            count: 0,
+        }
+    }
+
+    pub fn operation(&mut self, op: Op) -> Result<(), Fault>
+        requires { IsSound self.old }
+        ensures { LeadsTo result self.new (after_operation (place_of self.old) (Some op)) }
+    {
+        self.items.push(Item::Op(op))?;
+        self.count = self.count.saturating_add(1);
+        Ok(())
+    }
+
+    pub fn repeat(&mut self, times: u32) -> Result<(), Fault>
+        requires sound { IsSound self.old }
+        requires some { 0 < times }
+        ensures { LeadsTo result self.new (after_repeat (place_of self.old) (times ∷ [])) }
+    {
+        if self.blocks.len() >= MAX_DEPTH {
+            return Err(Fault::Bad(TOO_DEEP));
+        }
+        self.items.push(Item::Repeat(times))?;
+        let before = self.count;
+        self.blocks.push_front(Block { times, before })?;
+        self.count = 0;
+        Ok(())
+    }
+
+    pub fn end(&mut self) -> Result<(), Fault>
+        requires { IsSound self.old }
+        ensures { LeadsTo result self.new (after_end (place_of self.old) (place_of self.old).blocks) }
+    {
+        let Some(block) = self.blocks.pop_front() else {
+            return Err(Fault::Bad(OUT_OF_PLACE));
+        };
+        if self.count == 0 {
+            return Err(Fault::Bad(EMPTY_BLOCK));
+        }
+        self.items.push(Item::End)?;
+        let unrolled = block.times.saturating_mul(self.count);
+        self.count = block.before.saturating_add(unrolled);
+        Ok(())
+    }
+
+    pub fn done(&mut self, alloc: Global) -> Result<(), Fault>
+        requires sound { IsSound self.old }
+        requires closed { (place_of self.old).blocks ≡ [] }
+        ensures { LeadsTo result self.new (after_done (place_of self.old)) }
+    {
+        let total = self.total.saturating_add(self.count);
+        if total > MAX_OPERATIONS {
+            return Err(Fault::Bad(MANY_OPERATIONS));
+        }
+        let program = mem::replace(&mut self.items, Vec::new(alloc));
+        self.programs.push(program)?;
+        self.total = total;
+        self.count = 0;
+        self.stage = behind(self.programs.len(), self.threads);
+        Ok(())
+    }
+
+    /// Begins a stage in which no program has a line.
+    pub fn restart(&mut self, stage: Stage, threads: u32)
+        requires { IsSound self.old }
+        ensures place { place_of self.new ≡ record { stage = stage; threads = threads; script = (place_of self.old).script; items = []; blocks = [] } }
+        ensures sound { IsSound self.new }
+    {
+        self.stage = stage;
+        self.threads = threads;
+        self.items.clear();
+        self.blocks.clear();
+        self.count = 0;
+    }
+
+    pub fn order(&mut self, thread: u32, events: u32) -> Result<(), Fault>
+        requires { IsSound self.old }
+        ensures { LeadsTo result self.new (after_order (place_of self.old) (thread ∷ events ∷ [])) }
+    {
+        if self.orders.len() >= MAX_ORDERS {
+            return Err(Fault::Bad(MANY_ORDERS));
+        }
+        self.orders.push((thread, events))?;
+        Ok(())
+    }
+}

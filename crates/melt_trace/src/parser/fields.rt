@@ -1,0 +1,74 @@
+//! The fields of a line.
+ghost use Rattle.std.specs.Prelude.{◌≡◌, ◌==◌, not, ℕ, List, [], ◌∷◌, position, MatchOption};
+ghost use Rattle.std.specs.List.{list_all};
+ghost use Rattle.melt_trace.specs.Language.{fields_of, is_printable};
+ghost use Rattle.melt_trace.specs.Parsing.{AreArguments};
+
+use crate::parser::lines::place;
+
+/// The fields of a line behind its first one.
+#[derive(Drop)]
+pub enum Arguments<'a> {
+    None,
+    One(&'a [u8]),
+    Two(&'a [u8], &'a [u8]),
+    Three(&'a [u8], &'a [u8], &'a [u8]),
+    /// Four or more: no line has so many.
+    Many,
+}
+
+/// Whether each byte is one from 32 to 126.
+pub fn is_printable_line(bytes: &[u8]) -> bool
+    ensures { result ≡ list_all is_printable bytes.now }
+{
+    bytes.iter().all(|b| (32..=126).contains(b))
+}
+
+/// Where the first byte that is no space stands.
+fn start(bytes: &[u8]) -> Option<usize>
+    ensures { result ≡ position (λ b. not (b == 32)) bytes.now }
+{
+    bytes.iter().position(|b| *b != b' ')
+}
+
+/// The first field, and what stands behind it.
+fn next_field(bytes: &[u8]) -> Option<(&[u8], &[u8])>
+    ensures { MatchOption result (fields_of bytes.now ≡ []) (λ x. fields_of bytes.now ≡ x.0.now ∷ fields_of x.1.now) }
+{
+    let Some(start) = start(bytes) else {
+        return None;
+    };
+    let field = &bytes[start..];
+    match place(field, b' ') {
+        Some(end) => Some((&field[..end], &field[end + 1..])),
+        None => Some((field, &field[field.len()..])),
+    }
+}
+
+fn other_fields(bytes: &[u8]) -> Arguments<'_>
+    ensures { AreArguments result (fields_of bytes.now) }
+{
+    let Some((first, rest)) = next_field(bytes) else {
+        return Arguments::None;
+    };
+    let Some((second, rest)) = next_field(rest) else {
+        return Arguments::One(first);
+    };
+    let Some((third, rest)) = next_field(rest) else {
+        return Arguments::Two(first, second);
+    };
+    match next_field(rest) {
+        None => Arguments::Three(first, second, third),
+        Some(_) => Arguments::Many,
+    }
+}
+
+/// The first field of a line, and the fields behind it.
+pub fn split_fields(line: &[u8]) -> Option<(&[u8], Arguments<'_>)>
+    ensures { MatchOption result (fields_of line.now ≡ []) (λ x. (fields : List (List ℕ)) × (fields_of line.now ≡ x.0.now ∷ fields) × AreArguments x.1 fields) }
+{
+    let Some((first, rest)) = next_field(line) else {
+        return None;
+    };
+    Some((first, other_fields(rest)))
+}

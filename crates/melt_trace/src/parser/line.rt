@@ -1,0 +1,162 @@
+//! One line in its place.
+ghost use Rattle.std.specs.Prelude.{◌≡◌, ℕ, List, ◌∷◌, true};
+ghost use Rattle.melt_trace.specs.Language.{after, after_fields, has_open, fits, fits_inside};
+ghost use Rattle.melt_trace.specs.Parsing.{AreArguments, after_arguments};
+ghost use Rattle.melt_trace.specs.Drafts.{place_of, IsSound, LeadsTo};
+
+use crate::language::{Stage, Word};
+use crate::parser::draft::Draft;
+use crate::parser::fault::Fault;
+use crate::parser::fields::{Arguments, is_printable_line, split_fields};
+use crate::parser::numbers::{Limits, heading, none, one, two};
+use crate::parser::operations::operation;
+use crate::parser::words::word;
+use std::alloc::Global;
+
+const UNPRINTABLE: u32 = 2;
+
+const NO_VERSION: u32 = 3;
+
+const NO_THREADS: u32 = 4;
+
+const NO_GLOBALS: u32 = 5;
+
+const OUT_OF_PLACE: u32 = 6;
+
+const MAX_THREADS: u64 = 8;
+
+const MAX_GLOBALS: u64 = 64;
+
+/// Whether a block is open.
+fn has_block(draft: &Draft) -> bool
+    ensures { result ≡ has_open (place_of draft.now).blocks }
+{
+    !draft.blocks.is_empty()
+}
+
+/// Whether a line with this word may stand in a program that is open.
+fn may_stand_inside(draft: &Draft, word: Word) -> bool
+    ensures { result ≡ fits_inside word (place_of draft.now).blocks }
+{
+    match word {
+        Word::End => has_block(draft),
+        Word::Done => !has_block(draft),
+        Word::Thread | Word::Order => false,
+        _ => true,
+    }
+}
+
+/// Whether a line with this word may stand here.
+fn may_stand(draft: &Draft, word: Word) -> bool
+    ensures { result ≡ fits draft.now.stage (place_of draft.now).blocks word }
+{
+    match draft.stage {
+        Stage::Orders => matches!(word, Word::Order | Word::Thread),
+        Stage::Between => matches!(word, Word::Thread),
+        Stage::Inside => may_stand_inside(draft, word),
+        _ => false,
+    }
+}
+
+/// Takes a line with this word, which may stand here.
+fn take_word(
+    draft: &mut Draft,
+    alloc: Global,
+    word: Word,
+    arguments: &Arguments<'_>,
+) -> Result<(), Fault>
+    requires sound { IsSound draft.old }
+    requires fits { fits draft.old.stage (place_of draft.old).blocks word ≡ true }
+    ensures { (fields : List (List ℕ)) → AreArguments arguments.now fields → LeadsTo result draft.new (after_arguments (place_of draft.old) word fields) }
+{
+    match word {
+        Word::Repeat => {
+            let times = one(arguments, Limits::COUNT)?;
+            draft.repeat(times as u32)
+        }
+        Word::End => {
+            none(arguments)?;
+            draft.end()
+        }
+        Word::Done => {
+            none(arguments)?;
+            draft.done(alloc)
+        }
+        Word::Thread => {
+            let _thread = one(arguments, Limits::only(draft.programs.len() as u64))?;
+            let threads = draft.threads;
+            draft.restart(Stage::Inside, threads);
+            Ok(())
+        }
+        Word::Order => {
+            let (thread, events) = two(arguments, Limits::thread(draft.threads), Limits::COUNT)?;
+            draft.order(thread as u32, events as u32)
+        }
+        _ => {
+            let op = operation(word, draft.globals, arguments)?;
+            draft.operation(op)
+        }
+    }
+}
+
+/// Takes a line with these fields.
+fn take_fields(
+    draft: &mut Draft,
+    alloc: Global,
+    first: &[u8],
+    arguments: &Arguments<'_>,
+) -> Result<(), Fault>
+    requires { IsSound draft.old }
+    ensures { (fields : List (List ℕ)) → AreArguments arguments.now fields → LeadsTo result draft.new (after_fields (place_of draft.old) draft.old.stage (first.now ∷ fields)) }
+{
+    match draft.stage {
+        Stage::Version => {
+            let limits = Limits {
+                low: 1,
+                high: 1,
+                reason: NO_VERSION,
+            };
+            let _version = heading(first, arguments, b"melt", limits)?;
+            draft.restart(Stage::Threads, 0);
+            Ok(())
+        }
+        Stage::Threads => {
+            let limits = Limits {
+                low: 1,
+                high: MAX_THREADS,
+                reason: NO_THREADS,
+            };
+            let threads = heading(first, arguments, b"threads", limits)?;
+            draft.restart(Stage::Globals, threads as u32);
+            Ok(())
+        }
+        Stage::Globals => {
+            let limits = Limits {
+                low: 0,
+                high: MAX_GLOBALS,
+                reason: NO_GLOBALS,
+            };
+            let globals = heading(first, arguments, b"globals", limits)?;
+            *draft = Draft::empty(alloc, Stage::Orders, draft.threads, globals as u32);
+            Ok(())
+        }
+        _ => match word(first) {
+            Some(word) if may_stand(draft, word) => take_word(draft, alloc, word, arguments),
+            _ => Err(Fault::Bad(OUT_OF_PLACE)),
+        },
+    }
+}
+
+/// Takes a line.
+pub fn take_line(draft: &mut Draft, alloc: Global, line: &[u8]) -> Result<(), Fault>
+    requires { IsSound draft.old }
+    ensures { LeadsTo result draft.new (after (place_of draft.old) line.now) }
+{
+    if !is_printable_line(line) {
+        return Err(Fault::Bad(UNPRINTABLE));
+    }
+    match split_fields(line) {
+        None | Some(([b'#', ..], _)) => Ok(()),
+        Some((first, arguments)) => take_fields(draft, alloc, first, &arguments),
+    }
+}
