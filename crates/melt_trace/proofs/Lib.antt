@@ -1,11 +1,6 @@
-pub mod Expansion
 pub mod Unrolling
-pub mod Prefixes
-pub mod Numbers
-pub mod Operations
-pub mod Texts
-pub mod Front
 pub mod Cuts
 pub mod Digits
 pub mod Tally
 pub mod Steps
+pub mod Kept

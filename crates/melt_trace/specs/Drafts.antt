@@ -1,8 +1,6 @@
 -- What a script that is being read stands for.
 use Rattle.std.specs.Prelude.{◌≡◌, ℕ, ◌<◌, ◌≤◌, ◌+◌, ◌-◌, ◌*◌, ◌^◌, min, Bool, nat_lt, List, [], ◌∷◌, ◌++◌, length, map, Result, Ok, Err}
 use Rattle.melt_trace.specs.declared.script.Item.{Item}
-use Rattle.melt_trace.specs.declared.error.ParseRefusal.{ParseRefusal}
-use Rattle.melt_trace.specs.declared.error.ParseRefusal.TheVariants as refusal
 use Rattle.melt_trace.specs.declared.parser.fault.Fault.{Fault}
 use Rattle.melt_trace.specs.declared.parser.fault.Fault.TheVariants as fault
 use Rattle.melt_trace.specs.declared.parser.draft.Block.{Block}
@@ -18,7 +16,7 @@ blocks_of count [] = []
 blocks_of count (block ∷ around) = nat_lt 0 count ∷ blocks_of block.before around
 
 abbrev pub programs_of : Draft → List (List Item)
-programs_of draft = map (λ program. program.items) draft.programs.items
+programs_of draft = draft.programs.items
 
 abbrev pub place_of : Draft → Place
 place_of draft = record {
@@ -84,11 +82,6 @@ abbrev pub LeadsTo : {X : Type 0} → Result X Fault → Draft → Result Place 
 LeadsTo (Ok x) draft read = (read ≡ Ok (place_of draft)) × IsSound draft
 LeadsTo (Err (fault.Bad reason)) draft read = read ≡ Err reason
 LeadsTo (Err fault.NoMemory) draft read = Unit {0}
-
--- what a refusal says of the bytes; of memory that was refused it says nothing
-abbrev pub IsRefusalOf : List ℕ → ParseRefusal → Type 0
-IsRefusalOf bytes (refusal.Bad error) = script_of bytes ≡ Err (error.line, error.reason)
-IsRefusalOf bytes refusal.NoMemory = Unit {0}
 
 -- the lines that are left lead to what all lines say
 pub record IsReadTo (bytes : List ℕ) (draft : Draft) (rest : List ℕ) (number : ℕ) : Type 0 where

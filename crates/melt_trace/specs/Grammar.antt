@@ -55,36 +55,3 @@ InRange globals (op.Same a b) = (a < 16) × (b < 16)
 InRange globals (op.Copy dst src) = (dst < 16) × (src < 16)
 InRange globals (op.Drop r) = r < 16
 InRange globals op.Collect = Unit {0}
-
--- the operations that a trace may have today
-abbrev pub IsBuilt : Op → Type 0
-IsBuilt (op.New dst refs nums) = Unit {0}
-IsBuilt (op.Load dst src i) = Unit {0}
-IsBuilt (op.Store obj i src) = Unit {0}
-IsBuilt (op.Get src j) = ⊥
-IsBuilt (op.Put obj j v) = ⊥
-IsBuilt (op.GLoad dst g) = Unit {0}
-IsBuilt (op.GStore g src) = Unit {0}
-IsBuilt (op.Same a b) = Unit {0}
-IsBuilt (op.Copy dst src) = ⊥
-IsBuilt (op.Drop r) = ⊥
-IsBuilt op.Collect = ⊥
-
--- A trace of the small form: one thread, no order, and at most 1,048,576 lines, each of them an operation.
-pub record IsSmall (script : Script) (ops : List Op) : Type 0 where
-  pub globals : script.globals ≤ 64
-  pub orders : script.orders ≡ []
-  pub programs : script.programs ≡ map item.Op ops ∷ []
-  pub count : length ops ≤ 1048576
-  pub ranges : All (InRange script.globals) ops
-  pub built : All IsBuilt ops
-
--- the bytes spell a trace of the small form, in the canonical way
-abbrev pub Spells : List ℕ → Script → Type 0
-Spells bytes script = (ops : List Op) × IsSmall script ops × (bytes ≡ canonical script)
-
--- The first bad place of bytes that spell no trace, and why: reason 1 where there are more than 16,777,216
--- bytes, and otherwise reason 15, that the trace has a form that is not built. Both are told of line 0.
-abbrev pub FirstBad : List ℕ → ℕ → ℕ → Type 0
-FirstBad bytes at reason =
-    (at ≡ 0) × MatchBool (nat_lt 16777216 (length bytes)) (reason ≡ 1) ((reason ≡ 15) × ((script : Script) → Spells bytes script → ⊥))

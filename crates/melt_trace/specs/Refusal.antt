@@ -1,13 +1,13 @@
 -- What a refusal says of the bytes.
-use Rattle.std.specs.Prelude.{ℕ, List, ◌++◌, codes}
+use Rattle.std.specs.Prelude.{◌≡◌, ℕ, List, ◌++◌, Err, codes}
 use Rattle.std.specs.Fmt.{decimal}
 use Rattle.melt_trace.specs.declared.error.ParseRefusal.{ParseRefusal}
 use Rattle.melt_trace.specs.declared.error.ParseRefusal.TheVariants as refusal
-use Rattle.melt_trace.specs.Grammar.{FirstBad}
+use Rattle.melt_trace.specs.Language.{script_of}
 
--- the bytes are bad there, for that reason; of memory that was refused it says nothing
+-- the first bad line of the bytes is that one, for that reason; of memory that was refused it says nothing
 abbrev pub IsRefused : List ℕ → ParseRefusal → Type 0
-IsRefused bytes (refusal.Bad error) = FirstBad bytes error.line error.reason
+IsRefused bytes (refusal.Bad error) = script_of bytes ≡ Err (error.line, error.reason)
 IsRefused bytes refusal.NoMemory = Unit {0}
 
 -- what is printed of it

@@ -4,21 +4,15 @@
 mod blocks;
 pub mod cursor;
 pub mod error;
-mod fields;
 mod language;
-mod lines;
-mod printing;
 mod parser;
-mod reader;
+mod printing;
 pub mod script;
 pub mod trace;
 
 pub use cursor::Cursor;
 pub use error::{ParseRefusal, TraceError};
+pub use parser::parse;
 pub use printing::{print, push_line};
-pub use reader::{one_reading, parse};
 pub use script::Item;
 pub use trace::{Program, Trace};
-
-#[cfg(test)]
-mod tests;

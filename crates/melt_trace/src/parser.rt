@@ -1,7 +1,8 @@
 //! The parser of whole traces.
 ghost use Rattle.std.specs.Prelude.{◌≡◌, Ok, IfOk, IfErr};
 ghost use Rattle.melt_trace.specs.Language.{script_of};
-ghost use Rattle.melt_trace.specs.Drafts.{place_of, IsRefusalOf};
+ghost use Rattle.melt_trace.specs.Drafts.{place_of};
+ghost use Rattle.melt_trace.specs.Refusal.{IsRefused};
 
 mod draft;
 mod fault;
@@ -19,16 +20,17 @@ use crate::parser::draft::Draft;
 use crate::parser::fault::Fault;
 use crate::parser::line::take_line;
 use crate::parser::lines::next_line;
+use crate::trace::Trace;
 use std::alloc::Global;
 
 const MAX_BYTES: usize = 16_777_216;
 
 const ENDS_EARLY: u32 = 14;
 
-/// The script that the bytes spell.
-pub fn read(alloc: Global, bytes: &[u8]) -> Result<Draft, ParseRefusal>
+/// What the lines of the bytes say.
+fn read(alloc: Global, bytes: &[u8]) -> Result<Draft, ParseRefusal>
     ensures found { IfOk result (λ draft. script_of bytes.now ≡ Ok (place_of draft).script) }
-    ensures refused { IfErr result (IsRefusalOf bytes.now) }
+    ensures refused { IfErr result (IsRefused bytes.now) }
 {
     if bytes.len() > MAX_BYTES {
         return Err(ParseRefusal::Bad(TraceError::TOO_LONG));
@@ -53,4 +55,13 @@ pub fn read(alloc: Global, bytes: &[u8]) -> Result<Draft, ParseRefusal>
             reason: ENDS_EARLY,
         }))
     }
+}
+
+/// The trace that the bytes are, or the first bad line and the reason. Takes at most 16,777,216 bytes.
+pub fn parse(alloc: Global, bytes: &[u8]) -> Result<Trace, ParseRefusal>
+    ensures found { IfOk result (λ trace. script_of bytes.now ≡ Ok trace) }
+    ensures refused { IfErr result (IsRefused bytes.now) }
+{
+    let draft = read(alloc, bytes)?;
+    Ok(draft.into_trace())
 }

@@ -1,14 +1,10 @@
 //! A trace that was read.
-ghost use Rattle.std.specs.Prelude.{◌≡◌, ◌<◌, ◌≤◌, length, map, slice_get, Some, IfOk};
+ghost use Rattle.std.specs.Prelude.{◌≡◌, ◌<◌, ◌≤◌, length, slice_get, Some};
 ghost use Rattle.melt_trace.specs.Script.{expand, operations};
-ghost use Rattle.melt_trace.specs.Grammar.{IsSmall};
 ghost use Rattle.melt_trace.specs.Language.{IsScript};
-ghost use Rattle.melt_trace.specs.Small.{one_thread};
 
 use crate::cursor::Cursor;
 use crate::script::Item;
-use melt_model::{NoMemory, Op};
-use std::alloc::Global;
 use std::marker::Model;
 
 /// The lines of a thread's program, and how many operations they stand for.
@@ -74,13 +70,6 @@ impl Model for Trace {
     ghost invariant = { λ trace. IsScript (record { globals = trace.globals; orders = trace.orders.items; programs = trace.programs.items }) };
 }
 
-fn lines_of(alloc: Global, ops: &[Op]) -> Result<Vec<Item>, NoMemory>
-    ensures { IfOk result (λ items. items.items ≡ map (λ op. Item.Op op) ops.now) }
-{
-    let items = ops.iter().map(|op| Item::Op(*op)).collect(alloc)?;
-    Ok(items)
-}
-
 impl Trace {
     /// A trace of these parts.
     pub(crate) fn of_parts(globals: u32, orders: Vec<(u32, u32)>, programs: Vec<Program>) -> Trace
@@ -92,17 +81,6 @@ impl Trace {
             orders,
             programs,
         }
-    }
-
-    /// A trace of one thread, which makes these operations.
-    pub(crate) fn of_one_thread(alloc: Global, globals: u32, ops: &[Op]) -> Result<Trace, NoMemory>
-        requires { IsSmall (one_thread globals ops.now) ops.now }
-        ensures { IfOk result (λ trace. trace ≡ one_thread globals ops.now) }
-    {
-        let items = lines_of(alloc, ops)?;
-        let mut programs = Vec::new(alloc);
-        programs.push(Program::new(items, ops.len() as u64))?;
-        Ok(Trace::of_parts(globals, Vec::new(alloc), programs))
     }
 
     /// How many threads there are.

@@ -1,12 +1,13 @@
 //! A script that is being read.
 ghost use Rattle.std.specs.Prelude.{◌≡◌, ◌==◌, ◌<◌, ◌≤◌, if◌then◌else◌, [], ◌∷◌};
 ghost use Rattle.melt_trace.specs.Language.{after_repeat, after_end, after_done, after_order};
-ghost use Rattle.melt_trace.specs.Language.{after_operation};
+ghost use Rattle.melt_trace.specs.Language.{after_operation, IsScript};
 ghost use Rattle.melt_trace.specs.Drafts.{place_of, IsSound, LeadsTo};
 
 use crate::language::Stage;
 use crate::parser::fault::Fault;
 use crate::script::Item;
+use crate::trace::{Program, Trace};
 use melt_model::Op;
 use std::alloc::Global;
 use std::collections::VecDeque;
@@ -53,7 +54,7 @@ pub struct Draft {
     pub threads: u32,
     pub globals: u32,
     pub orders: Vec<(u32, u32)>,
-    pub programs: Vec<Vec<Item>>,
+    pub programs: Vec<Program>,
     /// How many operations these programs have, each block written out.
     pub total: u32,
     /// The lines of the program that is open.
@@ -82,6 +83,20 @@ impl Draft {
             blocks: VecDeque::new(alloc),
             count: 0,
         }
+    }
+
+    /// The trace that it is, where it is whole.
+    pub fn into_trace(self) -> Trace
+        requires { IsScript (place_of self).script }
+        ensures { result ≡ (place_of self).script }
+    {
+        let Draft {
+            globals,
+            orders,
+            programs,
+            ..
+        } = self;
+        Trace::of_parts(globals, orders, programs)
     }
 
     pub fn operation(&mut self, op: Op) -> Result<(), Fault>
@@ -133,8 +148,9 @@ impl Draft {
         if total > MAX_OPERATIONS {
             return Err(Fault::Bad(MANY_OPERATIONS));
         }
-        let program = mem::replace(&mut self.items, Vec::new(alloc));
-        self.programs.push(program)?;
+        let items = mem::replace(&mut self.items, Vec::new(alloc));
+        self.programs
+            .push(Program::new(items, u64::from(self.count)))?;
         self.total = total;
         self.count = 0;
         self.stage = behind(self.programs.len(), self.threads);
