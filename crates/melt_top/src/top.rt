@@ -55,7 +55,7 @@ fn trace_answer(alloc: Global, bytes: &[u8]) -> Result<Answer, NoMemory>
     ensures { IfOk result (λ answer. TraceDue bytes.now answer.status answer.text.items) }
 {
     match parse(alloc, bytes) {
-        Ok(trace) if trace.threads() > 1 => {
+        Ok(trace) if trace.threads() > 1 || trace.orders() > 0 => {
             Answer::refused(alloc, NOT_BUILT)
         }
         Ok(trace) => {
