@@ -1,0 +1,1 @@
+head -c 16000000 /dev/zero | tr '\0' '\n'
