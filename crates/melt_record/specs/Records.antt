@@ -1,5 +1,5 @@
 -- Records of moved objects on a disk of words: the object itself, or the stub that it left behind.
-use Rattle.std.specs.Prelude.{◌≡◌, ℕ, ◌+◌, ◌*◌, ◌^◌, ◌<◌, ◌≤◌, ◌⊎◌, List, [], ◌∷◌, slice_index}
+use Rattle.std.specs.Prelude.{◌≡◌, ℕ, ◌+◌, ◌*◌, ◌^◌, ◌<◌, ◌≤◌, ◌⊎◌, List, [], ◌∷◌, drop, slice_index}
 use Rattle.melt_word.specs.Words.{IsShape, cost_of}
 use Rattle.melt_word.specs.declared.header.Shape.{Shape}
 use Rattle.melt_record.specs.declared.damage.Damaged.{Damaged}
@@ -76,3 +76,12 @@ pub record IsSlotDamage (home end count : ℕ) (words : List ℕ) (damage : Dama
   pub bad : ¬ IsSlotWord end (slice_index words slot)
   pub at : damage.at ≡ 2 + slot
   pub word : damage.word ≡ slice_index words slot
+
+-- a reader of the words finds a Body of the shape, and its slots behind the head
+pub record BodyIsRead (home end : ℕ) (shape : Shape) (words : List ℕ) : Type 0 where
+  pub head : IsHead home end (slice_index words 0) (slice_index words 1) (record { shape = shape; kind = Body })
+  pub slots : AreSlots end shape.refs (drop 2 words)
+
+-- a reader of the words finds a Stub of the shape with the scion
+abbrev pub StubIsRead : ℕ → ℕ → Shape → ℕ → List ℕ → Type 0
+StubIsRead home end shape scion words = IsHead home end (slice_index words 0) (slice_index words 1) (record { shape = shape; kind = Stub scion })

@@ -9,6 +9,9 @@ ghost use Rattle.melt_record.specs.declared.head.Kind.{Kind};
 use crate::damage::Damaged;
 use melt_word::{MAX_PARTS, MAX_SCION, Shape, cost};
 
+/// How many words the head of a record takes.
+pub(crate) const HEAD_WORDS: u32 = 2;
+
 pub(crate) const BODY: u64 = 1;
 
 pub(crate) const STUB: u64 = 2;
