@@ -4,7 +4,7 @@ ghost use Rattle.melt_word.specs.Words.{IsDiskHome, IsShape, cost_of};
 ghost use Rattle.melt_word.specs.declared.header.Shape.{Shape};
 ghost use Rattle.melt_record.specs.Records.{AreSlots, BodyIsRead, IsScion, StubIsRead, body_words, stub_words};
 
-use crate::head::{BODY, STUB, first_word};
+use crate::head::{BODY, HEAD_WORDS, STUB, first_word};
 use melt_word::Shape;
 
 /// Writes the Body at `home` of an object of the shape. `slots` has the reference slots and then the
@@ -19,7 +19,7 @@ pub fn encode_body(home: u32, shape: Shape, slots: &[u64], out: &mut [u64])
 {
     out[0] = first_word(BODY, home, shape);
     out[1] = 0;
-    out[2..].copy_from_slice(slots);
+    out[HEAD_WORDS..].copy_from_slice(slots);
 }
 
 /// Writes the first two words, which are all that is read, of the Stub at `home` of an object of the

@@ -10,7 +10,7 @@ use crate::damage::Damaged;
 use melt_word::{MAX_PARTS, MAX_SCION, Shape, cost};
 
 /// How many words the head of a record takes.
-pub(crate) const HEAD_WORDS: u32 = 2;
+pub(crate) const HEAD_WORDS: usize = 2;
 
 pub(crate) const BODY: u64 = 1;
 

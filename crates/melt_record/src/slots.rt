@@ -32,7 +32,7 @@ pub fn decode_rest(home: u32, end: u32, shape: Shape, words: &[u64]) -> Result<(
         if !is_slot_word(end, *word) {
             return Err(Damaged {
                 home,
-                at: HEAD_WORDS + slot as u32,
+                at: (HEAD_WORDS + slot) as u32,
                 word: *word,
             });
         }
