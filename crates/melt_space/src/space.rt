@@ -9,7 +9,7 @@ use melt_word::{Header, Shape, cost, decode_header, encode_header};
 use std::alloc::Global;
 use std::marker::Model;
 
-/// No room for an object: the words that are free, and those that it needs.
+/// No room for an object: the words that are free, and those that it needs, from 2 to 126.
 #[derive(Clone, Copy, Debug, PartialEq, Eq)]
 pub struct NoRoom {
     pub free: u32,
@@ -73,7 +73,7 @@ impl Space {
         Ok(address)
     }
 
-    /// The shape of the object at the address, whose header may be stale.
+    /// The shape that the header at the address tells, be it clean or stale.
     pub fn shape(&self, address: u32) -> Shape
         requires word { IsWord self.now address }
         requires header { HasHeader self.now address }
@@ -85,7 +85,7 @@ impl Space {
         }
     }
 
-    /// The word of the number.
+    /// The word at an address, from 1 to the number of words.
     pub fn word(&self, at: u32) -> u64
         requires { IsWord self.now at }
         ensures { result ≡ word_at self.now at }
@@ -93,7 +93,7 @@ impl Space {
         self.words[at as usize - 1]
     }
 
-    /// Puts a word in the place of that of the number.
+    /// Replaces the word at an address, from 1 to the number of words.
     pub fn set_word(&mut self, at: u32, word: u64)
         requires { IsWord self.old at }
         ensures { SetsWord self.old self.new at word }
@@ -117,7 +117,7 @@ impl Space {
         self.used
     }
 
-    /// Says that so many words are in use, those from word 1 on. No word changes.
+    /// Says that so many words are in use, at most all of them. No word changes.
     pub fn set_used(&mut self, used: u32)
         requires { used ≤ length self.old.list }
         ensures { self.new ≡ record self.old { used = used } }
