@@ -1,0 +1,127 @@
+//! A space of 64-bit words, in which objects are made one behind the other.
+ghost use Rattle.std.specs.Prelude.{◌≡◌, ◌-◌, ◌^◌, ◌<◌, ◌≤◌, length, IfErr, IfOk, IsErr, OnErr};
+ghost use Rattle.melt_word.specs.Words.{IsHeader, IsShape, cost_of, header_word};
+ghost use Rattle.melt_word.specs.declared.header.Header.{Header};
+ghost use Rattle.melt_space.specs.Space.{HasHeader, IsFresh, IsSpace, IsWord, Lacks, Makes, SetsWord, word_at};
+
+use melt_model::NoMemory;
+use melt_word::{Header, Shape, cost, decode_header, encode_header};
+use std::alloc::Global;
+use std::marker::Model;
+
+/// No room for an object: the words that are free, and those that it needs, from 2 to 126.
+#[derive(Clone, Copy, Debug, PartialEq, Eq)]
+pub struct NoRoom {
+    pub free: u32,
+    pub need: u32,
+}
+
+/// Words numbered from 1, at most `MAX_ADDRESS` of them. Those from word 1 on are in use, as many as
+/// `used` tells, and the others are free.
+#[derive(Debug, Drop)]
+pub struct Space {
+    words: Vec<u64>,
+    used: u32,
+}
+
+impl Model for Space {
+    ghost use Rattle.melt_space.specs.Space.{SpaceWords, IsSpace};
+
+    ghost Value = { SpaceWords };
+
+    ghost view = { λ space. record { list = space.words.items; used = space.used } };
+
+    ghost invariant = { λ space. IsSpace (record { list = space.words.items; used = space.used }) };
+}
+
+impl Space {
+    /// A space of so many words, at most `MAX_ADDRESS`. Each is 0, and none is in use.
+    pub fn new(alloc: Global, words: u32) -> Result<Space, NoMemory>
+        requires { words < 2 ^ 30 }
+        ensures { IfOk result (IsFresh words) }
+    {
+        let words = vec![in alloc; 0; words as usize]?;
+        Ok(Space { words, used: 0 })
+    }
+
+    /// Makes a clean object in the first free words and answers its address. It has no home, its
+    /// references are null and its numbers are 0.
+    ///
+    /// Fails only where fewer words are free than the object needs.
+    pub fn make(&mut self, shape: Shape) -> Result<u32, NoRoom>
+        requires { IsShape shape }
+        ensures made { IfOk result (Makes self.old self.new shape) }
+        ensures refused { IfErr result (Lacks self.old shape) }
+        ensures unchanged { OnErr result (self.new ≡ self.old) }
+        ensures room { length self.old.list - self.old.used < cost_of shape → IsErr result }
+    {
+        let need = cost(shape);
+        let free = self.words() - self.used;
+        if free < need {
+            return Err(NoRoom { free, need });
+        }
+        let start = self.used as usize;
+        let header = Header {
+            shape,
+            stale: false,
+        };
+        let object = &mut self.words[start..start + need as usize];
+        object.fill(0);
+        object[0] = encode_header(header);
+        let address = self.used + 1;
+        self.used += need;
+        Ok(address)
+    }
+
+    /// The shape that the header at the address tells, be it clean or stale.
+    pub fn shape(&self, address: u32) -> Shape
+        requires word { IsWord self.now address }
+        requires header { HasHeader self.now address }
+        ensures { (h : Header) → IsHeader h → word_at self.now address ≡ header_word h → result ≡ h.shape }
+    {
+        match decode_header(self.word(address)) {
+            Ok(header) => header.shape,
+            Err(_) => unreachable!(),
+        }
+    }
+
+    /// The word at an address, from 1 to the number of words.
+    pub fn word(&self, at: u32) -> u64
+        requires { IsWord self.now at }
+        ensures { result ≡ word_at self.now at }
+    {
+        self.words[at as usize - 1]
+    }
+
+    /// Replaces the word at an address, from 1 to the number of words.
+    pub fn set_word(&mut self, at: u32, word: u64)
+        requires { IsWord self.old at }
+        ensures { SetsWord self.old self.new at word }
+    {
+        self.words[at as usize - 1] = word;
+    }
+
+    /// How many words there are.
+    pub fn words(&self) -> u32
+        ensures value { result ≡ length self.now.list }
+        ensures within { IsSpace self.now }
+    {
+        self.words.len() as u32
+    }
+
+    /// How many words are in use.
+    pub fn used(&self) -> u32
+        ensures value { result ≡ self.now.used }
+        ensures within { IsSpace self.now }
+    {
+        self.used
+    }
+
+    /// Says that so many words are in use, at most all of them. No word changes.
+    pub fn set_used(&mut self, used: u32)
+        requires { used ≤ length self.old.list }
+        ensures { self.new ≡ record self.old { used = used } }
+    {
+        self.used = used;
+    }
+}

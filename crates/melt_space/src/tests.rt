@@ -1,0 +1,55 @@
+use super::*;
+use melt_word::{Header, Shape, encode_header};
+use std::test::Fail;
+
+#[test]
+fn objects_stand_one_behind_the_other(rt: HostRuntime) -> Result<(), Fail> {
+    let pair = Shape { refs: 1, nums: 0 };
+    let numbers = Shape { refs: 0, nums: 2 };
+    let empty = Shape { refs: 0, nums: 0 };
+    let mut space = Space::new(rt.alloc(), 7)?;
+    assert_eq!(rt; space.words(), 7);
+    assert_eq!(rt; space.make(pair), Ok(1));
+    assert_eq!(rt; space.make(numbers), Ok(4));
+    assert_eq!(rt; space.make(empty), Err(NoRoom { free: 0, need: 2 }));
+    assert_eq!(rt; space.used(), 7);
+    Ok(())
+}
+
+#[test]
+fn the_largest_object_needs_126_words(rt: HostRuntime) -> Result<(), Fail> {
+    let largest = Shape { refs: 62, nums: 62 };
+    let mut space = Space::new(rt.alloc(), 126)?;
+    assert_eq!(rt; space.make(largest), Ok(1));
+    let mut short = Space::new(rt.alloc(), 125)?;
+    let refusal = NoRoom {
+        free: 125,
+        need: 126,
+    };
+    assert_eq!(rt; short.make(largest), Err(refusal));
+    Ok(())
+}
+
+#[test]
+fn words_that_were_used_are_used_again(rt: HostRuntime) -> Result<(), Fail> {
+    let number = Shape { refs: 0, nums: 1 };
+    let mut space = Space::new(rt.alloc(), 3)?;
+    assert_eq!(rt; space.words(), 3);
+    space.set_word(3, 9);
+    assert_eq!(rt; space.word(3), 9);
+    space.set_used(0);
+    assert_eq!(rt; space.make(number), Ok(1));
+    assert_eq!(rt; space.word(3), 0);
+    Ok(())
+}
+
+#[test]
+fn a_header_tells_its_shape(rt: HostRuntime) -> Result<(), Fail> {
+    let shape = Shape { refs: 2, nums: 1 };
+    let header = Header { shape, stale: true };
+    let mut space = Space::new(rt.alloc(), 5)?;
+    assert_eq!(rt; space.words(), 5);
+    space.set_word(1, encode_header(header));
+    assert_eq!(rt; space.shape(1), shape);
+    Ok(())
+}
