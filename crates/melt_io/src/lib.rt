@@ -12,12 +12,14 @@ pub mod memory;
 pub mod outside;
 pub mod steady;
 pub mod whole;
+pub mod words;
 
 pub use adapters::{OpenGate, StdSink, StdSource};
 pub use memory::{MemSink, MemSource};
 pub use outside::{Failed, Gate, LendRefusal, RecordReader, Sink, Source, StaleDisk};
 pub use steady::{SteadyDisk, SteadyReader, SteadySink, SteadySource};
 pub use whole::{ReadRefusal, read_all, write_all};
+pub use words::{get_words, put_words, words_read_back};
 
 #[cfg(test)]
 mod tests;
