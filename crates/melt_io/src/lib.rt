@@ -8,6 +8,7 @@
 #![tactic(auto)]
 
 pub mod adapters;
+pub mod mem_disk;
 pub mod memory;
 pub mod outside;
 pub mod steady;
@@ -15,6 +16,7 @@ pub mod whole;
 pub mod words;
 
 pub use adapters::{OpenGate, StdSink, StdSource};
+pub use mem_disk::{MemDisk, MemReader};
 pub use memory::{MemSink, MemSource};
 pub use outside::{Failed, Gate, LendRefusal, RecordReader, Sink, Source, StaleDisk};
 pub use steady::{SteadyDisk, SteadyReader, SteadySink, SteadySource};
