@@ -8,6 +8,7 @@
 #![tactic(auto)]
 
 pub mod adapters;
+pub mod file_disk;
 pub mod mem_disk;
 pub mod memory;
 pub mod outside;
@@ -16,6 +17,7 @@ pub mod whole;
 pub mod words;
 
 pub use adapters::{OpenGate, StdSink, StdSource};
+pub use file_disk::{FileDisk, FileReader};
 pub use mem_disk::{MemDisk, MemReader};
 pub use memory::{MemSink, MemSource};
 pub use outside::{Failed, Gate, LendRefusal, RecordReader, Sink, Source, StaleDisk};
