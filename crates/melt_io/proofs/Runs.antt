@@ -7,7 +7,7 @@ use Rattle.std.proofs.Math.Seq.{take-add, take-append-add}
 use Rattle.std.specs.Io.KnownBytes.{Appends, Consumes, IsAtEnd}
 use Rattle.byteorder.specs.Endian.{little_bytes}
 use Rattle.melt_io.specs.Words.{word_bytes, words_of, ReadsWords}
-use Rattle.melt_io.proofs.WordBytes.{length-words_of, words_of-append, words_of-front, words_of-padded}
+use Rattle.melt_io.proofs.WordBytes.{words_of-append, words_of-front, words_of-padded}
 
 appends-twice : (old mid new : Option (List ℕ)) (first second : List ℕ) → Appends old mid first → Appends mid new second → Appends old new (first ++ second)
 appends-twice None mid new first second one two = tt

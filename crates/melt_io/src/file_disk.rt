@@ -1,5 +1,5 @@
 //! A disk in a file of the current folder.
-ghost use Rattle.std.specs.Prelude.{◌≡◌, ◌+◌, ◌*◌, ◌<◌, ◌≤◌, ◌^◌, None, length, take, vec_len, IsNone, IsErr, IsErrOf, IfOk, IfSome, OnOk, OnErr};
+ghost use Rattle.std.specs.Prelude.{◌≡◌, ◌+◌, ◌*◌, ◌<◌, ◌≤◌, ◌^◌, ◌↔◌, None, length, take, vec_len, IsNone, IsSome, IsErr, IsErrOf, IfOk, IfSome, OnOk, OnErr};
 ghost use Rattle.std.specs.Io.KnownBytes.{Appends, Consumes, IsAtEnd};
 ghost use Rattle.std.specs.Io.Seek.{MovesTo};
 ghost use Rattle.melt_io.specs.Outside.{Rose, counted};
@@ -118,12 +118,12 @@ where
         ensures count { self.old.faults ≤ self.new.faults }
         ensures read_faults { self.new.read_faults ≡ self.old.read_faults }
         ensures lends { self.new.lends ≡ self.old.lends }
+        ensures opened { OnOk result (IsSome self.new.file) }
+        ensures stays_open { IsSome self.old.file → IsSome self.new.file }
+        ensures runtime { self.new.runtime ≡ self.old.runtime }
     {
-        let is_written = match open_once(&self.runtime, &mut self.file) {
-            Ok(file) => write_words_at(file, &mut self.piece, at, words).is_ok(),
-            Err(_) => false,
-        };
-        if !is_written {
+        let piece = &mut self.piece;
+        if write_file(&self.runtime, &mut self.file, piece, at, words).is_err() {
             self.faults = self.faults.saturating_add(1);
             return Err(Failed);
         }
@@ -138,6 +138,8 @@ where
         ensures count { self.old.faults ≤ self.new.faults }
         ensures read_faults { self.new.read_faults ≡ self.old.read_faults }
         ensures lends { self.new.lends ≡ counted self.old.lends 1 }
+        ensures open { IfOk result (λ reader. IsSome reader.file ↔ IsSome self.old.file) }
+        ensures same { (self.new.file ≡ self.old.file) × (self.new.runtime ≡ self.old.runtime) }
     {
         self.lends = self.lends.saturating_add(1);
         let piece = vec![in alloc; 0; 8 * PIECE].map_err(|_| LendRefusal::NoMemory)?;
@@ -163,21 +165,28 @@ where
         ensures count { self.new.faults ≡ self.old.faults }
         ensures read_faults { self.new.read_faults ≡ counted self.old.read_faults reader.faults }
         ensures lends { self.new.lends ≡ self.old.lends }
+        ensures same { (self.new.file ≡ self.old.file) × (self.new.runtime ≡ self.old.runtime) }
     {
         self.read_faults = self.read_faults.saturating_add(reader.faults);
     }
 }
 
-/// The file, which is made, or emptied, where it is not open yet.
-fn open_once<'a, R: Files>(
+/// Writes the words from word `at` on, to a file that is made, or emptied, where none is open yet.
+fn write_file<R: Files>(
     runtime: &R,
-    file: &'a mut Option<R::File>,
-) -> io::Result<&'a mut R::File> {
-    if file.is_none() {
-        *file = Some(fs::create(runtime, PATH)?);
+    file: &mut Option<R::File>,
+    piece: &mut [u8],
+    at: u32,
+    words: &[u64],
+) -> io::Result<()>
+    requires { 8 ≤ length piece.old }
+    ensures opened { OnOk result (IsSome file.new) }
+    ensures stays_open { IsSome file.old → IsSome file.new }
+{
+    match file {
+        Some(open) => write_words_at(open, piece, at, words),
+        None => write_words_at(file.insert(fs::create(runtime, PATH)?), piece, at, words),
     }
-    file.as_mut()
-        .ok_or(io::Error::from(io::ErrorKind::NotFound))
 }
 
 /// Writes the words from word `at` on.
