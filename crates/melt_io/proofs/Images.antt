@@ -59,8 +59,8 @@ copied_words image at start n k front begins count e =
     front_padded (drop at image) n k front count_left copied
 
 -- words put into an image that reaches far enough
-pub put_words : (image long new : List ℕ) (at : ℕ) (words : List ℕ) → long ≡ image ++ replicate (at + length words - length image) 0 → new ≡ take at long ++ words ++ drop (at + length words) long → new ≡ with_words image at words
-put_words image long new at words reached e =
+pub overwritten : (image long new : List ℕ) (at : ℕ) (words : List ℕ) → long ≡ image ++ replicate (at + length words - length image) 0 → new ≡ take at long ++ words ++ drop (at + length words) long → new ≡ with_words image at words
+overwritten image long new at words reached e =
     let end : ℕ = at + length words in
     let near : at ≤ length image + (end - length image) = omega arith in
     let far : at ≤ length image + at = omega arith in

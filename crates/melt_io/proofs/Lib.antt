@@ -1,3 +1,5 @@
 pub mod Fronts
 pub mod Images
+pub mod Runs
 pub mod Told
+pub mod WordBytes

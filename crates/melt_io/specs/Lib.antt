@@ -1,2 +1,4 @@
+pub mod Lies
 pub mod Outside
 pub mod Whole
+pub mod Words

@@ -8,16 +8,22 @@
 #![tactic(auto)]
 
 pub mod adapters;
+pub mod file_disk;
+pub mod mem_disk;
 pub mod memory;
 pub mod outside;
 pub mod steady;
 pub mod whole;
+pub mod words;
 
 pub use adapters::{OpenGate, StdSink, StdSource};
+pub use file_disk::{FileDisk, FileReader};
+pub use mem_disk::{MemDisk, MemReader};
 pub use memory::{MemSink, MemSource};
 pub use outside::{Failed, Gate, LendRefusal, RecordReader, Sink, Source, StaleDisk};
 pub use steady::{SteadyDisk, SteadyReader, SteadySink, SteadySource};
 pub use whole::{ReadRefusal, read_all, write_all};
+pub use words::{get_words, put_words, words_read_back};
 
 #[cfg(test)]
 mod tests;

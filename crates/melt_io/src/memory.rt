@@ -117,7 +117,7 @@ impl Sink for MemSink {
 }
 
 /// Counts a call, and answers whether it is to fail.
-fn is_due(calls: &mut u64, fail: &[u64]) -> bool
+pub(crate) fn is_due(calls: &mut u64, fail: &[u64]) -> bool
     ensures calls { calls.new ≡ counted calls.old 1 }
     ensures due { IsTrue result ↔ Contains fail.now (counted calls.old 1) }
 {

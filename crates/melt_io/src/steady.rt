@@ -159,12 +159,10 @@ impl StaleDisk for SteadyDisk {
         ensures read_faults { self.new.read_faults ≡ self.old.read_faults }
         ensures lends { self.new.lends ≡ self.old.lends }
     {
-        let start = at as usize;
-        if reach(&mut self.image, start + words.len()).is_err() {
+        if write_image(&mut self.image, at as usize, words).is_err() {
             self.faults = self.faults.saturating_add(1);
             return Err(Failed);
         }
-        put_words(&mut self.image, start, words);
         Ok(())
     }
 
@@ -189,13 +187,29 @@ impl StaleDisk for SteadyDisk {
 }
 
 /// Copies the words from word `at` on, and zeros past the end of the image.
-fn copy_words(image: &[u64], at: usize, words: &mut [u64])
+pub(crate) fn copy_words(image: &[u64], at: usize, words: &mut [u64])
     ensures { words.new ≡ words_at image.now at (length words.old) }
 {
     let left = &image[image.len().min(at)..];
     let n = words.len().min(left.len());
     words.fill(0);
     words[..n].copy_from_slice(&left[..n]);
+}
+
+/// Writes the words from word `start` on, with zeros before them where the image is shorter.
+pub(crate) fn write_image(
+    image: &mut Vec<u64>,
+    start: usize,
+    words: &[u64],
+) -> Result<(), AllocError>
+    requires { start + length words.now ≤ 2 ^ 32 }
+    ensures written { OnOk result (image.new.items ≡ with_words image.old.items start words.now) }
+    ensures err { OnErr result (image.new.items ≡ image.old.items) }
+    ensures full { OnErr result (vec_capacity image.old < start + length words.now) }
+{
+    reach(image, start + words.len())?;
+    overwrite(image, start, words);
+    Ok(())
 }
 
 /// Fills up with zeros to the length `end`, where the image is shorter.
@@ -211,7 +225,7 @@ fn reach(image: &mut Vec<u64>, end: usize) -> Result<(), AllocError>
 }
 
 /// Writes the words from word `start` on.
-fn put_words(image: &mut [u64], start: usize, words: &[u64])
+fn overwrite(image: &mut [u64], start: usize, words: &[u64])
     requires { start + length words.now ≤ length image.old }
     ensures { image.new ≡ take start image.old ++ words.now ++ drop (start + length words.now) image.old }
 {

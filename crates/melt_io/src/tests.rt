@@ -1,5 +1,6 @@
 use super::*;
 use std::alloc::Global;
+use std::fs;
 use std::test::Fail;
 
 fn source(alloc: Global, text: &[u8], fail: &[u64]) -> Result<MemSource, Fail> {
@@ -101,4 +102,61 @@ fn a_writer_that_takes_nothing_is_a_fault(rt: HostRuntime) {
     assert_eq!(rt; write_all(&mut full, b"ab"), Ok(()));
     assert_eq!(rt; write_all(&mut full, b"c"), Err(Failed));
     assert_eq!(rt; full.faults, 1);
+}
+
+#[test]
+fn the_file_has_the_lowest_byte_of_each_word_first(rt: HostRuntime) -> Result<(), Fail> {
+    let mut disk = FileDisk::new(rt.alloc(), rt)?;
+    disk.write_at(1, &[4295032833, 0, 7])?;
+    let bytes = fs::read(&rt, "melt.stale")?;
+    assert_eq!(rt; bytes.len(), 32);
+    assert_eq!(rt; &bytes[8..16], [1, 0, 1, 0, 1, 0, 0, 0].as_slice());
+
+    let mut reader = disk.lend(rt.alloc()).ok().ok_or("no reader")?;
+    let mut words = [9; 5];
+    reader.read_at(1, &mut words)?;
+    assert_eq!(rt; words, [4295032833, 0, 7, 0, 0]);
+    disk.give_back(reader);
+    assert_eq!(rt; (disk.lends, disk.faults, disk.read_faults), (1, 0, 0));
+    fs::remove_file(&rt, "melt.stale")?;
+    Ok(())
+}
+
+#[test]
+fn a_call_whose_number_is_listed_fails(rt: HostRuntime) -> Result<(), Fail> {
+    let mut disk = MemDisk::new(rt.alloc());
+    disk.fail_writes.push(2)?;
+    disk.fail_lends.push(1)?;
+    disk.fail_reads.push((2, 1))?;
+    disk.write_at(1, &[5, 6])?;
+    assert_eq!(rt; disk.write_at(0, &[1]), Err(Failed));
+    assert_eq!(rt; disk.image.as_slice(), [0, 5, 6].as_slice());
+
+    assert_eq!(rt; disk.lend(rt.alloc()).err(), Some(LendRefusal::Failed));
+    let mut reader = disk.lend(rt.alloc()).ok().ok_or("no reader")?;
+    let mut words = [9; 3];
+    assert_eq!(rt; reader.read_at(0, &mut words), Err(Failed));
+    reader.read_at(1, &mut words)?;
+    assert_eq!(rt; words, [5, 6, 0]);
+    disk.give_back(reader);
+    assert_eq!(rt;
+        (disk.writes, disk.lends, disk.faults, disk.read_faults),
+        (2, 2, 2, 1)
+    );
+    Ok(())
+}
+
+#[test]
+fn only_the_reader_of_its_lend_tells_a_lie(rt: HostRuntime) -> Result<(), Fail> {
+    let mut disk = MemDisk::new(rt.alloc());
+    disk.lies.push((1, 2, 70))?;
+    disk.write_at(1, &[5, 6, 7])?;
+    let mut words = [9; 3];
+    for want in [[5, 70, 7], [5, 6, 7]] {
+        let mut reader = disk.lend(rt.alloc()).ok().ok_or("no reader")?;
+        reader.read_at(1, &mut words)?;
+        assert_eq!(rt; words, want);
+        disk.give_back(reader);
+    }
+    Ok(())
 }

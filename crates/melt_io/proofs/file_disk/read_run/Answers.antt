@@ -1,0 +1,8 @@
+use Rattle.std.proofs.Common.{rules}
+use Rattle.melt_io.proofs.Runs.{reads-filled}
+use Rattle.melt_io.proofs.file_disk.read_run.Goals as goal
+
+pub returns : goal.returns
+returns g c =
+    reads-filled _ _ c.read_front.new.bytes c.fill.new.self c.get_words.new.words c.in_ok-filled.filled _ _
+    (search rules) (search rules) (search rules) c.in_ok-filled.ensures.front (search rules) (c.fill.ensures.after (λ y e. e)) c.get_words.ensures
