@@ -8,3 +8,4 @@ pub mod Cuts
 pub mod Digits
 pub mod Tally
 pub mod Steps
+pub mod Kept

@@ -1,6 +1,6 @@
 //! The parser of whole traces.
 ghost use Rattle.std.specs.Prelude.{◌≡◌, Ok, IfOk, IfErr};
-ghost use Rattle.melt_trace.specs.Language.{script_of};
+ghost use Rattle.melt_trace.specs.Language.{script_of, IsScript};
 ghost use Rattle.melt_trace.specs.Drafts.{place_of, IsRefusalOf};
 
 mod draft;
@@ -11,6 +11,8 @@ mod lines;
 mod number;
 mod numbers;
 mod operations;
+#[cfg(test)]
+mod tests;
 mod words;
 
 use crate::error::{ParseRefusal, TraceError};
@@ -25,8 +27,7 @@ const MAX_BYTES: usize = 16_777_216;
 
 const ENDS_EARLY: u32 = 14;
 
-/// The script that the bytes spell.
-pub fn read(alloc: Global, bytes: &[u8]) -> Result<Draft, ParseRefusal>
+fn read_lines(alloc: Global, bytes: &[u8]) -> Result<Draft, ParseRefusal>
     ensures found { IfOk result (λ draft. script_of bytes.now ≡ Ok (place_of draft).script) }
     ensures refused { IfErr result (IsRefusalOf bytes.now) }
 {
@@ -53,4 +54,14 @@ pub fn read(alloc: Global, bytes: &[u8]) -> Result<Draft, ParseRefusal>
             reason: ENDS_EARLY,
         }))
     }
+}
+
+/// The script that the bytes spell.
+pub fn read(alloc: Global, bytes: &[u8]) -> Result<Draft, ParseRefusal>
+    ensures found { IfOk result (λ draft. script_of bytes.now ≡ Ok (place_of draft).script) }
+    ensures in_range { IfOk result (λ draft. IsScript (place_of draft).script) }
+    ensures refused { IfErr result (IsRefusalOf bytes.now) }
+{
+    let draft = read_lines(alloc, bytes)?;
+    Ok(draft)
 }
