@@ -12,6 +12,8 @@ mod lines;
 mod number;
 mod numbers;
 mod operations;
+#[cfg(test)]
+mod tests;
 mod words;
 
 use crate::error::{ParseRefusal, TraceError};
@@ -28,7 +30,7 @@ const MAX_BYTES: usize = 16_777_216;
 const ENDS_EARLY: u32 = 14;
 
 /// What the lines of the bytes say.
-fn read(alloc: Global, bytes: &[u8]) -> Result<Draft, ParseRefusal>
+fn read_lines(alloc: Global, bytes: &[u8]) -> Result<Draft, ParseRefusal>
     ensures found { IfOk result (λ draft. script_of bytes.now ≡ Ok (place_of draft).script) }
     ensures refused { IfErr result (IsRefused bytes.now) }
 {
@@ -62,6 +64,6 @@ pub fn parse(alloc: Global, bytes: &[u8]) -> Result<Trace, ParseRefusal>
     ensures found { IfOk result (λ trace. script_of bytes.now ≡ Ok trace) }
     ensures refused { IfErr result (IsRefused bytes.now) }
 {
-    let draft = read(alloc, bytes)?;
+    let draft = read_lines(alloc, bytes)?;
     Ok(draft.into_trace())
 }
