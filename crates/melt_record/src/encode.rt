@@ -37,10 +37,14 @@ pub fn encode_stub(home: u32, shape: Shape, scion: u32, out: &mut [u64])
 
 /// What is written for a Body is read as its head and its slots, up to the same end.
 pub fn body_is_read()
-    ensures { (home end : ℕ) (shape : Shape) (slots : List ℕ) → IsShape shape → home + cost_of shape ≤ end → AreSlots end shape.refs slots → BodyIsRead home end shape (body_words home shape slots) }
+    ensures { (home end : ℕ) (shape : Shape) (slots : List ℕ) →
+        IsShape shape → home + cost_of shape ≤ end → AreSlots end shape.refs slots →
+        BodyIsRead home end shape (body_words home shape slots) }
 {}
 
 /// What is written for a Stub is read as its head.
 pub fn stub_is_read()
-    ensures { (home end : ℕ) (shape : Shape) (scion : ℕ) → IsShape shape → home + cost_of shape ≤ end → IsScion scion → StubIsRead home end shape scion (stub_words home shape scion) }
+    ensures { (home end : ℕ) (shape : Shape) (scion : ℕ) →
+        IsShape shape → home + cost_of shape ≤ end → IsScion scion →
+        StubIsRead home end shape scion (stub_words home shape scion) }
 {}

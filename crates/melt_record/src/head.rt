@@ -118,5 +118,7 @@ pub fn decode_head(home: u32, end: u32, words: [u64; 2]) -> Result<Head, Damaged
 
 /// Two words spell one head at most, at one home.
 pub fn one_head()
-    ensures { (home end h e first second : ℕ) (head k : Head) → IsHead home end first second head → IsHead h e first second k → (home ≡ h) × (head ≡ k) }
+    ensures { (home end other until first second : ℕ) (head k : Head) →
+        IsHead home end first second head → IsHead other until first second k →
+        (home ≡ other) × (head ≡ k) }
 {}

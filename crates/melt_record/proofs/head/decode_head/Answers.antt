@@ -1,4 +1,4 @@
-use Rattle.std.proofs.Common.{inr, refl, slice_index, rules}
+use Rattle.std.proofs.Common.{inr, refl, slice_index}
 use Rattle.melt_record.proofs.Heads.{kind_number-first, some_first}
 use Rattle.melt_record.proofs.head.decode_head.Goals as goal
 

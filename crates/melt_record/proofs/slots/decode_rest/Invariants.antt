@@ -1,4 +1,3 @@
-use Rattle.std.proofs.Common.{◌≡◌, ℕ, ◌<◌}
 use Rattle.melt_record.specs.Records.{AreSlots}
 use Rattle.melt_record.proofs.slots.decode_rest.Given as goal
 
