@@ -1,0 +1,100 @@
+-- Words of a disk that a write leaves as they are, and those that it wrote.
+use Rattle.std.proofs.Common.{◌≡◌, ℕ, ◌+◌, ◌-◌, ◌<◌, List, ◌++◌, length, take, drop, replicate, get_or, Option, None, Some, Result, Ok, Err, OnOk, OnErr, IfSome, inl, inr, refl, sym, ◌∙◌, ap, subst, arith, length-append}
+use Rattle.std.proofs.lemmas.List.{ext_get_or, get_or-append-add, get_or-append_right, get_or-drop, get_or-replicate, get_or-take, get_or_append_left, get_or_past, length-replicate, length-take}
+use Rattle.std.proofs.lemmas.Bool.{cases_lt}
+use Rattle.melt_io.specs.Outside.{KeepsOthers, SameOutside, Writes, with_words, words_at}
+use Rattle.melt_disk.specs.Homes.{IsApart, KeepsApart}
+
+get_or-zeros : (n i : ℕ) → get_or {A = ℕ} (replicate n 0) i 0 ≡ 0
+get_or-zeros n i = elim (cases_lt i n) [
+  | inl within ↦ get_or-replicate n i 0 0 within
+  | inr past ↦ get_or_past (replicate n 0) i 0 (simp length-replicate past)
+]
+
+get_or-padded : (xs : List ℕ) (n i : ℕ) → get_or (xs ++ replicate n 0) i 0 ≡ get_or xs i 0
+get_or-padded xs n i = elim (cases_lt i (length xs)) [
+  | inl within ↦ get_or_append_left xs (replicate n 0) 0 i within
+  | inr past ↦ get_or-append_right xs (replicate n 0) (length xs) i 0 refl past ∙ get_or-zeros n (i - length xs) ∙ sym (get_or_past xs i 0 past)
+]
+
+length-words_at : (image : List ℕ) (at n : ℕ) → length (words_at image at n) ≡ n
+length-words_at image at n =
+    length-take n (drop at image ++ replicate n 0) ∙ omega (arith, length-append (drop at image) (replicate n 0), length-replicate {A = ℕ} n 0)
+
+get_or-words_at : (image : List ℕ) (at n i : ℕ) → i < n → get_or (words_at image at n) i 0 ≡ get_or image (at + i) 0
+get_or-words_at image at n i h =
+    get_or-take n (drop at image ++ replicate n 0) i 0 h ∙ get_or-padded (drop at image) n i ∙ get_or-drop at image i 0
+
+-- two images with the same words in a stretch
+same_words : (old new : List ℕ) (at n : ℕ) → ((i : ℕ) → i < n → get_or new (at + i) 0 ≡ get_or old (at + i) 0) → words_at new at n ≡ words_at old at n
+same_words old new at n same =
+    ext_get_or 0 (words_at new at n) (words_at old at n) (length-words_at new at n ∙ sym (length-words_at old at n))
+    (λ i h. let within : i < n = rw (← length-words_at new at n) h in get_or-words_at new at n i within ∙ same i within ∙ sym (get_or-words_at old at n i within))
+
+SameOutside-apart : (old : List ℕ) (home m : ℕ) (new : List ℕ) → SameOutside old home m new → (at n : ℕ) → IsApart at n home m → words_at new at n ≡ words_at old at n
+SameOutside-apart old home m new same at n (inl below) = same_words old new at n (λ i h. same.before (at + i) (omega arith))
+SameOutside-apart old home m new same at n (inr above) = same_words old new at n (λ i h. same.behind (at + i) (omega arith))
+
+length-front : (image : List ℕ) (at : ℕ) → length (take at (image ++ replicate at 0)) ≡ at
+length-front image at = length-take at (image ++ replicate at 0) ∙ omega (arith, length-append image (replicate at 0), length-replicate {A = ℕ} at 0)
+
+with_words-outside : (image : List ℕ) (at : ℕ) (words : List ℕ) → SameOutside image at (length words) (with_words image at words)
+with_words-outside image at words =
+    let front : List ℕ = take at (image ++ replicate at 0) in
+    let rest : List ℕ = drop (at + length words) image in
+    let len : length (front ++ words) ≡ at + length words = length-append front words ∙ ap (λ n. n + length words) (length-front image at) in
+    record {
+      before = λ k h.
+          let in_front : k < length front = omega (arith, length-front image at) in
+          let in_both : k < length (front ++ words) = omega (arith, len) in
+          get_or_append_left (front ++ words) rest 0 k in_both ∙ get_or_append_left front words 0 k in_front
+          ∙ get_or-take at (image ++ replicate at 0) k 0 h ∙ get_or-padded image at k;
+      behind = λ k h.
+          let place : at + length words + (k - (at + length words)) ≡ k = omega arith in
+          get_or-append_right (front ++ words) rest (at + length words) k 0 len h
+          ∙ get_or-drop (at + length words) image (k - (at + length words)) 0
+          ∙ ap (λ n. get_or image n 0) place;
+    }
+
+pub Writes-apart : (old : Option (List ℕ)) (at : ℕ) (words : List ℕ) (new : Option (List ℕ)) → Writes old at words new → KeepsApart old at (length words) new
+Writes-apart None at words None told = tt
+Writes-apart None at words (Some new) told = elim told [ ]
+Writes-apart (Some old) at words None told = elim told [ ]
+Writes-apart (Some old) at words (Some new) told =
+    let same : SameOutside old at (length words) new = rw told (with_words-outside old at words) in
+    SameOutside-apart old at (length words) new same
+
+pub KeepsOthers-apart : (old : Option (List ℕ)) (at n : ℕ) (new : Option (List ℕ)) → KeepsOthers old at n new → KeepsApart old at n new
+KeepsOthers-apart None at n None told = tt
+KeepsOthers-apart None at n (Some new) told = elim told [ ]
+KeepsOthers-apart (Some old) at n None told = elim told [ ]
+KeepsOthers-apart (Some old) at n (Some new) told = SameOutside-apart old at n new told
+
+-- whether a write of n words ends well or fails
+pub write-apart : {E : Type 0} (result : Result Unit E) (old : Option (List ℕ)) (at n : ℕ) (words : List ℕ) (new : Option (List ℕ)) → length words ≡ n → OnOk result (Writes old at words new) → OnErr result (KeepsOthers old at n new) → KeepsApart old at n new
+write-apart (Ok done) old at n words new len written others = subst (λ (m : ℕ). KeepsApart old at m new) len (Writes-apart old at words new written)
+write-apart (Err failed) old at n words new len written others = KeepsOthers-apart old at n new others
+
+words_at-with_words : (image : List ℕ) (at : ℕ) (words : List ℕ) → words_at (with_words image at words) at (length words) ≡ words
+words_at-with_words image at words =
+    let written : List ℕ = with_words image at words in
+    let front : List ℕ = take at (image ++ replicate at 0) in
+    let rest : List ℕ = drop (at + length words) image in
+    let len : length (front ++ words) ≡ at + length words = length-append front words ∙ ap (λ n. n + length words) (length-front image at) in
+    ext_get_or 0 (words_at written at (length words)) words (length-words_at written at (length words))
+    (λ i h.
+    let within : i < length words = rw (← length-words_at written at (length words)) h in
+    let in_both : at + i < length (front ++ words) = omega (arith, len) in
+    let place : at + i ≡ length front + i = ap (λ n. n + i) (sym (length-front image at)) in
+    get_or-words_at written at (length words) i within
+    ∙ get_or_append_left (front ++ words) rest 0 (at + i) in_both
+    ∙ ap (λ n. get_or (front ++ words) n 0) place ∙ get_or-append-add front words i 0)
+
+-- a write of n words that ends well
+pub write-read : {E : Type 0} (result : Result Unit E) (old : Option (List ℕ)) (at n : ℕ) (words : List ℕ) (new : Option (List ℕ)) → length words ≡ n → OnOk result (Writes old at words new) → OnOk result (IfSome new (λ image. words_at image at n ≡ words))
+write-read (Err failed) old at n words new len written = tt
+write-read (Ok done) None at n words None len written = tt
+write-read (Ok done) None at n words (Some new) len written = elim written [ ]
+write-read (Ok done) (Some old) at n words None len written = elim written [ ]
+write-read (Ok done) (Some old) at n words (Some new) len written =
+    ap (λ m. words_at new at m) (sym len) ∙ ap (λ image. words_at image at (length words)) written ∙ words_at-with_words old at words

@@ -1,0 +1,49 @@
+use super::*;
+use melt_io::{StaleDisk, SteadyDisk};
+use melt_word::Shape;
+use std::test::Fail;
+
+#[test]
+fn homes_stand_one_behind_another_up_to_the_limit(rt: HostRuntime) {
+    let mut disk = SteadyDisk::new(rt.alloc());
+    let mut space = StaleSpace::new(&mut disk, 9);
+    assert_eq!(rt; space.reserve_home(Shape { refs: 0, nums: 6 }), Ok(1));
+    assert_eq!(rt;
+        space.reserve_home(Shape { refs: 0, nums: 0 }),
+        Err(DiskFull {
+            end: 9,
+            need: 2,
+            limit: 9
+        })
+    );
+    assert_eq!(rt; (space.end(), space.limit()), (9, 9));
+}
+
+#[test]
+fn a_stub_leaves_the_slots_of_the_body(rt: HostRuntime) -> Result<(), Fail> {
+    const SHAPE: Shape = Shape { refs: 0, nums: 1 };
+    let mut disk = SteadyDisk::new(rt.alloc());
+    let mut space = StaleSpace::new(&mut disk, 9);
+    assert_eq!(rt; space.reserve_home(SHAPE), Ok(1));
+    space.write_body(1, SHAPE, &[7])?;
+    let reader = space.lend(rt.alloc()).ok().ok_or("no reader")?;
+    space.write_stub(1, SHAPE, 1)?;
+    assert_eq!(rt;
+        reader.image.as_slice(),
+        [0, 4_295_032_833, 0, 7].as_slice()
+    );
+    space.give_back(reader);
+    assert_eq!(rt; disk.image.as_slice(), [0, 4_295_032_834, 1, 7].as_slice());
+    assert_eq!(rt; (disk.lends, disk.faults, disk.read_faults), (1, 0, 0));
+    Ok(())
+}
+
+#[test]
+fn homes_of_each_cost_are_needed(rt: HostRuntime) {
+    let mut disk = SteadyDisk::new(rt.alloc());
+    let space = StaleSpace::new(&mut disk, 9);
+    let mut counts = [0; 127];
+    counts[2] = 3;
+    counts[126] = 2;
+    assert_eq!(rt; space.need(&counts), 258);
+}
