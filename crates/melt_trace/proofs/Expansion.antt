@@ -34,10 +34,13 @@ is_script globals ops small =
       count = omega (arith, ap length (expand-map ops), small.count);
     }
 
--- the same of the parts that a trace is made of
-pub script_of_parts : (globals : ℕ) (ops : List Op) (items : List Item) (orders : List (ℕ × ℕ)) (none programs : List (List Item)) → IsSmall (one_thread globals ops) ops → items ≡ map item.Op ops → orders ≡ [] → none ≡ [] → programs ≡ none ++ items ∷ [] → IsScript (record { globals = globals; orders = orders; programs = programs })
-script_of_parts globals ops items orders none programs small is no_orders no_programs all =
-    let same : map item.Op ops ∷ [] ≡ programs = cc in
-    let is_one : IsScript (one_thread globals ops) = is_script globals ops small in
-    subst (λ (os : List (ℕ × ℕ)). IsScript (record { globals = globals; orders = os; programs = programs })) (sym no_orders)
-    (subst (λ (ps : List (List Item)). IsScript (record { globals = globals; orders = []; programs = ps })) same is_one)
+-- the same of parts that are equal
+pub script_of_parts : (globals : ℕ) (orders others : List (ℕ × ℕ)) (programs these : List (List Item)) → others ≡ orders → these ≡ programs → IsScript (record { globals = globals; orders = orders; programs = programs }) → IsScript (record { globals = globals; orders = others; programs = these })
+script_of_parts globals orders others programs these same_orders same_programs is =
+    subst (λ (os : List (ℕ × ℕ)). IsScript (record { globals = globals; orders = os; programs = these })) (sym same_orders)
+    (subst (λ (ps : List (List Item)). IsScript (record { globals = globals; orders = orders; programs = ps })) (sym same_programs) is)
+
+pub script_of_one : (globals : ℕ) (ops : List Op) (items : List Item) (orders : List (ℕ × ℕ)) (none programs : List (List Item)) → IsSmall (one_thread globals ops) ops → items ≡ map item.Op ops → orders ≡ [] → none ≡ [] → programs ≡ none ++ items ∷ [] → IsScript (record { globals = globals; orders = orders; programs = programs })
+script_of_one globals ops items orders none programs small is no_orders no_programs all =
+    let same : programs ≡ map item.Op ops ∷ [] = cc in
+    script_of_parts globals [] orders (map item.Op ops ∷ []) programs no_orders same (is_script globals ops small)
