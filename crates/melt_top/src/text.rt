@@ -2,33 +2,12 @@
 ghost use Rattle.std.specs.Prelude.{◌≡◌, [], ◌++◌, ◌∷◌, IfOk, OnOk};
 ghost use Rattle.std.specs.Fmt.{decimal};
 ghost use Rattle.std.specs.List.{flat_map};
-ghost use Rattle.melt_trace.specs.Grammar.{line};
 ghost use Rattle.melt_top.specs.Text.{reply_line, end_line, halt_line, thread_text, text};
 
 use itoa::Buffer;
 use melt_model::{Halt, NoMemory, Reply, Report, ThreadEnd, ThreadReport};
+use melt_trace::push_line;
 use std::alloc::Global;
-
-fn push_number(out: &mut Vec<u8>, number: u64) -> Result<(), NoMemory>
-    ensures { OnOk result (out.new.items ≡ out.old.items ++ (32 ∷ decimal number)) }
-{
-    let mut buffer = Buffer::new();
-    out.push(b' ')?;
-    out.extend_from_slice(buffer.format(number).as_bytes())?;
-    Ok(())
-}
-
-/// Adds a line: a word, and numbers behind it.
-pub fn push_line(out: &mut Vec<u8>, word: &[u8], numbers: &[u64]) -> Result<(), NoMemory>
-    ensures { OnOk result (out.new.items ≡ out.old.items ++ line word.now numbers.now) }
-{
-    out.extend_from_slice(word)?;
-    for number in numbers {
-        push_number(out, *number)?;
-    }
-    out.push(b'\n')?;
-    Ok(())
-}
 
 fn push_number_line(out: &mut Vec<u8>, number: u64) -> Result<(), NoMemory>
     ensures { OnOk result (out.new.items ≡ out.old.items ++ (decimal number ++ 10 ∷ [])) }

@@ -9,10 +9,10 @@ ghost use Rattle.melt_top.specs.Headline.{IsUntouched, TraceDue, StepDue, Due, O
 use crate::command::{Command, command_of};
 use crate::run::run_plain;
 use crate::status::{Status, status_for};
-use crate::text::{push_line, report_text};
+use crate::text::report_text;
 use melt_io::{Gate, ReadRefusal, Sink, Source, StaleDisk, read_all, write_all};
 use melt_model::NoMemory;
-use melt_trace::{ParseRefusal, TraceError, parse};
+use melt_trace::{ParseRefusal, TraceError, parse, push_line};
 use std::alloc::Global;
 use std::thread::Threads;
 

@@ -16,3 +16,6 @@ pub use parser::parse;
 pub use printing::{print, push_line};
 pub use script::Item;
 pub use trace::{Program, Trace};
+
+#[cfg(test)]
+mod tests;
