@@ -1,5 +1,5 @@
 //! The traits of the outside.
-ghost use Rattle.std.specs.Prelude.{◌≡◌, ℕ, ◌+◌, ◌-◌, ◌^◌, ◌<◌, ◌≤◌, List, [], Option, take, length, min, is_some, IfOk, IfSome, OnOk, OnErr, IsErrOf};
+ghost use Rattle.std.specs.Prelude.{◌≡◌, ℕ, ◌+◌, ◌-◌, ◌^◌, ◌<◌, ◌≤◌, List, [], Option, Some, codes, take, length, min, is_some, IfOk, IfSome, OnOk, OnErr, IsErrOf};
 ghost use Rattle.melt_io.specs.Outside.{Rose, counted, TakesFront, Appends, words_at, Writes, KeepsOthers};
 
 use std::alloc::Global;
@@ -11,6 +11,8 @@ use std::fmt;
 pub struct Failed;
 
 impl fmt::Display for Failed {
+    ghost output = { λ _. Some (codes "the outside failed") };
+
     fn fmt<W: fmt::Write>(&self, f: &mut fmt::Formatter<W>) -> fmt::Result {
         f.write_str("the outside failed")
     }

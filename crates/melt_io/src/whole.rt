@@ -1,7 +1,7 @@
 //! Reads all of a source, and writes all of a piece.
-ghost use Rattle.std.specs.Prelude.{◌≡◌, ℕ, ◌+◌, ◌<◌, ◌≤◌, ◌↔◌, List, [], ◌++◌, length, vec_len, true, false, take, IfOk, IfSome, OnOk, OnErr, IsErrOf};
+ghost use Rattle.std.specs.Prelude.{◌≡◌, ℕ, ◌+◌, ◌<◌, ◌≤◌, ◌↔◌, List, [], ◌++◌, Some, length, vec_len, true, false, take, IfOk, IfSome, OnOk, OnErr, IsErrOf};
 ghost use Rattle.melt_io.specs.Outside.{Rose, TakesFront, Appends};
-ghost use Rattle.melt_io.specs.Whole.{TakesCount};
+ghost use Rattle.melt_io.specs.Whole.{TakesCount, refusal_text};
 ghost use Rattle.melt_io.specs.declared.whole.ReadRefusal.TheVariants.{Fault, NoMemory};
 
 use crate::outside::{Failed, Sink, Source};
@@ -21,6 +21,8 @@ pub enum ReadRefusal {
 }
 
 impl fmt::Display for ReadRefusal {
+    ghost output = { λ refusal. Some (refusal_text refusal) };
+
     fn fmt<W: fmt::Write>(&self, f: &mut fmt::Formatter<W>) -> fmt::Result {
         f.write_str(match self {
             ReadRefusal::Fault => "the source failed",
