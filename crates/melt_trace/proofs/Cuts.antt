@@ -28,7 +28,7 @@ nothing_left xs = take_rest xs (length xs) ∙ drop_all (length xs) xs (omega ar
 
 -- ---- lines
 
-split_parts : (p : ℕ → Bool) (xs : List ℕ) → (first : List ℕ) × (others : List (List ℕ)) × (slice_split p xs ≡ first ∷ others)
+pub split_parts : (p : ℕ → Bool) (xs : List ℕ) → (first : List ℕ) × (others : List (List ℕ)) × (slice_split p xs ≡ first ∷ others)
 split_parts p [] = ([], [], refl)
 split_parts p (x ∷ xs) =
     let rest = split_parts p xs in
@@ -37,7 +37,7 @@ split_parts p (x ∷ xs) =
       | false ↦ (x ∷ rest.0, rest.1, ap (onto_first x) rest.2)
     ]
 
-line_before : (line next : List ℕ) (others : List (List ℕ)) → without_empty_rest (line ∷ next ∷ others) ≡ line ∷ without_empty_rest (next ∷ others)
+pub line_before : (line next : List ℕ) (others : List (List ℕ)) → without_empty_rest (line ∷ next ∷ others) ≡ line ∷ without_empty_rest (next ∷ others)
 line_before [] next others = refl
 line_before (b ∷ line) next others = refl
 
@@ -65,7 +65,7 @@ twice : (t : Bool) → not t ≡ false → t ≡ true
 twice true e = refl
 twice false e = absurd cc
 
-filled : (field : List ℕ) (others : List (List ℕ)) → is_empty field ≡ false → filter (λ f. not (is_empty f)) (field ∷ others) ≡ field ∷ filter (λ f. not (is_empty f)) others
+pub filled : (field : List ℕ) (others : List (List ℕ)) → is_empty field ≡ false → filter (λ f. not (is_empty f)) (field ∷ others) ≡ field ∷ filter (λ f. not (is_empty f)) others
 filled field others e = ap (λ (t : Bool). cond (not t) (field ∷ filter (λ f. not (is_empty f)) others) (filter (λ f. not (is_empty f)) others)) e
 
 -- a byte other than the space stands at the front

@@ -41,7 +41,7 @@ both false b e = absurd cc
 
 -- ---- numbers
 
-abbrev AreWithin : List Range → List ℕ → Type 0
+abbrev pub AreWithin : List Range → List ℕ → Type 0
 AreWithin [] [] = Unit {0}
 AreWithin [] (n ∷ ns) = ⊥
 AreWithin (range ∷ ranges) [] = ⊥
@@ -153,7 +153,7 @@ IsAt stage.Over threads script items blocks = IsBody threads script × (length s
 abbrev IsPlace : Place → Type 0
 IsPlace place = IsAt place.stage place.threads place.script place.items place.blocks
 
-abbrev placed : Stage → ℕ → Script → List Item → List Bool → Place
+abbrev pub placed : Stage → ℕ → Script → List Item → List Bool → Place
 placed s threads script items blocks = record { stage = s; threads = threads; script = script; items = items; blocks = blocks }
 
 opens_none : (globals : ℕ) → Opens globals [] []

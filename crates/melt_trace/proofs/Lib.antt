@@ -4,3 +4,5 @@ pub mod Digits
 pub mod Tally
 pub mod Steps
 pub mod Kept
+pub mod Again
+pub mod Canonical

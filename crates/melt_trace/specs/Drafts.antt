@@ -6,7 +6,7 @@ use Rattle.melt_trace.specs.declared.parser.fault.Fault.TheVariants as fault
 use Rattle.melt_trace.specs.declared.parser.draft.Block.{Block}
 use Rattle.melt_trace.specs.declared.parser.draft.Draft.{Draft}
 use Rattle.melt_trace.specs.Script.{levels}
-use Rattle.melt_trace.specs.Language.{Place, operation_count, start, lines_of, script_from, script_of}
+use Rattle.melt_trace.specs.Language.{Place, operation_count, start, lines_of, script_from}
 
 -- ---- the place
 

@@ -125,7 +125,8 @@ impl Trace {
 
     /// The threads' programs.
     pub(crate) fn programs(&self) -> &[Program]
-        ensures { result.now ≡ self.now.programs }
+        ensures list { result.now ≡ self.now.programs }
+        ensures in_range { IsScript self.now }
     {
         &self.programs
     }
