@@ -67,6 +67,10 @@ fn step_writes_each_reply(rt: HostRuntime) -> Result<(), Fail> {
         ),
         (
             b"melt  1\nthreads 1\nglobals 0\nthread 0\ndone\n",
+            b"thread 0\nend done\n",
+        ),
+        (
+            b"melt 1\nthreads 2\nglobals 0\nthread 0\ndone\nthread 1\ndone\n",
             b"error trace 0 15\n",
         ),
     ];
