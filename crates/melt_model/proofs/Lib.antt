@@ -1,3 +1,3 @@
 pub mod Histories
-pub mod Steps
+pub mod OneAnswer
 pub mod Transcripts

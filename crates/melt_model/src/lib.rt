@@ -2,13 +2,17 @@
 //! contract of the workspace cites.
 #![tactic(auto)]
 
+pub mod config;
 pub mod history;
 pub mod operations;
 pub mod plain;
 pub mod reports;
+pub mod steps;
 pub mod words;
 
+pub use config::Config;
 pub use history::{Act, Entries, Entry, Slot, Value};
 pub use operations::{Op, Replies, Reply};
 pub use reports::{Halt, Journal, Journals, Phase, Report, ThreadEnd, ThreadReport, ThreadReports};
+pub use steps::Steps;
 pub use words::{NoMemory, Words};

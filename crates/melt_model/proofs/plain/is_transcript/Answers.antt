@@ -1,5 +1,5 @@
 use Rattle.std.proofs.Common.{◌≡◌, ◌<◌, ◌≤◌, length, get_or, refl, arith, rules}
-use Rattle.melt_model.proofs.Steps.{answered_drop, unasked}
+use Rattle.melt_model.proofs.OneAnswer.{answered_drop, unasked}
 use Rattle.melt_model.specs.Thread.{Thread, Deed, deed}
 use Rattle.melt_model.specs.Plain.{deed_of}
 use Rattle.melt_model.specs.declared.operations.Reply.TheVariants.{Done}

@@ -1,0 +1,36 @@
+-- A heap as contracts see it, with the registers over it.
+use Rattle.std.specs.Prelude.{◌≡◌, ℕ, ◌+◌, Bool, if◌then◌else◌, List, [], length, replicate, Option, None, Some, slice_index, slice_index_or, map}
+use Rattle.melt_space.specs.Space.{SpaceWords, word_at, IsFresh}
+use Rattle.melt_scion.specs.State.{State}
+use Rattle.melt_scion.specs.Placed.{Maps}
+use Rattle.melt_scion.specs.Names.{name_at}
+use Rattle.melt_scion.specs.declared.registers.Registers.{Registers}
+use Rattle.melt_scion.specs.declared.heap.Names as heap
+use Rattle.melt_scion.specs.declared.heap.Heap.{Heap}
+
+-- what a register of a thread holds
+abbrev pub register_in : List Registers → ℕ → ℕ → ℕ
+register_in held t r = slice_index (slice_index_or (map (λ (x : Registers). x.regs) held) t []) r
+
+-- the state that a heap and the registers of all threads show, with this first word past all homes
+abbrev pub state_of : Heap → List Registers → ℕ → State
+state_of heap held end = record {
+  size = length heap.space.list;
+  free = heap.space.used + 1;
+  word = word_at heap.space;
+  globals = length heap.globals;
+  global = slice_index heap.globals;
+  register = register_in held;
+  end = end;
+}
+
+-- Where a heap keeps names, they are the map of addresses. One that keeps none has a map that nothing is stored of.
+abbrev pub HasNames : Option heap.Names → Maps → Type 0
+HasNames None maps = Unit {0}
+HasNames (Some names) maps = (address : ℕ) → maps.address address ≡ name_at names.addresses address
+
+-- a heap without objects, whose globals hold nothing
+pub record IsNewHeap (words globals : ℕ) (named : Bool) (heap : Heap) : Type 0 where
+  pub space : IsFresh words heap.space
+  pub globals_hold_nothing : heap.globals ≡ replicate globals 0
+  pub names : heap.names ≡ (if named then Some (record { addresses = replicate words None }) else None)

@@ -1,0 +1,5 @@
+pub mod State
+pub mod Placed
+pub mod Changes
+pub mod Names
+pub mod Heaps

@@ -1,0 +1,13 @@
+-- The names of addresses: a finite map from addresses to the numbers of objects.
+use Rattle.std.specs.Prelude.{◌≡◌, ◌≢◌, ℕ, suc, zero, List, length, Option, None, Some, slice_index_or}
+
+-- the number of the object at an address, of which the list has one for each address from 1 on
+abbrev pub name_at : List (Option ℕ) → ℕ → Option ℕ
+name_at names zero = None
+name_at names (suc k) = slice_index_or names k None
+
+-- one address has this number now, and nothing else changes
+pub record SetsName (old new : List (Option ℕ)) (address number : ℕ) : Type 0 where
+  pub here : name_at new address ≡ Some number
+  pub others : (k : ℕ) → k ≢ address → name_at new k ≡ name_at old k
+  pub size : length new ≡ length old
