@@ -2,7 +2,7 @@
 use Rattle.std.specs.Prelude.{◌≡◌, ℕ, ◌+◌, Bool, if◌then◌else◌, List, [], length, replicate, Option, None, Some, slice_index, slice_index_or, map}
 use Rattle.melt_space.specs.Space.{SpaceWords, word_at, IsFresh}
 use Rattle.melt_scion.specs.State.{State}
-use Rattle.melt_scion.specs.Placed.{Maps}
+use Rattle.melt_scion.specs.Placed.{Maps, Formed}
 use Rattle.melt_scion.specs.Names.{name_at}
 use Rattle.melt_scion.specs.declared.registers.Registers.{Registers}
 use Rattle.melt_scion.specs.declared.heap.Names as heap
@@ -34,3 +34,10 @@ pub record IsNewHeap (words globals : ℕ) (named : Bool) (heap : Heap) : Type 0
   pub space : IsFresh words heap.space
   pub globals_hold_nothing : heap.globals ≡ replicate globals 0
   pub names : heap.names ≡ (if named then Some (record { addresses = replicate words None }) else None)
+
+-- the heap and the registers are well formed, with some map and some first word past all homes
+pub record IsFormed (heap : Heap) (held : List Registers) : Type 0 where
+  pub maps : Maps
+  pub end : ℕ
+  pub names : HasNames heap.names maps
+  pub formed : Formed maps (state_of heap held end)

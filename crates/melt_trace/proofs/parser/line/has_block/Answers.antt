@@ -1,5 +1,5 @@
 use Rattle.std.proofs.Common.{not, eqb, ap, ◌∙◌}
-use Rattle.melt_trace.proofs.OneAnswer.{some_open}
+use Rattle.melt_trace.proofs.Steps.{some_open}
 use Rattle.melt_trace.proofs.parser.line.has_block.Goals as goal
 
 pub returns : goal.returns

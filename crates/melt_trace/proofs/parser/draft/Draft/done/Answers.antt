@@ -5,7 +5,7 @@ use Rattle.melt_trace.specs.Script.{expand}
 use Rattle.melt_trace.specs.Language.{operation_count}
 use Rattle.melt_trace.specs.Drafts.{place_of, blocks_of, programs_of, capped, IsTallied}
 use Rattle.melt_trace.proofs.Tally.{tallied_none, tallied_done}
-use Rattle.melt_trace.proofs.OneAnswer.{no_blocks, too_many, few_enough, behind_done}
+use Rattle.melt_trace.proofs.Steps.{no_blocks, too_many, few_enough, behind_done}
 use Rattle.melt_trace.proofs.parser.draft.Draft.done.Goals as goal
 
 pub returns-then-total-gt-MAX_OPERATIONS : goal.returns-then-total-gt-MAX_OPERATIONS

@@ -1,7 +1,7 @@
 use Rattle.std.proofs.Common.{◌≡◌, ◌<◌, ◌∷◌, arith, sym, subst, ◌∙◌}
 use Rattle.melt_trace.specs.Drafts.{place_of, IsTallied}
 use Rattle.melt_trace.proofs.Tally.{tallied_end, some_times, some_more, blocks_with_operation}
-use Rattle.melt_trace.proofs.OneAnswer.{same_place, ends}
+use Rattle.melt_trace.proofs.Steps.{same_place, ends}
 use Rattle.melt_trace.proofs.parser.draft.Draft.end.Goals as goal
 
 pub returns : goal.returns

@@ -1,7 +1,7 @@
 use Rattle.std.proofs.Common.{arith, sym}
 use Rattle.melt_trace.specs.Drafts.{place_of}
 use Rattle.melt_trace.proofs.Tally.{tallied_operation, blocks_with_operation}
-use Rattle.melt_trace.proofs.OneAnswer.{same_place}
+use Rattle.melt_trace.proofs.Steps.{same_place}
 use Rattle.melt_trace.proofs.parser.draft.Draft.operation.Goals as goal
 
 pub returns : goal.returns

@@ -1,7 +1,7 @@
 use Rattle.std.proofs.Common.{◌<◌, ◌≤◌, length, arith, sym, ap, ◌∙◌}
 use Rattle.melt_trace.specs.Drafts.{place_of, blocks_of}
 use Rattle.melt_trace.proofs.Tally.{tallied_repeat}
-use Rattle.melt_trace.proofs.OneAnswer.{same_place, length-blocks, too_deep, opens}
+use Rattle.melt_trace.proofs.Steps.{same_place, length-blocks, too_deep, opens}
 use Rattle.melt_trace.proofs.parser.draft.Draft.repeat.Goals as goal
 
 pub returns-then-len-ge-MAX_DEPTH : goal.returns-then-len-ge-MAX_DEPTH

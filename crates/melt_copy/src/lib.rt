@@ -1,0 +1,6 @@
+//! Copying collections.
+#![tactic(auto)]
+
+pub mod collect;
+
+pub use collect::collect_copy;

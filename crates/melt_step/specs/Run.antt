@@ -1,0 +1,75 @@
+-- What a report of a run by the written order says of a trace.
+use Rattle.std.specs.Prelude.{◌≡◌, ℕ, ◌+◌, ◌<◌, List, [], length, All, slice_get, Option, None, Some, IfSome, IsSome}
+use Rattle.std.specs.Option.{option_map_or}
+use Rattle.melt_model.specs.Alive.{Alive, words_of, CostsSum}
+use Rattle.melt_model.specs.History.{Legal}
+use Rattle.melt_model.specs.Thread.{Transcript, registers_after, value_in}
+use Rattle.melt_model.specs.declared.config.Config.{Config}
+use Rattle.melt_model.specs.declared.history.Entry.{Entry}
+use Rattle.melt_model.specs.declared.history.Value.{Value}
+use Rattle.melt_model.specs.declared.history.Value.TheVariants.{Nil}
+use Rattle.melt_model.specs.declared.operations.Op.TheVariants.{New}
+use Rattle.melt_model.specs.declared.operations.Reply.{Reply}
+use Rattle.melt_model.specs.declared.reports.Phase.TheVariants.{Inactive}
+use Rattle.melt_model.specs.declared.reports.ThreadEnd.{ThreadEnd}
+use Rattle.melt_model.specs.declared.reports.ThreadEnd.TheVariants as end
+use Rattle.melt_model.specs.declared.reports.ThreadReport.{ThreadReport}
+use Rattle.melt_model.specs.declared.reports.Report.{Report}
+use Rattle.melt_trace.specs.Script.{Script, operations}
+use Rattle.melt_scion.specs.Placed.{Maps, Placed}
+use Rattle.melt_scion.specs.Heaps.{state_of, HasNames}
+use Rattle.melt_scion.specs.declared.heap.Heap.{Heap}
+
+-- The threads' replies are those of one legal history of a heap that never collects, which holds the calls
+-- of each thread once and in order, and no others.
+pub record HasHistory (script : Script) (history : List Entry) (report : Report) : Type 0 where
+  pub legal : Legal history script.globals
+  pub threads : length report.threads ≡ length script.programs
+  pub transcripts : (t : ℕ) (r : ThreadReport) → slice_get report.threads t ≡ Some r → Transcript history t (operations script t) r.replies
+  pub own_threads : All (λ e. e.thread < length script.programs) history
+
+-- how many replies a thread got
+abbrev pub answered : Report → ℕ → ℕ
+answered report t = option_map_or (λ (r : ThreadReport). length r.replies) (slice_get report.threads t) 0
+
+-- the registers of all threads after the operations that were answered
+abbrev pub registers_at_end : Script → Report → ℕ → ℕ → Value
+registers_at_end script report t r = value_in (registers_after report.log t (operations script t) (answered report t)) r
+
+-- The next operation of the thread makes an object that needs more words than the heap has beside those of the
+-- objects that registers and globals reach.
+pub record IsOutOfHeap (script : Script) (config : Config) (report : Report) (t : ℕ) (held need : ℕ) : Type 0 where
+  pub dst : ℕ
+  pub refs : ℕ
+  pub nums : ℕ
+  pub next : slice_get (operations script t) (answered report t) ≡ Some (New dst refs nums)
+  pub needed : need ≡ 2 + refs + nums
+  pub reach : CostsSum (words_of report.log) (Alive report.log (registers_at_end script report)) held
+  pub above : config.heap < held + need
+
+-- why a thread may end so
+abbrev pub MayEnd : Script → Config → Report → ℕ → ThreadEnd → Type 0
+MayEnd script config report t end.Done = answered report t ≡ length (operations script t)
+MayEnd script config report t (end.OutOfHeap held need) = IsOutOfHeap script config report t held need
+MayEnd script config report t end.DiskFault = ⊥
+MayEnd script config report t (end.Damaged home at word) = ⊥
+MayEnd script config report t end.Halted = ⊥
+
+-- What a run reports of a trace. Its history is the one that it stored.
+pub record IsStepReport (script : Script) (config : Config) (report : Report) : Type 0 where
+  pub history : HasHistory script report.log report
+  pub ends : (t : ℕ) (r : ThreadReport) → slice_get report.threads t ≡ Some r → MayEnd script config report t r.end
+  pub no_halt : report.halt ≡ None
+  pub inactive : All (λ j. j.phase ≡ Inactive) report.journal
+
+-- the heap stands for the history when all threads have ended
+pub record IsLeft (report : Report) (heap : Heap) : Type 0 where
+  pub maps : Maps
+  pub names : HasNames heap.names maps
+  pub placed : Placed report.log (λ t r. Nil) maps (state_of heap [] 1)
+
+-- a report, and the heap that is left
+pub record HasRun (script : Script) (config : Config) (report : Report) (heap : Option Heap) : Type 0 where
+  pub reported : IsStepReport script config report
+  pub is_there : IsSome heap
+  pub left : IfSome heap (IsLeft report)
