@@ -2,5 +2,6 @@
 #![tactic(auto)]
 
 pub mod collect;
+pub mod plan;
 
 pub use collect::collect_copy;
