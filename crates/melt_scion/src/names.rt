@@ -1,6 +1,6 @@
 //! The names of addresses: which object stands at an address.
 ghost use Rattle.std.specs.Prelude.{◌≡◌, ◌≤◌, ◌<◌, ◌^◌, length, replicate, None, IfOk};
-ghost use Rattle.melt_scion.specs.Names.{SetsName, name_at};
+ghost use Rattle.melt_scion.specs.Names.{Clears, SetsName, name_at};
 
 use melt_model::NoMemory;
 use std::alloc::Global;
@@ -45,5 +45,13 @@ impl AddressNames {
         ensures { SetsName self.old self.new address number }
     {
         self.numbers[address as usize - 1] = Some(number);
+    }
+
+    /// Says that no object starts at an address from 1 to `last`, at most the `words` that the names are for.
+    pub fn clear(&mut self, last: u32)
+        requires { last ≤ length self.old }
+        ensures { Clears self.old self.new last }
+    {
+        self.numbers[..last as usize].fill(None);
     }
 }
