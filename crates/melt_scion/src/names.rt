@@ -1,5 +1,5 @@
 //! The names of addresses: which object stands at an address.
-ghost use Rattle.std.specs.Prelude.{◌≡◌, ◌≤◌, ◌<◌, ◌^◌, length, replicate, None, IfOk};
+ghost use Rattle.std.specs.Prelude.{◌≡◌, ◌≤◌, ◌<◌, ◌^◌, ◌++◌, drop, length, replicate, None, IfOk};
 ghost use Rattle.melt_scion.specs.Names.{Clears, SetsName, name_at};
 
 use melt_model::NoMemory;
@@ -18,6 +18,14 @@ impl Model for AddressNames {
     ghost Value = { List (Option ℕ) };
 
     ghost view = { λ names. names.numbers.items };
+}
+
+/// Takes away the first numbers, so many of them.
+fn forget(numbers: &mut [Option<u32>], count: usize)
+    requires { count ≤ length numbers.old }
+    ensures { numbers.new ≡ replicate count None ++ drop count numbers.old }
+{
+    numbers[..count].fill(None);
 }
 
 impl AddressNames {
@@ -52,6 +60,6 @@ impl AddressNames {
         requires { last ≤ length self.old }
         ensures { Clears self.old self.new last }
     {
-        self.numbers[..last as usize].fill(None);
+        forget(&mut self.numbers, last as usize);
     }
 }
