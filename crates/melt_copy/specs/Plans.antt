@@ -1,0 +1,53 @@
+-- What the parts of a copying collection do, over every state that has the words of the space.
+use Rattle.std.specs.Prelude.{◌≡◌, ◌≢◌, ℕ, zero, suc, ◌+◌, ◌<◌, ◌≤◌, List, [], ◌++◌, length, take, slice_get, slice_index, Option, Some, ◌⊎◌}
+use Rattle.melt_space.specs.Space.{SpaceWords, word_at}
+use Rattle.melt_scion.specs.State.{State, RefersTo, Reached}
+use Rattle.melt_copy.specs.declared.plan.Move.{Move}
+use Rattle.melt_copy.specs.declared.plan.Plan.{Plan}
+use Rattle.melt_copy.specs.Moving.{IsWhole, IsRefWord, IsMove, IsPlan, WordMoves, ObjectMoves, words_in}
+
+-- where the plan sends an address
+abbrev pub goes : Plan → ℕ → ℕ
+goes plan = slice_index plan.forward.items
+
+-- The state has the words of the space, and the plan is one of objects that were found in it.
+pub record Plans (space : SpaceWords) (s : State) (plan : Plan) : Type 0 where
+  pub whole : IsWhole s
+  pub word : (k : ℕ) → s.word k ≡ word_at space k
+  pub size : s.size ≡ length space.list
+  pub free : s.free ≡ space.used + 1
+  pub plan : IsPlan s (goes plan) plan.moves.items plan.next
+  pub table : length plan.forward.items ≡ space.used + 1
+
+-- what was found stays
+pub record Grows (old new : Plan) : Type 0 where
+  pub rest : List Move
+  pub moves : new.moves.items ≡ old.moves.items ++ rest
+  pub goes : (address : ℕ) → goes old address ≢ 0 → goes new address ≡ goes old address
+
+-- a state in which the object at the address is found
+pub record PlansAt (space : SpaceWords) (s : State) (plan : Plan) (address : ℕ) : Type 0 where
+  pub plans : Plans space s plan
+  pub reached : Reached s address
+
+-- a state in which the object that the word refers to, if it does, is found
+pub record PlansFor (space : SpaceWords) (s : State) (plan : Plan) (word : ℕ) : Type 0 where
+  pub plans : Plans space s plan
+  pub reference : IsRefWord word
+  pub reached : (address : ℕ) → RefersTo word address → Reached s address
+
+-- words numbered from 1
+abbrev pub word_in : List ℕ → ℕ → ℕ
+word_in words zero = 0
+word_in words (suc k) = slice_index words k
+
+-- The first objects of the plan, so many of them, were copied.
+pub record HasCopied (space : SpaceWords) (s : State) (plan : Plan) (words : List ℕ) (count : ℕ) : Type 0 where
+  pub plans : Plans space s plan
+  pub size : length words ≡ words_in (take count plan.moves.items)
+  pub objects : (k : ℕ) (m : Move) → k < count → slice_get plan.moves.items k ≡ Some m → ObjectMoves (goes plan) s (word_in words) m
+
+-- words are put behind those that are there
+pub record Extends (old new : List ℕ) (count : ℕ) : Type 0 where
+  pub size : length new ≡ length old + count
+  pub before : (k : ℕ) → k < length old → slice_index new k ≡ slice_index old k
