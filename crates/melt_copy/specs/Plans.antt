@@ -16,7 +16,7 @@ pub record Plans (space : SpaceWords) (s : State) (plan : Plan) : Type 0 where
   pub word : (k : ℕ) → s.word k ≡ word_at space k
   pub size : s.size ≡ length space.list
   pub free : s.free ≡ space.used + 1
-  pub plan : IsPlan s (goes plan) plan.moves.items plan.next
+  pub holds : IsPlan s (goes plan) plan.moves.items plan.next
   pub table : length plan.forward.items ≡ space.used + 1
 
 -- what was found stays
