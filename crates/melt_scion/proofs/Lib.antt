@@ -1,0 +1,4 @@
+pub mod Geometry
+pub mod Frame
+pub mod Entries
+pub mod Events
