@@ -1,6 +1,6 @@
 -- What one more entry does to a history.
-use Rattle.std.proofs.Common.{◌≡◌, ◌≢◌, ℕ, ◌+◌, ◌<◌, ◌≤◌, true, cond, eqb, ◌&&◌, refl, sym, ◌∙◌, ap, subst, arith, List, [], ◌∷◌, ◌++◌, length}
-use Rattle.std.proofs.lemmas.Bool.Decides.{nat_tests}
+use Rattle.std.proofs.Common.{◌≡◌, ◌≢◌, ℕ, ◌+◌, ◌<◌, ◌≤◌, true, cond, eqb, ◌&&◌, refl, sym, ◌∙◌, ap, subst, arith, List, [], ◌∷◌, ◌++◌, length, ◌⊎◌, inl, inr}
+use Rattle.std.proofs.lemmas.Bool.Decides.{nat_tests, eqb_tells}
 use Rattle.std.proofs.lemmas.Option.{slice_get_within}
 use Rattle.std.specs.Prelude.{Option, None, Some, false, slice_get}
 use Rattle.melt_model.specs.History.{Shape, shape, shapes, made, shape_made, write_of, slot_eq, after_write, last}
@@ -45,3 +45,16 @@ last_written h e slot v act =
 pub last_other : (h : List Entry) (e : Entry) (slot other : Slot) (v : Value) → e.act ≡ Write slot v → slot_eq slot other ≡ false → last (h ++ e ∷ []) other ≡ last h other
 last_other h e slot other v act differ =
     last-push h e other ∙ (ap (λ (a : Act). after_write other (write_of a) (last h other)) act ∙ ap (λ b. cond b v (last h other)) differ)
+
+-- two slots with other numbers
+pub fields_differ : (n m i j : ℕ) → (n ≡ m → i ≡ j → ⊥) → slot_eq (Field n i) (Field m j) ≡ false
+fields_differ n m i j differ = elim (eqb_tells n m) [
+  | inl same ↦ elim (eqb_tells i j) [ inl one ↦ absurd (differ same.1 one.1) | inr two ↦ grind (arith, same.0, two.0) ]
+  | inr other ↦ grind (arith, other.0)
+]
+
+pub cells_differ : (n m i j : ℕ) → (n ≡ m → i ≡ j → ⊥) → slot_eq (Cell n i) (Cell m j) ≡ false
+cells_differ n m i j differ = elim (eqb_tells n m) [
+  | inl same ↦ elim (eqb_tells i j) [ inl one ↦ absurd (differ same.1 one.1) | inr two ↦ grind (arith, same.0, two.0) ]
+  | inr other ↦ grind (arith, other.0)
+]

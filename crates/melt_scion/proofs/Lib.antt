@@ -1,4 +1,5 @@
 pub mod Geometry
 pub mod Frame
 pub mod Entries
+pub mod Writes
 pub mod Events
