@@ -1,12 +1,12 @@
 -- What one more entry does to a history.
-use Rattle.std.proofs.Common.{◌≡◌, ◌≢◌, ℕ, ◌+◌, ◌<◌, ◌≤◌, true, cond, eqb, ◌&&◌, refl, sym, ◌∙◌, ap, subst, arith, List, [], ◌∷◌, ◌++◌, length, ◌⊎◌, inl, inr}
+use Rattle.std.proofs.Common.{◌≡◌, ℕ, ◌<◌, true, cond, ◌∙◌, ap, arith, List, [], ◌∷◌, ◌++◌, inl, inr}
 use Rattle.std.proofs.lemmas.Bool.Decides.{nat_tests, eqb_tells}
 use Rattle.std.proofs.lemmas.Option.{slice_get_within}
 use Rattle.std.specs.Prelude.{Option, None, Some, false, slice_get}
-use Rattle.melt_model.specs.History.{Shape, shape, shapes, made, shape_made, write_of, slot_eq, after_write, last}
+use Rattle.melt_model.specs.History.{Shape, shape, shapes, made, write_of, slot_eq, after_write, last}
 use Rattle.melt_model.specs.declared.history.Entry.{Entry}
 use Rattle.melt_model.specs.declared.history.Act.{Act}
-use Rattle.melt_model.specs.declared.history.Act.TheVariants.{Make, Read, Write}
+use Rattle.melt_model.specs.declared.history.Act.TheVariants.{Make, Write}
 use Rattle.melt_model.specs.declared.history.Value.{Value}
 use Rattle.melt_model.specs.declared.history.Slot.{Slot}
 use Rattle.melt_model.specs.declared.history.Slot.TheVariants.{Field, Cell, Global}
@@ -46,13 +46,14 @@ pub last_other : (h : List Entry) (e : Entry) (slot other : Slot) (v : Value) �
 last_other h e slot other v act differ =
     last-push h e other ∙ (ap (λ (a : Act). after_write other (write_of a) (last h other)) act ∙ ap (λ b. cond b v (last h other)) differ)
 
--- two slots with other numbers
+-- slots of two objects, or with two numbers, differ
 pub fields_differ : (n m i j : ℕ) → (n ≡ m → i ≡ j → ⊥) → slot_eq (Field n i) (Field m j) ≡ false
 fields_differ n m i j differ = elim (eqb_tells n m) [
   | inl same ↦ elim (eqb_tells i j) [ inl one ↦ absurd (differ same.1 one.1) | inr two ↦ grind (arith, same.0, two.0) ]
   | inr other ↦ grind (arith, other.0)
 ]
 
+-- and so do number words
 pub cells_differ : (n m i j : ℕ) → (n ≡ m → i ≡ j → ⊥) → slot_eq (Cell n i) (Cell m j) ≡ false
 cells_differ n m i j differ = elim (eqb_tells n m) [
   | inl same ↦ elim (eqb_tells i j) [ inl one ↦ absurd (differ same.1 one.1) | inr two ↦ grind (arith, same.0, two.0) ]

@@ -1,26 +1,26 @@
 -- Each event keeps a state placed: its law over the state before, the state after and the entry.
-use Rattle.std.proofs.Common.{◌≡◌, ◌≢◌, ℕ, ◌+◌, ◌<◌, ◌≤◌, refl, sym, ◌∙◌, ap, subst, arith, ◌⊎◌, inl, inr, List, [], ◌∷◌, ◌++◌, cond, eqb, ◌&&◌}
+use Rattle.std.proofs.Common.{◌≡◌, ℕ, ◌+◌, ◌<◌, ◌≤◌, refl, sym, ◌∙◌, ap, subst, arith, inl, List, [], ◌∷◌, ◌++◌, cond, eqb, ◌&&◌}
 use Rattle.std.proofs.lemmas.Bool.{cond_both}
-use Rattle.std.specs.Prelude.{Option, None, Some, Bool, true, false}
+use Rattle.std.specs.Prelude.{None, Some, Bool, true, false}
 use Rattle.melt_model.specs.History.{made, write_of, last, Legal}
 use Rattle.melt_model.specs.declared.history.Value.{Value}
-use Rattle.melt_model.specs.declared.history.Value.TheVariants.{Nil, Ref, Num}
+use Rattle.melt_model.specs.declared.history.Value.TheVariants.{Nil, Num}
 use Rattle.melt_model.specs.declared.history.Slot.{Slot}
 use Rattle.melt_model.specs.declared.history.Slot.TheVariants.{Field, Cell, Global}
 use Rattle.melt_model.specs.declared.history.Act.TheVariants.{Make, Read, Write}
 use Rattle.melt_model.specs.declared.history.Entry.{Entry}
 use Rattle.melt_word.specs.Words.{header_word, ref_word, cost_of}
-use Rattle.melt_word.specs.declared.reference.Ref.TheVariants.{Null, Clean, Stale, Disk}
+use Rattle.melt_word.specs.declared.reference.Ref.TheVariants.{Clean, Stale}
 use Rattle.melt_word.specs.declared.header.Shape.{Shape}
 use Rattle.melt_word.specs.declared.header.Header.{Header}
 use Rattle.melt_scion.specs.State.{State, HeaderAt}
 use Rattle.melt_scion.specs.Placed.{Maps, Stands, IsReferenceWord, MayHold, Formed, value_at, Placed}
 use Rattle.melt_scion.specs.Changes.{WordChanges, GlobalChanges, RegisterChanges, ObjectAppears, NameAppears, with_value}
 use Rattle.melt_scion.proofs.Entries.{shape_stays, last_quiet, last_written, last_other}
-use Rattle.melt_scion.proofs.Frame.{MayFollow, StandsFor, Placed_stays}
+use Rattle.melt_scion.proofs.Frame.{Placed_stays}
 use Rattle.melt_scion.proofs.Writes.{SameObjects_by_words, slot_written, number_written, global_written}
 use Rattle.melt_scion.proofs.Tags.{SameObjects_cleared, behind_header, may_untag, stands_untag}
-use Rattle.melt_scion.proofs.Makes.{null_may, null_stands, Placed_made}
+use Rattle.melt_scion.proofs.Makes.{null_may, null_stands, Placed_object}
 
 no_name : (maps : Maps) (a n : ℕ) → maps.address a ≡ None → maps.address a ≡ Some n → ⊥
 no_name maps a n none some = let e : None ≡ Some n = sym none ∙ some in cc
@@ -113,7 +113,7 @@ Placed_global h value maps s t e g word v placed within changes may stands act =
 -- an object is made
 pub Placed_make : (h : List Entry) (globals : ℕ) (value : ℕ → ℕ → Value) (maps new : Maps) (s t : State) (e : Entry) (shape : Shape) → Legal h globals → Placed h value maps s → 1 ≤ s.free → ObjectAppears s t shape → NameAppears maps new s.free (made h) → e.act ≡ Make shape.refs shape.nums → Placed (h ++ e ∷ []) value new t
 Placed_make h globals value maps new s t e shape legal placed first appears named act =
-    Placed_made maps new s t (made h) shape placed.formed appears named h e globals value legal placed first refl act
+    Placed_object maps new s t (made h) shape placed.formed appears named h e globals value legal placed first refl act
 
 -- the stale bit of an object is cleared
 pub Placed_clear : (h : List Entry) (value : ℕ → ℕ → Value) (maps : Maps) (s t : State) (address n : ℕ) (header : Header) → Placed h value maps s → maps.address address ≡ Some n → HeaderAt s address header → WordChanges s t address (header_word (record { shape = header.shape; stale = false })) → Placed h value maps t

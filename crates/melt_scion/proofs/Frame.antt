@@ -1,6 +1,6 @@
 -- What a change of the words keeps.
-use Rattle.std.proofs.Common.{◌≡◌, ◌≢◌, ℕ, ◌+◌, ◌<◌, ◌≤◌, refl, sym, ◌∙◌, ap, subst, arith, ◌⊎◌, inl, inr, List}
-use Rattle.std.specs.Prelude.{Option, None, Some, false}
+use Rattle.std.proofs.Common.{◌≡◌, ℕ, ◌+◌, ◌<◌, ◌≤◌, sym, ◌∙◌, ap, arith, inl, inr, List}
+use Rattle.std.specs.Prelude.{Some, false}
 use Rattle.melt_model.specs.History.{Shape, shape, last}
 use Rattle.melt_model.specs.declared.history.Entry.{Entry}
 use Rattle.melt_model.specs.declared.history.Value.{Value}
@@ -11,7 +11,7 @@ use Rattle.melt_word.specs.declared.header.Shape as words
 use Rattle.melt_word.specs.declared.header.Header.{Header}
 use Rattle.melt_word.specs.declared.reference.Ref.{Ref}
 use Rattle.melt_word.specs.declared.reference.Ref.TheVariants.{Null, Clean, Stale, Disk}
-use Rattle.melt_scion.specs.State.{State, HeaderAt, ObjectAt, IsFresh}
+use Rattle.melt_scion.specs.State.{State, HeaderAt, IsFresh}
 use Rattle.melt_scion.specs.Placed.{Maps, MayStand, IsReferenceWord, MayHold, Stands, Formed, value_at, Placed}
 use Rattle.melt_scion.specs.Changes.{SameBounds}
 
@@ -21,31 +21,33 @@ pub record SameObjects (maps : Maps) (s t : State) : Type 0 where
   pub now : (a n : ℕ) (header : Header) → maps.address a ≡ Some n → HeaderAt s a header → (new : Header) × HeaderAt t a new × (new.shape ≡ header.shape)
 
 -- the words of the later state may stand in the earlier one
-pub record MayFollow (maps : Maps) (s t : State) : Type 0 where
+pub record WordsMayStand (maps : Maps) (s t : State) : Type 0 where
   pub slots : (a n i : ℕ) (header : Header) → maps.address a ≡ Some n → HeaderAt s a header → i < header.shape.refs → IsReferenceWord maps s (t.word (a + 2 + i))
   pub home_words : (a n : ℕ) → maps.address a ≡ Some n → t.word (a + 1) ≡ 0
   pub globals : (g : ℕ) → g < s.globals → IsReferenceWord maps s (t.global g)
   pub registers : (u r : ℕ) → MayHold maps s (t.register u r)
 
 -- the words of the later state stand for the values of the later history
-pub record StandsFor (h : List Entry) (value : ℕ → ℕ → Value) (maps : Maps) (s t : State) : Type 0 where
+pub record WordsStandFor (h : List Entry) (value : ℕ → ℕ → Value) (maps : Maps) (s t : State) : Type 0 where
   pub slots : (a n i : ℕ) (header : Header) → maps.address a ≡ Some n → HeaderAt s a header → i < header.shape.refs → Stands maps (t.word (a + 2 + i)) (last h (Field n i))
   pub numbers : (a n j : ℕ) (header : Header) → maps.address a ≡ Some n → HeaderAt s a header → j < header.shape.nums → Num (t.word (a + 2 + header.shape.refs + j)) ≡ last h (Cell n j)
   pub globals : (g : ℕ) → g < s.globals → Stands maps (t.global g) (last h (Global g))
   pub registers : (u r : ℕ) → value_at maps (t.register u r) ≡ Some (value u r)
 
--- no object of the map gets the stale bit
+-- an object without the stale bit stays so
 pub fresh_stays : (maps : Maps) (s t : State) (a n : ℕ) → SameObjects maps s t → maps.address a ≡ Some n → IsFresh s a → IsFresh t a
 fresh_stays maps s t a n same named fresh header starts =
     let old = same.was a n header named starts in
     old.3 (fresh old.0 old.1)
 
+-- a reference that may stand in the earlier state may stand in the later one
 pub MayStand_stays : (maps : Maps) (s t : State) (r : Ref) → SameBounds s t → SameObjects maps s t → MayStand maps s r → MayStand maps t r
 MayStand_stays maps s t Null bounds same may = tt
 MayStand_stays maps s t (Clean a) bounds same may = (may.0, fresh_stays maps s t a may.0.0 same may.0.1 may.1)
 MayStand_stays maps s t (Stale a) bounds same may = may
 MayStand_stays maps s t (Disk home) bounds same may = (may.0, (let end : t.end ≡ s.end = bounds.end in let below : home < s.end = may.1 in omega arith))
 
+-- and so may its word
 pub IsReferenceWord_stays : (maps : Maps) (s t : State) (word : ℕ) → SameBounds s t → SameObjects maps s t → IsReferenceWord maps s word → IsReferenceWord maps t word
 IsReferenceWord_stays maps s t word bounds same is = record {
   reference = is.reference;
@@ -54,6 +56,7 @@ IsReferenceWord_stays maps s t word bounds same is = record {
   stands = MayStand_stays maps s t is.reference bounds same is.stands;
 }
 
+-- what a register may hold in the earlier state, it may hold in the later one
 pub MayHold_stays : (maps : Maps) (s t : State) (a : ℕ) → SameObjects maps s t → MayHold maps s a → MayHold maps t a
 MayHold_stays maps s t a same (inl nothing) = inl nothing
 MayHold_stays maps s t a same (inr holds) = inr (holds.0, fresh_stays maps s t a holds.0.0 same holds.0.1 holds.1)
@@ -64,18 +67,20 @@ below_shape j z w same below = let e : z.refs ≡ w.refs = ap (λ (x : words.Sha
 below_nums : (j : ℕ) (z w : words.Shape) → z ≡ w → j < w.nums → j < z.nums
 below_nums j z w same below = let e : z.nums ≡ w.nums = ap (λ (x : words.Shape). x.nums) same in omega arith
 
--- the well-formed state stays so, where the objects and the words do
-pub Formed_stays : (maps : Maps) (s t : State) → Formed maps s → SameBounds s t → SameObjects maps s t → MayFollow maps s t → Formed maps t
+-- a well-formed state stays so, where the objects and the words do
+pub Formed_stays : (maps : Maps) (s t : State) → Formed maps s → SameBounds s t → SameObjects maps s t → WordsMayStand maps s t → Formed maps t
 Formed_stays maps s t formed bounds same follows = record {
   objects = λ a n named.
       let was = formed.objects a n named in
-      let now = same.now a n was.0 named was.1.starts in
-      (now.0, record {
-        starts = now.1;
-        first = was.1.first;
-        within = let e : cost_of now.0.shape ≡ cost_of was.0.shape = ap cost_of now.2 in let size : t.size ≡ s.size = bounds.size in let w : a + cost_of was.0.shape ≤ s.size + 1 = was.1.within in omega arith;
-        below = let e : cost_of now.0.shape ≡ cost_of was.0.shape = ap cost_of now.2 in let free : t.free ≡ s.free = bounds.free in let w : a + cost_of was.0.shape ≤ s.free = was.1.below in omega arith;
-      });
+      let now = same.now a n was.0 named was.1.starts in (
+        now.0,
+        record {
+          starts = now.1;
+          first = was.1.first;
+          within = let e : cost_of now.0.shape ≡ cost_of was.0.shape = ap cost_of now.2 in let size : t.size ≡ s.size = bounds.size in let w : a + cost_of was.0.shape ≤ s.size + 1 = was.1.within in omega arith;
+          below = let e : cost_of now.0.shape ≡ cost_of was.0.shape = ap cost_of now.2 in let free : t.free ≡ s.free = bounds.free in let w : a + cost_of was.0.shape ≤ s.free = was.1.below in omega arith;
+        },
+      );
   apart = λ a b n m header named_a named_b starts less.
       let was = same.was a n header named_a starts in
       let e : cost_of was.0.shape ≡ cost_of header.shape = ap cost_of was.2 in
@@ -92,7 +97,7 @@ Formed_stays maps s t formed bounds same follows = record {
 }
 
 -- the state still stands for a history, where the objects stay, and the words stand for its values
-pub Placed_stays : (h k : List Entry) (value new : ℕ → ℕ → Value) (maps : Maps) (s t : State) → Placed h value maps s → SameBounds s t → SameObjects maps s t → ((n : ℕ) (z : Shape) → shape h n ≡ Some z → shape k n ≡ Some z) → MayFollow maps s t → StandsFor k new maps s t → Placed k new maps t
+pub Placed_stays : (h k : List Entry) (value new : ℕ → ℕ → Value) (maps : Maps) (s t : State) → Placed h value maps s → SameBounds s t → SameObjects maps s t → ((n : ℕ) (z : Shape) → shape h n ≡ Some z → shape k n ≡ Some z) → WordsMayStand maps s t → WordsStandFor k new maps s t → Placed k new maps t
 Placed_stays h k value new maps s t placed bounds same shapes_stay follows stands = record {
   formed = Formed_stays maps s t placed.formed bounds same follows;
   one_address = placed.one_address;

@@ -1,12 +1,11 @@
 -- Where the parts of objects lie: each word belongs to one part of one object at most.
-use Rattle.std.proofs.Common.{◌≡◌, ◌≢◌, ℕ, ◌+◌, ◌<◌, ◌≤◌, refl, sym, ◌∙◌, ap, subst, arith, ◌⊎◌, inl, inr}
+use Rattle.std.proofs.Common.{◌≡◌, ◌≢◌, ℕ, ◌+◌, ◌<◌, ◌≤◌, sym, ◌∙◌, ap, subst, arith, ◌⊎◌, inl, inr}
 use Rattle.std.proofs.lemmas.Bool.Decides.{eqb_tells}
-use Rattle.std.specs.Prelude.{Option, None, Some}
-use Rattle.melt_word.specs.Words.{IsHeader, header_word, cost_of}
-use Rattle.melt_word.specs.declared.header.Shape.{Shape}
+use Rattle.std.specs.Prelude.{Some}
+use Rattle.melt_word.specs.Words.{cost_of}
 use Rattle.melt_word.specs.declared.header.Header.{Header}
 use Rattle.melt_word.proofs.OneToOne.{same_header}
-use Rattle.melt_scion.specs.State.{State, HeaderAt, ObjectAt}
+use Rattle.melt_scion.specs.State.{State, HeaderAt}
 use Rattle.melt_scion.specs.Placed.{Maps, Formed}
 
 -- one word holds one header

@@ -1,5 +1,5 @@
 -- An object appears at the first free place.
-use Rattle.std.proofs.Common.{◌≡◌, ◌≢◌, ℕ, ◌+◌, ◌<◌, ◌≤◌, zero, suc, refl, sym, ◌∙◌, ap, subst, arith, ◌⊎◌, inl, inr, List, [], ◌∷◌, ◌++◌}
+use Rattle.std.proofs.Common.{◌≡◌, ℕ, ◌+◌, ◌<◌, ◌≤◌, zero, suc, refl, sym, ◌∙◌, ap, subst, arith, ◌⊎◌, inl, inr, List, [], ◌∷◌, ◌++◌}
 use Rattle.std.proofs.lemmas.Bool.Decides.{eqb_tells}
 use Rattle.std.specs.Prelude.{Option, None, Some, false}
 use Rattle.std.specs.Option.{option_map}
@@ -36,9 +36,8 @@ named_value None new v keeps is = absurd (cc)
 named_value (Some n) new v keeps is = ap (option_map Ref) (keeps n refl) ∙ is
 
 module _ (maps new : Maps) (s t : State) (number : ℕ) (z : words.Shape) (formed : Formed maps s) (appears : ObjectAppears s t z) (named : NameAppears maps new s.free number) where
-
   -- objects of before end below the first free place
-  pub old_below : (a n : ℕ) (h : Header) → maps.address a ≡ Some n → HeaderAt s a h → a + cost_of h.shape ≤ s.free
+  old_below : (a n : ℕ) (h : Header) → maps.address a ≡ Some n → HeaderAt s a h → a + cost_of h.shape ≤ s.free
   old_below a n h named_a at_a =
       let o = formed.objects a n named_a in
       let e : o.0 ≡ h = one_header s a o.0 h o.1.starts at_a in
@@ -50,19 +49,19 @@ module _ (maps new : Maps) (s t : State) (number : ℕ) (z : words.Shape) (forme
       let below : a + cost_of o.0.shape ≤ s.free = o.1.below in
       omega arith
 
-  pub name_stays : (a n : ℕ) → maps.address a ≡ Some n → new.address a ≡ Some n
+  name_stays : (a n : ℕ) → maps.address a ≡ Some n → new.address a ≡ Some n
   name_stays a n named_a =
       let below : a < s.free = old_address a n named_a in
       named.others a (omega arith) ∙ named_a
 
   -- a name is the new one, or one of before
-  pub name_cases : (a n : ℕ) → new.address a ≡ Some n → ((a ≡ s.free) × (n ≡ number)) ⊎ (maps.address a ≡ Some n)
+  name_cases : (a n : ℕ) → new.address a ≡ Some n → ((a ≡ s.free) × (n ≡ number)) ⊎ (maps.address a ≡ Some n)
   name_cases a n named_a = elim (eqb_tells a s.free) [
     | inl same ↦ inl (same.1, (let e : Some n ≡ Some number = sym named_a ∙ (ap new.address same.1 ∙ named.here) in cc))
     | inr other ↦ inr (sym (named.others a other.1) ∙ named_a)
   ]
 
-  pub header_was : (a n : ℕ) (h : Header) → maps.address a ≡ Some n → HeaderAt t a h → HeaderAt s a h
+  header_was : (a n : ℕ) (h : Header) → maps.address a ≡ Some n → HeaderAt t a h → HeaderAt s a h
   header_was a n h named_a at_a = header_moves s t a h (sym (appears.before a (old_address a n named_a))) at_a
 
   header_now : (a n : ℕ) (h : Header) → maps.address a ≡ Some n → HeaderAt s a h → HeaderAt t a h
@@ -93,26 +92,26 @@ module _ (maps new : Maps) (s t : State) (number : ℕ) (z : words.Shape) (forme
   value_stays (Stale a) v is = named_value (maps.address a) (new.address a) v (λ n e. name_stays a n e) is
   value_stays (Disk home) v is = ap (option_map Ref) (named.home home) ∙ is
 
-  pub stands_stays : (word : ℕ) (v : Value) → Stands maps word v → Stands new word v
+  stands_stays : (word : ℕ) (v : Value) → Stands maps word v → Stands new word v
   stands_stays word v is = record { reference = is.reference; in_range = is.in_range; is = is.is; stands_for = value_stays is.reference v is.stands_for }
 
-  pub value_at_stays : (a : ℕ) (v : Value) → value_at maps a ≡ Some v → value_at new a ≡ Some v
+  value_at_stays : (a : ℕ) (v : Value) → value_at maps a ≡ Some v → value_at new a ≡ Some v
   value_at_stays zero v is = is
   value_at_stays (suc a) v is = named_value (maps.address (suc a)) (new.address (suc a)) v (λ n e. name_stays (suc a) n e) is
 
   -- the shape of the new object
-  pub new_shape : (a : ℕ) (h : Header) → a ≡ s.free → HeaderAt t a h → h.shape ≡ z
+  new_shape : (a : ℕ) (h : Header) → a ≡ s.free → HeaderAt t a h → h.shape ≡ z
   new_shape a h at at_a =
       let here : HeaderAt t s.free h = subst (λ (c : ℕ). HeaderAt t c h) at at_a in
       let made : HeaderAt t s.free new_header = record { in_range = appears.small; word = appears.header } in
       ap (λ (x : Header). x.shape) (one_header t s.free h new_header here made)
 
   -- the parts of the new object are 0
-  pub new_zero : (a q y : ℕ) → a ≡ s.free → 1 ≤ q → q < cost_of z → y ≡ a + q → t.word y ≡ 0
+  new_zero : (a q y : ℕ) → a ≡ s.free → 1 ≤ q → q < cost_of z → y ≡ a + q → t.word y ≡ 0
   new_zero a q y at behind within is = appears.zeros y (omega arith) (omega arith)
 
   -- a slot or a number word of before is the same
-  pub old_word : (a n q y : ℕ) (h : Header) → maps.address a ≡ Some n → HeaderAt s a h → q < cost_of h.shape → y ≡ a + q → t.word y ≡ s.word y
+  old_word : (a n q y : ℕ) (h : Header) → maps.address a ≡ Some n → HeaderAt s a h → q < cost_of h.shape → y ≡ a + q → t.word y ≡ s.word y
   old_word a n q y h named_a at_a within is =
       let below : a + cost_of h.shape ≤ s.free = old_below a n h named_a at_a in
       appears.before y (omega arith)
@@ -150,8 +149,8 @@ module _ (maps new : Maps) (s t : State) (number : ℕ) (z : words.Shape) (forme
   ]
 
   -- the state with one object more is well formed
-  pub Formed_made : 1 ≤ s.free → Formed new t
-  Formed_made first = record {
+  pub Formed_object : 1 ≤ s.free → Formed new t
+  Formed_object first = record {
     objects = λ a n named_a. elim (name_cases a n named_a) [
       | inl new_a ↦ new_object a first new_a.0
       | inr old_a ↦ old_object a n old_a
@@ -178,15 +177,15 @@ module _ (maps new : Maps) (s t : State) (number : ℕ) (z : words.Shape) (forme
   }
 
   -- the state with one object more stands for the history with that object
-  pub Placed_made : (h : List Entry) (e : Entry) (globals : ℕ) (value : ℕ → ℕ → Value) → Legal h globals → Placed h value maps s → 1 ≤ s.free → number ≡ made h → e.act ≡ Make z.refs z.nums → Placed (h ++ e ∷ []) value new t
-  Placed_made h e globals value legal placed first is_made act =
+  pub Placed_object : (h : List Entry) (e : Entry) (globals : ℕ) (value : ℕ → ℕ → Value) → Legal h globals → Placed h value maps s → 1 ≤ s.free → number ≡ made h → e.act ≡ Make z.refs z.nums → Placed (h ++ e ∷ []) value new t
+  Placed_object h e globals value legal placed first is_made act =
       let k : List Entry = h ++ e ∷ [] in
       let quiet : (slot : Slot) → last k slot ≡ last h slot = λ slot. last_quiet h e slot (ap write_of act) in
       let named_below : (a n : ℕ) → maps.address a ≡ Some n → n < made h = λ a n named_a.
       let o = formed.objects a n named_a in
       was_made h n (record { refs = o.0.shape.refs; nums = o.0.shape.nums }) (placed.shapes a n o.0 named_a o.1.starts) in
       record {
-        formed = Formed_made first;
+        formed = Formed_object first;
         one_address = λ a b n named_a named_b. elim (name_cases a n named_a) [
           | inl new_a ↦ elim (name_cases b n named_b) [
             | inl new_b ↦ new_a.0 ∙ sym new_b.0

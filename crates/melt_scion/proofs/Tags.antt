@@ -1,7 +1,7 @@
 -- The stale bit of an object is cleared, and stale addresses become clean.
-use Rattle.std.proofs.Common.{◌≡◌, ◌≢◌, ℕ, ◌+◌, ◌<◌, ◌≤◌, refl, sym, ◌∙◌, ap, subst, arith, ◌⊎◌, inl, inr}
+use Rattle.std.proofs.Common.{◌≡◌, ◌≢◌, ℕ, ◌+◌, ◌<◌, ◌≤◌, refl, sym, ◌∙◌, ap, subst, arith, inl, inr}
 use Rattle.std.proofs.lemmas.Bool.Decides.{eqb_tells}
-use Rattle.std.specs.Prelude.{Option, None, Some, false}
+use Rattle.std.specs.Prelude.{Some, false}
 use Rattle.melt_model.specs.declared.history.Value.{Value}
 use Rattle.melt_word.specs.Words.{IsRef, ref_word, IsAddress, header_word, cost_of}
 use Rattle.melt_word.specs.declared.header.Header.{Header}

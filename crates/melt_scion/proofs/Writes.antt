@@ -1,7 +1,7 @@
 -- One word of an object, or one global, is replaced, and the state stands for a history in which only its value changes.
-use Rattle.std.proofs.Common.{◌≡◌, ◌≢◌, ℕ, ◌+◌, ◌<◌, ◌≤◌, refl, sym, ◌∙◌, ap, subst, arith, ◌⊎◌, inl, inr, List, eqb}
+use Rattle.std.proofs.Common.{◌≡◌, ◌≢◌, ℕ, ◌+◌, ◌<◌, ◌≤◌, refl, sym, ◌∙◌, ap, subst, arith, inl, inr, List}
 use Rattle.std.proofs.lemmas.Bool.Decides.{eqb_tells}
-use Rattle.std.specs.Prelude.{Option, None, Some, false}
+use Rattle.std.specs.Prelude.{Some, false}
 use Rattle.melt_model.specs.History.{Shape, shape, slot_eq, last}
 use Rattle.melt_model.specs.declared.history.Entry.{Entry}
 use Rattle.melt_model.specs.declared.history.Value.{Value}
@@ -9,13 +9,12 @@ use Rattle.melt_model.specs.declared.history.Value.TheVariants.{Num}
 use Rattle.melt_model.specs.declared.history.Slot.{Slot}
 use Rattle.melt_model.specs.declared.history.Slot.TheVariants.{Field, Cell, Global}
 use Rattle.melt_word.specs.Words.{cost_of}
-use Rattle.melt_word.specs.declared.header.Shape as words
 use Rattle.melt_word.specs.declared.header.Header.{Header}
-use Rattle.melt_scion.specs.State.{State, HeaderAt, ObjectAt}
+use Rattle.melt_scion.specs.State.{State, HeaderAt}
 use Rattle.melt_scion.specs.Placed.{Maps, IsReferenceWord, MayHold, Stands, Formed, value_at, Placed}
-use Rattle.melt_scion.specs.Changes.{SameBounds, WordChanges, GlobalChanges}
+use Rattle.melt_scion.specs.Changes.{WordChanges, GlobalChanges}
 use Rattle.melt_scion.proofs.Geometry.{one_header, header_moves, one_part}
-use Rattle.melt_scion.proofs.Frame.{SameObjects, MayFollow, StandsFor, Placed_stays}
+use Rattle.melt_scion.proofs.Frame.{SameObjects, Placed_stays}
 use Rattle.melt_scion.proofs.Entries.{fields_differ, cells_differ}
 
 -- objects whose header words stay
