@@ -1,0 +1,5 @@
+pub mod Places
+pub mod Packing
+pub mod Sources
+pub mod Renaming
+pub mod Moved
