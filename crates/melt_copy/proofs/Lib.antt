@@ -2,4 +2,5 @@ pub mod Places
 pub mod Packing
 pub mod Sources
 pub mod Renaming
+pub mod Carried
 pub mod Moved
