@@ -3,4 +3,6 @@ pub mod Packing
 pub mod Sources
 pub mod Renaming
 pub mod Carried
+pub mod Whole
+pub mod Counting
 pub mod Moved
