@@ -33,12 +33,17 @@ zero_stays s t f moves front whole copy =
           absurd (omega (arith, g.from, (source_object s g.move whole (copy.plan.whole g.index g.move g.is)).first))
     ]
 
+-- the number at a place
+pub copy_name : (maps : Maps) (s t : State) (f : ℕ → ℕ) (moves : List Move) (front k : ℕ) (m : Move) → IsCopy s t f moves front → slice_get moves k ≡ Some m → name_after maps.address moves m.to ≡ maps.address m.from
+copy_name maps s t f moves front k m copy at =
+    name_after-at maps.address moves k m at (λ j x there same. (same_place s f moves t.free j k x m copy.plan there at same).1)
+
 -- a copy renames
 pub copy_renames : (maps : Maps) (s t : State) (f : ℕ → ℕ) (moves : List Move) (front : ℕ) → IsWhole s → IsCopy s t f moves front → Renames maps s t f moves
 copy_renames maps s t f moves front whole copy = record {
   names = λ address found.
       let g = goes s f moves t.free address copy.plan found in
-      ap (name_after maps.address moves) g.to ∙ (name_after-at maps.address moves g.index g.move g.is (λ j x there same. (same_place s f moves t.free j g.index x g.move copy.plan there g.is same).1) ∙ ap maps.address g.from);
+      ap (name_after maps.address moves) g.to ∙ (copy_name maps s t f moves front g.index g.move copy g.is ∙ ap maps.address g.from);
   headers = λ address found.
       let g = goes s f moves t.free address copy.plan found in
       ap t.word g.to ∙ ((copy.objects g.index g.move g.is).header ∙ ap s.word g.from);
@@ -60,7 +65,8 @@ pub shape_before : (s t : State) (f : ℕ → ℕ) (moves : List Move) (front k 
 shape_before s t f moves front k m b header copy at to starts =
     source_shape s m header (copy.plan.whole k m at) (header_before s t f moves front k m b header copy at to starts)
 
-object_there : (s t : State) (f : ℕ → ℕ) (moves : List Move) (front k : ℕ) (m : Move) → IsWhole s → IsCopy s t f moves front → slice_get moves k ≡ Some m → (header : Header) × ObjectAt t m.to header
+-- the object at a place
+pub object_there : (s t : State) (f : ℕ → ℕ) (moves : List Move) (front k : ℕ) (m : Move) → IsWhole s → IsCopy s t f moves front → slice_get moves k ≡ Some m → (header : Header) × ObjectAt t m.to header
 object_there s t f moves front k m whole copy at =
     let is = copy.plan.whole k m at in
     let place = place_below s f moves t.free k m copy.plan at in

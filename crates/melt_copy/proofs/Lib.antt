@@ -5,4 +5,6 @@ pub mod Renaming
 pub mod Carried
 pub mod Whole
 pub mod Counting
+pub mod Marks
+pub mod Counted
 pub mod Moved

@@ -108,7 +108,8 @@ moved_hold maps s t f moves address renames may =
       ]
     ]
 
-value_at_some : (maps : Maps) (address : ℕ) → address ≢ 0 → value_at maps address ≡ option_map value.Ref (maps.address address)
+-- what an address other than 0 stands for
+pub value_at_some : (maps : Maps) (address : ℕ) → address ≢ 0 → value_at maps address ≡ option_map value.Ref (maps.address address)
 value_at_some maps zero some = absurd (some refl)
 value_at_some maps (suc a) some = refl
 
