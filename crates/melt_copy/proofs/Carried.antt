@@ -1,5 +1,5 @@
 -- A copy of what can be reached is well formed, and stands for the same history.
-use Rattle.std.proofs.Common.{◌≡◌, ◌≢◌, ℕ, suc, ◌+◌, ◌<◌, ◌≤◌, List, refl, sym, ◌∙◌, ap, subst, arith, ◌⊎◌, inl, inr}
+use Rattle.std.proofs.Common.{◌≡◌, ◌≢◌, ℕ, ◌+◌, ◌<◌, ◌≤◌, List, sym, ◌∙◌, ap, subst, arith, inl, inr}
 use Rattle.std.specs.Prelude.{◌^◌, slice_get, Some}
 use Rattle.std.proofs.lemmas.Bool.{cases_eq, cases_order}
 use Rattle.std.proofs.lemmas.Option.{same_Some}
@@ -7,17 +7,17 @@ use Rattle.melt_model.specs.History.{last}
 use Rattle.melt_model.specs.declared.history.Entry.{Entry}
 use Rattle.melt_model.specs.declared.history.Value.{Value}
 use Rattle.melt_model.specs.declared.history.Value.TheVariants.{Num}
-use Rattle.melt_model.specs.declared.history.Slot.TheVariants.{Field, Cell, Global}
+use Rattle.melt_model.specs.declared.history.Slot.TheVariants.{Field, Global}
 use Rattle.melt_word.specs.Words.{cost_of}
 use Rattle.melt_word.specs.declared.header.Shape.{Shape}
 use Rattle.melt_word.specs.declared.header.Header.{Header}
 use Rattle.melt_scion.specs.State.{State, HeaderAt, ObjectAt}
 use Rattle.melt_scion.specs.Placed.{Maps, Stands, IsReferenceWord, MayHold, value_at, Formed, Placed}
 use Rattle.melt_copy.specs.declared.plan.Move.{Move}
-use Rattle.melt_copy.specs.Moving.{IsWhole, IsMove, IsCopy, name_after, maps_after}
+use Rattle.melt_copy.specs.Moving.{IsWhole, IsCopy, name_after, maps_after}
 use Rattle.melt_copy.proofs.Places.{place_behind, place_below, place_found, same_place, same_source}
 use Rattle.melt_copy.proofs.Sources.{source_object, source_cost, source_shape, found_fits, goes}
-use Rattle.melt_copy.proofs.Renaming.{name_after-at, Comes, comes, Renames, moved_word, moved_stands, moved_hold, moved_value_at}
+use Rattle.melt_copy.proofs.Renaming.{name_after-at, comes, Renames, moved_word, moved_stands, moved_hold, moved_value_at}
 
 -- a place is a number of 30 bits
 place_small : (s t : State) (f : ℕ → ℕ) (moves : List Move) (front k : ℕ) (m : Move) → IsWhole s → IsCopy s t f moves front → slice_get moves k ≡ Some m → m.to < 2 ^ 30
@@ -38,7 +38,7 @@ pub copy_name : (maps : Maps) (s t : State) (f : ℕ → ℕ) (moves : List Move
 copy_name maps s t f moves front k m copy at =
     name_after-at maps.address moves k m at (λ j x there same. (same_place s f moves t.free j k x m copy.plan there at same).1)
 
--- a copy renames
+-- in a copy each object keeps its number and its header
 pub copy_renames : (maps : Maps) (s t : State) (f : ℕ → ℕ) (moves : List Move) (front : ℕ) → IsWhole s → IsCopy s t f moves front → Renames maps s t f moves
 copy_renames maps s t f moves front whole copy = record {
   names = λ address found.
@@ -61,6 +61,7 @@ header_before s t f moves front k m b header copy at to starts = record {
   word = sym ((copy.objects k m at).header) ∙ (ap t.word to ∙ starts.word);
 }
 
+-- and its shape that of the move
 pub shape_before : (s t : State) (f : ℕ → ℕ) (moves : List Move) (front k : ℕ) (m : Move) (b : ℕ) (header : Header) → IsCopy s t f moves front → slice_get moves k ≡ Some m → m.to ≡ b → HeaderAt t b header → header.shape ≡ m.shape
 shape_before s t f moves front k m b header copy at to starts =
     source_shape s m header (copy.plan.whole k m at) (header_before s t f moves front k m b header copy at to starts)
@@ -70,13 +71,15 @@ pub object_there : (s t : State) (f : ℕ → ℕ) (moves : List Move) (front k 
 object_there s t f moves front k m whole copy at =
     let is = copy.plan.whole k m at in
     let place = place_below s f moves t.free k m copy.plan at in
-    let cost = source_cost s m is in
-    (is.header, record {
-      starts = record { in_range = is.starts.in_range; word = (copy.objects k m at).header ∙ is.starts.word };
-      first = place.0;
-      within = omega (arith, place.1, cost, found_fits s f moves t.free k m whole copy.plan at, whole.inside, copy.size);
-      below = omega (arith, place.1, cost);
-    })
+    let cost = source_cost s m is in (
+      is.header,
+      record {
+        starts = record { in_range = is.starts.in_range; word = (copy.objects k m at).header ∙ is.starts.word };
+        first = place.0;
+        within = omega (arith, place.1, cost, found_fits s f moves t.free k m whole copy.plan at, whole.inside, copy.size);
+        below = omega (arith, place.1, cost);
+      },
+    )
 
 objects_apart : (s t : State) (f : ℕ → ℕ) (moves : List Move) (front i j : ℕ) (x y : Move) (cost : ℕ) → IsCopy s t f moves front → slice_get moves i ≡ Some x → slice_get moves j ≡ Some y → cost ≡ cost_of x.shape → x.to < y.to → x.to + cost ≤ y.to
 objects_apart s t f moves front i j x y cost copy first second same before =
@@ -106,9 +109,9 @@ formed_there maps s t f moves front whole formed copy =
           let shape = shape_before s t f moves front c.index c.move b header copy c.is c.to starts in
           let refs : header.shape.refs ≡ c.move.shape.refs = ap (λ (z : Shape). z.refs) shape in
           subst (λ (a : ℕ). IsReferenceWord (maps_after maps moves) t (t.word (a + 2 + i))) c.to (
-            moved_word maps s t f moves (s.word (c.move.from + 2 + i)) (t.word (c.move.to + 2 + i)) renames
-            ((copy.objects c.index c.move c.is).slots i (omega (arith, refs, below)))
-            (formed.slots c.move.from n i header c.named (header_before s t f moves front c.index c.move b header copy c.is c.to starts) below)
+          moved_word maps s t f moves (s.word (c.move.from + 2 + i)) (t.word (c.move.to + 2 + i)) renames
+          ((copy.objects c.index c.move c.is).slots i (omega (arith, refs, below)))
+          (formed.slots c.move.from n i header c.named (header_before s t f moves front c.index c.move b header copy c.is c.to starts) below)
           );
       home_words = λ b n named.
           let c = comes maps.address moves b n named in
@@ -145,9 +148,9 @@ placed_there maps s t f moves front h value whole copy placed =
           let shape = shape_before s t f moves front c.index c.move b header copy c.is c.to starts in
           let refs : header.shape.refs ≡ c.move.shape.refs = ap (λ (z : Shape). z.refs) shape in
           subst (λ (a : ℕ). Stands (maps_after maps moves) (t.word (a + 2 + i)) (last h (Field n i))) c.to (
-            moved_stands maps s t f moves (s.word (c.move.from + 2 + i)) (t.word (c.move.to + 2 + i)) (last h (Field n i)) renames
-            ((copy.objects c.index c.move c.is).slots i (omega (arith, refs, below)))
-            (placed.slots c.move.from n i header c.named (header_before s t f moves front c.index c.move b header copy c.is c.to starts) below)
+          moved_stands maps s t f moves (s.word (c.move.from + 2 + i)) (t.word (c.move.to + 2 + i)) (last h (Field n i)) renames
+          ((copy.objects c.index c.move c.is).slots i (omega (arith, refs, below)))
+          (placed.slots c.move.from n i header c.named (header_before s t f moves front c.index c.move b header copy c.is c.to starts) below)
           );
       numbers = λ b n j header named starts below.
           let c = comes maps.address moves b n named in

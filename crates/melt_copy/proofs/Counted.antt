@@ -1,22 +1,22 @@
 -- The objects of a copy and those in registers, with their numbers and their costs.
-use Rattle.std.proofs.Common.{◌≡◌, ◌≢◌, ℕ, zero, suc, ◌+◌, ◌<◌, ◌≤◌, List, take, refl, sym, ◌∙◌, ap, subst, arith}
+use Rattle.std.proofs.Common.{◌≡◌, ◌≢◌, ℕ, zero, suc, ◌+◌, ◌<◌, List, take, sym, ◌∙◌, ap, arith}
 use Rattle.std.specs.Prelude.{slice_get, Option, None, Some, unwrap_or}
 use Rattle.std.specs.Option.{option_map, option_map_or}
 use Rattle.std.proofs.lemmas.Option.{same_Some}
-use Rattle.melt_model.specs.History.{Shape, shape}
+use Rattle.melt_model.specs.History.{Shape}
 use Rattle.melt_model.specs.Alive.{Held, words_of, CostsSum}
 use Rattle.melt_model.specs.declared.history.Entry.{Entry}
 use Rattle.melt_model.specs.declared.history.Value.{Value}
-use Rattle.melt_model.specs.declared.history.Value.TheVariants.{Nil, Ref}
+use Rattle.melt_model.specs.declared.history.Value.TheVariants.{Ref}
 use Rattle.melt_word.specs.Words.{cost_of}
 use Rattle.melt_scion.specs.State.{State}
 use Rattle.melt_scion.specs.Placed.{Maps, value_at, Placed}
 use Rattle.melt_scion.specs.Collected.{InUse}
 use Rattle.melt_copy.specs.declared.plan.Move.{Move}
-use Rattle.melt_copy.specs.Moving.{IsWhole, words_in, IsMove, IsCopy, name_after, maps_after}
+use Rattle.melt_copy.specs.Moving.{IsWhole, words_in, IsMove, IsCopy, maps_after}
 use Rattle.melt_copy.proofs.Places.{same_source}
 use Rattle.melt_copy.proofs.Sources.{source_object, source_cost}
-use Rattle.melt_copy.proofs.Renaming.{Comes, comes, value_at_some}
+use Rattle.melt_copy.proofs.Renaming.{comes, value_at_some}
 use Rattle.melt_copy.proofs.Carried.{copy_name}
 use Rattle.melt_copy.proofs.Whole.{reached_named}
 use Rattle.melt_copy.proofs.Counting.{slice_get-take, slice_get_in_front, counts_moves}
@@ -45,6 +45,7 @@ numbers_differ maps s t f moves front h value i j a b copy placed first second b
     let from : a.from ≡ b.from = placed.one_address a.from b.from (number_of maps b) (named_a ∙ ap Some same) named_b in
     omega (arith, (same_source s f moves t.free i j a b copy.plan first second from).0, before)
 
+-- the words of all objects of a copy
 pub live_words : (maps : Maps) (s t : State) (f : ℕ → ℕ) (moves : List Move) (front : ℕ) (h : List Entry) (value : ℕ → ℕ → Value) → IsCopy s t f moves front → Placed h value maps s → CostsSum (words_of h) (InUse (maps_after maps moves)) (words_in moves)
 live_words maps s t f moves front h value copy placed =
     counts_moves (words_of h) (InUse (maps_after maps moves)) (number_of maps) moves
@@ -65,9 +66,10 @@ held_holds : (maps : Maps) (s : State) (h : List Entry) (value : ℕ → ℕ →
 held_holds maps s h value u r m whole placed is holds =
     let some : m.from ≢ 0 = λ none. omega (arith, none, (source_object s m whole is).first) in
     same_Some (value u r) (Ref (number_of maps m)) (
-      sym (placed.registers u r) ∙ (ap (value_at maps) holds ∙ (value_at_some maps m.from some ∙ ap (option_map Ref) (has_number maps s h value m placed is)))
+    sym (placed.registers u r) ∙ (ap (value_at maps) holds ∙ (value_at_some maps m.from some ∙ ap (option_map Ref) (has_number maps s h value m placed is)))
     )
 
+-- the words of the objects in registers
 pub held_words : (maps : Maps) (s t : State) (f : ℕ → ℕ) (moves : List Move) (front : ℕ) (h : List Entry) (value : ℕ → ℕ → Value) → IsWhole s → IsCopy s t f moves front → Placed h value maps s → CostsSum (words_of h) (Held value) (words_in (take front moves))
 held_words maps s t f moves front h value whole copy placed =
     counts_moves (words_of h) (Held value) (number_of maps) (take front moves)

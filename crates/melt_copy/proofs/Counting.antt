@@ -1,6 +1,6 @@
 -- The words of objects in a list of moves, each object counted once.
-use Rattle.std.proofs.Common.{◌≡◌, ◌≢◌, ℕ, zero, suc, ◌+◌, ◌<◌, ◌≤◌, eqb, false, List, [], ◌∷◌, length, get_or, take, refl, sym, ◌∙◌, ap, subst, arith}
-use Rattle.std.specs.Prelude.{◌==◌, slice_get, Some, map, sum, Contains}
+use Rattle.std.proofs.Common.{◌≡◌, ◌≢◌, ℕ, zero, suc, ◌<◌, false, List, [], ◌∷◌, length, get_or, take, refl, ◌∙◌, subst, arith}
+use Rattle.std.specs.Prelude.{◌==◌, slice_get, Some, map, sum}
 use Rattle.std.specs.List.{IsDistinct, AllByRecursion}
 use Rattle.std.proofs.lemmas.Bool.{ne_eqb}
 use Rattle.std.proofs.lemmas.List.Sums.{sum_by-cons}
@@ -17,6 +17,7 @@ slice_get-take [] (suc front) k m at = absurd (cc)
 slice_get-take (x ∷ moves) (suc front) zero m at = (omega arith, at)
 slice_get-take (x ∷ moves) (suc front) (suc k) m at = let rest = slice_get-take moves front k m at in (omega (arith, rest.0), rest.1)
 
+-- an element that is among the first ones
 pub slice_get_in_front : (moves : List Move) (front k : ℕ) (m : Move) → k < front → slice_get moves k ≡ Some m → slice_get (take front moves) k ≡ Some m
 slice_get_in_front moves zero k m before at = absurd (omega arith)
 slice_get_in_front [] (suc front) k m before at = absurd (cc)

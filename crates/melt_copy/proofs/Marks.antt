@@ -1,6 +1,5 @@
 -- A copy keeps the tags of references.
 use Rattle.std.proofs.Common.{◌≡◌, ℕ, sym, ◌∙◌, subst, refl, List}
-use Rattle.melt_word.specs.Words.{IsRef, ref_word}
 use Rattle.melt_word.specs.declared.reference.Ref.{Ref}
 use Rattle.melt_word.specs.declared.reference.Ref.TheVariants.{Null, Clean, Stale, Disk}
 use Rattle.melt_word.proofs.OneToOne.{same_ref}
@@ -17,6 +16,7 @@ same_tag f (Clean a) = tt
 same_tag f (Stale a) = tt
 same_tag f (Disk home) = refl
 
+-- a word that was moved has the tag from before
 pub moved_keeps_tag : (maps : Maps) (s t : State) (f : ℕ → ℕ) (moves : List Move) (old new : ℕ) → Renames maps s t f moves → WordMoves f old new → KeepsTag old new
 moved_keeps_tag maps s t f moves old new renames w a b in_a in_b was is =
     let before : w.reference ≡ a = same_ref w.reference a w.in_range in_a (sym w.was ∙ was) in

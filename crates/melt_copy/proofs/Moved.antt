@@ -1,17 +1,16 @@
 -- A copy of what can be reached is a collection.
-use Rattle.std.proofs.Common.{◌≡◌, ◌≢◌, ℕ, ◌+◌, ◌-◌, ◌<◌, ◌≤◌, List, take, refl, sym, ◌∙◌, ap, subst, arith}
-use Rattle.std.specs.Prelude.{◌^◌, slice_get, Some}
+use Rattle.std.proofs.Common.{◌≡◌, ℕ, ◌+◌, ◌-◌, ◌<◌, ◌≤◌, List, take, refl, sym, ◌∙◌, ap, subst, arith}
+use Rattle.std.specs.Prelude.{◌^◌}
 use Rattle.melt_word.specs.declared.header.Shape.{Shape}
-use Rattle.melt_word.specs.declared.header.Header.{Header}
-use Rattle.melt_scion.specs.State.{State, HeaderAt, Reached}
-use Rattle.melt_scion.specs.Placed.{Maps, Formed, Placed}
-use Rattle.melt_scion.specs.Collected.{InUse, InReach, Taken, Collected, CountsWords}
+use Rattle.melt_scion.specs.State.{State, HeaderAt}
+use Rattle.melt_scion.specs.Placed.{Maps, Formed}
+use Rattle.melt_scion.specs.Collected.{Taken, Collected, CountsWords}
 use Rattle.melt_copy.specs.declared.plan.Move.{Move}
 use Rattle.melt_copy.specs.Moving.{IsWhole, words_in, IsPlan, IsCopy, maps_after}
 use Rattle.melt_copy.specs.Copying.{KeepsTag, KeepsMarks}
-use Rattle.melt_copy.proofs.Places.{Takes, takes_word}
+use Rattle.melt_copy.proofs.Places.{takes_word}
 use Rattle.melt_copy.proofs.Sources.{source_cost, source_shape, plan_words, reached_found}
-use Rattle.melt_copy.proofs.Renaming.{Comes, comes}
+use Rattle.melt_copy.proofs.Renaming.{comes}
 use Rattle.melt_copy.proofs.Carried.{copy_name, copy_renames, formed_there, placed_there}
 use Rattle.melt_copy.proofs.Whole.{reached_named, formed_whole}
 use Rattle.melt_copy.proofs.Marks.{moved_keeps_tag}
@@ -42,6 +41,7 @@ word_taken maps s t f moves front at formed copy first below =
       to = omega (arith, place, w.to, source_cost s w.move is);
     }
 
+-- a copy is a collection
 pub copy_collects : (maps : Maps) (s t : State) (f : ℕ → ℕ) (moves : List Move) (front : ℕ) → IsWhole s → Formed maps s → IsCopy s t f moves front → Collected maps (maps_after maps moves) s t
 copy_collects maps s t f moves front whole formed copy = record {
   formed = formed_there maps s t f moves front whole formed copy;
@@ -57,6 +57,7 @@ copy_collects maps s t f moves front whole formed copy = record {
   end = copy.end;
 }
 
+-- a copy keeps headers and tags
 pub copy_marks : (maps : Maps) (s t : State) (f : ℕ → ℕ) (moves : List Move) (front : ℕ) → IsWhole s → Formed maps s → IsCopy s t f moves front → KeepsMarks maps (maps_after maps moves) s t
 copy_marks maps s t f moves front whole formed copy =
     let renames = copy_renames maps s t f moves front whole copy in
@@ -70,13 +71,14 @@ copy_marks maps s t f moves front whole formed copy =
           let starts_there : HeaderAt s c.move.from header = subst (λ (x : ℕ). HeaderAt s x header) (sym from) starts in
           let refs : header.shape.refs ≡ c.move.shape.refs = ap (λ (z : Shape). z.refs) (source_shape s c.move header (copy.plan.whole c.index c.move c.is) starts_there) in
           subst (λ (x : ℕ). KeepsTag (s.word (x + 2 + i)) (t.word (b + 2 + i))) from (
-            subst (λ (x : ℕ). KeepsTag (s.word (c.move.from + 2 + i)) (t.word (x + 2 + i))) c.to (
-              moved_keeps_tag maps s t f moves (s.word (c.move.from + 2 + i)) (t.word (c.move.to + 2 + i)) renames ((copy.objects c.index c.move c.is).slots i (omega (arith, refs, below)))
-            )
+          subst (λ (x : ℕ). KeepsTag (s.word (c.move.from + 2 + i)) (t.word (x + 2 + i))) c.to (
+          moved_keeps_tag maps s t f moves (s.word (c.move.from + 2 + i)) (t.word (c.move.to + 2 + i)) renames ((copy.objects c.index c.move c.is).slots i (omega (arith, refs, below)))
+          )
           );
       globals = λ g below. moved_keeps_tag maps s t f moves (s.global g) (t.global g) renames (copy.global g below);
     }
 
+-- the words of a copy, and those of its first objects, are those of the objects in use and of those in registers
 pub copy_counts : (maps : Maps) (s t : State) (f : ℕ → ℕ) (moves : List Move) (front : ℕ) → IsWhole s → Formed maps s → IsCopy s t f moves front → CountsWords maps (maps_after maps moves) s (words_in moves) (words_in (take front moves))
 copy_counts maps s t f moves front whole formed copy = record {
   live_words = λ h value placed. counted.live_words maps s t f moves front h value copy placed;

@@ -1,7 +1,7 @@
 -- Stretches of words that are pairwise apart take no more words than there are.
-use Rattle.std.proofs.Common.{◌≡◌, ◌≢◌, ℕ, zero, suc, min, ◌+◌, ◌-◌, ◌<◌, ◌≤◌, List, [], ◌∷◌, refl, sym, ◌∙◌, ap, arith, ◌⊎◌, inl, inr}
+use Rattle.std.proofs.Common.{◌≡◌, ◌≢◌, ℕ, zero, suc, min, ◌+◌, ◌-◌, ◌<◌, ◌≤◌, List, [], ◌∷◌, refl, arith, ◌⊎◌, inl, inr}
 use Rattle.std.specs.Prelude.{slice_get, Some}
-use Rattle.std.proofs.lemmas.Bool.{cases_lt, cases_order}
+use Rattle.std.proofs.lemmas.Bool.{cases_order}
 use Rattle.melt_word.specs.Words.{cost_of}
 use Rattle.melt_copy.specs.declared.plan.Move.{Move}
 use Rattle.melt_copy.specs.Moving.{words_in}
@@ -36,6 +36,7 @@ unfolding covered hits
 covered_more top [] = refl
 covered_more top (m ∷ moves) = omega (arith, part_more top m.from (cost_of m.shape), covered_more top moves)
 
+-- no two stretches overlap
 abbrev pub AreApart : List Move → Type 0
 AreApart moves = (i j : ℕ) (a b : Move) → slice_get moves i ≡ Some a → slice_get moves j ≡ Some b → i < j → (a.from + cost_of a.shape ≤ b.from) ⊎ (b.from + cost_of b.shape ≤ a.from)
 

@@ -1,16 +1,15 @@
 -- The maps after objects were moved, and what references stand for then.
-use Rattle.std.proofs.Common.{◌≡◌, ◌≢◌, ℕ, zero, suc, ◌+◌, ◌<◌, ◌≤◌, cond, eqb, List, [], ◌∷◌, refl, sym, ◌∙◌, ap, subst, arith, ◌⊎◌, inl, inr}
-use Rattle.std.specs.Prelude.{◌^◌, slice_get, Option, None, Some}
+use Rattle.std.proofs.Common.{◌≡◌, ◌≢◌, ℕ, zero, suc, ◌<◌, eqb, List, [], ◌∷◌, refl, sym, ◌∙◌, ap, subst, arith, inl, inr}
+use Rattle.std.specs.Prelude.{◌^◌, slice_get, Option, Some}
 use Rattle.std.specs.Option.{option_map}
 use Rattle.std.proofs.lemmas.Bool.{cases_eq, eq-eqb, ne_eqb, cond-true, cond-false}
 use Rattle.melt_model.specs.declared.history.Value.{Value}
 use Rattle.melt_model.specs.declared.history.Value.TheVariants as value
-use Rattle.melt_word.specs.Words.{IsRef, ref_word, cost_of}
-use Rattle.melt_word.specs.declared.header.Header.{Header}
+use Rattle.melt_word.specs.Words.{IsRef}
 use Rattle.melt_word.specs.declared.reference.Ref.{Ref}
 use Rattle.melt_word.specs.declared.reference.Ref.TheVariants.{Null, Clean, Stale, Disk}
 use Rattle.melt_word.proofs.OneToOne.{same_ref}
-use Rattle.melt_scion.specs.State.{State, HeaderAt, IsFresh}
+use Rattle.melt_scion.specs.State.{State, IsFresh}
 use Rattle.melt_scion.specs.Placed.{Maps, value_of, Stands, MayStand, IsReferenceWord, MayHold, value_at}
 use Rattle.melt_copy.specs.declared.plan.Move.{Move}
 use Rattle.melt_copy.specs.Moving.{IsFound, moved, WordMoves, name_after, maps_after}
@@ -33,6 +32,7 @@ pub record Comes (name : ℕ → Option ℕ) (moves : List Move) (address n : �
   pub to : move.to ≡ address
   pub named : name move.from ≡ Some n
 
+-- an address with a number has an object that moved there
 pub comes : (name : ℕ → Option ℕ) (moves : List Move) (address n : ℕ) → name_after name moves address ≡ Some n → Comes name moves address n
 comes name [] address n named = absurd (cc)
 comes name (x ∷ moves) address n named =
@@ -51,6 +51,7 @@ pub record Renames (maps : Maps) (s t : State) (f : ℕ → ℕ) (moves : List M
   pub nothing : f 0 ≡ 0
   pub end : t.end ≡ s.end
 
+-- an object without the stale bit stays so
 pub fresh_there : (maps : Maps) (s t : State) (f : ℕ → ℕ) (moves : List Move) (address : ℕ) → Renames maps s t f moves → f address ≢ 0 → IsFresh s address → IsFresh t (f address)
 fresh_there maps s t f moves address renames found fresh header there =
     fresh header (record { in_range = there.in_range; word = sym (renames.headers address found) ∙ there.word })
@@ -76,7 +77,7 @@ moved_may_stand maps s t f moves (Clean a) renames found may = ((may.0.0, rename
 moved_may_stand maps s t f moves (Stale a) renames found may = (may.0, renames.names a found ∙ may.1)
 moved_may_stand maps s t f moves (Disk home) renames found may = (may.0, omega (arith, renames.end, may.1))
 
--- a word that was moved
+-- a word that was moved is still that of a reference
 pub moved_word : (maps : Maps) (s t : State) (f : ℕ → ℕ) (moves : List Move) (old new : ℕ) → Renames maps s t f moves → WordMoves f old new → IsReferenceWord maps s old → IsReferenceWord (maps_after maps moves) t new
 moved_word maps s t f moves old new renames w is =
     let same : is.reference ≡ w.reference = same_ref is.reference w.reference is.in_range w.in_range (sym is.is ∙ w.was) in
@@ -87,6 +88,7 @@ moved_word maps s t f moves old new renames w is =
       stands = moved_may_stand maps s t f moves w.reference renames w.found (subst (MayStand maps s) same is.stands);
     }
 
+-- a word that was moved stands for the same value
 pub moved_stands : (maps : Maps) (s t : State) (f : ℕ → ℕ) (moves : List Move) (old new : ℕ) (v : Value) → Renames maps s t f moves → WordMoves f old new → Stands maps old v → Stands (maps_after maps moves) new v
 moved_stands maps s t f moves old new v renames w is =
     let same : is.reference ≡ w.reference = same_ref is.reference w.reference is.in_range w.in_range (sym is.is ∙ w.was) in
@@ -113,6 +115,7 @@ pub value_at_some : (maps : Maps) (address : ℕ) → address ≢ 0 → value_at
 value_at_some maps zero some = absurd (some refl)
 value_at_some maps (suc a) some = refl
 
+-- a register stands for the same value
 pub moved_value_at : (maps : Maps) (s t : State) (f : ℕ → ℕ) (moves : List Move) (address : ℕ) → Renames maps s t f moves → (address ≢ 0 → f address ≢ 0) → value_at (maps_after maps moves) (f address) ≡ value_at maps address
 moved_value_at maps s t f moves address renames all =
     elim (cases_eq address 0) [

@@ -1,8 +1,8 @@
 -- The objects that a collection found, where they were before.
-use Rattle.std.proofs.Common.{◌≡◌, ◌≢◌, ℕ, suc, ◌+◌, ◌-◌, ◌<◌, ◌≤◌, List, refl, sym, ◌∙◌, ap, subst, arith, ◌⊎◌, inl, inr}
-use Rattle.std.specs.Prelude.{◌^◌, slice_get, Some}
-use Rattle.std.proofs.lemmas.Bool.{cases_eq, cases_order}
-use Rattle.melt_word.specs.Words.{IsRef, ref_word, cost_of}
+use Rattle.std.proofs.Common.{◌≡◌, ◌≢◌, ℕ, ◌+◌, ◌-◌, ◌≤◌, List, sym, ◌∙◌, ap, subst, arith, inl, inr}
+use Rattle.std.specs.Prelude.{slice_get, Some}
+use Rattle.std.proofs.lemmas.Bool.{cases_order}
+use Rattle.melt_word.specs.Words.{cost_of}
 use Rattle.melt_word.specs.declared.header.Shape.{Shape}
 use Rattle.melt_word.specs.declared.header.Header.{Header}
 use Rattle.melt_word.specs.declared.reference.Ref.{Ref}
@@ -11,18 +11,20 @@ use Rattle.melt_word.proofs.OneToOne.{same_ref, same_header}
 use Rattle.melt_scion.specs.State.{State, HeaderAt, ObjectAt, address_in, RefersTo, Reached, in_register, in_global, in_slot}
 use Rattle.melt_copy.specs.declared.plan.Move.{Move}
 use Rattle.melt_copy.specs.Moving.{IsWhole, words_in, IsMove, IsPlan, IsFound, WordMoves, IsCopy}
-use Rattle.melt_copy.proofs.Places.{place_below, place_found, same_source}
+use Rattle.melt_copy.proofs.Places.{place_found, same_source}
 use Rattle.melt_copy.proofs.Packing.{AreApart, packed}
 
 -- one header at an address
 pub one_header : (s : State) (address : ℕ) (h k : Header) → HeaderAt s address h → HeaderAt s address k → h ≡ k
 one_header s address h k first second = same_header h k first.in_range second.in_range (sym first.word ∙ second.word)
 
+-- the object of a move, where it was
 pub source_object : (s : State) (m : Move) → IsWhole s → (is : IsMove s m) → ObjectAt s m.from is.header
 source_object s m whole is =
     let o = whole.objects m.from is.reached in
     subst (ObjectAt s m.from) (one_header s m.from o.0 is.header o.1.starts is.starts) o.1
 
+-- it takes as many words as the move says
 pub source_cost : (s : State) (m : Move) → (is : IsMove s m) → cost_of is.header.shape ≡ cost_of m.shape
 source_cost s m is = ap cost_of is.shape
 
@@ -30,7 +32,8 @@ source_cost s m is = ap cost_of is.shape
 pub source_shape : (s : State) (m : Move) (h : Header) → IsMove s m → HeaderAt s m.from h → h.shape ≡ m.shape
 source_shape s m h is starts = ap (λ (x : Header). x.shape) (one_header s m.from h is.header starts is.starts) ∙ is.shape
 
-pub sources_apart : (s : State) (f : ℕ → ℕ) (moves : List Move) (free : ℕ) → IsWhole s → IsPlan s f moves free → AreApart moves
+-- objects that were found do not overlap
+sources_apart : (s : State) (f : ℕ → ℕ) (moves : List Move) (free : ℕ) → IsWhole s → IsPlan s f moves free → AreApart moves
 sources_apart s f moves free whole plan i j a b first second before =
     let one = plan.whole i a first in
     let other = plan.whole j b second in
@@ -63,6 +66,7 @@ pub record Goes (f : ℕ → ℕ) (moves : List Move) (address : ℕ) : Type 0 w
   pub from : move.from ≡ address
   pub to : f address ≡ move.to
 
+-- an address that was found has a move
 pub goes : (s : State) (f : ℕ → ℕ) (moves : List Move) (free address : ℕ) → IsPlan s f moves free → f address ≢ 0 → Goes f moves address
 goes s f moves free address plan found =
     let m = plan.only address found in
@@ -75,6 +79,7 @@ found_in f (Clean a) address found at = let same : a ≡ address = cc in λ none
 found_in f (Stale a) address found at = let same : a ≡ address = cc in λ none. found (ap f same ∙ none)
 found_in f (Disk home) address found at = absurd (cc)
 
+-- an address in a word that was moved was found
 pub found_in_word : (f : ℕ → ℕ) (old new address : ℕ) → WordMoves f old new → RefersTo old address → f address ≢ 0
 found_in_word f old new address moves refers =
     let same : refers.reference ≡ moves.reference = same_ref refers.reference moves.reference refers.in_range moves.in_range (sym refers.is ∙ moves.was) in

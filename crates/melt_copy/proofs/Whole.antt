@@ -1,5 +1,5 @@
 -- In a state that is well formed, what can be reached is whole.
-use Rattle.std.proofs.Common.{◌≡◌, ℕ, ◌+◌, ◌<◌, ◌≤◌, sym, ◌∙◌, ap, subst, arith, ◌⊎◌, inl, inr}
+use Rattle.std.proofs.Common.{◌≡◌, ℕ, ◌+◌, ◌<◌, ◌≤◌, sym, ◌∙◌, ap, arith, inl, inr}
 use Rattle.std.specs.Prelude.{◌^◌, Some}
 use Rattle.melt_word.specs.declared.reference.Ref.{Ref}
 use Rattle.melt_word.specs.declared.reference.Ref.TheVariants.{Null, Clean, Stale, Disk}
@@ -31,6 +31,7 @@ reached_named maps s formed address (in_slot from i a header reached starts belo
     let n = reached_named maps s formed from reached in
     named_in_word maps s (s.word (from + 2 + i)) a (formed.slots from n.0 i header n.1 starts below) refers
 
+-- what is well formed is whole
 pub formed_whole : (maps : Maps) (s : State) → s.size < 2 ^ 30 → s.free ≤ s.size + 1 → Formed maps s → IsWhole s
 formed_whole maps s small inside formed = record {
   small = small;
