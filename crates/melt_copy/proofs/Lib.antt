@@ -1,2 +1,11 @@
+pub mod Places
+pub mod Packing
+pub mod Sources
+pub mod Renaming
+pub mod Carried
+pub mod Whole
+pub mod Counting
+pub mod Marks
+pub mod Counted
+pub mod Moved
 pub mod PlanLaws
-pub mod Pending

@@ -54,6 +54,7 @@ impl Plan {
     pub fn find(&mut self, space: &Space, address: u32) -> Result<u32, NoMemory>
         requires { (s : State) × PlansAt space.now s self.old address }
         ensures found { IfOk result (λ to. (goes self.new address ≡ to) × (to ≢ 0)) }
+        ensures small { IfOk result (λ to. to < 2 ^ 30) }
         ensures grows { Grows self.old self.new }
         ensures only { (k : ℕ) (m : Move) → slice_get self.new.moves.items k ≡ Some m → (slice_get self.old.moves.items k ≡ Some m) ⊎ (m.from ≡ address) }
         ensures plans { (s : State) → PlansAt space.now s self.old address → Plans space.now s self.new }
