@@ -2,6 +2,7 @@
 #![tactic(auto)]
 
 pub mod collect;
+mod commit;
 pub mod plan;
 
 pub use collect::collect_copy;

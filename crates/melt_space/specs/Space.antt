@@ -67,3 +67,8 @@ pub record Replaces (old new : SpaceWords) (words : List ℕ) : Type 0 where
   pub behind : (k : ℕ) → length words < k → word_at new k ≡ word_at old k
   pub size : length new.list ≡ length old.list
   pub used : new.used ≡ length words
+
+-- these are the words from an address on, so many of them
+pub record AreWords (space : SpaceWords) (at count : ℕ) (words : List ℕ) : Type 0 where
+  pub count_is : length words ≡ count
+  pub each : (k : ℕ) → k < count → slice_index words k ≡ word_at space (at + k)

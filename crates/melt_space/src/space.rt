@@ -1,8 +1,8 @@
 //! A space of 64-bit words, in which objects are made one behind the other.
-ghost use Rattle.std.specs.Prelude.{◌≡◌, ◌-◌, ◌^◌, ◌<◌, ◌≤◌, ◌++◌, drop, length, IfErr, IfOk, IsErr, OnErr};
+ghost use Rattle.std.specs.Prelude.{◌≡◌, ◌+◌, ◌-◌, ◌^◌, ◌<◌, ◌≤◌, ◌++◌, drop, length, IfErr, IfOk, IsErr, OnErr};
 ghost use Rattle.melt_word.specs.Words.{IsHeader, IsShape, cost_of, header_word};
 ghost use Rattle.melt_word.specs.declared.header.Header.{Header};
-ghost use Rattle.melt_space.specs.Space.{HasHeader, IsFresh, IsSpace, IsWord, Lacks, Makes, Replaces, SetsWord, word_at};
+ghost use Rattle.melt_space.specs.Space.{AreWords, HasHeader, IsFresh, IsSpace, IsWord, Lacks, Makes, Replaces, SetsWord, word_at};
 
 use melt_model::NoMemory;
 use melt_word::{Header, Shape, cost, decode_header, encode_header};
@@ -99,6 +99,16 @@ impl Space {
         ensures { result ≡ word_at self.now at }
     {
         self.words[at as usize - 1]
+    }
+
+    /// The words from an address on, so many of them, all within the words that there are.
+    pub fn words_at(&self, at: u32, count: u32) -> &[u64]
+        requires first { 1 ≤ at }
+        requires last { at + count ≤ length self.now.list + 1 }
+        ensures { AreWords self.now at count result.now }
+    {
+        let start = at as usize - 1;
+        &self.words[start..start + count as usize]
     }
 
     /// Replaces the word at an address, from 1 to the number of words.
