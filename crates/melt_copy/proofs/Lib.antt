@@ -9,3 +9,4 @@ pub mod Marks
 pub mod Counted
 pub mod Moved
 pub mod PlanLaws
+pub mod Growth

@@ -51,3 +51,24 @@ pub record HasCopied (space : SpaceWords) (s : State) (plan : Plan) (words : Lis
 pub record Extends (old new : List ℕ) (count : ℕ) : Type 0 where
   pub size : length new ≡ length old + count
   pub before : (k : ℕ) → k < length old → slice_index new k ≡ slice_index old k
+
+-- a state in which the objects to which these words refer are found
+pub record PlansIn (space : SpaceWords) (s : State) (plan : Plan) (words : List ℕ) : Type 0 where
+  pub plans : Plans space s plan
+  pub references : (i : ℕ) → i < length words → IsRefWord (slice_index words i)
+  pub reached : (i address : ℕ) → i < length words → RefersTo (slice_index words i) address → Reached s address
+
+-- a state in which this object was found
+pub record PlansOf (space : SpaceWords) (s : State) (plan : Plan) (m : Move) : Type 0 where
+  pub plans : Plans space s plan
+  pub move : IsMove s m
+
+-- a state in which the objects in these registers are found
+pub record PlansHeld (space : SpaceWords) (s : State) (plan : Plan) (register : ℕ → ℕ) : Type 0 where
+  pub plans : Plans space s plan
+  pub reached : (r : ℕ) → register r ≢ 0 → Reached s (register r)
+
+-- the objects in these registers were found, and no others were
+pub record FindsHeld (old new : Plan) (register : ℕ → ℕ) : Type 0 where
+  pub all : (r : ℕ) → register r ≢ 0 → goes new (register r) ≢ 0
+  pub each : (k : ℕ) (m : Move) → slice_get new.moves.items k ≡ Some m → (slice_get old.moves.items k ≡ Some m) ⊎ ((r : ℕ) × (register r ≡ m.from))

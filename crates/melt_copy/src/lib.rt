@@ -3,6 +3,7 @@
 
 pub mod collect;
 mod commit;
+mod copy;
 pub mod plan;
 
 pub use collect::collect_copy;
