@@ -1,3 +1,5 @@
 pub mod Histories
 pub mod OneAnswer
 pub mod Transcripts
+pub mod Sums
+pub mod AliveObjects
