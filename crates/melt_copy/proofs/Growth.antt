@@ -1,7 +1,7 @@
 -- What a plan found stays found when it grows, and so does what was copied.
-use Rattle.std.proofs.Common.{◌≡◌, ◌≢◌, ℕ, ◌+◌, ◌<◌, ◌≤◌, zero, suc, List, [], ◌++◌, length, take, refl, sym, subst, ap, ◌∙◌, arith, append_assoc}
+use Rattle.std.proofs.Common.{◌≡◌, ◌≢◌, ℕ, ◌+◌, ◌<◌, ◌≤◌, zero, suc, List, [], ◌∷◌, ◌++◌, length, length-append, below_more, refl, sym, subst, ap, ◌∙◌, arith, append_assoc}
 use Rattle.std.specs.Prelude.{slice_get, slice_index, Some}
-use Rattle.std.proofs.lemmas.List.{append-nil}
+use Rattle.std.proofs.lemmas.List.{append-nil, get_or_append_left, get_or_push}
 use Rattle.std.proofs.lemmas.Option.{slice_get_within}
 use Rattle.melt_model.proofs.Histories.{slice_get-append_left}
 use Rattle.melt_word.specs.Words.{ref_word, cost_of}
@@ -12,7 +12,7 @@ use Rattle.melt_scion.specs.State.{State}
 use Rattle.melt_copy.specs.declared.plan.Move.{Move}
 use Rattle.melt_copy.specs.declared.plan.Plan.{Plan}
 use Rattle.melt_copy.specs.Moving.{WordMoves, ObjectMoves, moved, IsFound}
-use Rattle.melt_copy.specs.Plans.{goes, Grows, word_in, Extends, Plans, PlansIn, PlansHeld}
+use Rattle.melt_copy.specs.Plans.{goes, Grows, word_in, Extends, Plans, PlansIn, PlansFor}
 
 pub Grows-start : (plan : Plan) → Grows plan plan
 Grows-start plan = record { rest = []; moves = sym (append-nil plan.moves.items); goes = λ a known. refl }
@@ -23,7 +23,7 @@ Grows-more a b c first then_ = record {
   moves = then_.moves ∙ (ap (λ (ms : List Move). ms ++ then_.rest) first.moves ∙ append_assoc a.moves.items first.rest then_.rest);
   goes = λ at known.
       let once : goes b at ≡ goes a at = first.goes at known in
-      then_.goes at (λ (nought : goes c at ≡ 0). known (sym (then_.goes at (λ (zero_before : goes b at ≡ 0). known (sym once ∙ zero_before)) ∙ once) ∙ nought)) ∙ once;
+      then_.goes at (λ (nought : goes b at ≡ 0). known (sym once ∙ nought)) ∙ once;
 }
 
 -- a move that is there stays where it is
@@ -75,3 +75,24 @@ ObjectMoves-more a b s words more n m grows extends within object = record {
       (WordMoves-more a b _ _ grows (object.slots i below));
   numbers = λ j below. word_in_before words more n (m.to + 2 + m.shape.refs + j) extends (omega (arith, within, below)) ∙ object.numbers j below;
 }
+
+-- what one of the words refers to is found
+pub words_for : (space : SpaceWords) (s : State) (a b : Plan) (words : List ℕ) (i : ℕ) → PlansIn space s a words → Plans space s b → i < length words → PlansFor space s b (slice_index words i)
+words_for space s a b words i in_ plans below = record { plans = plans; reference = in_.references i below; reached = λ at refers. in_.reached i at below refers }
+
+-- one word more behind those that are there
+pub Extends-push : (a b c : List ℕ) (n w : ℕ) → Extends a b n → c ≡ b ++ w ∷ [] → Extends a c (n + 1)
+Extends-push a b c n w extends is = record {
+  size = ap length is ∙ (length-append b (w ∷ []) ∙ omega (arith, extends.size));
+  before = λ k below. ap (λ (l : List ℕ). slice_index l k) is ∙ (get_or_append_left b (w ∷ []) 0 k (omega (arith, extends.size, below)) ∙ extends.before k below);
+}
+
+-- one word more that moved
+pub moves_push : (f g : Plan) (words a b c : List ℕ) (n w : ℕ) → Extends a b n → c ≡ b ++ w ∷ [] → Grows f g → ((i : ℕ) → i < n → WordMoves (goes f) (slice_index words i) (slice_index b (length a + i))) → WordMoves (goes g) (slice_index words n) w → (i : ℕ) → i < n + 1 → WordMoves (goes g) (slice_index words i) (slice_index c (length a + i))
+moves_push f g words a b c n w extends is grows before here =
+    below_more _ _
+    (λ i below.
+    let same : slice_index c (length a + i) ≡ slice_index b (length a + i) = ap (λ (l : List ℕ). slice_index l (length a + i)) is ∙ get_or_append_left b (w ∷ []) 0 (length a + i) (omega (arith, extends.size, below)) in
+    subst (WordMoves (goes g) (slice_index words i)) (sym same) (WordMoves-more f g _ _ grows (before i below)))
+    (let last : slice_index c (length a + n) ≡ w = ap (λ (l : List ℕ). slice_index l (length a + n)) is ∙ get_or_push b w 0 (length a + n) (omega (arith, extends.size)) in
+    subst (WordMoves (goes g) (slice_index words n)) (sym last) here)

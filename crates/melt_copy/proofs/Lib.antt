@@ -10,3 +10,5 @@ pub mod Counted
 pub mod Moved
 pub mod PlanLaws
 pub mod Growth
+pub mod Copies
+pub mod Queue

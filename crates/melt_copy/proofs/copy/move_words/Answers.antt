@@ -1,50 +1,22 @@
-use Rattle.std.proofs.Common.{rules, ◌≡◌, ◌≢◌, ℕ, ◌+◌, ◌<◌, ◌≤◌, length, slice_index, IfOk, OnOk, ◌-◌, ◌*◌, ◌/◌, ◌%◌, Bool, true, false, nat_eq, nat_lt, List, [], ◌∷◌, ◌++◌, slice_index_or, slice_set, bit_and, bit_or, Fits, w8, w32, w64, Bor, MutBor}
-use Rattle.melt_word.specs.Words.{cost_of}
-use Rattle.melt_scion.specs.State.{State}
-use Rattle.melt_copy.specs.Moving.{WordMoves, ObjectMoves}
-use Rattle.melt_copy.specs.Plans.{Extends, FindsHeld, Grows, HasCopied, Plans, PlansHeld, PlansIn, PlansOf, goes, word_in}
+use Rattle.std.proofs.Common.{◌<◌, length, arith}
+use Rattle.melt_copy.proofs.Growth.{words_for, Grows-more, Extends-push, moves_push}
 use Rattle.melt_copy.proofs.copy.move_words.Goals as goal
 
--- src/copy.rt:52:5
-pub loop-word-init : goal.loop-word-init
-loop-word-init g c = ?
-
--- src/copy.rt:54:18
 pub move_word-requires : goal.move_word-requires
-move_word-requires g c = ?
+move_word-requires g c =
+    let s = c.requires.0 in
+    (s, words_for c.args.space.now s c.args.plan.now c.loop-word.plan c.args.words.now c.loop-word.word-index c.requires.1 (c.loop-word.invariant.plans s c.requires.1) (omega arith))
 
--- src/copy.rt:54:18
-pub returns-in_err-move_word-clause-grows : goal.returns-in_err-move_word-clause-grows
-returns-in_err-move_word-clause-grows g c = ?
-
--- src/copy.rt:54:18
 pub returns-in_err-move_word-clause-plans : goal.returns-in_err-move_word-clause-plans
-returns-in_err-move_word-clause-plans g c = ?
+returns-in_err-move_word-clause-plans g c = λ s in_. c.move_word.ensures.plans s (words_for c.args.space.now s c.args.plan.now c.loop-word.plan c.args.words.now c.loop-word.word-index in_ (c.loop-word.invariant.plans s in_) (omega arith))
 
--- src/copy.rt:54:9
-pub returns-in_err-push-clause-grows : goal.returns-in_err-push-clause-grows
-returns-in_err-push-clause-grows g c = ?
-
--- src/copy.rt:54:9
 pub returns-in_err-push-clause-plans : goal.returns-in_err-push-clause-plans
-returns-in_err-push-clause-plans g c = ?
+returns-in_err-push-clause-plans g c = λ s in_. c.move_word.ensures.plans s (words_for c.args.space.now s c.args.plan.now c.loop-word.plan c.args.words.now c.loop-word.word-index in_ (c.loop-word.invariant.plans s in_) (omega arith))
 
--- src/copy.rt:52:5
 pub loop-word-preserved : goal.loop-word-preserved
-loop-word-preserved g c = ?
-
--- src/copy.rt:39:1
-pub returns-clause-extends : goal.returns-clause-extends
-returns-clause-extends g c = ?
-
--- src/copy.rt:39:1
-pub returns-clause-moves : goal.returns-clause-moves
-returns-clause-moves g c = ?
-
--- src/copy.rt:39:1
-pub returns-clause-grows : goal.returns-clause-grows
-returns-clause-grows g c = ?
-
--- src/copy.rt:39:1
-pub returns-clause-plans : goal.returns-clause-plans
-returns-clause-plans g c = ?
+loop-word-preserved g c = record {
+  extends = Extends-push c.args.out.now.items c.loop-word.out.items _ c.loop-word.word-index _ c.loop-word.invariant.extends c.in_ok-push.ensures.items;
+  moves = moves_push c.loop-word.plan c.move_word.new.self c.args.words.now c.args.out.now.items c.loop-word.out.items _ c.loop-word.word-index _ c.loop-word.invariant.extends c.in_ok-push.ensures.items c.move_word.ensures.grows c.loop-word.invariant.moves c.in_ok-move_word.ensures.moves;
+  grows = Grows-more c.args.plan.now c.loop-word.plan c.move_word.new.self c.loop-word.invariant.grows c.move_word.ensures.grows;
+  plans = λ s in_. c.move_word.ensures.plans s (words_for c.args.space.now s c.args.plan.now c.loop-word.plan c.args.words.now c.loop-word.word-index in_ (c.loop-word.invariant.plans s in_) (omega arith));
+}
