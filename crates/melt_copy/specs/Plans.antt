@@ -2,6 +2,8 @@
 use Rattle.std.specs.Prelude.{◌≡◌, ◌≢◌, ℕ, zero, suc, ◌+◌, ◌<◌, ◌≤◌, List, [], ◌++◌, length, take, slice_get, slice_index, Option, Some, ◌⊎◌}
 use Rattle.melt_space.specs.Space.{SpaceWords, word_at}
 use Rattle.melt_scion.specs.State.{State, RefersTo, Reached}
+use Rattle.melt_scion.specs.Heaps.{register_in}
+use Rattle.melt_scion.specs.declared.registers.Registers.{Registers}
 use Rattle.melt_copy.specs.declared.plan.Move.{Move}
 use Rattle.melt_copy.specs.declared.plan.Plan.{Plan}
 use Rattle.melt_copy.specs.Moving.{IsWhole, IsRefWord, IsMove, IsPlan, WordMoves, ObjectMoves, words_in}
@@ -72,3 +74,13 @@ pub record PlansHeld (space : SpaceWords) (s : State) (plan : Plan) (register : 
 pub record FindsHeld (old new : Plan) (register : ℕ → ℕ) : Type 0 where
   pub all : (r : ℕ) → register r ≢ 0 → goes new (register r) ≢ 0
   pub each : (k : ℕ) (m : Move) → slice_get new.moves.items k ≡ Some m → (slice_get old.moves.items k ≡ Some m) ⊎ ((r : ℕ) × (register r ≡ m.from))
+
+-- a state in which the objects in the registers of all threads are found
+pub record PlansThreads (space : SpaceWords) (s : State) (plan : Plan) (held : List Registers) : Type 0 where
+  pub plans : Plans space s plan
+  pub reached : (t r : ℕ) → register_in held t r ≢ 0 → Reached s (register_in held t r)
+
+-- the objects in the registers of these threads were found, and no others were
+pub record FindsThreads (old new : Plan) (held : List Registers) : Type 0 where
+  pub all : (t r : ℕ) → register_in held t r ≢ 0 → goes new (register_in held t r) ≢ 0
+  pub each : (k : ℕ) (m : Move) → slice_get new.moves.items k ≡ Some m → (slice_get old.moves.items k ≡ Some m) ⊎ ((t : ℕ) × (r : ℕ) × (register_in held t r ≡ m.from))

@@ -3,7 +3,7 @@ ghost use Rattle.std.specs.Prelude.{◌≡◌, ◌≢◌, ℕ, ◌+◌, ◌<◌,
 ghost use Rattle.melt_word.specs.Words.{cost_of};
 ghost use Rattle.melt_scion.specs.State.{State};
 ghost use Rattle.melt_copy.specs.Moving.{WordMoves, ObjectMoves};
-ghost use Rattle.melt_copy.specs.Plans.{Extends, FindsHeld, Grows, HasCopied, Plans, PlansHeld, PlansIn, PlansOf, goes, word_in};
+ghost use Rattle.melt_copy.specs.Plans.{Extends, FindsHeld, FindsThreads, Grows, HasCopied, Plans, PlansHeld, PlansIn, PlansOf, PlansThreads, goes, word_in};
 
 use crate::plan::{Move, Plan};
 use melt_model::{NoMemory, Steps};
@@ -14,7 +14,7 @@ use std::alloc::Global;
 use std::sync::ledger::Ledger;
 
 /// Finds the objects in the registers of a thread.
-pub fn find_held<L: Ledger>(
+fn find_held<L: Ledger>(
     plan: &mut Plan,
     space: &Space,
     registers: &Registers,
@@ -30,6 +30,24 @@ pub fn find_held<L: Ledger>(
         if *address != 0 {
             plan.find(space, *address)?;
         }
+    }
+    Ok(())
+}
+
+/// Finds the objects in the registers of all threads.
+pub fn find_all_held<L: Ledger>(
+    plan: &mut Plan,
+    space: &Space,
+    held: &[Registers],
+    steps: &mut Steps<L>,
+) -> Result<(), NoMemory>
+    requires { (s : State) × PlansThreads space.now s plan.old held.now }
+    ensures finds { OnOk result (FindsThreads plan.old plan.new held.now) }
+    ensures grows { Grows plan.old plan.new }
+    ensures plans { (s : State) → PlansThreads space.now s plan.old held.now → Plans space.now s plan.new }
+{
+    for registers in held {
+        find_held(plan, space, registers, steps)?;
     }
     Ok(())
 }

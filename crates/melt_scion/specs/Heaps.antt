@@ -29,6 +29,11 @@ abbrev pub HasNames : Option heap.Names → Maps → Type 0
 HasNames None maps = Unit {0}
 HasNames (Some names) maps = (address : ℕ) → maps.address address ≡ name_at names.addresses address
 
+-- the names, where a heap keeps them, were made for as many addresses as it has words
+abbrev pub NamesMade : ℕ → Option heap.Names → Type 0
+NamesMade words None = Unit {0}
+NamesMade words (Some names) = length names.addresses ≡ words
+
 -- a heap without objects, whose globals hold nothing
 pub record IsNewHeap (words globals : ℕ) (named : Bool) (heap : Heap) : Type 0 where
   pub space : IsFresh words heap.space
@@ -40,4 +45,5 @@ pub record IsFormed (heap : Heap) (held : List Registers) : Type 0 where
   pub maps : Maps
   pub end : ℕ
   pub names : HasNames heap.names maps
+  pub made : NamesMade (length heap.space.list) heap.names
   pub formed : Formed maps (state_of heap held end)
