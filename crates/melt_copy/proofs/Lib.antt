@@ -2,6 +2,7 @@ pub mod Places
 pub mod Packing
 pub mod Sources
 pub mod Renaming
+pub mod Committing
 pub mod Carried
 pub mod Whole
 pub mod Counting

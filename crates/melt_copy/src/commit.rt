@@ -29,6 +29,7 @@ pub fn forward_held<L: Ledger>(plan: &Plan, held: &mut [Registers], steps: &mut 
     ensures { (t r : ℕ) → register_in held.new t r ≡ goes plan.now (register_in held.old t r) }
 {
     for registers in held.iter_mut() {
+        steps.tick();
         forward_thread(plan, registers, steps);
     }
 }
