@@ -13,3 +13,4 @@ pub mod PlanLaws
 pub mod Growth
 pub mod Copies
 pub mod Queue
+pub mod Held
