@@ -14,3 +14,4 @@ pub mod Growth
 pub mod Copies
 pub mod Queue
 pub mod Held
+pub mod Outs

@@ -47,10 +47,10 @@ words_in-next moves k m at =
     ∙ ap (λ (n : ℕ). n + cost_of m.shape) (sym (sum-map (λ (x : Move). cost_of x.shape) (take k moves)))))
 
 -- the front of a plan that grows
-words_in-stay : (a b : Plan) (k : ℕ) → Grows a b → k ≤ length a.moves.items → words_in (take k b.moves.items) ≡ words_in (take k a.moves.items)
+pub words_in-stay : (a b : Plan) (k : ℕ) → Grows a b → k ≤ length a.moves.items → words_in (take k b.moves.items) ≡ words_in (take k a.moves.items)
 words_in-stay a b k grows within = ap (λ (ms : List Move). words_in (take k ms)) grows.moves ∙ ap words_in (take-append-le k a.moves.items grows.rest within)
 
-was_there : (a b : Plan) (k : ℕ) (m : Move) → Grows a b → k < length a.moves.items → slice_get b.moves.items k ≡ Some m → slice_get a.moves.items k ≡ Some m
+pub was_there : (a b : Plan) (k : ℕ) (m : Move) → Grows a b → k < length a.moves.items → slice_get b.moves.items k ≡ Some m → slice_get a.moves.items k ≡ Some m
 was_there a b k m grows below at = sym (slice_get-append_left a.moves.items grows.rest k below) ∙ (sym (ap (λ (ms : List Move). slice_get ms k) grows.moves) ∙ at)
 
 pub longer : (a b : Plan) → Grows a b → length a.moves.items ≤ length b.moves.items
