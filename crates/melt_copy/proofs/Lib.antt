@@ -15,3 +15,4 @@ pub mod Copies
 pub mod Queue
 pub mod Held
 pub mod Outs
+pub mod Collects
