@@ -1,7 +1,7 @@
 -- A heap over which the operations of one thread are answered, and the history that it stands for.
-use Rattle.std.specs.Prelude.{◌≡◌, ◌≢◌, ℕ, zero, suc, ◌+◌, ◌<◌, ◌≤◌, List, [], ◌∷◌, ◌++◌, length, map, replicate, slice_set, slice_get, All, Option, None, Some, IsSome, unwrap_or}
+use Rattle.std.specs.Prelude.{◌≡◌, ◌≢◌, ℕ, zero, suc, ◌+◌, ◌^◌, ◌<◌, ◌≤◌, List, [], ◌∷◌, ◌++◌, length, map, replicate, slice_set, slice_get, All, Option, None, Some, IsSome, unwrap_or}
 use Rattle.std.specs.List.{AllByRecursion}
-use Rattle.melt_model.specs.History.{made, last, Legal}
+use Rattle.melt_model.specs.History.{made as makes, last, Legal}
 use Rattle.melt_model.specs.Thread.{found, value_in}
 use Rattle.melt_model.specs.Standing.{Stands}
 use Rattle.melt_model.specs.Alive.{Alive, words_of, CostsSum}
@@ -67,7 +67,7 @@ pub record StandsFor (space : SpaceWords) (globals : List ℕ) (names : Option h
   pub room : length (numbers_of names) ≡ length space.list
   pub small : length space.list < 2 ^ 30
   pub sixteen : length regs ≡ 16
-  pub counted : count ≡ made log
+  pub counted : count ≡ makes log
   pub placed : Placed log (of_thread (held_values names regs)) (maps_of names) (shown space globals regs)
   pub in_use : CostsSum (words_of log) (InUse (maps_of names)) space.used
 
@@ -167,7 +167,7 @@ pub record HasMade (old new : Machine) (dst : ℕ) (shape : Shape) : Type 0 wher
   pub stands : IsStanding new
   pub sizes : KeepsSizes old new
   pub made : new.made ≡ old.made + 1
-  pub registers : values_of new ≡ slice_set (values_of old) dst (Ref (made old.log.items))
+  pub registers : values_of new ≡ slice_set (values_of old) dst (Ref (makes old.log.items))
   pub history : new.log.items ≡ old.log.items ++ entry (Make shape.refs shape.nums) ∷ []
 
 -- there was no room, and nothing changed
@@ -211,10 +211,10 @@ HasAnswered old new o (answer.Told r) = HasReplied old new o r
 HasAnswered old new o (answer.OutOfHeap held need) = HasStopped old new o held need
 
 -- a machine for which no operation was answered yet
-pub record IsFresh (words globals : ℕ) (m : Machine) : Type 0 where
+pub record IsFresh (size count : ℕ) (m : Machine) : Type 0 where
   pub stands : IsStanding m
-  pub words : length m.heap.space.list ≡ words
-  pub globals : length m.heap.globals ≡ globals
+  pub words : length m.heap.space.list ≡ size
+  pub globals : length m.heap.globals ≡ count
   pub history : m.log.items ≡ []
   pub registers : values_of m ≡ replicate 16 Nil
   pub made : m.made ≡ 0
@@ -234,20 +234,20 @@ EndsSo m left (end.Damaged home at word) = ⊥
 EndsSo m left end.Halted = ⊥
 
 -- the thread ended, after as many of its operations as could be answered
-pub record HasEnded (words globals : ℕ) (m : Machine) (ops : List Op) (report : ThreadReport) : Type 0 where
+pub record HasEnded (size count : ℕ) (m : Machine) (ops : List Op) (report : ThreadReport) : Type 0 where
   pub done : List Op
   pub left : List Op
   pub split : done ++ left ≡ ops
   pub so_far : HasToldAll m done report.replies
-  pub words : length m.heap.space.list ≡ words
-  pub globals : length m.heap.globals ≡ globals
+  pub words : length m.heap.space.list ≡ size
+  pub globals : length m.heap.globals ≡ count
   pub ends : EndsSo m left report.end
 
 -- some operations were answered, and these are left
-pub record IsUnderWay (words globals : ℕ) (m : Machine) (ops left : List Op) (replies : List Reply) : Type 0 where
+pub record IsUnderWay (size count : ℕ) (m : Machine) (ops left : List Op) (replies : List Reply) : Type 0 where
   pub done : List Op
   pub split : done ++ left ≡ ops
   pub so_far : HasToldAll m done replies
-  pub words : length m.heap.space.list ≡ words
-  pub globals : length m.heap.globals ≡ globals
+  pub words : length m.heap.space.list ≡ size
+  pub globals : length m.heap.globals ≡ count
   pub few : m.made ≤ length done
