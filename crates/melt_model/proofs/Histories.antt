@@ -151,23 +151,42 @@ made_field before globals n i is = slice_get_some_within (shapes before) n _ is
 pub made_cell : (before : List Entry) (globals n j : ℕ) → IsSlot before globals (Cell n j) → n < made before
 made_cell before globals n j is = slice_get_some_within (shapes before) n _ is
 
--- nothing was written to an object that was not made
-unmade_write : (before : List Entry) (globals n : ℕ) (slot : Slot) (write : Option (Slot × Value)) → (IsSlot before globals slot → n < made before) → IfSome write (λ w. IsSlot before globals w.0) → made before ≤ n → after_write slot write (first_value slot) ≡ first_value slot
-unmade_write before globals n slot None needs slots above = refl
-unmade_write before globals n slot (Some w) needs slots above =
+-- a slot stays one
+pub IsSlot-append : (h k : List Entry) (globals : ℕ) (slot : Slot) → IsSlot h globals slot → IsSlot (h ++ k) globals slot
+IsSlot-append h k globals (Field n i) is = subst (λ (z : Option Shape). IsSomeAnd z (λ y. i < y.refs)) (sym (shape-append h k n (made_field h globals n i is))) is
+IsSlot-append h k globals (Cell n j) is = subst (λ (z : Option Shape). IsSomeAnd z (λ y. j < y.nums)) (sym (shape-append h k n (made_cell h globals n j is))) is
+IsSlot-append h k globals (Global g) is = is
+
+-- a write that may follow is not to a slot that there is not
+write_elsewhere : (before : List Entry) (globals : ℕ) (slot : Slot) (write : Option (Slot × Value)) → IfSome write (λ w. IsSlot before globals w.0) → (IsSlot before globals slot → ⊥) → after_write slot write (first_value slot) ≡ first_value slot
+write_elsewhere before globals slot None slots none = refl
+write_elsewhere before globals slot (Some w) slots none =
     cond_both (slot_eq w.0 slot) w.1 (first_value slot) (λ v. v ≡ first_value slot)
-    (λ e. absurd (let below : n < made before = needs (subst (IsSlot before globals) (same_slot w.0 slot e) slots) in omega arith))
+    (λ e. absurd (none (subst (IsSlot before globals) (same_slot w.0 slot e) slots)))
     (λ e. refl)
 
-unmade_slot : (h : List Entry) (globals n : ℕ) (slot : Slot) → ((before : List Entry) → IsSlot before globals slot → n < made before) → Legal h globals → made h ≤ n → last h slot ≡ first_value slot
-unmade_slot h globals n slot needs legal =
-    Legal-induction h globals (λ k. made k ≤ n → last k slot ≡ first_value slot) legal (λ above. refl)
-    (λ before e follows holds above.
-    let under : made before ≤ n = omega (arith, made-append before (e ∷ [])) in
-    last-push before e slot ∙ (ap (after_write slot (write_of e.act)) (holds under) ∙ unmade_write before globals n slot (write_of e.act) (needs before) follows.write_slot under))
+-- In a legal history nothing was written to a slot that there is not.
+pub last_no_slot : (h : List Entry) (globals : ℕ) (slot : Slot) → Legal h globals → (IsSlot h globals slot → ⊥) → last h slot ≡ first_value slot
+last_no_slot h globals slot legal =
+    Legal-induction h globals (λ k. (IsSlot k globals slot → ⊥) → last k slot ≡ first_value slot) legal (λ none. refl)
+    (λ before e follows holds none.
+    let earlier : IsSlot before globals slot → ⊥ = λ is. none (IsSlot-append before (e ∷ []) globals slot is) in
+    last-push before e slot ∙ (ap (after_write slot (write_of e.act)) (holds earlier) ∙ write_elsewhere before globals slot (write_of e.act) follows.write_slot earlier))
 
+-- nothing was written to an object that was not made
 pub last_unmade : (h : List Entry) (globals n i : ℕ) → Legal h globals → made h ≤ n → last h (Field n i) ≡ Nil
-last_unmade h globals n i = unmade_slot h globals n (Field n i) (λ before is. made_field before globals n i is)
+last_unmade h globals n i legal above =
+    last_no_slot h globals (Field n i) legal (λ is. let below : n < made h = made_field h globals n i is in omega arith)
 
 pub last_unmade_cell : (h : List Entry) (globals n j : ℕ) → Legal h globals → made h ≤ n → last h (Cell n j) ≡ Num 0
-last_unmade_cell h globals n j = unmade_slot h globals n (Cell n j) (λ before is. made_cell before globals n j is)
+last_unmade_cell h globals n j legal above =
+    last_no_slot h globals (Cell n j) legal (λ is. let below : n < made h = made_cell h globals n j is in omega arith)
+
+-- nor to a reference slot past those of an object
+pub last_no_field : (h : List Entry) (globals n i : ℕ) (z : Shape) → Legal h globals → shape h n ≡ Some z → z.refs ≤ i → last h (Field n i) ≡ Nil
+last_no_field h globals n i z legal is above =
+    last_no_slot h globals (Field n i) legal (λ has. let below : i < z.refs = subst (λ (y : Option Shape). IsSomeAnd y (λ x. i < x.refs)) is has in omega arith)
+
+-- nor to a global past the last
+pub last_no_global : (h : List Entry) (globals g : ℕ) → Legal h globals → globals ≤ g → last h (Global g) ≡ Nil
+last_no_global h globals g legal above = last_no_slot h globals (Global g) legal (λ is. omega arith)

@@ -5,3 +5,4 @@ pub mod Writes
 pub mod Tags
 pub mod Makes
 pub mod Events
+pub mod Reaching
