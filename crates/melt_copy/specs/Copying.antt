@@ -8,7 +8,7 @@ use Rattle.melt_word.specs.declared.reference.Ref.{Ref}
 use Rattle.melt_word.specs.declared.reference.Ref.TheVariants.{Null, Clean, Stale, Disk}
 use Rattle.melt_scion.specs.State.{State, HeaderAt}
 use Rattle.melt_scion.specs.Placed.{Maps, Formed}
-use Rattle.melt_scion.specs.Heaps.{state_of, HasNames}
+use Rattle.melt_scion.specs.Heaps.{state_of, HasNames, KeepsNames}
 use Rattle.melt_scion.specs.Collected.{Collected, CountsWords}
 use Rattle.melt_scion.specs.declared.registers.Registers.{Registers}
 use Rattle.melt_scion.specs.declared.heap.Heap.{Heap}
@@ -54,6 +54,7 @@ pub record Journals (journal : Journal) (phase : Phase) (live : ℕ) : Type 0 wh
 pub record HasCollected (maps : Maps) (end : ℕ) (old new : Heap) (held held_after : List Registers) (phase : Phase) (journal : Journal) : Type 0 where
   pub after : Maps
   pub names : HasNames new.names after
+  pub names_stay : KeepsNames old.names new.names
   pub collected : Collected maps after (state_of old held end) (state_of new held_after end)
   pub marks : KeepsMarks maps after (state_of old held end) (state_of new held_after end)
   pub counts : CountsWords maps after (state_of old held end) journal.live journal.held

@@ -29,6 +29,13 @@ abbrev pub HasNames : Option heap.Names → Maps → Type 0
 HasNames None maps = Unit {0}
 HasNames (Some names) maps = (address : ℕ) → maps.address address ≡ name_at names.addresses address
 
+-- names are there where they were, for as many addresses
+abbrev pub KeepsNames : Option heap.Names → Option heap.Names → Type 0
+KeepsNames None None = Unit {0}
+KeepsNames (Some old) (Some new) = length new.addresses ≡ length old.addresses
+KeepsNames None (Some new) = ⊥
+KeepsNames (Some old) None = ⊥
+
 -- a heap without objects, whose globals hold nothing
 pub record IsNewHeap (words globals : ℕ) (named : Bool) (heap : Heap) : Type 0 where
   pub space : IsFresh words heap.space

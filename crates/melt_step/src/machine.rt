@@ -3,7 +3,7 @@ ghost use Rattle.std.specs.Prelude.{◌≡◌, ◌≢◌, ◌+◌, ◌*◌, ◌^
 ghost use Rattle.melt_model.specs.History.{last, IsSlot};
 ghost use Rattle.melt_model.specs.Thread.{found as found_in, value_in};
 ghost use Rattle.melt_model.specs.declared.history.Value.TheVariants.{Nil};
-ghost use Rattle.melt_model.specs.declared.history.Slot.TheVariants.{Field, Global};
+ghost use Rattle.melt_model.specs.declared.history.Slot.TheVariants.{Field};
 ghost use Rattle.melt_trace.specs.Grammar.{InRange};
 ghost use Rattle.melt_word.specs.Words.{IsShape};
 ghost use Rattle.melt_scion.specs.Placed.{MayHold};
@@ -220,7 +220,7 @@ impl Machine {
     fn load_word(&mut self, g: u8) -> u32
         requires stands { IsStanding self.old }
         requires global { g < length self.old.heap.globals }
-        ensures { HasFound self.old self.new (Global g) result }
+        ensures { HasFound self.old self.new (Slot.Global g) result }
     {
         match decode_ref(global_word(&self.heap.globals, g)) {
             Ok(Ref::Null) => 0,

@@ -1,0 +1,4 @@
+pub mod Values
+pub mod Standing
+pub mod Answering
+pub mod Running
