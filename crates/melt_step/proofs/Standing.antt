@@ -43,6 +43,7 @@ use Rattle.melt_scion.proofs.Reaching.{reached_named, reached_alive, alive_reach
 use Rattle.melt_scion.proofs.Events.{Placed_start, Placed_read, Placed_slot, Placed_number, Placed_global, Placed_make}
 use Rattle.melt_step.specs.Answering.{entry}
 use Rattle.melt_step.specs.Machine.{maps_of, numbers_of, held_value, held_values, of_thread, shown, StandsFor}
+use Rattle.melt_step.proofs.Answering.{object_shape, field_there, cell_there}
 use Rattle.melt_step.proofs.Values.{get_or_set_keeps, get_or_replicate, may_stand, stands_for_held, value_held, may_value, may_reference, may_small, named_made, named_value, held_is, held_values-set, same_values}
 
 -- all registers are set at once
@@ -403,3 +404,54 @@ placed_left heap regs log count s =
     Placed_registers log (of_thread (held_values heap.names regs)) (λ t r. Nil) (maps_of heap.names) (shown heap.space heap.globals regs) (state_of heap [] 1) s.placed
     (record { size = refl; free = refl; globals = refl; end = refl })
     (λ k. refl) (λ g. refl) (λ u r. inl refl) (λ u r. refl)
+
+-- a slot is read into a register
+pub StandsFor_load : (space : SpaceWords) (globals : List ℕ) (names : Option heap.Names) (regs : List ℕ) (log after : List Entry) (count dst address : ℕ) (slot : Slot) (v : Value) → StandsFor space globals names regs log count → MayHold (maps_of names) (shown space globals regs) address → IsSlot log (length globals) slot → held_value names address ≡ last log slot → v ≡ held_value names address → after ≡ log ++ entry (Read slot v) ∷ [] → StandsFor space globals names (set regs dst address) after count
+StandsFor_load space globals names regs log after count dst address slot v s may is value same history =
+    subst (λ (h : List Entry). StandsFor space globals names (set regs dst address) h count) (sym history)
+    (StandsFor_register space globals names regs (log ++ entry (Read slot v) ∷ []) count dst address (StandsFor_read space globals names regs log count slot v s is (same ∙ value)) may)
+
+-- the entry of a history, by a value that it equals
+pub same_read : (log after : List Entry) (slot : Slot) (v w : Value) → v ≡ w → after ≡ log ++ entry (Read slot v) ∷ [] → after ≡ log ++ entry (Read slot w) ∷ []
+same_read log after slot v w same history = history ∙ ap (λ (x : Value). log ++ entry (Read slot x) ∷ []) same
+
+pub same_write : (log after : List Entry) (slot : Slot) (v w : Value) → v ≡ w → after ≡ log ++ entry (Write slot v) ∷ [] → after ≡ log ++ entry (Write slot w) ∷ []
+same_write log after slot v w same history = history ∙ ap (λ (x : Value). log ++ entry (Write slot x) ∷ []) same
+
+-- what a register holds is written to a slot of an object
+pub StandsFor_store : (space space_after : SpaceWords) (globals : List ℕ) (names : Option heap.Names) (regs : List ℕ) (log after : List Entry) (count address n i src at word : ℕ) (z : words.Shape) (header : Header) (v : Value) → StandsFor space globals names regs log count → (maps_of names).address address ≡ Some n → HeaderAt (shown space globals regs) address header → z ≡ header.shape → i < z.refs → v ≡ held_value names (get_or regs src 0) → after ≡ log ++ entry (Write (Field n i) v) ∷ [] → at ≡ address + 2 + i → word ≡ 4 * get_or regs src 0 → SetsWord space space_after at word → StandsFor space_after globals names regs after count
+StandsFor_store space space_after globals names regs log after count address n i src at word z header v s named starts same below value history is_at is_word sets =
+    let held : ℕ = get_or regs src 0 in
+    let within : i < header.shape.refs = subst (λ (x : words.Shape). i < x.refs) same below in
+    let there : IsSlot log (length globals) (Field n i) = field_there log (length globals) n i z (object_shape space globals names regs log count address n z header s named starts same) below in
+    let sets_it : SetsWord space space_after (address + 2 + i) (4 * held) = subst (λ (a : ℕ). SetsWord space space_after a (4 * held)) is_at (subst (SetsWord space space_after at) is_word sets) in
+    subst (λ (h : List Entry). StandsFor space_after globals names regs h count) (sym (same_write log after (Field n i) v (held_value names held) value history))
+    (StandsFor_field space space_after globals names regs log count address n i held header s named starts within (s.placed.formed.registers 0 src) there sets_it)
+
+-- a number is written to a number word of an object
+pub StandsFor_put : (space space_after : SpaceWords) (globals : List ℕ) (names : Option heap.Names) (regs : List ℕ) (log after : List Entry) (count address n j at word : ℕ) (z : words.Shape) (header : Header) → StandsFor space globals names regs log count → (maps_of names).address address ≡ Some n → HeaderAt (shown space globals regs) address header → z ≡ header.shape → j < z.nums → after ≡ log ++ entry (Write (Cell n j) (Num word)) ∷ [] → at ≡ address + 2 + z.refs + j → SetsWord space space_after at word → StandsFor space_after globals names regs after count
+StandsFor_put space space_after globals names regs log after count address n j at word z header s named starts same below history is_at sets =
+    let within : j < header.shape.nums = subst (λ (x : words.Shape). j < x.nums) same below in
+    let there : IsSlot log (length globals) (Cell n j) = cell_there log (length globals) n j z (object_shape space globals names regs log count address n z header s named starts same) below in
+    let place : at ≡ address + 2 + header.shape.refs + j = is_at ∙ ap (λ (x : words.Shape). address + 2 + x.refs + j) same in
+    subst (λ (h : List Entry). StandsFor space_after globals names regs h count) (sym history)
+    (StandsFor_number space space_after globals names regs log count address n j word header s named starts within there (subst (λ (a : ℕ). SetsWord space space_after a word) place sets))
+
+-- what a register holds is written to a global
+pub StandsFor_gstore : (space : SpaceWords) (globals globals_after : List ℕ) (names : Option heap.Names) (regs : List ℕ) (log after : List Entry) (count g src word : ℕ) (v : Value) → StandsFor space globals names regs log count → g < length globals → v ≡ held_value names (get_or regs src 0) → after ≡ log ++ entry (Write (Global g) v) ∷ [] → word ≡ 4 * get_or regs src 0 → globals_after ≡ set globals g word → StandsFor space globals_after names regs after count
+StandsFor_gstore space globals globals_after names regs log after count g src word v s within value history is_word sets =
+    let held : ℕ = get_or regs src 0 in
+    let written : globals_after ≡ set globals g (4 * held) = sets ∙ ap (set globals g) is_word in
+    subst (λ (gs : List ℕ). StandsFor space gs names regs after count) (sym written)
+    (subst (λ (h : List Entry). StandsFor space (set globals g (4 * held)) names regs h count) (sym (same_write log after (Global g) v (held_value names held) value history))
+    (StandsFor_global space globals names regs log count g held s within (s.placed.formed.registers 0 src)))
+
+-- a number word of an object is read
+pub StandsFor_get : (space : SpaceWords) (globals : List ℕ) (names : Option heap.Names) (regs : List ℕ) (log after : List Entry) (count address n j at word : ℕ) (z : words.Shape) (header : Header) → StandsFor space globals names regs log count → (maps_of names).address address ≡ Some n → HeaderAt (shown space globals regs) address header → z ≡ header.shape → j < z.nums → at ≡ address + 2 + z.refs + j → word ≡ word_at space at → after ≡ log ++ entry (Read (Cell n j) (Num word)) ∷ [] → StandsFor space globals names regs after count
+StandsFor_get space globals names regs log after count address n j at word z header s named starts same below is_at is_word history =
+    let within : j < header.shape.nums = subst (λ (x : words.Shape). j < x.nums) same below in
+    let there : IsSlot log (length globals) (Cell n j) = cell_there log (length globals) n j z (object_shape space globals names regs log count address n z header s named starts same) below in
+    let place : at ≡ address + 2 + header.shape.refs + j = is_at ∙ ap (λ (x : words.Shape). address + 2 + x.refs + j) same in
+    let value : Num word ≡ last log (Cell n j) = ap Num (is_word ∙ ap (word_at space) place) ∙ s.placed.numbers address n j header named starts within in
+    subst (λ (h : List Entry). StandsFor space globals names regs h count) (sym history)
+    (StandsFor_read space globals names regs log count (Cell n j) (Num word) s there value)

@@ -1,7 +1,6 @@
 use Rattle.std.proofs.Common.{refl, sym, ◌∙◌}
 use Rattle.melt_step.proofs.Values.{held_values-set}
 use Rattle.melt_step.proofs.Standing.{StandsFor_register}
-use Rattle.melt_step.proofs.Answering.{load_answers}
 use Rattle.melt_step.proofs.machine.Machine.set_register.Goals as goal
 
 pub returns : goal.returns
