@@ -1,4 +1,6 @@
 pub mod Values
+pub mod Found
 pub mod Standing
 pub mod Answering
+pub mod Loading
 pub mod Running

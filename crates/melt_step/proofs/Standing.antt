@@ -40,7 +40,9 @@ use Rattle.melt_scion.proofs.Frame.{Placed_stays}
 use Rattle.melt_scion.proofs.Geometry.{one_header}
 use Rattle.melt_scion.proofs.Writes.{SameObjects_by_words}
 use Rattle.melt_scion.proofs.Reaching.{reached_named, reached_alive, alive_reached}
-use Rattle.melt_scion.proofs.Events.{Placed_start, Placed_read, Placed_slot, Placed_number, Placed_global, Placed_make}
+use Rattle.melt_scion.proofs.Tags.{behind_header}
+use Rattle.melt_word.specs.declared.reference.Ref.TheVariants.{Null, Clean, Stale, Disk}
+use Rattle.melt_scion.proofs.Events.{Placed_clear, Placed_untag_slot, Placed_untag_global, Placed_start, Placed_read, Placed_slot, Placed_number, Placed_global, Placed_make}
 use Rattle.melt_step.specs.Answering.{entry}
 use Rattle.melt_step.specs.Machine.{maps_of, numbers_of, held_value, held_values, of_thread, shown, StandsFor}
 use Rattle.melt_step.proofs.Answering.{object_shape, field_there, cell_there}
@@ -455,3 +457,48 @@ StandsFor_get space globals names regs log after count address n j at word z hea
     let value : Num word ≡ last log (Cell n j) = ap Num (is_word ∙ ap (word_at space) place) ∙ s.placed.numbers address n j header named starts within in
     subst (λ (h : List Entry). StandsFor space globals names regs h count) (sym history)
     (StandsFor_read space globals names regs log count (Cell n j) (Num word) s there value)
+
+-- the stale bit of an object is cleared
+pub StandsFor_clear : (space after : SpaceWords) (globals : List ℕ) (names : Option heap.Names) (regs : List ℕ) (log : List Entry) (count address n word : ℕ) (z : words.Shape) (header : Header) → StandsFor space globals names regs log count → (maps_of names).address address ≡ Some n → HeaderAt (shown space globals regs) address header → z ≡ header.shape → word ≡ header_word (record { shape = z; stale = false }) → SetsWord space after address word → StandsFor after globals names regs log count
+StandsFor_clear space after globals names regs log count address n word z header s named starts same is sets =
+    let cleared : word ≡ header_word (record { shape = header.shape; stale = false }) = is ∙ ap (λ (x : words.Shape). header_word (record { shape = x; stale = false })) same in
+    StandsFor_words space after globals globals names regs log count s sets.size sets.used refl
+    (Placed_clear log (of_thread (held_values names regs)) (maps_of names) (shown space globals regs) (shown after globals regs) address n header s.placed named starts
+    (word_changes space after globals regs address _ (subst (SetsWord space after address) cleared sets)))
+
+-- and then it has none
+pub fresh_cleared : (space after : SpaceWords) (globals regs : List ℕ) (address word : ℕ) (z : words.Shape) (header : Header) → HeaderAt (shown space globals regs) address header → z ≡ header.shape → word ≡ header_word (record { shape = z; stale = false }) → SetsWord space after address word → IsFresh (shown after globals regs) address
+fresh_cleared space after globals regs address word z header starts same is sets other at =
+    let new : Header = record { shape = z; stale = false } in
+    let small : IsShape z = subst IsShape (sym same) starts.in_range in
+    ap (λ (x : Header). x.stale) (one_header (shown after globals regs) address other new at (record { in_range = small; word = sets.here ∙ is }))
+
+-- a stale address in a slot becomes clean
+pub StandsFor_untag : (space after : SpaceWords) (globals : List ℕ) (names : Option heap.Names) (regs : List ℕ) (log : List Entry) (count address n i at word target : ℕ) (z : words.Shape) → StandsFor space globals names regs log count → (maps_of names).address address ≡ Some n → shape log n ≡ Some (record { refs = z.refs; nums = z.nums }) → i < z.refs → at ≡ address + 2 + i → word ≡ 4 * target → word_at space (address + 2 + i) ≡ ref_word (Stale target) → MayHold (maps_of names) (shown space globals regs) target → SetsWord space after at word → StandsFor after globals names regs log count
+StandsFor_untag space after globals names regs log count address n i at word target z s named is_shape below is_at is_word was may sets =
+    let there = s.placed.formed.objects address n named in
+    let same : Some (let x : Shape = record { refs = z.refs; nums = z.nums } in x) ≡ Some (record { refs = there.0.shape.refs; nums = there.0.shape.nums }) = sym is_shape ∙ s.placed.shapes address n there.0 named there.1.starts in
+    let refs : z.refs ≡ there.0.shape.refs = ap (λ (x : Option Shape). option_map_or (λ (y : Shape). y.refs) x 0) same in
+    let sets_it : SetsWord space after (address + 2 + i) (4 * target) = subst (λ (a : ℕ). SetsWord space after a (4 * target)) is_at (subst (SetsWord space after at) is_word sets) in
+    StandsFor_words space after globals globals names regs log count s sets.size sets.used refl
+    (Placed_untag_slot log (of_thread (held_values names regs)) (maps_of names) (shown space globals regs) (shown after globals regs) address n i target there.0 s.placed named there.1.starts (omega arith) was may
+    (word_changes space after globals regs (address + 2 + i) (4 * target) sets_it))
+
+-- a stale address in a global becomes clean
+pub StandsFor_untag_global : (space : SpaceWords) (globals globals_after : List ℕ) (names : Option heap.Names) (regs : List ℕ) (log : List Entry) (count g word target : ℕ) → StandsFor space globals names regs log count → g < length globals → word ≡ 4 * target → get_or globals g 0 ≡ ref_word (Stale target) → MayHold (maps_of names) (shown space globals regs) target → globals_after ≡ set globals g word → StandsFor space globals_after names regs log count
+StandsFor_untag_global space globals globals_after names regs log count g word target s within is_word was may sets =
+    let written : globals_after ≡ set globals g (4 * target) = sets ∙ ap (set globals g) is_word in
+    subst (λ (gs : List ℕ). StandsFor space gs names regs log count) (sym written)
+    (StandsFor_words space space globals (set globals g (4 * target)) names regs log count s refl refl (length-set globals g (4 * target))
+    (Placed_untag_global log (of_thread (held_values names regs)) (maps_of names) (shown space globals regs) (shown space (set globals g (4 * target)) regs) g target s.placed within was may
+    (global_changes space globals regs g (4 * target) within)))
+
+-- the word of a part of an object stays where the header of another object, or its own, is set
+pub part_stays : (space after : SpaceWords) (globals : List ℕ) (names : Option heap.Names) (regs : List ℕ) (log : List Entry) (count a b n m i : ℕ) (z : words.Shape) → StandsFor space globals names regs log count → (maps_of names).address a ≡ Some n → (maps_of names).address b ≡ Some m → shape log m ≡ Some (record { refs = z.refs; nums = z.nums }) → i < z.refs → ((k : ℕ) → k ≢ a → word_at after k ≡ word_at space k) → word_at after (b + 2 + i) ≡ word_at space (b + 2 + i)
+part_stays space after globals names regs log count a b n m i z s named_a named_b is_shape below others =
+    let formed = s.placed.formed in
+    let at_a = formed.objects a n named_a in
+    let at_b = formed.objects b m named_b in
+    let same : Some (let x : Shape = record { refs = z.refs; nums = z.nums } in x) ≡ Some (record { refs = at_b.0.shape.refs; nums = at_b.0.shape.nums }) = sym is_shape ∙ s.placed.shapes b m at_b.0 named_b at_b.1.starts in
+    let refs : z.refs ≡ at_b.0.shape.refs = ap (λ (x : Option Shape). option_map_or (λ (y : Shape). y.refs) x 0) same in
+    others (b + 2 + i) (behind_header (maps_of names) (shown space globals regs) a b n m (2 + i) (b + 2 + i) at_a.0 at_b.0 formed named_a named_b at_a.1.starts at_b.1.starts (omega arith) (omega arith) (omega arith))

@@ -19,7 +19,8 @@ use Rattle.melt_model.specs.declared.reports.Journal.{Journal}
 use Rattle.melt_model.specs.declared.reports.ThreadEnd.{ThreadEnd}
 use Rattle.melt_model.specs.declared.reports.ThreadEnd.TheVariants as end
 use Rattle.melt_model.specs.declared.reports.ThreadReport.{ThreadReport}
-use Rattle.melt_word.specs.Words.{cost_of}
+use Rattle.melt_word.specs.Words.{IsRef, ref_word}
+use Rattle.melt_word.specs.declared.reference.Ref as words
 use Rattle.melt_word.specs.declared.header.Shape.{Shape}
 use Rattle.melt_word.specs.declared.header.Header.{Header}
 use Rattle.melt_space.specs.Space.{SpaceWords, Lacks, word_at}
@@ -83,6 +84,11 @@ maps_in m = maps_of m.heap.names
 
 abbrev pub state_in : Machine → State
 state_in m = shown m.heap.space m.heap.globals m.held.regs
+
+-- the word is that of the reference
+pub record HoldsRef (word : ℕ) (reference : words.Ref) : Type 0 where
+  pub in_range : IsRef reference
+  pub is : word ≡ ref_word reference
 
 -- what no operation changes
 pub record KeepsSizes (old new : Machine) : Type 0 where

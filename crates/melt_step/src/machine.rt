@@ -6,11 +6,12 @@ ghost use Rattle.melt_model.specs.declared.history.Value.TheVariants.{Nil};
 ghost use Rattle.melt_model.specs.declared.history.Slot.TheVariants.{Field};
 ghost use Rattle.melt_trace.specs.Grammar.{InRange};
 ghost use Rattle.melt_word.specs.Words.{IsShape};
+ghost use Rattle.melt_word.specs.declared.reference.Ref.{Ref};
 ghost use Rattle.melt_scion.specs.Placed.{MayHold};
 ghost use Rattle.melt_scion.specs.Changes.{NameAppears};
 ghost use Rattle.melt_scion.specs.Heaps.{IsFormed};
 ghost use Rattle.melt_copy.specs.Copying.{Collects};
-ghost use Rattle.melt_step.specs.Machine.{EndsSo, HasAnswered, HasCleared, HasCollected, HasFound, HasMade, HasRead, HasRefused, HasReplied, HasSet, HasWritten, IsFresh, IsHeld, IsNamed, IsObject, IsStanding, held_value, maps_in, maps_of, numbers_of, state_in, values_of};
+ghost use Rattle.melt_step.specs.Machine.{EndsSo, HasAnswered, HasCleared, HasCollected, HasFound, HasMade, HasRead, HasRefused, HasReplied, HasSet, HasWritten, HoldsRef, IsFresh, IsHeld, IsNamed, IsObject, IsStanding, held_value, maps_in, maps_of, numbers_of, state_in, values_of};
 
 use melt_copy::collect_copy;
 use melt_model::{Act, Entry, Journal, NoMemory, Op, Phase, Reply, Slot, Steps, Value};
@@ -89,6 +90,17 @@ fn set_name(names: &mut Option<Names>, address: u32, number: u32)
 {
     if let Some(names) = names {
         names.addresses.set(address, number);
+    }
+}
+
+/// The reference that a word holds.
+fn reference(word: u64) -> Ref
+    requires { (r : Ref) × HoldsRef word r }
+    ensures { HoldsRef word result }
+{
+    match decode_ref(word) {
+        Ok(reference) => reference,
+        Err(_) => unreachable!(),
     }
 }
 
@@ -204,15 +216,15 @@ impl Machine {
         ensures { HasFound self.old self.new (Field object.number i) result }
     {
         let at = object.field(i);
-        match decode_ref(self.heap.space.word(at)) {
-            Ok(Ref::Null) => 0,
-            Ok(Ref::Clean(address)) => address,
-            Ok(Ref::Stale(address)) => {
+        match reference(self.heap.space.word(at)) {
+            Ref::Null => 0,
+            Ref::Clean(address) => address,
+            Ref::Stale(address) => {
                 self.clear(address);
                 self.heap.space.set_word(at, reference_word(address));
                 address
             }
-            Ok(Ref::Disk(_)) | Err(_) => unreachable!(),
+            Ref::Disk(_) => unreachable!(),
         }
     }
 
@@ -222,15 +234,15 @@ impl Machine {
         requires global { g < length self.old.heap.globals }
         ensures { HasFound self.old self.new (Slot.Global g) result }
     {
-        match decode_ref(global_word(&self.heap.globals, g)) {
-            Ok(Ref::Null) => 0,
-            Ok(Ref::Clean(address)) => address,
-            Ok(Ref::Stale(address)) => {
+        match reference(global_word(&self.heap.globals, g)) {
+            Ref::Null => 0,
+            Ref::Clean(address) => address,
+            Ref::Stale(address) => {
                 self.clear(address);
                 set_global_word(&mut self.heap.globals, g, reference_word(address));
                 address
             }
-            Ok(Ref::Disk(_)) | Err(_) => unreachable!(),
+            Ref::Disk(_) => unreachable!(),
         }
     }
 
