@@ -3,4 +3,5 @@ pub mod Found
 pub mod Standing
 pub mod Answering
 pub mod Loading
+pub mod Collecting
 pub mod Running

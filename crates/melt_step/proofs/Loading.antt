@@ -1,5 +1,5 @@
 -- What a load finds: the reference in a slot, made clean where it was stale.
-use Rattle.std.proofs.Common.{◌≡◌, ◌≢◌, ℕ, ◌+◌, ◌*◌, ◌<◌, ◌≤◌, zero, suc, List, length, get_or, refl, sym, ◌∙◌, ap, subst, arith, inl, inr}
+use Rattle.std.proofs.Common.{◌≡◌, ◌≢◌, ℕ, ◌+◌, ◌*◌, ◌<◌, ◌≤◌, zero, suc, List, [], ◌∷◌, ◌++◌, length, get_or, refl, sym, ◌∙◌, ap, subst, arith, inl, inr}
 use Rattle.std.proofs.Math.ListN.{set, length-set}
 use Rattle.std.proofs.lemmas.List.{get_or-set_same}
 use Rattle.std.specs.Prelude.{Option, None, Some}
@@ -18,10 +18,15 @@ use Rattle.melt_space.specs.Space.{SpaceWords, word_at, SetsWord}
 use Rattle.melt_scion.specs.State.{State, HeaderAt, IsFresh}
 use Rattle.melt_scion.specs.Placed.{Maps, Stands, IsReferenceWord, MayHold}
 use Rattle.melt_scion.specs.declared.heap.Names as heap
-use Rattle.melt_step.specs.Machine.{maps_of, held_value, shown, StandsFor, IsStanding, maps_in, state_in, IsObject, HoldsRef, HasCleared, HasFound, KeepsRest}
+use Rattle.melt_step.specs.Machine.{maps_of, held_value, shown, StandsFor, IsStanding, maps_in, state_in, IsObject, HoldsRef, HasCleared, HasFound, HasRead, HasReplied, IsHeld, KeepsRest, held_values, values_of}
+use Rattle.melt_step.specs.Answering.{entry}
+use Rattle.melt_model.specs.declared.operations.Op.TheVariants as op
+use Rattle.melt_model.specs.declared.operations.Reply.{Reply}
+use Rattle.melt_model.specs.declared.history.Act.TheVariants.{Read}
+use Rattle.melt_scion.specs.declared.registers.Registers.{Registers}
 use Rattle.melt_step.specs.declared.machine.Object.{Object}
 use Rattle.melt_step.specs.declared.machine.Machine.{Machine}
-use Rattle.melt_step.proofs.Answering.{object_shape}
+use Rattle.melt_step.proofs.Answering.{object_shape, load_answers}
 use Rattle.melt_step.proofs.Found.{found_null, found_clean, may_clean, named_stale, is_some, not_disk}
 use Rattle.melt_step.proofs.Standing.{StandsFor_untag, StandsFor_untag_global, part_stays}
 
@@ -156,3 +161,25 @@ stale_global_found m cleared g was word a after st within is_was holds clear is_
       may_hold = found.0;
       value = found.1;
     }
+
+-- the registers hold the same where names and addresses do
+pub values_stay : (m n : Machine) → KeepsRest m n → values_of n ≡ values_of m
+values_stay m n rest =
+    ap (λ (x : Option heap.Names). held_values x n.held.regs) rest.names ∙ ap (λ (x : Registers). held_values m.heap.names x.regs) rest.held
+
+-- a load that found its slot
+pub load_replied : (m found new : Machine) (dst src i address : ℕ) (o : Object) (r : Reply) → IsStanding m → IsHeld m src o → i < o.shape.refs → HasFound m found (Field o.number i) address → HasRead found new dst (Field o.number i) (held_value found.heap.names address) r → HasReplied m new (op.Load dst src i) r
+load_replied m found new dst src i address o r st held below finds reads =
+    let v : Value = held_value found.heap.names address in
+    record {
+      stands = reads.stands;
+      sizes = record { globals = reads.sizes.globals ∙ finds.rest.sizes.globals; words = reads.sizes.words ∙ finds.rest.sizes.words };
+      few = let a : new.made ≡ found.made = reads.made in let b : found.made ≡ m.made = finds.rest.made in omega arith;
+      answers = load_answers m.log.items (values_of m) dst src i o.number o.shape v r new.log.items (values_of new) held.value (machine_shape m o st held.is) below reads.told
+          (reads.registers ∙ ap (λ (vs : List Value). set vs dst v) (values_stay m found finds.rest))
+          (reads.history ∙ ap (λ (h : List Entry). h ++ entry (Read (Field o.number i) v) ∷ []) finds.rest.log);
+    }
+
+-- words of the space alone change
+pub space_rest : (m : Machine) (after : SpaceWords) → length after.list ≡ length m.heap.space.list → KeepsRest m (with_space m after)
+space_rest m after size = record { sizes = record { globals = refl; words = size }; names = refl; held = refl; log = refl; made = refl }

@@ -130,6 +130,13 @@ fn set_global_word(globals: &mut Globals, g: u8, word: u64)
     globals.items[g as usize] = word;
 }
 
+fn registers(regs: [u32; 16]) -> Registers
+    ensures same { result.regs ≡ regs }
+    ensures count { length result.regs ≡ 16 }
+{
+    Registers { regs }
+}
+
 /// Collects a heap, and counts no steps.
 fn collect_uncounted<L: Ledger>(
     alloc: Global,
@@ -334,7 +341,7 @@ impl Machine {
         let mut held = [self.held];
         let blank = Blank::new(1);
         let journal = collect_uncounted::<Brand>(alloc, &mut self.heap, &mut held, blank)?;
-        self.held = held[0];
+        self.held = registers(held[0].regs);
         self.journal.push(journal)?;
         Ok(())
     }

@@ -2,6 +2,7 @@ use Rattle.std.proofs.Common.{refl, sym}
 use Rattle.melt_step.specs.Machine.{maps_in}
 use Rattle.melt_step.proofs.Found.{some_number}
 use Rattle.melt_step.proofs.Standing.{StandsFor_clear, fresh_cleared}
+use Rattle.melt_step.proofs.Loading.{space_rest}
 use Rattle.melt_step.proofs.Answering.{header_there}
 use Rattle.melt_step.proofs.machine.Machine.clear.Goals as goal
 
@@ -20,7 +21,7 @@ returns c =
         stands = StandsFor_clear m.heap.space c.set_word.new.self m.heap.globals m.heap.names m.held.regs m.log.items m.made a number.0 c.encode_header.result z there.0 s number.1 starts same c.encode_header.ensures c.set_word.ensures;
         inactive = c.requires.stands.inactive;
       };
-      rest = record { sizes = record { globals = refl; words = c.set_word.ensures.size }; names = refl; held = refl; log = refl; made = refl };
+      rest = space_rest m c.set_word.new.self c.set_word.ensures.size;
       globals = refl;
       fresh = fresh_cleared m.heap.space c.set_word.new.self m.heap.globals m.held.regs a c.encode_header.result z there.0 starts same c.encode_header.ensures c.set_word.ensures;
       others = c.set_word.ensures.others;
