@@ -1,5 +1,5 @@
 //! A heap over which the operations of one thread are answered, one after the other.
-ghost use Rattle.std.specs.Prelude.{◌≡◌, ◌≢◌, ◌+◌, ◌*◌, ◌^◌, ◌<◌, ◌≤◌, ℕ, length, slice_index, slice_set, Some, IfOk, IfNone, IfSome, IsSome, MatchResult, OnOk};
+ghost use Rattle.std.specs.Prelude.{◌≡◌, ◌≢◌, ◌+◌, ◌*◌, ◌^◌, ◌<◌, ◌≤◌, ℕ, length, slice_index, slice_set, Some, IfErr, IfOk, IfNone, IfSome, IsSome, OnOk};
 ghost use Rattle.melt_model.specs.History.{last, IsSlot};
 ghost use Rattle.melt_model.specs.Thread.{found as found_in, value_in};
 ghost use Rattle.melt_model.specs.declared.history.Value.TheVariants.{Nil};
@@ -314,7 +314,7 @@ impl Machine {
         requires register { dst < 16 }
         requires shape { IsShape shape }
         ensures made { IfOk result (λ r. OnOk r (HasMade self.old self.new dst shape)) }
-        ensures refused { IfOk result (λ r. MatchResult r (λ _. ℕ) (HasRefused self.old self.new shape)) }
+        ensures refused { IfOk result (λ r. IfErr r (HasRefused self.old self.new shape)) }
     {
         let address = match self.heap.space.make(shape) {
             Ok(address) => address,
