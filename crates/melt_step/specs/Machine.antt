@@ -250,10 +250,11 @@ pub record HasEnded (size count : ℕ) (m : Machine) (ops : List Op) (report : T
   pub ends : EndsSo m left report.end
 
 -- some operations were answered, and these are left
-pub record IsUnderWay (size count : ℕ) (m : Machine) (ops left : List Op) (replies : List Reply) : Type 0 where
+pub record IsUnderWay (size count now : ℕ) (m : Machine) (ops left : List Op) (replies : List Reply) : Type 0 where
   pub done : List Op
   pub split : done ++ left ≡ ops
   pub so_far : HasToldAll m done replies
   pub words : length m.heap.space.list ≡ size
   pub globals : length m.heap.globals ≡ count
   pub few : m.made ≤ length done
+  pub same_globals : now ≡ count
