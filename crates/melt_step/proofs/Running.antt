@@ -2,7 +2,7 @@
 use Rattle.std.proofs.Common.{◌≡◌, ℕ, ◌+◌, ◌<◌, ◌≤◌, List, [], ◌∷◌, ◌++◌, length, zero, suc, refl, sym, ◌∙◌, ap, subst, arith, append_assoc, length-append}
 use Rattle.std.proofs.lemmas.List.{append-nil}
 use Rattle.std.proofs.lemmas.List.Elements.{All-from_recursion}
-use Rattle.std.specs.Prelude.{◌↔◌, Option, None, Some, All, IsSome, IfSome, slice_get, drop, replicate}
+use Rattle.std.specs.Prelude.{◌↔◌, Option, None, Some, unwrap_or, All, IsSome, IfSome, slice_get, drop, replicate}
 use Rattle.std.specs.List.{AllByRecursion}
 use Rattle.std.specs.Option.{option_map_or}
 use Rattle.melt_model.specs.History.{Legal, last}
@@ -26,7 +26,10 @@ use Rattle.melt_model.specs.declared.reports.ThreadReport.{ThreadReport}
 use Rattle.melt_model.specs.declared.reports.Report.{Report}
 use Rattle.melt_model.proofs.Sums.{CostsSum-same}
 use Rattle.melt_model.proofs.Transcripts.{Stands_start, Stands_local, Stands_entry, Transcript_so_far, one_reply_each, registers_so_far}
-use Rattle.melt_trace.specs.Script.{Script, operations}
+use Rattle.melt_trace.specs.Script.{Script, expand, operations}
+use Rattle.melt_trace.specs.declared.script.Item.{Item}
+use Rattle.std.proofs.lemmas.Option.{slice_get_past}
+use Rattle.melt_step.proofs.Values.{get_or_replicate}
 use Rattle.melt_scion.specs.declared.heap.Heap.{Heap}
 use Rattle.melt_step.specs.Answering.{Answers, entry, gives, with_entry}
 use Rattle.melt_step.specs.Machine.{IsStanding, IsFresh, IsFull, IsUnderWay, EndsSo, HasEnded, HasReplied, HasStopped, HasToldAll, UsesAlive, maps_of, of_thread, values_of}
@@ -80,36 +83,6 @@ one_more_done done (p ∷ left) o first = append_assoc done (o ∷ []) left ∙ 
 machine_references : (m : Machine) → IsStanding m → HoldReferences m.log.items (values_of m)
 machine_references m st = references_held m.heap.space m.heap.globals m.heap.names m.held.regs m.log.items m.made st.stands
 
--- no operation was answered yet
-pub under_way_start : (m : Machine) (size count : ℕ) (ops : List Op) (replies : List Reply) → IsFresh size count m → replies ≡ [] → IsUnderWay size count count m ops ops replies
-under_way_start m size count ops replies fresh none = record {
-  done = [];
-  split = refl;
-  so_far = record {
-    stands = fresh.stands;
-    told = subst (λ (h : List Entry). Stands h 0 [] replies (values_of m)) (sym fresh.history)
-        (subst (λ (rs : List Reply). Stands [] 0 [] rs (values_of m)) (sym none)
-        (subst (Stands [] 0 [] []) (sym fresh.registers) (Stands_start 0)));
-    own = subst (AllByRecursion (λ (e : Entry). e.thread ≡ 0)) (sym fresh.history) tt;
-  };
-  words = fresh.words;
-  globals = fresh.globals;
-  few = let none : m.made ≡ 0 = fresh.made in omega arith;
-  same_globals = refl;
-}
-
-some_left : (left : List Op) (o : Op) → slice_get left 0 ≡ Some o → 1 ≤ length left
-some_left [] o first = absurd (cc)
-some_left (p ∷ left) o first = omega arith
-
--- objects are few
-pub few_made : (m : Machine) (size count now : ℕ) (ops left : List Op) (replies : List Reply) (o : Op) → IsUnderWay size count now m ops left replies → slice_get left 0 ≡ Some o → length ops ≤ 1048576 → m.made + 1 ≤ 1048576
-few_made m size count now ops left replies o way first few =
-    let made : m.made ≤ length way.done = way.few in
-    let split : length way.done + length left ≡ length ops = sym (length-append way.done left) ∙ ap length way.split in
-    let some : 1 ≤ length left = some_left left o first in
-    omega arith
-
 -- one operation more was replied to
 pub under_way_on : (m new : Machine) (size count now later : ℕ) (ops left rest : List Op) (replies replies_after : List Reply) (o : Op) (r : Reply) → IsUnderWay size count now m ops left replies → HasReplied m new o r → slice_get left 0 ≡ Some o → rest ≡ drop 1 left → replies_after ≡ replies ++ r ∷ [] → later ≡ now → IsUnderWay size count later new ops rest replies_after
 under_way_on m new size count now later ops left rest replies replies_after o r way replied first is_rest is_replies same =
@@ -128,41 +101,119 @@ under_way_on m new size count now later ops left rest replies replies_after o r 
       same_globals = same ∙ way.same_globals;
     }
 
-none_left : (left : List Op) → slice_get left 0 ≡ None → left ≡ []
-none_left [] none = refl
-none_left (o ∷ left) none = absurd (cc)
+-- Objects that are alive, where registers hold the same.
+alive_same : (h : List Entry) (value other : ℕ → ℕ → Value) (n : ℕ) → ((t r : ℕ) → value t r ≡ other t r) → Alive h value n → Alive h other n
+alive_same h value other n same (Alive.in_register m held) =
+    Alive.in_register m (record { thread = held.thread; register = held.register; holds = sym (same held.thread held.register) ∙ held.holds })
+alive_same h value other n same (Alive.in_global g m at) = Alive.in_global g m at
+alive_same h value other n same (Alive.in_slot from i m found at) = Alive.in_slot from i m (alive_same h value other from same found) at
 
--- all operations were replied to
-pub ended_done : (m : Machine) (size count now : ℕ) (ops left : List Op) (replies : List Reply) (report : ThreadReport) → IsUnderWay size count now m ops left replies → slice_get left 0 ≡ None → report ≡ record { replies = replies; end = end.Done } → HasEnded size count m ops report
-ended_done m size count now ops left replies report way none is =
-    let ends : HasEnded size count m ops (record { replies = replies; end = end.Done }) = record {
-      done = way.done;
-      left = left;
-      split = way.split;
-      so_far = way.so_far;
-      words = way.words;
-      globals = way.globals;
-      ends = none_left left none;
-    } in
-    subst (HasEnded size count m ops) (sym is) ends
+at_seam : (done left : List Op) → slice_get (done ++ left) (length done) ≡ slice_get left 0
+at_seam [] left = refl
+at_seam (p ∷ done) left = at_seam done left
 
--- one operation stopped
-pub ended_full : (m new : Machine) (size count now held need : ℕ) (ops left : List Op) (replies : List Reply) (o : Op) (report : ThreadReport) → IsUnderWay size count now m ops left replies → HasStopped m new o held need → slice_get left 0 ≡ Some o → report ≡ record { replies = replies; end = end.OutOfHeap held need } → HasEnded size count new ops report
-ended_full m new size count now held need ops left replies o report way stopped first is =
-    let told : Stands new.log.items 0 way.done replies (values_of new) =
-    subst (λ (h : List Entry). Stands h 0 way.done replies (values_of new)) (sym stopped.history)
-    (subst (Stands m.log.items 0 way.done replies) (sym stopped.registers) way.so_far.told) in
-    let ends : HasEnded size count new ops (record { replies = replies; end = end.OutOfHeap held need }) = record {
-      done = way.done;
-      left = left;
-      split = way.split;
-      so_far = record {
-        stands = stopped.stands;
-        told = told;
-        own = subst (AllByRecursion (λ (e : Entry). e.thread ≡ 0)) (sym stopped.history) way.so_far.own;
+-- the first of the operations behind those that were answered
+first_left : (done left : List Op) (k : ℕ) (o : Op) → k ≡ length done → slice_get left 0 ≡ Some o → slice_get (done ++ left) k ≡ Some o
+first_left done left k o is first = ap (slice_get (done ++ left)) is ∙ (at_seam done left ∙ first)
+
+only_one : {A : Type 0} (x y : A) (t : ℕ) → slice_get (x ∷ []) t ≡ Some y → (t ≡ 0) × (x ≡ y)
+only_one x y zero at = (refl, cc)
+only_one x y (suc t) at = absurd (cc)
+
+own_below : (h : List Entry) (n : ℕ) → n ≡ 1 → AllByRecursion (λ (e : Entry). e.thread ≡ 0) h → AllByRecursion (λ (e : Entry). e.thread < n) h
+own_below [] n one own = tt
+own_below (e ∷ h) n one own = (omega (arith, own.0, one), own_below h n one own.1)
+
+-- the report of one thread
+abbrev report_of : ThreadReport → Machine → Report
+report_of r m = record { threads = r ∷ []; journal = m.journal.items; halt = None; log = m.log.items }
+
+-- a thread that the script lacks has no operation
+no_operations : (script : Script) (t : ℕ) → length script.programs ≡ 1 → operations script (suc t) ≡ []
+no_operations script t one = ap (λ (x : Option (List Item)). expand (unwrap_or x [])) (slice_get_past script.programs (suc t) (omega arith))
+
+-- the registers of all threads at the end
+registers_same : (script : Script) (m : Machine) (r : ThreadReport) (done left : List Op) → length script.programs ≡ 1 → done ++ left ≡ operations script 0 → Stands m.log.items 0 done r.replies (values_of m) → (t k : ℕ) → of_thread (values_of m) t k ≡ registers_at_end script (report_of r m) t k
+registers_same script m r done left one split told zero k =
+    let replies : length done ≡ length r.replies = sym (one_reply_each m.log.items 0 done r.replies (values_of m) told) in
+    let so_far : registers_after m.log.items 0 (done ++ left) (length done) ≡ values_of m = registers_so_far m.log.items 0 done left r.replies (values_of m) told in
+    ap (λ (vs : List Value). value_in vs k)
+    (sym so_far ∙ (ap (λ (ops : List Op). registers_after m.log.items 0 ops (length done)) split ∙ ap (registers_after m.log.items 0 (operations script 0)) replies))
+registers_same script m r done left one split told (suc t) k =
+    let none : value_in (registers_after m.log.items (suc t) [] 0) k ≡ Nil = get_or_replicate 16 k Nil in
+    sym none ∙ ap (λ (ops : List Op). value_in (registers_after m.log.items (suc t) ops 0) k) (sym (no_operations script t one))
+
+-- why the thread ended
+may_end : (script : Script) (config : Config) (m : Machine) (r : ThreadReport) (done left : List Op) (e : ThreadEnd) → length script.programs ≡ 1 → length m.heap.space.list ≡ config.heap → done ++ left ≡ operations script 0 → Stands m.log.items 0 done r.replies (values_of m) → EndsSo m left e → MayEnd script config (report_of r m) 0 e
+may_end script config m r done left end.Done one size split told ends =
+    one_reply_each m.log.items 0 done r.replies (values_of m) told
+    ∙ (ap length (sym (append-nil done)) ∙ ap length (ap (λ (ops : List Op). done ++ ops) (sym ends) ∙ split))
+may_end script config m r done left (end.OutOfHeap held need) one size split told ends =
+    let full : IsFull m ends.0 held need = ends.2 in
+    let replies : length r.replies ≡ length done = one_reply_each m.log.items 0 done r.replies (values_of m) told in
+    let same = registers_same script m r done left one split told in
+    record {
+      dst = full.dst;
+      refs = full.refs;
+      nums = full.nums;
+      next = ap (λ (ops : List Op). slice_get ops (length r.replies)) (sym split) ∙ (first_left done left (length r.replies) ends.0 replies ends.1 ∙ ap Some full.next);
+      needed = full.needed;
+      reach = CostsSum-same (words_of m.log.items) (Alive m.log.items (of_thread (values_of m))) (Alive m.log.items (registers_at_end script (report_of r m))) held
+          (λ n. (
+            alive_same m.log.items (of_thread (values_of m)) (registers_at_end script (report_of r m)) n same,
+            alive_same m.log.items (registers_at_end script (report_of r m)) (of_thread (values_of m)) n (λ t k. sym (same t k)),
+          )) full.reach;
+      above = let a : length m.heap.space.list < held + need = full.above in omega arith;
+    }
+may_end script config m r done left end.DiskFault one size split told ends = ends
+may_end script config m r done left (end.Damaged home at word) one size split told ends = ends
+may_end script config m r done left end.Halted one size split told ends = ends
+
+-- what the run of one thread reports
+one_report : (script : Script) (config : Config) (m : Machine) (r : ThreadReport) → length script.programs ≡ 1 → HasEnded config.heap script.globals m (operations script 0) r → IsStepReport script config (report_of r m)
+one_report script config m r one ended =
+    let told = ended.so_far.told in
+    let st = ended.so_far.stands in
+    let transcript : Transcript m.log.items 0 (operations script 0) r.replies =
+    subst (λ (ops : List Op). Transcript m.log.items 0 ops r.replies) ended.split (Transcript_so_far m.log.items 0 ended.done ended.left r.replies (values_of m) told) in
+    record {
+      history = record {
+        legal = subst (Legal m.log.items) ended.globals st.stands.legal;
+        threads = sym one;
+        transcripts = λ t x at.
+            let p = only_one r x t at in
+            subst (λ (k : ℕ). Transcript m.log.items k (operations script k) x.replies) (sym p.0) (subst (λ (y : ThreadReport). Transcript m.log.items 0 (operations script 0) y.replies) p.1 transcript);
+        own_threads = All-from_recursion (λ (e : Entry). e.thread < length script.programs) m.log.items (own_below m.log.items (length script.programs) one ended.so_far.own);
       };
-      words = stopped.sizes.words ∙ way.words;
-      globals = stopped.sizes.globals ∙ way.globals;
-      ends = (o, first, stopped.full);
+      ends = λ t x at.
+          let p = only_one r x t at in
+          let here : MayEnd script config (report_of r m) 0 r.end = may_end script config m r ended.done ended.left r.end one ended.words ended.split told ended.ends in
+          subst (λ (k : ℕ). MayEnd script config (report_of r m) k x.end) (sym p.0) (subst (λ (y : ThreadReport). MayEnd script config (report_of r m) 0 y.end) p.1 here);
+      no_halt = refl;
+      inactive = st.inactive;
+    }
+
+pub has_run : (script : Script) (config : Config) (m : Machine) (r : ThreadReport) (threads : List ThreadReport) → length script.programs ≡ 1 → HasEnded config.heap script.globals m (operations script 0) r → threads ≡ r ∷ [] → HasRun script config (record { threads = threads; journal = m.journal.items; halt = None; log = m.log.items }) (Some m.heap)
+has_run script config m r threads one ended alone =
+    let run : HasRun script config (report_of r m) (Some m.heap) = record {
+      reported = one_report script config m r one ended;
+      is_there = refl;
+      left = record {
+        maps = maps_of m.heap.names;
+        names = names_are m.heap.names;
+        placed = placed_left m.heap m.held.regs m.log.items m.made ended.so_far.stands.stands;
+      };
     } in
-    subst (HasEnded size count new ops) (sym is) ends
+    subst (λ (rs : List ThreadReport). HasRun script config (record { threads = rs; journal = m.journal.items; halt = None; log = m.log.items }) (Some m.heap)) (sym alone) run
+
+-- the end of a thread, by other names of its numbers
+pub ended_by : (m : Machine) (ops other : List Op) (r : ThreadReport) (size count size_after count_after : ℕ) → HasEnded size count m ops r → size ≡ size_after → count ≡ count_after → ops ≡ other → HasEnded size_after count_after m other r
+ended_by m ops other r size count size_after count_after ended sizes counts same = record {
+  done = ended.done;
+  left = ended.left;
+  split = ended.split ∙ same;
+  so_far = ended.so_far;
+  words = ended.words ∙ sizes;
+  globals = ended.globals ∙ counts;
+  ends = ended.ends;
+}

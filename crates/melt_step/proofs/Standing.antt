@@ -395,7 +395,7 @@ StandsFor_collected old new held after phase journal log count s collects sixtee
       },
       values,
       subst (λ (vs : List Value). CostsSum (words_of log) (Alive log (of_thread vs)) new.space.used) (sym values)
-      (CostsSum-same (words_of log) (InUse has.after) (Alive log value) new.space.used (λ n. alive_in_use log value (maps_of old.names) has.after st n s.legal s.placed (has.collected.in_use n)) live),
+          (CostsSum-same (words_of log) (InUse has.after) (Alive log value) new.space.used (λ n. alive_in_use log value (maps_of old.names) has.after st n s.legal s.placed (has.collected.in_use n)) live),
       size,
       globals,
     )

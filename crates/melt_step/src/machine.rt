@@ -73,7 +73,10 @@ fn found(value: Value) -> Reply
 fn value_at(names: &Option<Names>, address: u32) -> Value
     ensures { result ≡ held_value names.now address }
 {
-    match names.as_ref().and_then(|names| names.addresses.get(address)) {
+    match names
+        .as_ref()
+        .and_then(|names| names.addresses.get(address))
+    {
         Some(number) => Value::Ref(u64::from(number)),
         None => Value::Nil,
     }
@@ -286,7 +289,9 @@ impl Machine {
             thread: THREAD,
             act: Act::Write { slot, value },
         })?;
-        self.heap.space.set_word(object.field(i), reference_word(address));
+        self.heap
+            .space
+            .set_word(object.field(i), reference_word(address));
         Ok(Reply::Done)
     }
 

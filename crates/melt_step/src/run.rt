@@ -48,7 +48,11 @@ fn answer_all(
 
 /// Runs a trace of one thread. A thread ends out of heap where its next object needs more words than the heap has
 /// beside those that registers and globals reach.
-pub fn run_schedule(alloc: Global, trace: &Trace, config: Config) -> Result<(Report, Option<Heap>), NoMemory>
+pub fn run_schedule(
+    alloc: Global,
+    trace: &Trace,
+    config: Config,
+) -> Result<(Report, Option<Heap>), NoMemory>
     requires one_thread { IsOneThread trace.now }
     requires ranges { InRanges config }
     ensures { IfOk result (λ done. HasRun trace.now config done.0 done.1) }

@@ -5,7 +5,8 @@ use std::alloc::Global;
 use std::process::Abort;
 use std::test::Fail;
 
-const ROUND_TRIPS: &[u8] = b"melt 1\nthreads 1\nglobals 1\nthread 0\nnew 0 1 1\nnew 1 0 0\nstore 0 0 1\nload 2 0 0\nsame 1 2\nput 0 0 7\nget 0 0\ngload 3 0\ngstore 0 0\ngload 3 0\nsame 3 1\nload 4 3 0\nsame 4 2\ncopy 5 4\ndrop 4\nsame 4 5\nload 0 4 0\nget 1 0\nload 6 3 1\ndone\n";
+const ROUND_TRIPS: &[u8] =
+    b"melt 1\nthreads 1\nglobals 1\nthread 0\nnew 0 1 1\nnew 1 0 0\nstore 0 0 1\nload 2 0 0\nsame 1 2\nput 0 0 7\nget 0 0\ngload 3 0\ngstore 0 0\ngload 3 0\nsame 3 1\nload 4 3 0\nsame 4 2\ncopy 5 4\ndrop 4\nsame 4 5\nload 0 4 0\nget 1 0\nload 6 3 1\ndone\n";
 
 const LARGEST: &[u8] = b"melt 1\nthreads 1\nglobals 0\nthread 0\nnew 0 62 62\ndone\n";
 
