@@ -11,7 +11,7 @@ use Rattle.melt_scion.specs.State.{State}
 use Rattle.melt_scion.specs.Placed.{Maps, Formed, Placed}
 use Rattle.melt_scion.specs.Collected.{InUse, CountsWords}
 use Rattle.melt_scion.specs.Names.{name_at}
-use Rattle.melt_scion.specs.Heaps.{register_in, state_of, HasNames, NamesMade, IsFormed}
+use Rattle.melt_scion.specs.Heaps.{register_in, state_of, HasNames, KeepsNames, NamesMade, IsFormed}
 use Rattle.melt_scion.specs.declared.registers.Registers.{Registers}
 use Rattle.melt_scion.specs.declared.heap.Names.{Names}
 use Rattle.melt_scion.specs.declared.heap.Heap.{Heap}
@@ -87,11 +87,11 @@ has_names maps (Some old) (Some new) moves has renamed = λ k. name_after_same m
 has_names maps None (Some new) moves has renamed = absurd renamed
 has_names maps (Some old) None moves has renamed = absurd renamed
 
-names_made : (size : ℕ) (old new : Option Names) (moves : List Move) → NamesMade size old → AreRenamed old new moves → NamesMade size new
-names_made size None None moves made renamed = tt
-names_made size (Some old) (Some new) moves made renamed = renamed.1 ∙ made
-names_made size None (Some new) moves made renamed = absurd renamed
-names_made size (Some old) None moves made renamed = absurd renamed
+names_stay : (old new : Option Names) (moves : List Move) → AreRenamed old new moves → KeepsNames old new
+names_stay None None moves renamed = tt
+names_stay (Some old) (Some new) moves renamed = renamed.1
+names_stay None (Some new) moves renamed = absurd renamed
+names_stay (Some old) None moves renamed = absurd renamed
 
 -- an object in other words that are the same where it stands
 other_words : (f : ℕ → ℕ) (s : State) (v w : ℕ → ℕ) (m : Move) → ((k : ℕ) → m.to ≤ k → k < m.to + cost_of m.shape → w k ≡ v k) → ObjectMoves f s v m → ObjectMoves f s w m
@@ -130,7 +130,7 @@ put_copy old new held after end copied is put =
 
 -- what was put back is a collection
 pub put_collects : (old new : Heap) (held after : List Registers) (copied : Copied) (phase : Phase) (journal : Journal) → Copies old held copied → IsPutBack old new held after copied → journal.phase ≡ phase → journal.held ≡ copied.held → journal.live ≡ new.space.used → journal.bodies ≡ 0 → journal.stubs ≡ 0 → journal.end ≡ 0 → Collects old held new after phase journal
-put_collects old new held after copied phase journal copies put phase_is held_is live_is bodies stubs ends maps end names made formed =
+put_collects old new held after copied phase journal copies put phase_is held_is live_is bodies stubs ends maps end names formed =
     let s : State = state_of old held end in
     let t : State = state_of new after end in
     let f = goes copied.plan in
@@ -143,7 +143,7 @@ put_collects old new held after copied phase journal copies put phase_is held_is
     record {
       after = maps_after maps moves;
       names = has_names maps old.names new.names moves names put.names;
-      made = subst (λ (n : ℕ). NamesMade n new.names) (sym put.space.size) (names_made (length old.space.list) old.names new.names moves made put.names);
+      names_stay = names_stay old.names new.names moves put.names;
       collected = copy_collects maps s t f moves is.front is.whole formed copy;
       marks = copy_marks maps s t f moves is.front is.whole formed copy;
       counts = record {

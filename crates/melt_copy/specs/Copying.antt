@@ -1,5 +1,5 @@
 -- What a copying collection of a heap does.
-use Rattle.std.specs.Prelude.{◌≡◌, ◌↔◌, ℕ, ◌+◌, ◌<◌, List, length, Some}
+use Rattle.std.specs.Prelude.{◌≡◌, ◌↔◌, ℕ, ◌+◌, ◌<◌, List, Some}
 use Rattle.melt_model.specs.declared.reports.Phase.{Phase}
 use Rattle.melt_model.specs.declared.reports.Journal.{Journal}
 use Rattle.melt_word.specs.Words.{IsRef, ref_word}
@@ -8,7 +8,7 @@ use Rattle.melt_word.specs.declared.reference.Ref.{Ref}
 use Rattle.melt_word.specs.declared.reference.Ref.TheVariants.{Null, Clean, Stale, Disk}
 use Rattle.melt_scion.specs.State.{State, HeaderAt}
 use Rattle.melt_scion.specs.Placed.{Maps, Formed}
-use Rattle.melt_scion.specs.Heaps.{state_of, HasNames, NamesMade}
+use Rattle.melt_scion.specs.Heaps.{state_of, HasNames, KeepsNames}
 use Rattle.melt_scion.specs.Collected.{Collected, CountsWords}
 use Rattle.melt_scion.specs.declared.registers.Registers.{Registers}
 use Rattle.melt_scion.specs.declared.heap.Heap.{Heap}
@@ -54,7 +54,7 @@ pub record Journals (journal : Journal) (phase : Phase) (live : ℕ) : Type 0 wh
 pub record HasCollected (maps : Maps) (end : ℕ) (old new : Heap) (held held_after : List Registers) (phase : Phase) (journal : Journal) : Type 0 where
   pub after : Maps
   pub names : HasNames new.names after
-  pub made : NamesMade (length new.space.list) new.names
+  pub names_stay : KeepsNames old.names new.names
   pub collected : Collected maps after (state_of old held end) (state_of new held_after end)
   pub marks : KeepsMarks maps after (state_of old held end) (state_of new held_after end)
   pub counts : CountsWords maps after (state_of old held end) journal.live journal.held
@@ -62,4 +62,4 @@ pub record HasCollected (maps : Maps) (end : ℕ) (old new : Heap) (held held_af
 
 abbrev pub Collects : Heap → List Registers → Heap → List Registers → Phase → Journal → Type 0
 Collects old held new held_after phase journal =
-    (maps : Maps) (end : ℕ) → HasNames old.names maps → NamesMade (length old.space.list) old.names → Formed maps (state_of old held end) → HasCollected maps end old new held held_after phase journal
+    (maps : Maps) (end : ℕ) → HasNames old.names maps → Formed maps (state_of old held end) → HasCollected maps end old new held held_after phase journal

@@ -34,6 +34,13 @@ abbrev pub NamesMade : ℕ → Option heap.Names → Type 0
 NamesMade words None = Unit {0}
 NamesMade words (Some names) = length names.addresses ≡ words
 
+-- names are there where they were, for as many addresses
+abbrev pub KeepsNames : Option heap.Names → Option heap.Names → Type 0
+KeepsNames None None = Unit {0}
+KeepsNames (Some old) (Some new) = length new.addresses ≡ length old.addresses
+KeepsNames None (Some new) = ⊥
+KeepsNames (Some old) None = ⊥
+
 -- a heap without objects, whose globals hold nothing
 pub record IsNewHeap (words globals : ℕ) (named : Bool) (heap : Heap) : Type 0 where
   pub space : IsFresh words heap.space

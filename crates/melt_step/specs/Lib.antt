@@ -1,1 +1,3 @@
 pub mod Run
+pub mod Answering
+pub mod Machine

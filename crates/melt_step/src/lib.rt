@@ -1,6 +1,10 @@
 //! Runs a trace by its written order.
 #![tactic(auto)]
 
+mod machine;
 pub mod run;
 
 pub use run::run_schedule;
+
+#[cfg(test)]
+mod tests;

@@ -1,0 +1,7 @@
+pub mod Values
+pub mod Found
+pub mod Standing
+pub mod Answering
+pub mod Loading
+pub mod Collecting
+pub mod Running

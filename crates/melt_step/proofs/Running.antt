@@ -1,0 +1,219 @@
+-- A run of one thread over a machine.
+use Rattle.std.proofs.Common.{◌≡◌, ℕ, ◌+◌, ◌<◌, ◌≤◌, List, [], ◌∷◌, ◌++◌, length, zero, suc, refl, sym, ◌∙◌, ap, subst, arith, append_assoc, length-append}
+use Rattle.std.proofs.lemmas.List.{append-nil}
+use Rattle.std.proofs.lemmas.List.Elements.{All-from_recursion}
+use Rattle.std.specs.Prelude.{◌↔◌, Option, None, Some, unwrap_or, All, IsSome, IfSome, slice_get, drop, replicate}
+use Rattle.std.specs.List.{AllByRecursion}
+use Rattle.std.specs.Option.{option_map_or}
+use Rattle.melt_model.specs.History.{Legal, last}
+use Rattle.melt_model.specs.Thread.{Deed, does, Transcript, registers_after, value_in}
+use Rattle.melt_model.specs.Standing.{HoldReferences, Stands}
+use Rattle.melt_model.specs.Alive.{Held, Alive, in_register, in_global, in_slot, words_of, CostsSum}
+use Rattle.melt_model.specs.declared.config.Config.{Config}
+use Rattle.melt_model.specs.declared.history.Value.{Value}
+use Rattle.melt_model.specs.declared.history.Value.TheVariants.{Nil, Ref}
+use Rattle.melt_model.specs.declared.history.Slot.TheVariants.{Field, Global}
+use Rattle.melt_model.specs.declared.history.Act.{Act}
+use Rattle.melt_model.specs.declared.history.Entry.{Entry}
+use Rattle.melt_model.specs.declared.operations.Op.{Op}
+use Rattle.melt_model.specs.declared.operations.Op.TheVariants as op
+use Rattle.melt_model.specs.declared.operations.Reply.{Reply}
+use Rattle.melt_model.specs.declared.reports.Phase.TheVariants.{Inactive}
+use Rattle.melt_model.specs.declared.reports.Journal.{Journal}
+use Rattle.melt_model.specs.declared.reports.ThreadEnd.{ThreadEnd}
+use Rattle.melt_model.specs.declared.reports.ThreadEnd.TheVariants as end
+use Rattle.melt_model.specs.declared.reports.ThreadReport.{ThreadReport}
+use Rattle.melt_model.specs.declared.reports.Report.{Report}
+use Rattle.melt_model.proofs.Sums.{CostsSum-same}
+use Rattle.melt_model.proofs.Transcripts.{Stands_start, Stands_local, Stands_entry, Transcript_so_far, one_reply_each, registers_so_far}
+use Rattle.melt_trace.specs.Script.{Script, expand, operations}
+use Rattle.melt_trace.specs.declared.script.Item.{Item}
+use Rattle.std.proofs.lemmas.Option.{slice_get_past}
+use Rattle.melt_step.proofs.Values.{get_or_replicate}
+use Rattle.melt_scion.specs.declared.heap.Heap.{Heap}
+use Rattle.melt_step.specs.Answering.{Answers, entry, gives, with_entry}
+use Rattle.melt_step.specs.Machine.{IsStanding, IsFresh, IsFull, IsUnderWay, EndsSo, HasEnded, HasReplied, HasStopped, HasToldAll, UsesAlive, maps_of, of_thread, values_of}
+use Rattle.melt_step.specs.Run.{HasHistory, IsOutOfHeap, IsStepReport, IsLeft, HasRun, MayEnd, answered, registers_at_end}
+use Rattle.melt_step.specs.declared.machine.Machine.{Machine}
+use Rattle.melt_step.proofs.Standing.{names_are, placed_left, references_held}
+
+-- the thread stands one operation further, where its entry is the new last one or there is none
+stands_by : (h : List Entry) (ops : List Op) (replies : List Reply) (rs : List Value) (o : Op) (x : Value) (act : Option Act) → Stands h 0 ops replies rs → (does h rs o x).act ≡ act → gives h act ≡ x → HoldReferences (with_entry h act) (does h rs o x).registers → Stands (with_entry h act) 0 (ops ++ o ∷ []) (replies ++ (does h rs o x).reply ∷ []) (does h rs o x).registers
+stands_by h ops replies rs o x None stands is given holds =
+    let S : Value → Type 0 = λ v. (does h rs o v).act ≡ None → HoldReferences h (does h rs o v).registers → Stands h 0 (ops ++ o ∷ []) (replies ++ (does h rs o v).reply ∷ []) (does h rs o v).registers in
+    let at_nil : S Nil = λ none references. Stands_local h 0 ops replies rs o stands none references in
+    subst S given at_nil is holds
+stands_by h ops replies rs o x (Some act) stands is given holds =
+    let S : Value → Type 0 = λ v. (does h rs o v).act ≡ Some act → HoldReferences (h ++ entry act ∷ []) (does h rs o v).registers → Stands (h ++ entry act ∷ []) 0 (ops ++ o ∷ []) (replies ++ (does h rs o v).reply ∷ []) (does h rs o v).registers in
+    let at_given : S (gives h (Some act)) = λ same references. Stands_entry h 0 ops replies rs o (entry act) stands refl same references in
+    subst S given at_given is holds
+
+Stands_answers : (h h' : List Entry) (ops : List Op) (replies : List Reply) (rs rs' : List Value) (o : Op) (r : Reply) → Stands h 0 ops replies rs → Answers h rs o r h' rs' → HoldReferences h' rs' → Stands h' 0 (ops ++ o ∷ []) (replies ++ r ∷ []) rs'
+Stands_answers h h' ops replies rs rs' o r stands a holds =
+    let d : Deed = does h rs o a.value in
+    let held : HoldReferences (with_entry h d.act) d.registers =
+    subst (λ (k : List Entry). HoldReferences k d.registers) a.history (subst (HoldReferences h') a.registers holds) in
+    let next : Stands (with_entry h d.act) 0 (ops ++ o ∷ []) (replies ++ d.reply ∷ []) d.registers =
+    stands_by h ops replies rs o a.value d.act stands refl a.given held in
+    let told : Stands (with_entry h d.act) 0 (ops ++ o ∷ []) (replies ++ r ∷ []) d.registers =
+    subst (λ (x : Reply). Stands (with_entry h d.act) 0 (ops ++ o ∷ []) (replies ++ x ∷ []) d.registers) a.told next in
+    let registers : Stands (with_entry h d.act) 0 (ops ++ o ∷ []) (replies ++ r ∷ []) rs' =
+    subst (λ (xs : List Value). Stands (with_entry h d.act) 0 (ops ++ o ∷ []) (replies ++ r ∷ []) xs) (sym a.registers) told in
+    subst (λ (k : List Entry). Stands k 0 (ops ++ o ∷ []) (replies ++ r ∷ []) rs') (sym a.history) registers
+
+own_push : (h : List Entry) (act : Act) → AllByRecursion (λ (e : Entry). e.thread ≡ 0) h → AllByRecursion (λ (e : Entry). e.thread ≡ 0) (h ++ entry act ∷ [])
+own_push [] act own = (refl, tt)
+own_push (e ∷ h) act own = (own.0, own_push h act own.1)
+
+own_with_entry : (h : List Entry) (act : Option Act) → AllByRecursion (λ (e : Entry). e.thread ≡ 0) h → AllByRecursion (λ (e : Entry). e.thread ≡ 0) (with_entry h act)
+own_with_entry h None own = own
+own_with_entry h (Some act) own = own_push h act own
+
+-- all entries stay those of the one thread
+own_answers : (h h' : List Entry) (rs rs' : List Value) (o : Op) (r : Reply) → AllByRecursion (λ (e : Entry). e.thread ≡ 0) h → Answers h rs o r h' rs' → AllByRecursion (λ (e : Entry). e.thread ≡ 0) h'
+own_answers h h' rs rs' o r own a =
+    subst (AllByRecursion (λ (e : Entry). e.thread ≡ 0)) (sym a.history) (own_with_entry h (does h rs o a.value).act own)
+
+-- what is done and what is left, after one operation more
+one_more_done : (done left : List Op) (o : Op) → slice_get left 0 ≡ Some o → (done ++ o ∷ []) ++ drop 1 left ≡ done ++ left
+one_more_done done [] o first = absurd (cc)
+one_more_done done (p ∷ left) o first = append_assoc done (o ∷ []) left ∙ ap (λ (x : Op). done ++ x ∷ left) (let same : o ≡ p = cc in same)
+
+-- the registers of a machine hold Nil or objects that were made
+machine_references : (m : Machine) → IsStanding m → HoldReferences m.log.items (values_of m)
+machine_references m st = references_held m.heap.space m.heap.globals m.heap.names m.held.regs m.log.items m.made st.stands
+
+-- one operation more was replied to
+pub under_way_on : (m new : Machine) (size count now later : ℕ) (ops left rest : List Op) (replies replies_after : List Reply) (o : Op) (r : Reply) → IsUnderWay size count now m ops left replies → HasReplied m new o r → slice_get left 0 ≡ Some o → rest ≡ drop 1 left → replies_after ≡ replies ++ r ∷ [] → later ≡ now → IsUnderWay size count later new ops rest replies_after
+under_way_on m new size count now later ops left rest replies replies_after o r way replied first is_rest is_replies same =
+    let told = Stands_answers m.log.items new.log.items way.done replies (values_of m) (values_of new) o r way.so_far.told replied.answers (machine_references new replied.stands) in
+    record {
+      done = way.done ++ o ∷ [];
+      split = ap (λ (xs : List Op). (way.done ++ o ∷ []) ++ xs) is_rest ∙ (one_more_done way.done left o first ∙ way.split);
+      so_far = record {
+        stands = replied.stands;
+        told = subst (λ (rs : List Reply). Stands new.log.items 0 (way.done ++ o ∷ []) rs (values_of new)) (sym is_replies) told;
+        own = own_answers m.log.items new.log.items (values_of m) (values_of new) o r way.so_far.own replied.answers;
+      };
+      words = replied.sizes.words ∙ way.words;
+      globals = replied.sizes.globals ∙ way.globals;
+      few = let a : new.made ≤ m.made + 1 = replied.few in let b : m.made ≤ length way.done = way.few in let c = length-append way.done (o ∷ []) in omega arith;
+      same_globals = same ∙ way.same_globals;
+    }
+
+-- Objects that are alive, where registers hold the same.
+alive_same : (h : List Entry) (value other : ℕ → ℕ → Value) (n : ℕ) → ((t r : ℕ) → value t r ≡ other t r) → Alive h value n → Alive h other n
+alive_same h value other n same (Alive.in_register m held) =
+    Alive.in_register m (record { thread = held.thread; register = held.register; holds = sym (same held.thread held.register) ∙ held.holds })
+alive_same h value other n same (Alive.in_global g m at) = Alive.in_global g m at
+alive_same h value other n same (Alive.in_slot from i m found at) = Alive.in_slot from i m (alive_same h value other from same found) at
+
+at_seam : (done left : List Op) → slice_get (done ++ left) (length done) ≡ slice_get left 0
+at_seam [] left = refl
+at_seam (p ∷ done) left = at_seam done left
+
+-- the first of the operations behind those that were answered
+first_left : (done left : List Op) (k : ℕ) (o : Op) → k ≡ length done → slice_get left 0 ≡ Some o → slice_get (done ++ left) k ≡ Some o
+first_left done left k o is first = ap (slice_get (done ++ left)) is ∙ (at_seam done left ∙ first)
+
+only_one : {A : Type 0} (x y : A) (t : ℕ) → slice_get (x ∷ []) t ≡ Some y → (t ≡ 0) × (x ≡ y)
+only_one x y zero at = (refl, cc)
+only_one x y (suc t) at = absurd (cc)
+
+own_below : (h : List Entry) (n : ℕ) → n ≡ 1 → AllByRecursion (λ (e : Entry). e.thread ≡ 0) h → AllByRecursion (λ (e : Entry). e.thread < n) h
+own_below [] n one own = tt
+own_below (e ∷ h) n one own = (omega (arith, own.0, one), own_below h n one own.1)
+
+-- the report of one thread
+abbrev report_of : ThreadReport → Machine → Report
+report_of r m = record { threads = r ∷ []; journal = m.journal.items; halt = None; log = m.log.items }
+
+-- a thread that the script lacks has no operation
+no_operations : (script : Script) (t : ℕ) → length script.programs ≡ 1 → operations script (suc t) ≡ []
+no_operations script t one = ap (λ (x : Option (List Item)). expand (unwrap_or x [])) (slice_get_past script.programs (suc t) (omega arith))
+
+-- the registers of all threads at the end
+registers_same : (script : Script) (m : Machine) (r : ThreadReport) (done left : List Op) → length script.programs ≡ 1 → done ++ left ≡ operations script 0 → Stands m.log.items 0 done r.replies (values_of m) → (t k : ℕ) → of_thread (values_of m) t k ≡ registers_at_end script (report_of r m) t k
+registers_same script m r done left one split told zero k =
+    let replies : length done ≡ length r.replies = sym (one_reply_each m.log.items 0 done r.replies (values_of m) told) in
+    let so_far : registers_after m.log.items 0 (done ++ left) (length done) ≡ values_of m = registers_so_far m.log.items 0 done left r.replies (values_of m) told in
+    ap (λ (vs : List Value). value_in vs k)
+    (sym so_far ∙ (ap (λ (ops : List Op). registers_after m.log.items 0 ops (length done)) split ∙ ap (registers_after m.log.items 0 (operations script 0)) replies))
+registers_same script m r done left one split told (suc t) k =
+    let none : value_in (registers_after m.log.items (suc t) [] 0) k ≡ Nil = get_or_replicate 16 k Nil in
+    sym none ∙ ap (λ (ops : List Op). value_in (registers_after m.log.items (suc t) ops 0) k) (sym (no_operations script t one))
+
+-- why the thread ended
+may_end : (script : Script) (config : Config) (m : Machine) (r : ThreadReport) (done left : List Op) (e : ThreadEnd) → length script.programs ≡ 1 → length m.heap.space.list ≡ config.heap → done ++ left ≡ operations script 0 → Stands m.log.items 0 done r.replies (values_of m) → EndsSo m left e → MayEnd script config (report_of r m) 0 e
+may_end script config m r done left end.Done one size split told ends =
+    one_reply_each m.log.items 0 done r.replies (values_of m) told
+    ∙ (ap length (sym (append-nil done)) ∙ ap length (ap (λ (ops : List Op). done ++ ops) (sym ends) ∙ split))
+may_end script config m r done left (end.OutOfHeap held need) one size split told ends =
+    let full : IsFull m ends.0 held need = ends.2 in
+    let replies : length r.replies ≡ length done = one_reply_each m.log.items 0 done r.replies (values_of m) told in
+    let same = registers_same script m r done left one split told in
+    record {
+      dst = full.dst;
+      refs = full.refs;
+      nums = full.nums;
+      next = ap (λ (ops : List Op). slice_get ops (length r.replies)) (sym split) ∙ (first_left done left (length r.replies) ends.0 replies ends.1 ∙ ap Some full.next);
+      needed = full.needed;
+      reach = CostsSum-same (words_of m.log.items) (Alive m.log.items (of_thread (values_of m))) (Alive m.log.items (registers_at_end script (report_of r m))) held
+          (λ n. (
+            alive_same m.log.items (of_thread (values_of m)) (registers_at_end script (report_of r m)) n same,
+            alive_same m.log.items (registers_at_end script (report_of r m)) (of_thread (values_of m)) n (λ t k. sym (same t k)),
+          )) full.reach;
+      above = let a : length m.heap.space.list < held + need = full.above in omega arith;
+    }
+may_end script config m r done left end.DiskFault one size split told ends = ends
+may_end script config m r done left (end.Damaged home at word) one size split told ends = ends
+may_end script config m r done left end.Halted one size split told ends = ends
+
+-- what the run of one thread reports
+one_report : (script : Script) (config : Config) (m : Machine) (r : ThreadReport) → length script.programs ≡ 1 → HasEnded config.heap script.globals m (operations script 0) r → IsStepReport script config (report_of r m)
+one_report script config m r one ended =
+    let told = ended.so_far.told in
+    let st = ended.so_far.stands in
+    let transcript : Transcript m.log.items 0 (operations script 0) r.replies =
+    subst (λ (ops : List Op). Transcript m.log.items 0 ops r.replies) ended.split (Transcript_so_far m.log.items 0 ended.done ended.left r.replies (values_of m) told) in
+    record {
+      history = record {
+        legal = subst (Legal m.log.items) ended.globals st.stands.legal;
+        threads = sym one;
+        transcripts = λ t x at.
+            let p = only_one r x t at in
+            subst (λ (k : ℕ). Transcript m.log.items k (operations script k) x.replies) (sym p.0) (subst (λ (y : ThreadReport). Transcript m.log.items 0 (operations script 0) y.replies) p.1 transcript);
+        own_threads = All-from_recursion (λ (e : Entry). e.thread < length script.programs) m.log.items (own_below m.log.items (length script.programs) one ended.so_far.own);
+      };
+      ends = λ t x at.
+          let p = only_one r x t at in
+          let here : MayEnd script config (report_of r m) 0 r.end = may_end script config m r ended.done ended.left r.end one ended.words ended.split told ended.ends in
+          subst (λ (k : ℕ). MayEnd script config (report_of r m) k x.end) (sym p.0) (subst (λ (y : ThreadReport). MayEnd script config (report_of r m) 0 y.end) p.1 here);
+      no_halt = refl;
+      inactive = st.inactive;
+    }
+
+pub has_run : (script : Script) (config : Config) (m : Machine) (r : ThreadReport) (threads : List ThreadReport) → length script.programs ≡ 1 → HasEnded config.heap script.globals m (operations script 0) r → threads ≡ r ∷ [] → HasRun script config (record { threads = threads; journal = m.journal.items; halt = None; log = m.log.items }) (Some m.heap)
+has_run script config m r threads one ended alone =
+    let run : HasRun script config (report_of r m) (Some m.heap) = record {
+      reported = one_report script config m r one ended;
+      is_there = refl;
+      left = record {
+        maps = maps_of m.heap.names;
+        names = names_are m.heap.names;
+        placed = placed_left m.heap m.held.regs m.log.items m.made ended.so_far.stands.stands;
+      };
+    } in
+    subst (λ (rs : List ThreadReport). HasRun script config (record { threads = rs; journal = m.journal.items; halt = None; log = m.log.items }) (Some m.heap)) (sym alone) run
+
+-- the end of a thread, by other names of its numbers
+pub ended_by : (m : Machine) (ops other : List Op) (r : ThreadReport) (size count size_after count_after : ℕ) → HasEnded size count m ops r → size ≡ size_after → count ≡ count_after → ops ≡ other → HasEnded size_after count_after m other r
+ended_by m ops other r size count size_after count_after ended sizes counts same = record {
+  done = ended.done;
+  left = ended.left;
+  split = ended.split ∙ same;
+  so_far = ended.so_far;
+  words = ended.words ∙ sizes;
+  globals = ended.globals ∙ counts;
+  ends = ended.ends;
+}
