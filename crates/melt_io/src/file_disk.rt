@@ -197,6 +197,10 @@ fn write_words_at<F: Write + Seek>(
     words: &[u64],
 ) -> io::Result<()>
     requires { 8 ≤ length piece.old }
+    // `moved` is the file behind the seek.
+    ensures { OnOk result ((moved : F) ×
+        MovesTo (F.stream_position file.old) (F.stream_position moved) (8 * at) result ×
+        Appends (F.contents moved) (F.contents file.new) (word_bytes words.now)) }
 {
     seek_to(file, at)?;
     write_words(file, piece, words)
@@ -210,6 +214,10 @@ fn read_words_at<F: Read + Seek>(
     words: &mut [u64],
 ) -> io::Result<()>
     requires { 8 ≤ length piece.old }
+    // `moved` is the file behind the seek.
+    ensures { OnOk result ((moved : F) ×
+        MovesTo (F.stream_position file.old) (F.stream_position moved) (8 * at) result ×
+        ReadsWords (F.remaining moved) words.new (F.remaining file.new)) }
 {
     seek_to(file, at)?;
     read_words(file, piece, words)
