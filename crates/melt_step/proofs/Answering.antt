@@ -1,10 +1,10 @@
 -- What an operation does, by the object in its register.
-use Rattle.std.proofs.Common.{◌≡◌, ◌≢◌, ℕ, ◌+◌, ◌*◌, ◌^◌, ◌<◌, ◌≤◌, zero, suc, Bool, true, false, List, [], ◌∷◌, ◌++◌, length, get_or, refl, sym, ◌∙◌, ap, subst, arith, ◌⊎◌, inl, inr, eqb}
+use Rattle.std.proofs.Common.{◌≡◌, ◌≢◌, ℕ, ◌+◌, ◌<◌, ◌≤◌, Bool, false, List, [], ◌∷◌, ◌++◌, length, refl, sym, ◌∙◌, ap, subst, arith, inl, inr}
 use Rattle.std.proofs.lemmas.Bool.{lt-ltb, ne_eqb}
 use Rattle.std.proofs.Math.ListN.{set}
-use Rattle.std.specs.Prelude.{if◌then◌else◌, Option, None, Some, IsSomeAnd, IsSome}
+use Rattle.std.specs.Prelude.{if◌then◌else◌, Option, Some, IsSomeAnd}
 use Rattle.std.specs.Option.{option_map_or}
-use Rattle.melt_model.specs.History.{Shape, shape, made, last, IsSlot}
+use Rattle.melt_model.specs.History.{Shape, shape, IsSlot}
 use Rattle.melt_model.specs.Thread.{Deed, unchanged, on_part, does, found, value_in, value_eq}
 use Rattle.melt_model.specs.declared.operations.Op.{Op}
 use Rattle.melt_model.specs.declared.operations.Op.TheVariants as op
@@ -12,18 +12,18 @@ use Rattle.melt_model.specs.declared.operations.Reply.{Reply}
 use Rattle.melt_model.specs.declared.operations.Reply.TheVariants as reply
 use Rattle.melt_model.specs.declared.history.Value.{Value}
 use Rattle.melt_model.specs.declared.history.Value.TheVariants.{Nil, Ref, Num}
-use Rattle.melt_model.specs.declared.history.Slot.TheVariants.{Field, Cell, Global}
-use Rattle.melt_model.specs.declared.history.Act.TheVariants.{Make, Read, Write}
+use Rattle.melt_model.specs.declared.history.Slot.TheVariants.{Field, Cell}
+use Rattle.melt_model.specs.declared.history.Act.TheVariants.{Read, Write}
 use Rattle.melt_model.specs.declared.history.Entry.{Entry}
-use Rattle.melt_word.specs.Words.{cost_of, ref_word, IsRef}
+use Rattle.melt_word.specs.Words.{cost_of}
 use Rattle.melt_word.specs.declared.header.Shape as words
 use Rattle.melt_word.specs.declared.header.Header.{Header}
-use Rattle.melt_space.specs.Space.{SpaceWords, IsWord, HasHeader, word_at}
-use Rattle.melt_scion.specs.State.{State, HeaderAt, ObjectAt, IsFresh}
-use Rattle.melt_scion.specs.Placed.{Maps, MayHold, Formed, Placed}
+use Rattle.melt_space.specs.Space.{SpaceWords, IsWord, HasHeader}
+use Rattle.melt_scion.specs.State.{State, HeaderAt, ObjectAt}
+use Rattle.melt_scion.specs.Placed.{MayHold}
 use Rattle.melt_scion.specs.declared.heap.Names as heap
 use Rattle.melt_step.specs.Answering.{entry, gives, with_entry, Answers}
-use Rattle.melt_step.specs.Machine.{maps_of, numbers_of, held_value, held_values, of_thread, shown, StandsFor}
+use Rattle.melt_step.specs.Machine.{maps_of, held_value, shown, StandsFor}
 use Rattle.melt_step.proofs.Values.{held_is, named_value}
 
 -- an answer, by what the operation does
