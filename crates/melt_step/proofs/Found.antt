@@ -46,11 +46,6 @@ found_clean names word (suc a) v stands range is = some_value (name_at (numbers_
 pub may_clean : (maps : Maps) (s : State) (word a : ℕ) → IsReferenceWord maps s word → IsRef (Clean a) → word ≡ ref_word (Clean a) → MayHold maps s a
 may_clean maps s word a may range is = inr (may_stand_so maps s word (Clean a) may range is)
 
--- a stale address
-pub found_stale : (names : Option heap.Names) (word a : ℕ) (v : Value) → Stands (maps_of names) word v → IsRef (Stale a) → word ≡ ref_word (Stale a) → held_value names a ≡ v
-found_stale names word zero v stands range is = absurd (let some : 0 < 0 = range.not_null in omega arith)
-found_stale names word (suc a) v stands range is = some_value (name_at (numbers_of names) (suc a)) v (stands_for (maps_of names) word (Stale (suc a)) v stands range is)
-
 pub named_stale : (maps : Maps) (s : State) (word a : ℕ) → IsReferenceWord maps s word → IsRef (Stale a) → word ≡ ref_word (Stale a) → (n : ℕ) × (maps.address a ≡ Some n)
 named_stale maps s word a may range is = may_stand_so maps s word (Stale a) may range is
 
