@@ -1,1 +1,4 @@
+pub mod Moving
 pub mod Copying
+pub mod Plans
+pub mod Copied

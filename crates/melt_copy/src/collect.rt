@@ -1,26 +1,139 @@
 //! The copying collection.
-ghost use Rattle.std.specs.Prelude.{◌≡◌, IfOk, OnErr};
+ghost use Rattle.std.specs.Prelude.{◌≡◌, ℕ, ◌<◌, ◌≤◌, length, IfOk, OnErr};
 ghost use Rattle.melt_scion.specs.Heaps.{IsFormed};
 ghost use Rattle.melt_copy.specs.Copying.{Collects};
+ghost use Rattle.melt_copy.specs.Copied.{AreRenamed, Copies, IsPutBack, MayRename, NumbersAre};
+ghost use Rattle.melt_copy.specs.Plans.{goes};
 
+use crate::commit::{forward_held, numbers_of, rename};
+use crate::copy::{copy_objects, find_all_held, move_words};
+use crate::plan::{Move, Plan};
 use melt_model::{Journal, NoMemory, Phase, Steps};
-use melt_scion::{Heap, Registers};
+use melt_scion::{Globals, Heap, Names, Registers};
 use std::alloc::Global;
 use std::sync::ledger::Ledger;
 
-/// Collects a heap. (Stub.)
-pub fn collect_copy<L: Ledger>(
-    _alloc: Global,
-    _heap: &mut Heap,
-    _held: &mut [Registers],
-    phase: Phase,
-    _steps: &mut Steps<L>,
-) -> Result<Journal, NoMemory>
-    requires formed { IsFormed _heap.old _held.old }
-    requires phase { phase ≡ Phase.Inactive }
-    ensures collected { IfOk result (Collects _heap.old _held.old _heap.new _held.new phase) }
-    ensures heap_stays { OnErr result (_heap.new ≡ _heap.old) }
-    ensures registers_stay { OnErr result (_held.new ≡ _held.old) }
+/// What is to stand in the place of the words, the globals and the names of a heap.
+#[derive(Debug, Drop)]
+struct Copied {
+    plan: Plan,
+    words: Vec<u64>,
+    globals: Vec<u64>,
+    numbers: Vec<Option<u32>>,
+    /// The words of the objects in registers.
+    held: u32,
+}
+
+/// The numbers of the objects that move, where the heap keeps names.
+fn numbers_for<L: Ledger>(
+    alloc: Global,
+    names: &Option<Names>,
+    moves: &[Move],
+    steps: &mut Steps<L>,
+) -> Result<Vec<Option<u32>>, NoMemory>
+    ensures { IfOk result (λ numbers. NumbersAre names.now moves.now numbers.items) }
 {
-    Err(NoMemory)
+    match names {
+        Some(names) => numbers_of(alloc, &names.addresses, moves, steps),
+        None => Ok(Vec::new(alloc)),
+    }
+}
+
+/// Copies everything that can be reached. The heap and the registers stay.
+fn copy_out<L: Ledger>(
+    alloc: Global,
+    heap: &Heap,
+    held: &[Registers],
+    steps: &mut Steps<L>,
+) -> Result<Copied, NoMemory>
+    requires { IsFormed heap.now held.now }
+    ensures { IfOk result (Copies heap.now held.now) }
+{
+    let mut plan = Plan::new(alloc, heap.space.used())?;
+    find_all_held(&mut plan, &heap.space, held, steps)?;
+    let held_words = plan.next - 1;
+    let mut globals = Vec::with_capacity(alloc, heap.globals.items.len())?;
+    move_words(&mut globals, &mut plan, &heap.space, &heap.globals.items, steps)?;
+    let words = copy_objects(alloc, &mut plan, &heap.space, steps)?;
+    let numbers = numbers_for(alloc, &heap.names, &plan.moves, steps)?;
+    Ok(Copied {
+        plan,
+        words,
+        globals,
+        numbers,
+        held: held_words,
+    })
+}
+
+/// Gives the objects that moved their numbers at their new addresses, where the heap keeps names.
+fn rename_all<L: Ledger>(
+    names: &mut Option<Names>,
+    used: u32,
+    moves: &[Move],
+    numbers: &[Option<u32>],
+    steps: &mut Steps<L>,
+)
+    requires { MayRename used names.old moves.now numbers.now }
+    ensures { AreRenamed names.old names.new moves.now }
+{
+    if let Some(names) = names {
+        rename(&mut names.addresses, used, moves, numbers, steps);
+    }
+}
+
+/// Puts what was copied into the place of what was there.
+fn put_back<L: Ledger>(
+    heap: &mut Heap,
+    held: &mut [Registers],
+    copied: Copied,
+    steps: &mut Steps<L>,
+)
+    requires fits { length copied.words.items ≤ length heap.old.space.list }
+    requires nothing { goes copied.plan 0 ≡ 0 }
+    requires names { MayRename heap.old.space.used heap.old.names copied.plan.moves.items copied.numbers.items }
+    ensures { IsPutBack heap.old heap.new held.old held.new copied }
+{
+    let used = heap.space.used();
+    heap.space.replace(&copied.words);
+    heap.globals = Globals {
+        items: copied.globals,
+    };
+    forward_held(&copied.plan, held, steps);
+    rename_all(
+        &mut heap.names,
+        used,
+        &copied.plan.moves,
+        &copied.numbers,
+        steps,
+    );
+}
+
+/// Collects a heap: the objects that registers and globals reach stay in use, packed from word 1 on, and all others
+/// are gone. Phase Inactive alone, which keeps all tags and stale bits. Counts one step for each turn of a loop.
+///
+/// Takes all its memory before the first change.
+pub fn collect_copy<L: Ledger>(
+    alloc: Global,
+    heap: &mut Heap,
+    held: &mut [Registers],
+    phase: Phase,
+    steps: &mut Steps<L>,
+) -> Result<Journal, NoMemory>
+    requires formed { IsFormed heap.old held.old }
+    requires phase { phase ≡ Phase.Inactive }
+    ensures collected { IfOk result (Collects heap.old held.old heap.new held.new phase) }
+    ensures heap_stays { OnErr result (heap.new ≡ heap.old) }
+    ensures registers_stay { OnErr result (held.new ≡ held.old) }
+{
+    let copied = copy_out(alloc, heap, held, steps)?;
+    let held_words = copied.held;
+    put_back(heap, held, copied, steps);
+    Ok(Journal {
+        phase,
+        held: held_words,
+        live: heap.space.used(),
+        bodies: 0,
+        stubs: 0,
+        end: 0,
+    })
 }

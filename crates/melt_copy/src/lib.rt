@@ -2,5 +2,8 @@
 #![tactic(auto)]
 
 pub mod collect;
+mod commit;
+mod copy;
+pub mod plan;
 
 pub use collect::collect_copy;

@@ -105,7 +105,7 @@ and_true true b e = (refl, e)
 and_true false b e = absurd (cc)
 
 -- the slot that an equal slot is
-same_slot : (s t : Slot) → slot_eq s t ≡ true → s ≡ t
+pub same_slot : (s t : Slot) → slot_eq s t ≡ true → s ≡ t
 same_slot (Field n i) (Field m j) e = let p = and_true (eqb n m) (eqb i j) e in let a : n ≡ m = eqb-true n m p.0 in let b : i ≡ j = eqb-true i j p.1 in cc
 same_slot (Cell n i) (Cell m j) e = let p = and_true (eqb n m) (eqb i j) e in let a : n ≡ m = eqb-true n m p.0 in let b : i ≡ j = eqb-true i j p.1 in cc
 same_slot (Global g) (Global k) e = ap Global (eqb-true g k e)

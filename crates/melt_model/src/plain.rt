@@ -10,6 +10,8 @@ use crate::operations::{Op, Reply};
 use crate::words::NoMemory;
 use std::alloc::Global;
 
+pub mod alive;
+
 /// The most reference slots, and the most number words, that an object may have.
 const MOST_PARTS: u8 = 62;
 

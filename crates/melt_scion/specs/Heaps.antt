@@ -29,6 +29,11 @@ abbrev pub HasNames : Option heap.Names → Maps → Type 0
 HasNames None maps = Unit {0}
 HasNames (Some names) maps = (address : ℕ) → maps.address address ≡ name_at names.addresses address
 
+-- the names, where a heap keeps them, were made for as many addresses as it has words
+abbrev pub NamesMade : ℕ → Option heap.Names → Type 0
+NamesMade words None = Unit {0}
+NamesMade words (Some names) = length names.addresses ≡ words
+
 -- names are there where they were, for as many addresses
 abbrev pub KeepsNames : Option heap.Names → Option heap.Names → Type 0
 KeepsNames None None = Unit {0}
@@ -47,4 +52,5 @@ pub record IsFormed (heap : Heap) (held : List Registers) : Type 0 where
   pub maps : Maps
   pub end : ℕ
   pub names : HasNames heap.names maps
+  pub made : NamesMade (length heap.space.list) heap.names
   pub formed : Formed maps (state_of heap held end)

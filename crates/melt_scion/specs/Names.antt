@@ -1,5 +1,5 @@
 -- The names of addresses: a finite map from addresses to the numbers of objects.
-use Rattle.std.specs.Prelude.{◌≡◌, ◌≢◌, ℕ, suc, zero, List, length, Option, None, Some, slice_index_or}
+use Rattle.std.specs.Prelude.{◌≡◌, ◌≢◌, ℕ, ◌<◌, ◌≤◌, suc, zero, List, length, Option, None, Some, slice_index_or}
 
 -- the number of the object at an address, of which the list has one for each address from 1 on
 abbrev pub name_at : List (Option ℕ) → ℕ → Option ℕ
@@ -10,4 +10,10 @@ name_at names (suc k) = slice_index_or names k None
 pub record SetsName (old new : List (Option ℕ)) (address number : ℕ) : Type 0 where
   pub here : name_at new address ≡ Some number
   pub others : (k : ℕ) → k ≢ address → name_at new k ≡ name_at old k
+  pub size : length new ≡ length old
+
+-- the addresses up to this one have no number now, and the others have theirs
+pub record Clears (old new : List (Option ℕ)) (last : ℕ) : Type 0 where
+  pub cleared : (k : ℕ) → k ≤ last → name_at new k ≡ None
+  pub others : (k : ℕ) → last < k → name_at new k ≡ name_at old k
   pub size : length new ≡ length old

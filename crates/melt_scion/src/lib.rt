@@ -8,3 +8,6 @@ pub mod registers;
 pub use heap::{Globals, Heap, Names};
 pub use names::AddressNames;
 pub use registers::Registers;
+
+#[cfg(test)]
+mod tests;

@@ -1,6 +1,6 @@
 //! The names of addresses: which object stands at an address.
-ghost use Rattle.std.specs.Prelude.{◌≡◌, ◌≤◌, ◌<◌, ◌^◌, length, replicate, None, IfOk};
-ghost use Rattle.melt_scion.specs.Names.{SetsName, name_at};
+ghost use Rattle.std.specs.Prelude.{◌≡◌, ◌≤◌, ◌<◌, ◌^◌, ◌++◌, drop, length, replicate, None, IfOk};
+ghost use Rattle.melt_scion.specs.Names.{Clears, SetsName, name_at};
 
 use melt_model::NoMemory;
 use std::alloc::Global;
@@ -18,6 +18,14 @@ impl Model for AddressNames {
     ghost Value = { List (Option ℕ) };
 
     ghost view = { λ names. names.numbers.items };
+}
+
+/// Takes away the first numbers, so many of them.
+fn forget(numbers: &mut [Option<u32>], count: usize)
+    requires { count ≤ length numbers.old }
+    ensures { numbers.new ≡ replicate count None ++ drop count numbers.old }
+{
+    numbers[..count].fill(None);
 }
 
 impl AddressNames {
@@ -45,5 +53,13 @@ impl AddressNames {
         ensures { SetsName self.old self.new address number }
     {
         self.numbers[address as usize - 1] = Some(number);
+    }
+
+    /// Says that no object starts at an address from 1 to `last`, at most the `words` that the names are for.
+    pub fn clear(&mut self, last: u32)
+        requires { last ≤ length self.old }
+        ensures { Clears self.old self.new last }
+    {
+        forget(&mut self.numbers, last as usize);
     }
 }

@@ -60,3 +60,15 @@ pub record SetsWord (old new : SpaceWords) (at word : ℕ) : Type 0 where
   pub others : (k : ℕ) → k ≢ at → word_at new k ≡ word_at old k
   pub size : length new.list ≡ length old.list
   pub used : new.used ≡ old.used
+
+-- the first words are these, as many as there are, and they are the words in use; the others stay
+pub record Replaces (old new : SpaceWords) (words : List ℕ) : Type 0 where
+  pub front : (k : ℕ) → k < length words → word_at new (suc k) ≡ slice_index words k
+  pub behind : (k : ℕ) → length words < k → word_at new k ≡ word_at old k
+  pub size : length new.list ≡ length old.list
+  pub used : new.used ≡ length words
+
+-- these are the words from an address on, so many of them
+pub record AreWords (space : SpaceWords) (at count : ℕ) (words : List ℕ) : Type 0 where
+  pub count_is : length words ≡ count
+  pub each : (k : ℕ) → k < count → slice_index words k ≡ word_at space (at + k)

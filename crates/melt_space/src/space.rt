@@ -1,8 +1,8 @@
 //! A space of 64-bit words, in which objects are made one behind the other.
-ghost use Rattle.std.specs.Prelude.{◌≡◌, ◌-◌, ◌^◌, ◌<◌, ◌≤◌, length, IfErr, IfOk, IsErr, OnErr};
+ghost use Rattle.std.specs.Prelude.{◌≡◌, ◌+◌, ◌-◌, ◌^◌, ◌<◌, ◌≤◌, ◌++◌, drop, length, IfErr, IfOk, IsErr, OnErr};
 ghost use Rattle.melt_word.specs.Words.{IsHeader, IsShape, cost_of, header_word};
 ghost use Rattle.melt_word.specs.declared.header.Header.{Header};
-ghost use Rattle.melt_space.specs.Space.{HasHeader, IsFresh, IsSpace, IsWord, Lacks, Makes, SetsWord, word_at};
+ghost use Rattle.melt_space.specs.Space.{AreWords, HasHeader, IsFresh, IsSpace, IsWord, Lacks, Makes, Replaces, SetsWord, word_at};
 
 use melt_model::NoMemory;
 use melt_word::{Header, Shape, cost, decode_header, encode_header};
@@ -32,6 +32,14 @@ impl Model for Space {
     ghost view = { λ space. record { list = space.words.items; used = space.used } };
 
     ghost invariant = { λ space. IsSpace (record { list = space.words.items; used = space.used }) };
+}
+
+/// Puts these words in the place of the first ones.
+fn put_front(list: &mut [u64], words: &[u64])
+    requires { length words.now ≤ length list.old }
+    ensures { list.new ≡ words.now ++ drop (length words.now) list.old }
+{
+    list[..words.len()].copy_from_slice(words);
 }
 
 impl Space {
@@ -93,6 +101,16 @@ impl Space {
         self.words[at as usize - 1]
     }
 
+    /// The words from an address on, so many of them, all within the words that there are.
+    pub fn words_at(&self, at: u32, count: u32) -> &[u64]
+        requires first { 1 ≤ at }
+        requires last { at + count ≤ length self.now.list + 1 }
+        ensures { AreWords self.now at count result.now }
+    {
+        let start = at as usize - 1;
+        &self.words[start..start + count as usize]
+    }
+
     /// Replaces the word at an address, from 1 to the number of words.
     pub fn set_word(&mut self, at: u32, word: u64)
         requires { IsWord self.old at }
@@ -123,5 +141,14 @@ impl Space {
         ensures { self.new ≡ record self.old { used = used } }
     {
         self.used = used;
+    }
+
+    /// Puts these words, at most all of them, in the place of the first ones, and says that they are those in use.
+    pub fn replace(&mut self, words: &[u64])
+        requires { length words.now ≤ length self.old.list }
+        ensures { Replaces self.old self.new words.now }
+    {
+        put_front(&mut self.words, words);
+        self.used = words.len() as u32;
     }
 }

@@ -53,3 +53,31 @@ fn a_header_tells_its_shape(rt: HostRuntime) -> Result<(), Fail> {
     assert_eq!(rt; space.shape(1), shape);
     Ok(())
 }
+
+#[test]
+fn the_first_words_are_replaced(rt: HostRuntime) -> Result<(), Fail> {
+    let mut space = Space::new(rt.alloc(), 4)?;
+    assert_eq!(rt; space.words(), 4);
+    space.set_word(1, 8);
+    space.set_word(3, 9);
+    space.set_used(3);
+    space.replace(&[5, 6]);
+    assert_eq!(rt; space.used(), 2);
+    assert_eq!(rt; space.word(1), 5);
+    assert_eq!(rt; space.word(2), 6);
+    assert_eq!(rt; space.word(3), 9);
+    Ok(())
+}
+
+#[test]
+fn words_are_read_from_an_address_on(rt: HostRuntime) -> Result<(), Fail> {
+    let mut space = Space::new(rt.alloc(), 4)?;
+    assert_eq!(rt; space.words(), 4);
+    space.set_word(1, 6);
+    space.set_word(2, 7);
+    space.set_word(3, 8);
+    space.set_word(4, 9);
+    assert_eq!(rt; space.words_at(2, 2), [7, 8].as_slice());
+    assert_eq!(rt; space.words_at(3, 2), [8, 9].as_slice());
+    Ok(())
+}

@@ -26,7 +26,7 @@ use Rattle.melt_scion.specs.Placed.{Maps, Stands, IsReferenceWord, MayHold, Form
 use Rattle.melt_scion.specs.Changes.{SameBounds, WordChanges, GlobalChanges, ObjectAppears, NameAppears}
 use Rattle.melt_scion.specs.Collected.{InUse, InReach}
 use Rattle.melt_scion.specs.Names.{name_at}
-use Rattle.melt_scion.specs.Heaps.{state_of, HasNames, KeepsNames}
+use Rattle.melt_scion.specs.Heaps.{state_of, HasNames, KeepsNames, NamesMade}
 use Rattle.melt_scion.specs.declared.heap.Heap.{Heap}
 use Rattle.melt_scion.specs.declared.registers.Registers.{Registers}
 use Rattle.melt_copy.specs.Copying.{Collects, HasCollected}
@@ -501,3 +501,8 @@ part_stays space after globals names regs log count a b n m i z s named_a named_
     let same : Some (let x : Shape = record { refs = z.refs; nums = z.nums } in x) ≡ Some (record { refs = at_b.0.shape.refs; nums = at_b.0.shape.nums }) = sym is_shape ∙ s.placed.shapes b m at_b.0 named_b at_b.1.starts in
     let refs : z.refs ≡ at_b.0.shape.refs = ap (λ (x : Option Shape). option_map_or (λ (y : Shape). y.refs) x 0) same in
     others (b + 2 + i) (behind_header (maps_of names) (shown space globals regs) a b n m (2 + i) (b + 2 + i) at_a.0 at_b.0 formed named_a named_b at_a.1.starts at_b.1.starts (omega arith) (omega arith) (omega arith))
+
+-- names that are there are for all words
+pub names_made : (names : Option heap.Names) (words : ℕ) → length (numbers_of names) ≡ words → NamesMade words names
+names_made None words room = tt
+names_made (Some names) words room = room

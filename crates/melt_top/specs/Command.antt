@@ -1,7 +1,11 @@
 -- What the words after the program's name mean, and the status of a report.
-use Rattle.std.specs.Prelude.{ℕ, Bool, true, false, ◌||◌, if◌then◌else◌, List, [], ◌∷◌, Option, None, Some, codes}
+use Rattle.std.specs.Prelude.{ℕ, nat_le, Bool, true, false, ◌||◌, ◌&&◌, if◌then◌else◌, List, [], ◌∷◌, Option, None, Some, option_and_then, unwrap_or, codes}
+use Rattle.std.specs.Option.{option_map}
 use Rattle.std.specs.List.{list_any}
 use Rattle.std.specs.Str.{bytes_eq}
+use Rattle.melt_model.specs.Config.{InRanges}
+use Rattle.melt_model.specs.declared.config.Config.{Config}
+use Rattle.melt_trace.specs.Language.{number_of}
 use Rattle.melt_model.specs.declared.reports.ThreadEnd.{ThreadEnd}
 use Rattle.melt_model.specs.declared.reports.ThreadEnd.TheVariants as end
 use Rattle.melt_model.specs.declared.reports.Halt.{Halt}
@@ -13,11 +17,46 @@ use Rattle.melt_top.specs.declared.command.Command.TheVariants.{Step}
 use Rattle.melt_top.specs.declared.status.Status.{Status}
 use Rattle.melt_top.specs.declared.status.Status.TheVariants as status
 
+-- a number within these bounds
+abbrev pub between : ℕ → ℕ → Option ℕ → Option ℕ
+between low high None = None
+between low high (Some n) = if nat_le low n && nat_le n high then Some n else None
+
+-- the numbers that options gave
+pub record Given : Type 0 where
+  pub heap : Option ℕ
+
+-- an option that was not given before takes its value
+abbrev pub once : Option ℕ → Option ℕ → Option ℕ
+once None value = value
+once (Some before) value = None
+
+-- one option more, with the word behind it
+abbrev pub with_option : Given → List ℕ → List ℕ → Option Given
+with_option given name value =
+    if bytes_eq name (codes "--heap")
+    then option_map (λ n. record { heap = Some n }) (once given.heap (between 16 4194304 (number_of value)))
+    else None
+
+-- Options stand in any order, each at most once, and each is two words: its name and its value.
+abbrev pub options : Given → List (List ℕ) → Option Given
+options given [] = Some given
+options given (name ∷ []) = None
+options given (name ∷ value ∷ words) = option_and_then (λ g. options g words) (with_option given name value)
+
+-- what a run is given where no option says otherwise
+abbrev pub configured : Given → Config
+configured given = record { heap = unwrap_or given.heap 65536; forward = 1024; disk = 16777216; mark = 50; move_ = 80; every = 0 }
+
 -- the command that the words mean, or none
 abbrev pub meant : List (List ℕ) → Option Command
 meant [] = None
-meant (word ∷ []) = if bytes_eq word (codes "step") then Some Step else None
-meant (word ∷ next ∷ words) = None
+meant (word ∷ words) =
+    if bytes_eq word (codes "step") then option_map (λ given. Step (configured given)) (options (record { heap = None }) words) else None
+
+-- the numbers of a command are in their ranges
+abbrev pub HasRanges : Command → Type 0
+HasRanges (Step config) = InRanges config
 
 abbrev pub is_disk_fault : ThreadEnd → Bool
 is_disk_fault end.DiskFault = true

@@ -1,20 +1,97 @@
 //! What the words after the program's name mean.
-ghost use Rattle.std.specs.Prelude.{◌≡◌, map, string_bytes};
-ghost use Rattle.melt_top.specs.Command.{meant};
+ghost use Rattle.std.specs.Prelude.{◌≡◌, ◌≤◌, map, string_bytes, IfSome, option_and_then};
+ghost use Rattle.melt_model.specs.Config.{InRanges};
+ghost use Rattle.melt_trace.specs.Language.{number_of};
+ghost use Rattle.melt_top.specs.Command.{HasRanges, between, configured, meant, once, options, with_option};
+
+use melt_model::Config;
+use melt_trace::read_number;
+
+/// The least and the greatest number of words of a heap.
+const HEAP: Limits = Limits {
+    low: 16,
+    high: 4_194_304,
+};
 
 /// A command of the program.
 #[derive(Clone, Copy, Debug, PartialEq, Eq)]
 pub enum Command {
     /// Runs a trace by its written order.
-    Step,
+    Step(Config),
 }
 
-/// The command that the words mean, or none. The one word `step` is all that is understood.
+/// The numbers that options gave.
+#[derive(Clone, Copy)]
+struct Given {
+    heap: Option<u32>,
+}
+
+/// The bounds of a number, both of them allowed.
+#[derive(Clone, Copy)]
+struct Limits {
+    low: u32,
+    high: u32,
+}
+
+impl Limits {
+    /// The number that a word spells, where it is within the bounds.
+    fn read(self, word: &str) -> Option<u32>
+        ensures { result ≡ between self.low self.high (number_of word.now) }
+    {
+        let number = u32::try_from(read_number(word.as_bytes())?).ok()?;
+        (self.low <= number && number <= self.high).then_some(number)
+    }
+}
+
+impl Given {
+    /// What is given with one option more.
+    fn with(self, name: &str, value: &str) -> Option<Given>
+        ensures { result ≡ with_option self name.now value.now }
+    {
+        match name {
+            "--heap" if self.heap.is_none() => Some(Given {
+                heap: Some(HEAP.read(value)?),
+            }),
+            _ => None,
+        }
+    }
+
+    /// What is given with all options of these words.
+    fn with_all(self, words: &[String]) -> Option<Given>
+        ensures { result ≡ options self (map string_bytes words.now) }
+    {
+        match words {
+            [] => Some(self),
+            [_] => None,
+            [name, value, rest @ ..] => self.with(name.as_str(), value.as_str())?.with_all(rest),
+        }
+    }
+
+    /// What a run is given where no option says otherwise.
+    fn config(self) -> Config
+        ensures { result ≡ configured self }
+    {
+        Config {
+            heap: self.heap.unwrap_or(65_536),
+            forward: 1024,
+            disk: 16_777_216,
+            mark: 50,
+            move_: 80,
+            every: 0,
+        }
+    }
+}
+
+/// The command that the words mean, or none: `step`, and behind it options, each at most once with its value.
 pub fn command_of(words: &[String]) -> Option<Command>
-    ensures { result ≡ meant (map string_bytes words.now) }
+    ensures value { result ≡ meant (map string_bytes words.now) }
+    ensures ranges { IfSome result HasRanges }
 {
     match words {
-        [word] if word.as_str() == "step" => Some(Command::Step),
+        [word, rest @ ..] if word.as_str() == "step" => {
+            let given = Given { heap: None }.with_all(rest)?;
+            Some(Command::Step(given.config()))
+        }
         _ => None,
     }
 }

@@ -12,7 +12,7 @@ pub mod trace;
 
 pub use cursor::Cursor;
 pub use error::{ParseRefusal, TraceError};
-pub use parser::parse;
+pub use parser::{parse, read_number};
 pub use printing::{print, push_line};
 pub use script::Item;
 pub use trace::{Program, Trace};

@@ -1,6 +1,6 @@
 //! The parser of whole traces.
 ghost use Rattle.std.specs.Prelude.{◌≡◌, Ok, IfOk, IfErr};
-ghost use Rattle.melt_trace.specs.Language.{script_of};
+ghost use Rattle.melt_trace.specs.Language.{number_of, script_of};
 ghost use Rattle.melt_trace.specs.Drafts.{place_of};
 ghost use Rattle.melt_trace.specs.Refusal.{IsRefused};
 
@@ -22,6 +22,7 @@ use crate::parser::draft::Draft;
 use crate::parser::fault::Fault;
 use crate::parser::line::take_line;
 use crate::parser::lines::next_line;
+use crate::parser::number::number;
 use crate::trace::Trace;
 use std::alloc::Global;
 
@@ -66,4 +67,12 @@ pub fn parse(alloc: Global, bytes: &[u8]) -> Result<Trace, ParseRefusal>
 {
     let draft = read_lines(alloc, bytes)?;
     Ok(draft.into_trace())
+}
+
+/// The number that bytes spell as a field of a trace does: `0`, or decimal digits of which the first is not 0, below
+/// 2^64.
+pub fn read_number(bytes: &[u8]) -> Option<u64>
+    ensures { result ≡ number_of bytes.now }
+{
+    number(bytes)
 }

@@ -1,6 +1,6 @@
 use Rattle.std.proofs.Common.{refl}
 use Rattle.melt_step.specs.Machine.{maps_of}
-use Rattle.melt_step.proofs.Standing.{names_are}
+use Rattle.melt_step.proofs.Standing.{names_are, names_made}
 use Rattle.melt_step.proofs.Collecting.{machine_collected}
 use Rattle.melt_step.proofs.machine.Machine.collect.Goals as goal
 
@@ -11,6 +11,7 @@ collect_uncounted-requires-clause-formed c =
       maps = maps_of m.heap.names;
       end = 1;
       names = names_are m.heap.names;
+      made = names_made m.heap.names (length m.heap.space.list) c.requires.stands.room;
       formed = c.requires.stands.placed.formed;
     }
 

@@ -1,0 +1,24 @@
+-- A copy keeps the tags of references.
+use Rattle.std.proofs.Common.{◌≡◌, ℕ, sym, ◌∙◌, subst, refl, List}
+use Rattle.melt_word.specs.declared.reference.Ref.{Ref}
+use Rattle.melt_word.specs.declared.reference.Ref.TheVariants.{Null, Clean, Stale, Disk}
+use Rattle.melt_word.proofs.OneToOne.{same_ref}
+use Rattle.melt_scion.specs.State.{State}
+use Rattle.melt_scion.specs.Placed.{Maps}
+use Rattle.melt_copy.specs.declared.plan.Move.{Move}
+use Rattle.melt_copy.specs.Moving.{moved, WordMoves}
+use Rattle.melt_copy.specs.Copying.{SameTag, KeepsTag}
+use Rattle.melt_copy.proofs.Renaming.{Renames, moved_in_range}
+
+same_tag : (f : ℕ → ℕ) (r : Ref) → SameTag r (moved f r)
+same_tag f Null = tt
+same_tag f (Clean a) = tt
+same_tag f (Stale a) = tt
+same_tag f (Disk home) = refl
+
+-- a word that was moved has the tag from before
+pub moved_keeps_tag : (maps : Maps) (s t : State) (f : ℕ → ℕ) (moves : List Move) (old new : ℕ) → Renames maps s t f moves → WordMoves f old new → KeepsTag old new
+moved_keeps_tag maps s t f moves old new renames w a b in_a in_b was is =
+    let before : w.reference ≡ a = same_ref w.reference a w.in_range in_a (sym w.was ∙ was) in
+    let after : moved f w.reference ≡ b = same_ref (moved f w.reference) b (moved_in_range maps s t f moves w.reference renames w.found w.in_range) in_b (sym w.is ∙ is) in
+    subst (λ (x : Ref). SameTag x b) before (subst (SameTag w.reference) after (same_tag f w.reference))

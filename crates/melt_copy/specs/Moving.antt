@@ -1,0 +1,99 @@
+-- How a copying collection moves objects: which objects go where, and what their words become.
+use Rattle.std.specs.Prelude.{◌≡◌, ◌≢◌, ℕ, ◌+◌, ◌^◌, ◌<◌, ◌≤◌, ◌==◌, if◌then◌else◌, List, [], ◌∷◌, map, sum, take, slice_get, Option, None, Some}
+use Rattle.melt_word.specs.Words.{IsRef, ref_word, cost_of}
+use Rattle.melt_word.specs.declared.reference.Ref.{Ref}
+use Rattle.melt_word.specs.declared.reference.Ref.TheVariants.{Null, Clean, Stale, Disk}
+use Rattle.melt_word.specs.declared.header.Header.{Header}
+use Rattle.melt_scion.specs.State.{State, HeaderAt, ObjectAt, Reached}
+use Rattle.melt_scion.specs.Placed.{Maps}
+use Rattle.melt_copy.specs.declared.plan.Move.{Move}
+
+-- the word is that of a reference
+pub record IsRefWord (word : ℕ) : Type 0 where
+  pub reference : Ref
+  pub in_range : IsRef reference
+  pub is : word ≡ ref_word reference
+
+-- What can be reached is whole: objects lie within the words in use and apart from each other, and the words that
+-- are to be references are.
+pub record IsWhole (s : State) : Type 0 where
+  pub small : s.size < 2 ^ 30
+  pub inside : s.free ≤ s.size + 1
+  pub objects : (address : ℕ) → Reached s address → (header : Header) × ObjectAt s address header
+  pub apart : (a b : ℕ) (header : Header) → Reached s a → Reached s b → HeaderAt s a header → a < b → a + cost_of header.shape ≤ b
+  pub slots : (address i : ℕ) (header : Header) → Reached s address → HeaderAt s address header → i < header.shape.refs → IsRefWord (s.word (address + 2 + i))
+  pub globals : (g : ℕ) → g < s.globals → IsRefWord (s.global g)
+
+-- how many words these objects take
+abbrev pub words_in : List Move → ℕ
+words_in moves = sum (map (λ (m : Move). cost_of m.shape) moves)
+
+-- an object that can be reached, and its shape
+pub record IsMove (s : State) (m : Move) : Type 0 where
+  pub reached : Reached s m.from
+  pub header : Header
+  pub starts : HeaderAt s m.from header
+  pub shape : header.shape ≡ m.shape
+
+-- Each object that was found has its place, one behind the other from word 1 on; `f` tells the new address of an
+-- object that was found, and 0 for every other address.
+pub record IsPlan (s : State) (f : ℕ → ℕ) (moves : List Move) (free : ℕ) : Type 0 where
+  pub whole : (k : ℕ) (m : Move) → slice_get moves k ≡ Some m → IsMove s m
+  pub found : (k : ℕ) (m : Move) → slice_get moves k ≡ Some m → f m.from ≡ m.to
+  pub only : (address : ℕ) → f address ≢ 0 → (k : ℕ) × (m : Move) × (slice_get moves k ≡ Some m) × (m.from ≡ address)
+  pub places : (k : ℕ) (m : Move) → slice_get moves k ≡ Some m → m.to ≡ 1 + words_in (take k moves)
+  pub behind : free ≡ 1 + words_in moves
+
+-- a reference after the move
+abbrev pub moved : (ℕ → ℕ) → Ref → Ref
+moved f Null = Null
+moved f (Clean address) = Clean (f address)
+moved f (Stale address) = Stale (f address)
+moved f (Disk home) = Disk home
+
+-- the object of the reference was found, if it has one in the space
+abbrev pub IsFound : (ℕ → ℕ) → Ref → Type 0
+IsFound f Null = Unit {0}
+IsFound f (Clean address) = f address ≢ 0
+IsFound f (Stale address) = f address ≢ 0
+IsFound f (Disk home) = Unit {0}
+
+-- the word of a reference becomes that of the moved one
+pub record WordMoves (f : ℕ → ℕ) (old new : ℕ) : Type 0 where
+  pub reference : Ref
+  pub in_range : IsRef reference
+  pub was : old ≡ ref_word reference
+  pub found : IsFound f reference
+  pub is : new ≡ ref_word (moved f reference)
+
+-- An object stands at its place in these words, with its references moved and all other words as they were.
+pub record ObjectMoves (f : ℕ → ℕ) (s : State) (word : ℕ → ℕ) (m : Move) : Type 0 where
+  pub header : word m.to ≡ s.word m.from
+  pub home : word (m.to + 1) ≡ s.word (m.from + 1)
+  pub slots : (i : ℕ) → i < m.shape.refs → WordMoves f (s.word (m.from + 2 + i)) (word (m.to + 2 + i))
+  pub numbers : (j : ℕ) → j < m.shape.nums → word (m.to + 2 + m.shape.refs + j) ≡ s.word (m.from + 2 + m.shape.refs + j)
+
+-- The first moves, as many as `front`, are those of the objects in registers.
+pub record AreHeld (s : State) (moves : List Move) (front : ℕ) : Type 0 where
+  pub each : (k : ℕ) (m : Move) → slice_get moves k ≡ Some m → k < front → (t : ℕ) × (r : ℕ) × (s.register t r ≡ m.from)
+  pub all : (t r : ℕ) → s.register t r ≢ 0 → (k : ℕ) × (m : Move) × (slice_get moves k ≡ Some m) × (k < front) × (m.from ≡ s.register t r)
+
+-- The second state is a copy of what can be reached in the first.
+pub record IsCopy (s t : State) (f : ℕ → ℕ) (moves : List Move) (front : ℕ) : Type 0 where
+  pub plan : IsPlan s f moves t.free
+  pub objects : (k : ℕ) (m : Move) → slice_get moves k ≡ Some m → ObjectMoves f s t.word m
+  pub global : (g : ℕ) → g < s.globals → WordMoves f (s.global g) (t.global g)
+  pub register : (u r : ℕ) → t.register u r ≡ f (s.register u r)
+  pub held : AreHeld s moves front
+  pub size : t.size ≡ s.size
+  pub globals : t.globals ≡ s.globals
+  pub end : t.end ≡ s.end
+
+-- the number of the object that moves to an address
+abbrev pub name_after : (ℕ → Option ℕ) → List Move → ℕ → Option ℕ
+name_after name [] address = None
+name_after name (m ∷ moves) address = if m.to == address then name m.from else name_after name moves address
+
+-- the maps after the moves
+abbrev pub maps_after : Maps → List Move → Maps
+maps_after maps moves = record { address = name_after maps.address moves; home = maps.home }

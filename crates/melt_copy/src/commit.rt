@@ -1,0 +1,78 @@
+//! What changes once everything that is to be kept was copied. None of it takes memory.
+ghost use Rattle.std.specs.Prelude.{◌≡◌, ℕ, ◌<◌, ◌≤◌, length, map, slice_get, slice_index, Some, None, IfOk};
+ghost use Rattle.melt_scion.specs.Heaps.{register_in};
+ghost use Rattle.melt_scion.specs.Names.{name_at};
+ghost use Rattle.melt_copy.specs.declared.plan.Move.{Move};
+ghost use Rattle.melt_copy.specs.Moving.{name_after};
+ghost use Rattle.melt_copy.specs.Plans.{goes};
+
+use crate::plan::{Move, Plan};
+use melt_model::{NoMemory, Steps};
+use melt_scion::{AddressNames, Registers};
+use std::alloc::Global;
+use std::sync::ledger::Ledger;
+
+/// Puts the new addresses into the registers of one thread.
+fn forward_thread<L: Ledger>(plan: &Plan, registers: &mut Registers, steps: &mut Steps<L>)
+    requires { goes plan.now 0 ≡ 0 }
+    ensures { (r : ℕ) → slice_index registers.new.regs r ≡ goes plan.now (slice_index registers.old.regs r) }
+{
+    for address in registers.regs.iter_mut() {
+        steps.tick();
+        *address = plan.forwarded(*address);
+    }
+}
+
+/// Puts the new addresses into the registers of all threads.
+pub fn forward_held<L: Ledger>(plan: &Plan, held: &mut [Registers], steps: &mut Steps<L>)
+    requires { goes plan.now 0 ≡ 0 }
+    ensures { (t r : ℕ) → register_in held.new t r ≡ goes plan.now (register_in held.old t r) }
+{
+    for registers in held.iter_mut() {
+        steps.tick();
+        forward_thread(plan, registers, steps);
+    }
+}
+
+/// The numbers of the objects that move, in the order of the moves.
+pub fn numbers_of<L: Ledger>(
+    alloc: Global,
+    names: &AddressNames,
+    moves: &[Move],
+    steps: &mut Steps<L>,
+) -> Result<Vec<Option<u32>>, NoMemory>
+    ensures { IfOk result (λ numbers. numbers.items ≡ map (λ (m : Move). name_at names.now m.from) moves.now) }
+{
+    let mut numbers = Vec::with_capacity(alloc, moves.len())?;
+    for m in moves {
+        steps.tick();
+        numbers.push(names.get(m.from))?;
+    }
+    Ok(numbers)
+}
+
+/// Gives the objects that moved their numbers at their new addresses, and takes all others away. `used` words were
+/// in use; no object was behind them.
+pub fn rename<L: Ledger>(
+    names: &mut AddressNames,
+    used: u32,
+    moves: &[Move],
+    numbers: &[Option<u32>],
+    steps: &mut Steps<L>,
+)
+    requires used { used ≤ length names.old }
+    requires behind { (k : ℕ) → used < k → name_at names.old k ≡ None }
+    requires numbers { numbers.now ≡ map (λ (m : Move). name_at names.old m.from) moves.now }
+    requires places { (k : ℕ) (m : Move) → slice_get moves.now k ≡ Some m → (1 ≤ m.to) × (m.to ≤ used) }
+    requires apart { (i j : ℕ) (m n : Move) → slice_get moves.now i ≡ Some m → slice_get moves.now j ≡ Some n → m.to ≡ n.to → i ≡ j }
+    ensures names { (k : ℕ) → name_at names.new k ≡ name_after (name_at names.old) moves.now k }
+    ensures size { length names.new ≡ length names.old }
+{
+    names.clear(used);
+    for (m, number) in moves.iter().zip(numbers) {
+        steps.tick();
+        if let Some(number) = number {
+            names.set(m.to, *number);
+        }
+    }
+}

@@ -1,0 +1,122 @@
+//! Finds what can be reached, and copies it.
+ghost use Rattle.std.specs.Prelude.{◌≡◌, ◌≢◌, ℕ, ◌+◌, ◌<◌, ◌≤◌, length, slice_index, IfOk, OnOk};
+ghost use Rattle.melt_word.specs.Words.{cost_of};
+ghost use Rattle.melt_scion.specs.State.{State};
+ghost use Rattle.melt_copy.specs.Moving.{WordMoves, ObjectMoves};
+ghost use Rattle.melt_copy.specs.Plans.{Extends, FindsHeld, FindsThreads, Grows, HasCopied, Plans, PlansHeld, PlansIn, PlansOf, PlansThreads, goes, word_in};
+
+use crate::plan::{Move, Plan};
+use melt_model::{NoMemory, Steps};
+use melt_scion::Registers;
+use melt_space::Space;
+use melt_word::cost;
+use std::alloc::Global;
+use std::sync::ledger::Ledger;
+
+/// Finds the objects in the registers of a thread.
+fn find_held<L: Ledger>(
+    plan: &mut Plan,
+    space: &Space,
+    registers: &Registers,
+    steps: &mut Steps<L>,
+) -> Result<(), NoMemory>
+    requires { (s : State) × PlansHeld space.now s plan.old (slice_index registers.now.regs) }
+    ensures finds { OnOk result (FindsHeld plan.old plan.new (slice_index registers.now.regs)) }
+    ensures grows { Grows plan.old plan.new }
+    ensures plans { (s : State) → PlansHeld space.now s plan.old (slice_index registers.now.regs) → Plans space.now s plan.new }
+{
+    for address in &registers.regs {
+        steps.tick();
+        if *address != 0 {
+            plan.find(space, *address)?;
+        }
+    }
+    Ok(())
+}
+
+/// Finds the objects in the registers of all threads.
+pub fn find_all_held<L: Ledger>(
+    plan: &mut Plan,
+    space: &Space,
+    held: &[Registers],
+    steps: &mut Steps<L>,
+) -> Result<(), NoMemory>
+    requires { (s : State) × PlansThreads space.now s plan.old held.now }
+    ensures finds { OnOk result (FindsThreads plan.old plan.new held.now) }
+    ensures grows { Grows plan.old plan.new }
+    ensures plans { (s : State) → PlansThreads space.now s plan.old held.now → Plans space.now s plan.new }
+{
+    for registers in held {
+        find_held(plan, space, registers, steps)?;
+    }
+    Ok(())
+}
+
+/// Puts the words of references behind those that are there, each after the move. Finds the objects to which they
+/// refer.
+pub fn move_words<L: Ledger>(
+    out: &mut Vec<u64>,
+    plan: &mut Plan,
+    space: &Space,
+    words: &[u64],
+    steps: &mut Steps<L>,
+) -> Result<(), NoMemory>
+    requires { (s : State) × PlansIn space.now s plan.old words.now }
+    ensures extends { OnOk result (Extends out.old.items out.new.items (length words.now)) }
+    ensures moves { OnOk result ((i : ℕ) → i < length words.now → WordMoves (goes plan.new) (slice_index words.now i) (slice_index out.new.items (length out.old.items + i))) }
+    ensures grows { Grows plan.old plan.new }
+    ensures plans { (s : State) → PlansIn space.now s plan.old words.now → Plans space.now s plan.new }
+{
+    for word in words {
+        steps.tick();
+        out.push(plan.move_word(space, *word)?)?;
+    }
+    Ok(())
+}
+
+/// Puts an object that was found behind the words that are there. Finds the objects to which it refers.
+fn copy_object<L: Ledger>(
+    out: &mut Vec<u64>,
+    plan: &mut Plan,
+    space: &Space,
+    m: Move,
+    steps: &mut Steps<L>,
+) -> Result<(), NoMemory>
+    requires { (s : State) × PlansOf space.now s plan.old m }
+    ensures extends { OnOk result (Extends out.old.items out.new.items (cost_of m.shape)) }
+    ensures object { OnOk result ((s : State) → PlansOf space.now s plan.old m → m.to ≡ length out.old.items + 1 → ObjectMoves (goes plan.new) s (word_in out.new.items) m) }
+    ensures grows { Grows plan.old plan.new }
+    ensures plans { (s : State) → PlansOf space.now s plan.old m → Plans space.now s plan.new }
+{
+    let object = space.words_at(m.from, cost(m.shape));
+    let numbers = 2 + m.shape.refs as usize;
+    out.extend_from_slice(&object[..2])?;
+    move_words(out, plan, space, &object[2..numbers], steps)?;
+    out.extend_from_slice(&object[numbers..])?;
+    Ok(())
+}
+
+/// Copies the objects that were found, and those that are found meanwhile. The first word of the copy is that at
+/// address 1.
+///
+/// The order is that of C. J. Cheney, "A Nonrecursive List Compacting Algorithm", Communications of the ACM 13 (1970):
+/// the objects that were found and not copied yet are a queue.
+pub fn copy_objects<L: Ledger>(
+    alloc: Global,
+    plan: &mut Plan,
+    space: &Space,
+    steps: &mut Steps<L>,
+) -> Result<Vec<u64>, NoMemory>
+    requires { (s : State) × Plans space.now s plan.old }
+    ensures copied { IfOk result (λ words. (s : State) → Plans space.now s plan.old → HasCopied space.now s plan.new words.items (length plan.new.moves.items)) }
+    ensures grows { Grows plan.old plan.new }
+{
+    let mut words = Vec::with_capacity(alloc, space.used() as usize)?;
+    let mut done = 0;
+    while done < plan.moves.len() {
+        let m = plan.moves[done];
+        copy_object(&mut words, plan, space, m, steps)?;
+        done += 1;
+    }
+    Ok(words)
+}

@@ -1,0 +1,92 @@
+//! Where each object that a collection finds goes.
+ghost use Rattle.std.specs.Prelude.{◌≡◌, ◌≢◌, ℕ, ◌+◌, ◌^◌, ◌<◌, ◌≤◌, ◌⊎◌, [], slice_get, slice_index, length, replicate, Some, IfOk};
+ghost use Rattle.melt_scion.specs.State.{State};
+ghost use Rattle.melt_copy.specs.declared.plan.Move.{Move};
+ghost use Rattle.melt_copy.specs.Moving.{WordMoves};
+ghost use Rattle.melt_copy.specs.Plans.{Grows, Plans, PlansAt, PlansFor, goes};
+
+use melt_model::NoMemory;
+use melt_space::Space;
+use melt_word::{Ref, Shape, cost, decode_ref, encode_ref};
+use std::alloc::Global;
+
+/// An object that was found: its address, the address that it gets, and its shape.
+#[derive(Clone, Copy, Debug)]
+pub struct Move {
+    pub from: u32,
+    pub to: u32,
+    pub shape: Shape,
+}
+
+/// The objects that were found so far, in the order in which they are to stand from word 1 on.
+#[derive(Debug, Drop)]
+pub struct Plan {
+    /// The new address of the object at each address from 0 on, 0 where none was found.
+    pub forward: Vec<u32>,
+    pub moves: Vec<Move>,
+    /// The first place behind the objects that were found.
+    pub next: u32,
+}
+
+impl Plan {
+    /// A plan without objects, for a space of which so many words are in use.
+    pub fn new(alloc: Global, used: u32) -> Result<Plan, NoMemory>
+        requires { used < 2 ^ 30 }
+        ensures forward { IfOk result (λ plan. plan.forward.items ≡ replicate (used + 1) 0) }
+        ensures moves { IfOk result (λ plan. plan.moves.items ≡ []) }
+        ensures next { IfOk result (λ plan. plan.next ≡ 1) }
+    {
+        Ok(Plan {
+            forward: vec![in alloc; 0; used as usize + 1]?,
+            moves: Vec::new(alloc),
+            next: 1,
+        })
+    }
+
+    /// The new address of the object at an address, or 0 where none was found.
+    pub fn forwarded(&self, address: u32) -> u32
+        ensures { result ≡ goes self.now address }
+    {
+        self.forward.get(address as usize).copied().unwrap_or(0)
+    }
+
+    /// Finds the object at an address, and answers its new one. An object that was found before keeps its place.
+    pub fn find(&mut self, space: &Space, address: u32) -> Result<u32, NoMemory>
+        requires { (s : State) × PlansAt space.now s self.old address }
+        ensures found { IfOk result (λ to. (goes self.new address ≡ to) × (to ≢ 0)) }
+        ensures small { IfOk result (λ to. to < 2 ^ 30) }
+        ensures grows { Grows self.old self.new }
+        ensures only { (k : ℕ) (m : Move) → slice_get self.new.moves.items k ≡ Some m → (slice_get self.old.moves.items k ≡ Some m) ⊎ (m.from ≡ address) }
+        ensures plans { (s : State) → PlansAt space.now s self.old address → Plans space.now s self.new }
+    {
+        let known = self.forward[address as usize];
+        if known != 0 {
+            return Ok(known);
+        }
+        let shape = space.shape(address);
+        let to = self.next;
+        self.moves.push(Move {
+            from: address,
+            to,
+            shape,
+        })?;
+        self.forward[address as usize] = to;
+        self.next += cost(shape);
+        Ok(to)
+    }
+
+    /// The word of a reference after the move. Finds the object to which it refers.
+    pub fn move_word(&mut self, space: &Space, word: u64) -> Result<u64, NoMemory>
+        requires { (s : State) × PlansFor space.now s self.old word }
+        ensures moves { IfOk result (WordMoves (goes self.new) word) }
+        ensures grows { Grows self.old self.new }
+        ensures plans { (s : State) → PlansFor space.now s self.old word → Plans space.now s self.new }
+    {
+        match decode_ref(word) {
+            Ok(Ref::Clean(address)) => Ok(encode_ref(Ref::Clean(self.find(space, address)?))),
+            Ok(Ref::Stale(address)) => Ok(encode_ref(Ref::Stale(self.find(space, address)?))),
+            Ok(Ref::Null | Ref::Disk(_)) => Ok(word),
+            Err(_) => unreachable!(),
+        }
+    }
+}
