@@ -1,5 +1,5 @@
 -- What was copied and put back is a collection.
-use Rattle.std.proofs.Common.{◌≡◌, ◌≢◌, ℕ, ◌+◌, ◌-◌, ◌^◌, ◌<◌, ◌≤◌, zero, suc, List, [], ◌∷◌, length, map, take, refl, sym, subst, ap, ◌∙◌, arith, ◌⊎◌, inl, inr}
+use Rattle.std.proofs.Common.{◌≡◌, ℕ, ◌+◌, ◌-◌, ◌<◌, ◌≤◌, zero, suc, List, [], ◌∷◌, length, take, refl, sym, subst, ap, ◌∙◌, arith, inl, inr}
 use Rattle.std.specs.Prelude.{Option, None, Some, slice_get, slice_index, if◌then◌else◌, ◌==◌}
 use Rattle.std.proofs.lemmas.Bool.Decides.{eqb_tells}
 use Rattle.melt_model.specs.Alive.{Held, words_of, CostsSum}
@@ -8,20 +8,19 @@ use Rattle.melt_model.specs.declared.reports.Phase.{Phase}
 use Rattle.melt_word.specs.Words.{cost_of}
 use Rattle.melt_space.specs.Space.{SpaceWords, word_at, Replaces}
 use Rattle.melt_scion.specs.State.{State}
-use Rattle.melt_scion.specs.Placed.{Maps, Formed, Placed}
-use Rattle.melt_scion.specs.Collected.{InUse, CountsWords}
+use Rattle.melt_scion.specs.Placed.{Maps, Formed}
+use Rattle.melt_scion.specs.Collected.{InUse}
 use Rattle.melt_scion.specs.Names.{name_at}
-use Rattle.melt_scion.specs.Heaps.{register_in, state_of, HasNames, KeepsNames, NamesMade, IsFormed}
+use Rattle.melt_scion.specs.Heaps.{state_of, HasNames, KeepsNames, NamesMade, IsFormed}
 use Rattle.melt_scion.specs.declared.registers.Registers.{Registers}
 use Rattle.melt_scion.specs.declared.heap.Names.{Names}
 use Rattle.melt_scion.specs.declared.heap.Heap.{Heap}
 use Rattle.melt_copy.specs.declared.plan.Move.{Move}
-use Rattle.melt_copy.specs.declared.plan.Plan.{Plan}
 use Rattle.melt_copy.specs.declared.collect.Copied.{Copied}
 use Rattle.melt_copy.specs.Moving.{IsPlan, IsCopy, ObjectMoves, WordMoves, words_in, name_after, maps_after}
 use Rattle.melt_copy.specs.Plans.{goes, word_in}
-use Rattle.melt_copy.specs.Copied.{NumbersAre, IsCopied, Copies, CanRename, MayRename, AreRenamed, IsPutBack}
-use Rattle.melt_copy.specs.Copying.{Journals, HasCollected, Collects}
+use Rattle.melt_copy.specs.Copied.{NumbersAre, IsCopied, Copies, MayRename, AreRenamed, IsPutBack}
+use Rattle.melt_copy.specs.Copying.{Collects}
 use Rattle.melt_copy.proofs.Places.{place_below, same_place}
 use Rattle.melt_copy.proofs.Sources.{plan_words}
 use Rattle.melt_copy.proofs.Moved.{copy_collects, copy_marks, copy_counts}

@@ -1,16 +1,15 @@
 -- A heap that is copied out.
-use Rattle.std.proofs.Common.{◌≡◌, ◌≢◌, ℕ, ◌+◌, ◌-◌, ◌^◌, ◌<◌, ◌≤◌, zero, suc, List, [], ◌++◌, length, map, take, replicate, refl, sym, subst, ap, ◌∙◌, arith, ◌⊎◌, inl, inr}
-use Rattle.std.specs.Prelude.{Option, Some, slice_get, slice_index}
-use Rattle.std.proofs.lemmas.List.{length-replicate, get_or-replicate, get_or_past, take_all, take-append-le}
+use Rattle.std.proofs.Common.{◌≡◌, ℕ, ◌+◌, ◌-◌, ◌<◌, List, [], length, take, replicate, refl, sym, subst, ap, ◌∙◌, arith, inl, inr}
+use Rattle.std.specs.Prelude.{Some, slice_get, slice_index}
+use Rattle.std.proofs.lemmas.List.{length-replicate, get_or-replicate, get_or_past, take_all}
 use Rattle.std.proofs.lemmas.Bool.{cases_lt}
 use Rattle.std.proofs.lemmas.Option.{slice_get_within}
-use Rattle.melt_space.specs.Space.{SpaceWords, IsSpace}
-use Rattle.melt_scion.specs.State.{State, Reached}
+use Rattle.melt_space.specs.Space.{IsSpace}
+use Rattle.melt_scion.specs.State.{State}
 use Rattle.melt_scion.specs.State.Reached.{in_register, in_global}
 use Rattle.melt_scion.specs.Placed.{Maps, Formed}
 use Rattle.melt_scion.specs.Heaps.{register_in, state_of, IsFormed}
 use Rattle.melt_scion.specs.declared.registers.Registers.{Registers}
-use Rattle.melt_scion.specs.declared.heap.Names.{Names}
 use Rattle.melt_scion.specs.declared.heap.Heap.{Heap}
 use Rattle.melt_copy.specs.declared.plan.Move.{Move}
 use Rattle.melt_copy.specs.declared.plan.Plan.{Plan}
@@ -20,7 +19,7 @@ use Rattle.melt_copy.specs.Plans.{goes, word_in, Plans, PlansIn, PlansThreads, F
 use Rattle.melt_copy.specs.Copied.{NumbersAre, IsCopied, Copies}
 use Rattle.melt_copy.proofs.Moved.{whole_of_formed}
 use Rattle.melt_copy.proofs.Growth.{Grows-more, WordMoves-more, stays_there}
-use Rattle.melt_copy.proofs.Queue.{was_there, words_in-stay, longer}
+use Rattle.melt_copy.proofs.Queue.{was_there, words_in-stay}
 
 pub whole_heap : (maps : Maps) (heap : Heap) (held : List Registers) (end : ℕ) → IsSpace heap.space → Formed maps (state_of heap held end) → IsWhole (state_of heap held end)
 whole_heap maps heap held end space formed = whole_of_formed maps (state_of heap held end) space.small (omega (arith, space.used)) formed
@@ -39,6 +38,7 @@ no_moves s plan used forward moves next = record {
   places = λ k m at. absurd (none_there plan.moves.items k m moves at);
   behind = next ∙ ap (λ (ms : List Move). 1 + words_in ms) (sym moves);
 }
+
 -- before the first object is found
 pub plans_start : (heap : Heap) (held : List Registers) (end : ℕ) (plan : Plan) (used : ℕ) → IsWhole (state_of heap held end) → used ≡ heap.space.used → plan.forward.items ≡ replicate (used + 1) 0 → plan.moves.items ≡ [] → plan.next ≡ 1 → PlansThreads heap.space (state_of heap held end) plan held
 plans_start heap held end plan used whole same forward moves next = record {

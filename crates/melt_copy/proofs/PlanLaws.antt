@@ -1,5 +1,5 @@
 -- A plan that finds one object more.
-use Rattle.std.proofs.Common.{◌≡◌, ◌≢◌, ℕ, ◌+◌, ◌<◌, ◌≤◌, ◌^◌, List, [], ◌∷◌, ◌++◌, length, take, map, refl, sym, subst, ap, ◌∙◌, arith, ◌⊎◌, inl, inr, get_or, get_or-set_same, get_or-set_other}
+use Rattle.std.proofs.Common.{◌≡◌, ◌≢◌, ℕ, ◌+◌, ◌<◌, ◌≤◌, ◌^◌, List, [], ◌∷◌, ◌++◌, length, take, refl, sym, subst, ap, ◌∙◌, arith, ◌⊎◌, inl, inr, get_or, get_or-set_same, get_or-set_other}
 use Rattle.std.proofs.lemmas.List.{take-append-le, length-set, get_or_default}
 use Rattle.std.proofs.lemmas.List.Sums.{sum-map, sum_by_push}
 use Rattle.std.proofs.lemmas.Bool.Decides.{eqb_tells}
@@ -15,7 +15,7 @@ use Rattle.melt_space.specs.Space.{SpaceWords, word_at, HasHeader}
 use Rattle.melt_scion.specs.State.{State, HeaderAt, address_in, Reached}
 use Rattle.melt_copy.specs.declared.plan.Move.{Move}
 use Rattle.melt_copy.specs.declared.plan.Plan.{Plan}
-use Rattle.melt_copy.specs.Moving.{IsWhole, words_in, IsMove, IsPlan}
+use Rattle.melt_copy.specs.Moving.{words_in, IsMove, IsPlan}
 use Rattle.melt_copy.specs.Plans.{goes, Plans, PlansAt, PlansFor}
 use Rattle.melt_copy.proofs.Places.{place_below}
 use Rattle.melt_copy.proofs.Sources.{plan_words}

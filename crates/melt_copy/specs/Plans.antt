@@ -1,12 +1,12 @@
 -- What the parts of a copying collection do, over every state that has the words of the space.
-use Rattle.std.specs.Prelude.{◌≡◌, ◌≢◌, ℕ, zero, suc, ◌+◌, ◌<◌, ◌≤◌, List, [], ◌++◌, length, take, slice_get, slice_index, Option, Some, ◌⊎◌}
+use Rattle.std.specs.Prelude.{◌≡◌, ◌≢◌, ℕ, zero, suc, ◌+◌, ◌<◌, List, ◌++◌, length, take, slice_get, slice_index, Some, ◌⊎◌}
 use Rattle.melt_space.specs.Space.{SpaceWords, word_at}
 use Rattle.melt_scion.specs.State.{State, RefersTo, Reached}
 use Rattle.melt_scion.specs.Heaps.{register_in}
 use Rattle.melt_scion.specs.declared.registers.Registers.{Registers}
 use Rattle.melt_copy.specs.declared.plan.Move.{Move}
 use Rattle.melt_copy.specs.declared.plan.Plan.{Plan}
-use Rattle.melt_copy.specs.Moving.{IsWhole, IsRefWord, IsMove, IsPlan, WordMoves, ObjectMoves, words_in}
+use Rattle.melt_copy.specs.Moving.{IsWhole, IsRefWord, IsMove, IsPlan, ObjectMoves, words_in}
 
 -- where the plan sends an address
 abbrev pub goes : Plan → ℕ → ℕ

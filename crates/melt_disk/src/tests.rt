@@ -1,7 +1,9 @@
 use super::*;
-use melt_io::{StaleDisk, SteadyDisk};
+use melt_io::{Failed, LendRefusal, MemDisk, StaleDisk, SteadyDisk};
 use melt_word::Shape;
 use std::test::Fail;
+
+const SHAPE: Shape = Shape { refs: 0, nums: 1 };
 
 #[test]
 fn homes_stand_one_behind_another_up_to_the_limit(rt: HostRuntime) {
@@ -21,7 +23,6 @@ fn homes_stand_one_behind_another_up_to_the_limit(rt: HostRuntime) {
 
 #[test]
 fn a_stub_leaves_the_slots_of_the_body(rt: HostRuntime) -> Result<(), Fail> {
-    const SHAPE: Shape = Shape { refs: 0, nums: 1 };
     let mut disk = SteadyDisk::new(rt.alloc());
     let mut space = StaleSpace::new(&mut disk, 9);
     assert_eq!(rt; space.reserve_home(SHAPE), Ok(1));
@@ -46,4 +47,47 @@ fn homes_of_each_cost_are_needed(rt: HostRuntime) {
     counts[2] = 3;
     counts[126] = 2;
     assert_eq!(rt; space.need(&counts), 258);
+}
+
+#[test]
+fn a_write_that_fails_leaves_the_other_records(rt: HostRuntime) -> Result<(), Fail> {
+    let mut disk = MemDisk::new(rt.alloc());
+    disk.fail_writes.push(2)?;
+    let mut space = StaleSpace::new(&mut disk, 9);
+    assert_eq!(rt; space.reserve_home(SHAPE), Ok(1));
+    assert_eq!(rt; space.reserve_home(SHAPE), Ok(4));
+    space.write_body(1, SHAPE, &[7])?;
+    assert_eq!(rt; space.write_body(4, SHAPE, &[8]), Err(Failed));
+    let reader = space.lend(rt.alloc()).ok().ok_or("no reader")?;
+    assert_eq!(rt;
+        reader.image.as_slice(),
+        [0, 4_295_032_833, 0, 7].as_slice()
+    );
+    space.give_back(reader);
+
+    space.write_body(4, SHAPE, &[8])?;
+    assert_eq!(rt;
+        disk.image.as_slice(),
+        [0, 4_295_032_833, 0, 7, 17_179_934_721, 0, 8].as_slice()
+    );
+    assert_eq!(rt; (disk.writes, disk.faults, disk.read_faults), (3, 1, 0));
+    Ok(())
+}
+
+#[test]
+fn a_lend_that_fails_leaves_the_records(rt: HostRuntime) -> Result<(), Fail> {
+    let mut disk = MemDisk::new(rt.alloc());
+    disk.fail_lends.push(1)?;
+    let mut space = StaleSpace::new(&mut disk, 9);
+    assert_eq!(rt; space.reserve_home(SHAPE), Ok(1));
+    space.write_body(1, SHAPE, &[7])?;
+    assert_eq!(rt; space.lend(rt.alloc()).err(), Some(LendRefusal::Failed));
+    let reader = space.lend(rt.alloc()).ok().ok_or("no reader")?;
+    assert_eq!(rt;
+        reader.image.as_slice(),
+        [0, 4_295_032_833, 0, 7].as_slice()
+    );
+    space.give_back(reader);
+    assert_eq!(rt; (disk.lends, disk.faults, disk.read_faults), (2, 1, 0));
+    Ok(())
 }

@@ -1,3 +1,4 @@
+pub mod Files
 pub mod Lies
 pub mod Outside
 pub mod Whole

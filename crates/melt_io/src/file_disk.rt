@@ -2,6 +2,7 @@
 ghost use Rattle.std.specs.Prelude.{◌≡◌, ◌+◌, ◌*◌, ◌<◌, ◌≤◌, ◌^◌, ◌↔◌, None, length, take, vec_len, IsNone, IsSome, IsErr, IsErrOf, IfOk, IfSome, OnOk, OnErr};
 ghost use Rattle.std.specs.Io.KnownBytes.{Appends, Consumes, IsAtEnd};
 ghost use Rattle.std.specs.Io.Seek.{MovesTo};
+ghost use Rattle.melt_io.specs.Files.{ReadsWordsAt, WritesWordsAt};
 ghost use Rattle.melt_io.specs.Outside.{Rose, counted};
 ghost use Rattle.melt_io.specs.Words.{word_bytes, ReadsWords};
 
@@ -77,6 +78,9 @@ impl<F: Read + Seek> RecordReader for FileReader<F> {
         requires some { 0 < length words.old }
         requires in_range { at + length words.old ≤ 2 ^ 32 }
         ensures no_file { IsNone self.old.file → IsErr result }
+        ensures words { OnOk result (IfSome self.old.file (λ old. IfSome self.new.file (λ new.
+            ReadsWordsAt F.stream_position F.remaining old at words.new new))) }
+        ensures stays_open { IsSome self.new.file ↔ IsSome self.old.file }
         ensures no_fault { OnOk result (self.new.faults ≡ self.old.faults) }
         ensures failed { OnErr result (Rose self.old.faults self.new.faults) }
         ensures count { self.old.faults ≤ self.new.faults }
@@ -113,6 +117,8 @@ where
     fn write_at(&mut self, at: u32, words: &[u64]) -> Result<(), Failed>
         requires some { 0 < length words.now }
         requires in_range { at + length words.now ≤ 2 ^ 32 }
+        ensures written { OnOk result (IfSome self.new.file (λ new. (old : R.File) ×
+            WritesWordsAt R.File.stream_position R.File.contents old at words.now new)) }
         ensures no_fault { OnOk result (self.new.faults ≡ self.old.faults) }
         ensures failed { OnErr result (Rose self.old.faults self.new.faults) }
         ensures count { self.old.faults ≤ self.new.faults }
@@ -180,6 +186,8 @@ fn write_file<R: Files>(
     words: &[u64],
 ) -> io::Result<()>
     requires { 8 ≤ length piece.old }
+    ensures written { OnOk result (IfSome file.new (λ new. (old : R.File) ×
+        WritesWordsAt R.File.stream_position R.File.contents old at words.now new)) }
     ensures opened { OnOk result (IsSome file.new) }
     ensures stays_open { IsSome file.old → IsSome file.new }
 {
@@ -197,6 +205,8 @@ fn write_words_at<F: Write + Seek>(
     words: &[u64],
 ) -> io::Result<()>
     requires { 8 ≤ length piece.old }
+    ensures { OnOk result
+        (WritesWordsAt F.stream_position F.contents file.old at words.now file.new) }
 {
     seek_to(file, at)?;
     write_words(file, piece, words)
@@ -210,6 +220,8 @@ fn read_words_at<F: Read + Seek>(
     words: &mut [u64],
 ) -> io::Result<()>
     requires { 8 ≤ length piece.old }
+    ensures { OnOk result
+        (ReadsWordsAt F.stream_position F.remaining file.old at words.new file.new) }
 {
     seek_to(file, at)?;
     read_words(file, piece, words)

@@ -110,7 +110,21 @@ fn the_file_has_the_lowest_byte_of_each_word_first(rt: HostRuntime) -> Result<()
     disk.write_at(1, &[4295032833, 0, 7])?;
     let bytes = fs::read(&rt, "melt.stale")?;
     assert_eq!(rt; bytes.len(), 32);
-    assert_eq!(rt; &bytes[8..16], [1, 0, 1, 0, 1, 0, 0, 0].as_slice());
+    for (word, want) in [
+        [0, 0, 0, 0, 0, 0, 0, 0],
+        [1, 0, 1, 0, 1, 0, 0, 0],
+        [0, 0, 0, 0, 0, 0, 0, 0],
+        [7, 0, 0, 0, 0, 0, 0, 0],
+    ]
+    .iter()
+    .enumerate()
+    {
+        assert_eq!(rt;
+            &bytes[8 * word..8 * word + 8],
+            want.as_slice(),
+            "at {word}"
+        );
+    }
 
     let mut reader = disk.lend(rt.alloc()).ok().ok_or("no reader")?;
     let mut words = [9; 5];

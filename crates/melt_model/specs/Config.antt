@@ -1,5 +1,5 @@
 -- The ranges of the numbers that a run is given.
-use Rattle.std.specs.Prelude.{ℕ, ◌≤◌}
+use Rattle.std.specs.Prelude.{◌≤◌}
 use Rattle.melt_model.specs.declared.config.Config.{Config}
 
 pub record InRanges (config : Config) : Type 0 where

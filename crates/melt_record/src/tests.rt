@@ -10,9 +10,9 @@ fn damaged(at: u32, word: u64) -> Damaged {
 
 #[test]
 fn words_of_a_body(rt: HostRuntime) {
-    let mut out = [7; 3];
-    encode_body(1, SHAPE, &[9], &mut out);
-    assert_eq!(rt; out, [4_295_032_833, 0, 9]);
+    let mut out = [9; 3];
+    encode_body(1, SHAPE, &[7], &mut out);
+    assert_eq!(rt; out, [4_295_032_833, 0, 7]);
     let head = Head {
         shape: SHAPE,
         kind: Kind::Body,
@@ -35,6 +35,7 @@ fn words_of_a_stub(rt: HostRuntime) {
 #[test]
 fn heads_that_are_refused(rt: HostRuntime) {
     for (end, words, at) in [
+        (3, [4_295_032_833, 0], 0),
         (4, [0, 0], 0),
         (4, [4_295_032_835, 0], 0),
         (100, [4_295_048_961, 0], 0),
@@ -51,6 +52,8 @@ fn heads_that_are_refused(rt: HostRuntime) {
 
 #[test]
 fn slots_of_a_body(rt: HostRuntime) {
+    let one_ref = Shape { refs: 1, nums: 0 };
+    assert_eq!(rt; decode_rest(1, 4, one_ref, &[4]), Err(damaged(2, 4)));
     let shape = Shape { refs: 2, nums: 1 };
     assert_eq!(rt; decode_rest(1, 4, shape, &[0, 15, 4]), Ok(()));
     for word in [4, 19] {

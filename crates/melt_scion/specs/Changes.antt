@@ -1,5 +1,5 @@
 -- What changes from one state to the next.
-use Rattle.std.specs.Prelude.{◌≡◌, ◌≢◌, ℕ, false, ◌+◌, ◌<◌, ◌≤◌, ◌==◌, ◌&&◌, if◌then◌else◌, Option, Some}
+use Rattle.std.specs.Prelude.{◌≡◌, ◌≢◌, ℕ, false, ◌+◌, ◌<◌, ◌≤◌, ◌==◌, ◌&&◌, if◌then◌else◌, Some}
 use Rattle.melt_model.specs.declared.history.Value.{Value}
 use Rattle.melt_word.specs.Words.{cost_of, header_word, IsShape}
 use Rattle.melt_word.specs.declared.header.Shape.{Shape}

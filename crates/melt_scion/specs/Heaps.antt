@@ -1,6 +1,6 @@
 -- A heap as contracts see it, with the registers over it.
 use Rattle.std.specs.Prelude.{◌≡◌, ℕ, ◌+◌, Bool, if◌then◌else◌, List, [], length, replicate, Option, None, Some, slice_index, slice_index_or, map}
-use Rattle.melt_space.specs.Space.{SpaceWords, word_at, IsFresh}
+use Rattle.melt_space.specs.Space.{word_at, IsFresh}
 use Rattle.melt_scion.specs.State.{State}
 use Rattle.melt_scion.specs.Placed.{Maps, Formed}
 use Rattle.melt_scion.specs.Names.{name_at}

@@ -1,3 +1,2 @@
-pub mod PlainLaws
-pub mod RunLaws
 pub mod TopLaws
+pub mod WordLaws

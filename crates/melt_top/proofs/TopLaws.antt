@@ -1,18 +1,19 @@
 -- Laws of what is due, and of what was written.
-use Rattle.std.proofs.Common.{◌≡◌, ℕ, ◌<◌, ◌≤◌, Bool, true, false, List, [], ◌∷◌, ◌++◌, length, take, refl, sym, ◌∙◌, ap, subst, arith, inl, inr}
+use Rattle.std.proofs.Common.{◌≡◌, ℕ, suc, ◌<◌, ◌≤◌, Bool, true, false, List, [], ◌∷◌, ◌++◌, length, take, refl, sym, ◌∙◌, ap, subst, arith, inl, inr}
 use Rattle.std.proofs.lemmas.Bool.{cond-false, lt-leb}
 use Rattle.std.proofs.lemmas.List.{length-take-le, take-append-drop, length-replicate}
-use Rattle.std.specs.Prelude.{Option, None, Some, replicate, nat_le, Err, ◌||◌, if◌then◌else◌}
+use Rattle.std.specs.Prelude.{Option, None, Some, slice_get, replicate, nat_le, Err, ◌||◌, if◌then◌else◌}
 use Rattle.std.specs.List.{list_any, AllByRecursion}
 use Rattle.std.proofs.lemmas.List.Elements.{recursion_from_All}
 use Rattle.melt_io.specs.Outside.{Rose, TakesFront}
 use Rattle.melt_io.specs.Whole.{TakesCount}
+use Rattle.melt_model.specs.declared.config.Config.{Config}
 use Rattle.melt_model.specs.declared.reports.Report.{Report}
 use Rattle.melt_model.specs.declared.reports.ThreadReport.{ThreadReport}
 use Rattle.melt_model.specs.declared.reports.ThreadEnd.{ThreadEnd}
 use Rattle.melt_model.specs.declared.reports.ThreadEnd.TheVariants as end
 use Rattle.melt_trace.specs.Script.{Script}
-use Rattle.melt_top.specs.Run.{RanToTheEnd}
+use Rattle.melt_step.specs.Run.{MayEnd, IsStepReport}
 use Rattle.melt_trace.specs.Language.{script_of}
 use Rattle.melt_top.specs.Text.{read_fault_text, refused_text}
 use Rattle.melt_top.specs.Command.{status_of, ended, is_disk_fault, is_damaged, is_out_of_heap, halted_by_fault, halted_by_full}
@@ -31,8 +32,8 @@ taken None (Some new) n count = absurd count
 taken (Some old) None n count = absurd count
 
 -- the reading failed
-pub read_failed : (input : Change) (n : ℕ) (due : Status) (output : List ℕ) → n ≤ 16777217 → TakesCount input.before n input.after → Rose input.faults_before input.faults_after → due ≡ status.ReadFault → output ≡ read_fault_text → StepDue input due output
-read_failed input n due output few count rose is told =
+pub read_failed : (config : Config) (input : Change) (n : ℕ) (due : Status) (output : List ℕ) → n ≤ 16777217 → TakesCount input.before n input.after → Rose input.faults_before input.faults_after → due ≡ status.ReadFault → output ≡ read_fault_text → StepDue config input due output
+read_failed config input n due output few count rose is told =
     let t = taken input.before input.after n count in
     inl (record { bytes = t.0; front = t.2; no_more = omega (arith, t.1); fault = rose; status = is; told = told })
 
@@ -40,8 +41,8 @@ read_failed input n due output few count rose is told =
 long_refused : (bytes : List ℕ) → 16777216 < length bytes → script_of bytes ≡ Err (0, 1)
 long_refused bytes long = cond-false (nat_le (length bytes) 16777216) _ _ (lt-leb (length bytes) 16777216 long)
 
-pub too_long : (input : Change) (n : ℕ) (due : Status) (output : List ℕ) → n ≡ 16777217 → TakesCount input.before n input.after → due ≡ status.Trace → output ≡ refused_text 0 1 → StepDue input due output
-too_long input n due output long count is told =
+pub too_long : (config : Config) (input : Change) (n : ℕ) (due : Status) (output : List ℕ) → n ≡ 16777217 → TakesCount input.before n input.after → due ≡ status.Trace → output ≡ refused_text 0 1 → StepDue config input due output
+too_long config input n due output long count is told =
     let t = taken input.before input.after n count in
     inr (record {
       bytes = t.0;
@@ -49,43 +50,49 @@ too_long input n due output long count is told =
       trace = inl (record { line = 0; reason = 1; first_bad = long_refused t.0 (omega (arith, t.1, long)); status = is; told = told });
     })
 
--- where each thread ended Done no thread ended otherwise
-none_ended : (test : ThreadEnd → Bool) (threads : List ThreadReport) → test end.Done ≡ false → AllByRecursion (λ (r : ThreadReport). r.end ≡ end.Done) threads → list_any (λ (r : ThreadReport). test r.end) threads ≡ false
-none_ended test [] not_done all = refl
-none_ended test (r ∷ threads) not_done all =
-    ap (λ (e : ThreadEnd). test e || list_any (λ (x : ThreadReport). test x.end) threads) all.0
-    ∙ (ap (λ (b : Bool). b || list_any (λ (x : ThreadReport). test x.end) threads) not_done ∙ none_ended test threads not_done all.1)
+-- a thread ends Done, or out of heap
+ends_so : (script : Script) (config : Config) (report : Report) (t : ℕ) (e : ThreadEnd) → MayEnd script config report t e → (is_disk_fault e ≡ false) × (is_damaged e ≡ false)
+ends_so script config report t end.Done may = (refl, refl)
+ends_so script config report t (end.OutOfHeap held need) may = (refl, refl)
+ends_so script config report t end.DiskFault may = absurd may
+ends_so script config report t (end.Damaged home at word) may = absurd may
+ends_so script config report t end.Halted may = absurd may
 
-chosen : (a b c d : Bool) → a ≡ false → b ≡ false → c ≡ false → d ≡ false → (if a then status.DiskFault else if b then status.Damaged else if c then status.DiskFull else if d then status.OutOfHeap else status.Done) ≡ status.Done
-chosen true b c d p q r s = absurd (cc)
-chosen false true c d p q r s = absurd (cc)
-chosen false false true d p q r s = absurd (cc)
-chosen false false false true p q r s = absurd (cc)
-chosen false false false false p q r s = refl
+-- where no thread ended so
+none_ended : (test : ThreadEnd → Bool) (threads : List ThreadReport) → ((t : ℕ) (r : ThreadReport) → slice_get threads t ≡ Some r → test r.end ≡ false) → list_any (λ (r : ThreadReport). test r.end) threads ≡ false
+none_ended test [] none = refl
+none_ended test (r ∷ threads) none =
+    ap (λ (b : Bool). b || list_any (λ (x : ThreadReport). test x.end) threads) (none 0 r refl) ∙ none_ended test threads (λ t x at. none (suc t) x at)
+
+chosen : (a b c d : Bool) → a ≡ false → b ≡ false → c ≡ false → IsBuilt (if a then status.DiskFault else if b then status.Damaged else if c then status.DiskFull else if d then status.OutOfHeap else status.Done)
+chosen true b c d p q r = absurd (cc)
+chosen false true c d p q r = absurd (cc)
+chosen false false true d p q r = absurd (cc)
+chosen false false false true p q r = tt
+chosen false false false false p q r = tt
 
 either : (a b : Bool) → a ≡ false → b ≡ false → (a || b) ≡ false
 either true b p q = p
 either false b p q = q
 
--- a run to the end is Done
-ran_status : (script : Script) (report : Report) → RanToTheEnd script report → status_of report ≡ status.Done
-ran_status script report ran =
-    let all = recursion_from_All (λ (r : ThreadReport). r.end ≡ end.Done) report.threads ran.done in
+-- the status of a run is one of today
+ran_status : (script : Script) (config : Config) (report : Report) → IsStepReport script config report → IsBuilt (status_of report)
+ran_status script config report reported =
     chosen (ended is_disk_fault report || halted_by_fault report.halt) (ended is_damaged report) (halted_by_full report.halt) (ended is_out_of_heap report)
-    (either (ended is_disk_fault report) (halted_by_fault report.halt) (none_ended is_disk_fault report.threads refl all) (ap halted_by_fault ran.no_halt))
-    (none_ended is_damaged report.threads refl all) (ap halted_by_full ran.no_halt) (none_ended is_out_of_heap report.threads refl all)
+    (either (ended is_disk_fault report) (halted_by_fault report.halt) (none_ended is_disk_fault report.threads (λ t r at. (ends_so script config report t r.end (reported.ends t r at)).0)) (ap halted_by_fault reported.no_halt))
+    (none_ended is_damaged report.threads (λ t r at. (ends_so script config report t r.end (reported.ends t r at)).1)) (ap halted_by_full reported.no_halt)
 
-step_built : (input : Change) (due : Status) (output : List ℕ) → StepDue input due output → IsBuilt due
-step_built input due output (inl failed) = subst IsBuilt (sym failed.status) tt
-step_built input due output (inr read) = elim read.trace [
+step_built : (config : Config) (input : Change) (due : Status) (output : List ℕ) → StepDue config input due output → IsBuilt due
+step_built config input due output (inl failed) = subst IsBuilt (sym failed.status) tt
+step_built config input due output (inr read) = elim read.trace [
   | inl refused ↦ subst IsBuilt (sym refused.status) tt
   | inr other ↦ elim other [
     | inl form ↦ subst IsBuilt (sym form.status) tt
-    | inr ran ↦ subst IsBuilt (sym (ran.status ∙ ran_status ran.script ran.report ran.reported.ends)) tt
+    | inr ran ↦ subst IsBuilt (sym ran.ran.status) (ran_status ran.script config ran.ran.report ran.ran.run.reported)
   ]
 ]
 
 -- what is due has a status of today
 pub due_built : (command : Option Command) (input : Change) (due : Status) (output : List ℕ) → Due command input due output → IsBuilt due
 due_built None input due output is = subst IsBuilt (sym is.status) tt
-due_built (Some Step) input due output is = step_built input due output is
+due_built (Some (Step config)) input due output is = step_built config input due output is

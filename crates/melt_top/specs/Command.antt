@@ -1,11 +1,11 @@
 -- What the words after the program's name mean, and the status of a report.
-use Rattle.std.specs.Prelude.{ℕ, nat_le, Bool, true, false, ◌||◌, ◌&&◌, if◌then◌else◌, List, [], ◌∷◌, Option, None, Some, option_and_then, unwrap_or, codes}
+use Rattle.std.specs.Prelude.{ℕ, nat_le, ◌≤◌, IfSome, Bool, true, false, ◌||◌, ◌&&◌, if◌then◌else◌, List, [], ◌∷◌, Option, None, Some, option_and_then, unwrap_or, codes}
 use Rattle.std.specs.Option.{option_map}
 use Rattle.std.specs.List.{list_any}
 use Rattle.std.specs.Str.{bytes_eq}
 use Rattle.melt_model.specs.Config.{InRanges}
 use Rattle.melt_model.specs.declared.config.Config.{Config}
-use Rattle.melt_trace.specs.Language.{number_of}
+use Rattle.melt_trace.specs.Language.{number_of as number_spelled}
 use Rattle.melt_model.specs.declared.reports.ThreadEnd.{ThreadEnd}
 use Rattle.melt_model.specs.declared.reports.ThreadEnd.TheVariants as end
 use Rattle.melt_model.specs.declared.reports.Halt.{Halt}
@@ -13,6 +13,7 @@ use Rattle.melt_model.specs.declared.reports.Halt.TheVariants as halt
 use Rattle.melt_model.specs.declared.reports.ThreadReport.{ThreadReport}
 use Rattle.melt_model.specs.declared.reports.Report.{Report}
 use Rattle.melt_top.specs.declared.command.Command.{Command}
+use Rattle.melt_top.specs.declared.command.Given.{Given}
 use Rattle.melt_top.specs.declared.command.Command.TheVariants.{Step}
 use Rattle.melt_top.specs.declared.status.Status.{Status}
 use Rattle.melt_top.specs.declared.status.Status.TheVariants as status
@@ -21,10 +22,6 @@ use Rattle.melt_top.specs.declared.status.Status.TheVariants as status
 abbrev pub between : ℕ → ℕ → Option ℕ → Option ℕ
 between low high None = None
 between low high (Some n) = if nat_le low n && nat_le n high then Some n else None
-
--- the numbers that options gave
-pub record Given : Type 0 where
-  pub heap : Option ℕ
 
 -- an option that was not given before takes its value
 abbrev pub once : Option ℕ → Option ℕ → Option ℕ
@@ -35,7 +32,7 @@ once (Some before) value = None
 abbrev pub with_option : Given → List ℕ → List ℕ → Option Given
 with_option given name value =
     if bytes_eq name (codes "--heap")
-    then option_map (λ n. record { heap = Some n }) (once given.heap (between 16 4194304 (number_of value)))
+    then option_map (λ n. record { heap = Some n }) (once given.heap (between 16 4194304 (number_spelled value)))
     else None
 
 -- Options stand in any order, each at most once, and each is two words: its name and its value.
@@ -53,6 +50,10 @@ abbrev pub meant : List (List ℕ) → Option Command
 meant [] = None
 meant (word ∷ words) =
     if bytes_eq word (codes "step") then option_map (λ given. Step (configured given)) (options (record { heap = None }) words) else None
+
+-- the numbers that options gave are in their ranges
+abbrev pub IsGiven : Given → Type 0
+IsGiven given = IfSome given.heap (λ n. (16 ≤ n) × (n ≤ 4194304))
 
 -- the numbers of a command are in their ranges
 abbrev pub HasRanges : Command → Type 0

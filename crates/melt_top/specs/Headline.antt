@@ -1,12 +1,14 @@
 -- What a call of the program does, from the words and the bytes read to the bytes written.
 use Rattle.std.specs.Prelude.{◌≡◌, ℕ, ◌<◌, ◌≤◌, List, [], length, take, Option, None, Some, IfSome, IfNone, ◌⊎◌, Result, Ok, Err}
 use Rattle.melt_io.specs.Outside.{Rose, TakesFront, Appends}
+use Rattle.melt_model.specs.declared.config.Config.{Config}
 use Rattle.melt_model.specs.declared.reports.Report.{Report}
+use Rattle.melt_scion.specs.declared.heap.Heap.{Heap}
 use Rattle.melt_trace.specs.Script.{Script}
 use Rattle.melt_trace.specs.Language.{script_of, IsOneThread}
 use Rattle.melt_top.specs.Text.{text, usage_text, read_fault_text, refused_text}
 use Rattle.melt_top.specs.Command.{status_of}
-use Rattle.melt_top.specs.Run.{IsStepReport}
+use Rattle.melt_step.specs.Run.{HasRun}
 use Rattle.melt_top.specs.declared.command.Command.{Command}
 use Rattle.melt_top.specs.declared.command.Command.TheVariants.{Step}
 use Rattle.melt_top.specs.declared.status.Status.{Status}
@@ -46,20 +48,25 @@ pub record TraceNotBuilt (bytes : List ℕ) (due : Status) (output : List ℕ) :
   pub status : due ≡ status.Trace
   pub told : output ≡ refused_text 0 15
 
--- The bytes are a trace, and the output is the text of a report of it, whose replies are those of one legal
--- history.
-pub record TraceRan (bytes : List ℕ) (due : Status) (output : List ℕ) : Type 0 where
-  pub script : Script
-  pub says : script_of bytes ≡ Ok script
-  pub one_thread : IsOneThread script
+-- The output is the text of a report of a run of the script, whose replies are those of one legal history. The run
+-- left a heap that stands for this history.
+pub record RunDue (script : Script) (config : Config) (due : Status) (output : List ℕ) : Type 0 where
   pub report : Report
-  pub reported : IsStepReport script report
+  pub heap : Option Heap
+  pub run : HasRun script config report heap
   pub status : due ≡ status_of report
   pub told : output ≡ text (record { report = report })
 
--- what is due for the bytes of a trace
-abbrev pub TraceDue : List ℕ → Status → List ℕ → Type 0
-TraceDue bytes due output = TraceRefused bytes due output ⊎ (TraceNotBuilt bytes due output ⊎ TraceRan bytes due output)
+-- the bytes are a trace, and it was run
+pub record TraceRan (config : Config) (bytes : List ℕ) (due : Status) (output : List ℕ) : Type 0 where
+  pub script : Script
+  pub says : script_of bytes ≡ Ok script
+  pub one_thread : IsOneThread script
+  pub ran : RunDue script config due output
+
+-- what is due for the bytes of a trace, with these numbers of a run
+abbrev pub TraceDue : Config → List ℕ → Status → List ℕ → Type 0
+TraceDue config bytes due output = TraceRefused bytes due output ⊎ (TraceNotBuilt bytes due output ⊎ TraceRan config bytes due output)
 
 -- the reading failed, behind these bytes
 pub record CouldNotRead (input : Change) (due : Status) (output : List ℕ) : Type 0 where
@@ -71,14 +78,14 @@ pub record CouldNotRead (input : Change) (due : Status) (output : List ℕ) : Ty
   pub told : output ≡ read_fault_text
 
 -- the input was read
-pub record CouldRead (input : Change) (due : Status) (output : List ℕ) : Type 0 where
+pub record CouldRead (config : Config) (input : Change) (due : Status) (output : List ℕ) : Type 0 where
   pub bytes : List ℕ
   pub read : WasRead input bytes
-  pub trace : TraceDue bytes due output
+  pub trace : TraceDue config bytes due output
 
 -- what `step` has to write and to answer
-abbrev pub StepDue : Change → Status → List ℕ → Type 0
-StepDue input due output = CouldNotRead input due output ⊎ CouldRead input due output
+abbrev pub StepDue : Config → Change → Status → List ℕ → Type 0
+StepDue config input due output = CouldNotRead input due output ⊎ CouldRead config input due output
 
 -- the words mean nothing: nothing is read
 pub record NotUnderstood (input : Change) (due : Status) (output : List ℕ) : Type 0 where
@@ -89,7 +96,7 @@ pub record NotUnderstood (input : Change) (due : Status) (output : List ℕ) : T
 -- What a command has to write and to answer.
 abbrev pub Due : Option Command → Change → Status → List ℕ → Type 0
 Due None input due output = NotUnderstood input due output
-Due (Some Step) input due output = StepDue input due output
+Due (Some (Step config)) input due output = StepDue config input due output
 
 -- everything that was due was written
 pub record WroteAll (command : Option Command) (input out : Change) (answered : Status) : Type 0 where
@@ -125,7 +132,7 @@ IsBuilt status.Usage = Unit {0}
 IsBuilt status.Trace = Unit {0}
 IsBuilt status.ReadFault = Unit {0}
 IsBuilt status.DiskFault = ⊥
-IsBuilt status.OutOfHeap = ⊥
+IsBuilt status.OutOfHeap = Unit {0}
 IsBuilt status.DiskFull = ⊥
 IsBuilt status.WriteFault = Unit {0}
 IsBuilt status.NoMemory = Unit {0}

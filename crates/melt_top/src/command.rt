@@ -2,7 +2,7 @@
 ghost use Rattle.std.specs.Prelude.{◌≡◌, ◌≤◌, map, string_bytes, IfSome, option_and_then};
 ghost use Rattle.melt_model.specs.Config.{InRanges};
 ghost use Rattle.melt_trace.specs.Language.{number_of};
-ghost use Rattle.melt_top.specs.Command.{HasRanges, between, configured, meant, once, options, with_option};
+ghost use Rattle.melt_top.specs.Command.{HasRanges, IsGiven, between, configured, meant, once, options, with_option};
 
 use melt_model::Config;
 use melt_trace::read_number;
@@ -36,7 +36,8 @@ struct Limits {
 impl Limits {
     /// The number that a word spells, where it is within the bounds.
     fn read(self, word: &str) -> Option<u32>
-        ensures { result ≡ between self.low self.high (number_of word.now) }
+        ensures value { result ≡ between self.low self.high (number_of word.now) }
+        ensures within { IfSome result (λ n. (self.low ≤ n) × (n ≤ self.high)) }
     {
         let number = u32::try_from(read_number(word.as_bytes())?).ok()?;
         (self.low <= number && number <= self.high).then_some(number)
@@ -46,7 +47,8 @@ impl Limits {
 impl Given {
     /// What is given with one option more.
     fn with(self, name: &str, value: &str) -> Option<Given>
-        ensures { result ≡ with_option self name.now value.now }
+        ensures value { result ≡ with_option self name.now value.now }
+        ensures given { IfSome result IsGiven }
     {
         match name {
             "--heap" if self.heap.is_none() => Some(Given {
@@ -58,7 +60,9 @@ impl Given {
 
     /// What is given with all options of these words.
     fn with_all(self, words: &[String]) -> Option<Given>
-        ensures { result ≡ options self (map string_bytes words.now) }
+        requires { IsGiven self }
+        ensures value { result ≡ options self (map string_bytes words.now) }
+        ensures given { IfSome result IsGiven }
     {
         match words {
             [] => Some(self),
@@ -69,7 +73,9 @@ impl Given {
 
     /// What a run is given where no option says otherwise.
     fn config(self) -> Config
-        ensures { result ≡ configured self }
+        requires { IsGiven self }
+        ensures value { result ≡ configured self }
+        ensures ranges { InRanges result }
     {
         Config {
             heap: self.heap.unwrap_or(65_536),

@@ -2,8 +2,6 @@
 #![tactic(auto)]
 
 mod command;
-mod plain;
-mod run;
 mod status;
 #[cfg(test)]
 mod tests;

@@ -1,18 +1,20 @@
 //! The whole program, over any source and any sink.
 ghost use Rattle.std.specs.Prelude.{◌≡◌, map, string_bytes, IfOk, IfNone, IsNone, OnErr};
 ghost use Rattle.melt_io.specs.Outside.{Rose};
+ghost use Rattle.melt_model.specs.Config.{InRanges};
 ghost use Rattle.melt_trace.specs.Grammar.{line};
+ghost use Rattle.melt_trace.specs.Language.{IsOneThread};
 ghost use Rattle.melt_top.specs.Command.{meant};
 ghost use Rattle.melt_top.specs.Text.{refused_text};
-ghost use Rattle.melt_top.specs.Headline.{IsUntouched, TraceDue, StepDue, Due, Outcome, IsBuilt};
+ghost use Rattle.melt_top.specs.Headline.{IsUntouched, RunDue, TraceDue, StepDue, Due, Outcome, IsBuilt};
 
 use crate::command::{Command, command_of};
-use crate::run::run_plain;
 use crate::status::{Status, status_for};
 use crate::text::report_text;
 use melt_io::{Gate, ReadRefusal, Sink, Source, StaleDisk, read_all, write_all};
-use melt_model::NoMemory;
-use melt_trace::{ParseRefusal, TraceError, parse, push_line};
+use melt_model::{Config, NoMemory};
+use melt_step::run_schedule;
+use melt_trace::{ParseRefusal, Trace, TraceError, parse, push_line};
 use std::alloc::Global;
 use std::thread::Threads;
 
@@ -50,35 +52,48 @@ impl Answer {
     }
 }
 
+/// What is due for a run of a trace.
+fn run_answer(alloc: Global, config: Config, trace: &Trace) -> Result<Answer, NoMemory>
+    requires one_thread { IsOneThread trace.now }
+    requires ranges { InRanges config }
+    ensures { IfOk result (λ answer. RunDue trace.now config answer.status answer.text.items) }
+{
+    let (report, _heap) = run_schedule(alloc, trace, config)?;
+    let text = report_text(alloc, &report)?;
+    Ok(Answer {
+        status: status_for(&report),
+        text,
+    })
+}
+
 /// What is due for the bytes of a trace.
-fn trace_answer(alloc: Global, bytes: &[u8]) -> Result<Answer, NoMemory>
-    ensures { IfOk result (λ answer. TraceDue bytes.now answer.status answer.text.items) }
+fn trace_answer(alloc: Global, config: Config, bytes: &[u8]) -> Result<Answer, NoMemory>
+    requires { InRanges config }
+    ensures { IfOk result (λ answer. TraceDue config bytes.now answer.status answer.text.items) }
 {
     match parse(alloc, bytes) {
         Ok(trace) if trace.threads() > 1 || trace.orders() > 0 => {
             Answer::refused(alloc, NOT_BUILT)
         }
-        Ok(trace) => {
-            let report = run_plain(alloc, &trace)?;
-            let text = report_text(alloc, &report)?;
-            Ok(Answer {
-                status: status_for(&report),
-                text,
-            })
-        }
+        Ok(trace) => run_answer(alloc, config, &trace),
         Err(ParseRefusal::Bad(error)) => Answer::refused(alloc, error),
         Err(ParseRefusal::NoMemory) => Err(NoMemory),
     }
 }
 
 /// What is due for the input of `step`.
-fn step_answer<S: Source>(alloc: Global, input: &mut S) -> Result<Answer, NoMemory>
-    ensures { IfOk result (λ answer. StepDue
+fn step_answer<S: Source>(
+    alloc: Global,
+    config: Config,
+    input: &mut S,
+) -> Result<Answer, NoMemory>
+    requires { InRanges config }
+    ensures { IfOk result (λ answer. StepDue config
         (record { before = S.left input.old; after = S.left input.new; faults_before = S.faults input.old; faults_after = S.faults input.new })
         answer.status answer.text.items) }
 {
     match read_all(alloc, input, MAX_INPUT) {
-        Ok(bytes) => trace_answer(alloc, &bytes),
+        Ok(bytes) => trace_answer(alloc, config, &bytes),
         Err(ReadRefusal::Fault) => Answer::line(alloc, Status::ReadFault, b"error read", &[]),
         Err(ReadRefusal::TooLong) => Answer::refused(alloc, TraceError { line: 0, reason: 1 }),
         Err(ReadRefusal::NoMemory) => Err(NoMemory),
@@ -95,7 +110,7 @@ fn answer_to<S: Source>(alloc: Global, words: &[String], input: &mut S) -> Resul
 {
     match command_of(words) {
         None => Answer::line(alloc, Status::Usage, b"error usage", &[]),
-        Some(Command::Step) => step_answer(alloc, input),
+        Some(Command::Step(config)) => step_answer(alloc, config, input),
     }
 }
 

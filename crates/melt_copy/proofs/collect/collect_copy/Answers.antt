@@ -1,4 +1,4 @@
-use Rattle.std.proofs.Common.{◌≡◌, ◌≤◌, ◌+◌, ◌-◌, length, refl, arith}
+use Rattle.std.proofs.Common.{refl, arith}
 use Rattle.melt_copy.proofs.Collects.{copied_fits, nothing_goes, may_rename, put_collects}
 use Rattle.melt_copy.proofs.collect.collect_copy.Goals as goal
 

@@ -1,4 +1,4 @@
-use Rattle.std.proofs.Common.{◌≤◌, ◌-◌, refl, arith}
+use Rattle.std.proofs.Common.{◌-◌, refl, arith}
 use Rattle.melt_copy.specs.declared.collect.Copied.{Copied}
 use Rattle.melt_copy.proofs.Outs.{outs_start, outs_held, copies}
 use Rattle.melt_copy.proofs.collect.copy_out.Goals as goal

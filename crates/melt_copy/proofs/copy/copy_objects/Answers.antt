@@ -1,4 +1,4 @@
-use Rattle.std.proofs.Common.{◌<◌, ◌+◌, ◌-◌, ◌≡◌, arith, length, subst}
+use Rattle.std.proofs.Common.{◌≡◌, arith, length, subst}
 use Rattle.melt_copy.specs.Plans.{HasCopied}
 use Rattle.melt_copy.proofs.Growth.{Grows-more}
 use Rattle.melt_copy.proofs.Queue.{next_object, copied_more, count_fits, longer}

@@ -1,4 +1,4 @@
-use Rattle.std.proofs.Common.{ℕ, ◌≤◌, ◌+◌, ◌-◌, length}
+use Rattle.std.proofs.Common.{◌≤◌, ◌+◌, ◌-◌, length}
 use Rattle.melt_scion.specs.State.{State}
 use Rattle.melt_copy.specs.Plans.{Grows, HasCopied, Plans}
 use Rattle.melt_copy.proofs.copy.copy_objects.Given as goal

@@ -1,7 +1,7 @@
-use Rattle.std.proofs.Common.{◌<◌, ◌≤◌, length, arith}
+use Rattle.std.proofs.Common.{arith}
 use Rattle.std.proofs.lemmas.List.{get_or_default}
 use Rattle.melt_copy.proofs.Growth.{Grows-more}
-use Rattle.melt_copy.proofs.Held.{plans_thread, threads_more, each_thread_more, finds_threads}
+use Rattle.melt_copy.proofs.Held.{plans_thread, threads_more, each_thread_more}
 use Rattle.melt_copy.proofs.copy.find_all_held.Goals as goal
 
 pub find_held-requires : goal.find_held-requires

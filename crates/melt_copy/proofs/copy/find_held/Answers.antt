@@ -1,8 +1,6 @@
-use Rattle.std.proofs.Common.{◌≡◌, ◌≢◌, ◌<◌, ◌+◌, refl, sym, subst}
+use Rattle.std.proofs.Common.{◌+◌, sym, subst}
 use Rattle.std.specs.Prelude.{slice_index}
 use Rattle.melt_copy.specs.declared.plan.Plan.{Plan}
-use Rattle.melt_copy.specs.Plans.{goes, Grows}
-use Rattle.melt_copy.proofs.Growth.{Grows-more}
 use Rattle.melt_copy.proofs.Held.{plans_register, HoldsSoFar, holds_found, holds_empty}
 use Rattle.melt_copy.proofs.copy.find_held.Goals as goal
 use Rattle.melt_copy.proofs.copy.find_held.Goals.{then-address-ne0+in_ok-find, else-address-ne0}

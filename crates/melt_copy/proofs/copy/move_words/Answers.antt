@@ -1,4 +1,4 @@
-use Rattle.std.proofs.Common.{◌<◌, length, arith}
+use Rattle.std.proofs.Common.{arith}
 use Rattle.melt_copy.proofs.Growth.{words_for, Grows-more, Extends-push, moves_push}
 use Rattle.melt_copy.proofs.copy.move_words.Goals as goal
 

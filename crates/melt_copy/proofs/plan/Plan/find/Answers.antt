@@ -1,4 +1,4 @@
-use Rattle.std.proofs.Common.{◌≡◌, ◌<◌, ◌≤◌, ◌+◌, ◌^◌, ap, sym, refl, arith, ◌∙◌}
+use Rattle.std.proofs.Common.{◌≡◌, ◌+◌, ap, refl, arith, ◌∙◌}
 use Rattle.melt_copy.proofs.PlanLaws.{at_within, is_known, next_after_fits, used_small, known_small, not_known, find_only, plans_found}
 use Rattle.melt_copy.specs.Plans.{goes}
 use Rattle.melt_copy.proofs.plan.Plan.find.Goals as goal
