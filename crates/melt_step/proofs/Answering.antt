@@ -1,10 +1,10 @@
 -- What an operation does, by the object in its register.
-use Rattle.std.proofs.Common.{◌≡◌, ◌≢◌, ℕ, ◌+◌, ◌*◌, ◌^◌, ◌<◌, ◌≤◌, zero, suc, Bool, true, false, List, [], ◌∷◌, ◌++◌, length, get_or, refl, sym, ◌∙◌, ap, subst, arith, ◌⊎◌, inl, inr, eqb}
+use Rattle.std.proofs.Common.{◌≡◌, ◌≢◌, ℕ, ◌+◌, ◌<◌, ◌≤◌, Bool, false, List, [], ◌∷◌, ◌++◌, length, refl, sym, ◌∙◌, ap, subst, arith, inl, inr}
 use Rattle.std.proofs.lemmas.Bool.{lt-ltb, ne_eqb}
 use Rattle.std.proofs.Math.ListN.{set}
-use Rattle.std.specs.Prelude.{if◌then◌else◌, Option, None, Some, IsSomeAnd, IsSome}
+use Rattle.std.specs.Prelude.{if◌then◌else◌, Option, Some, IsSomeAnd}
 use Rattle.std.specs.Option.{option_map_or}
-use Rattle.melt_model.specs.History.{Shape, shape, made, last, IsSlot}
+use Rattle.melt_model.specs.History.{Shape, shape, IsSlot}
 use Rattle.melt_model.specs.Thread.{Deed, unchanged, on_part, does, found, value_in, value_eq}
 use Rattle.melt_model.specs.declared.operations.Op.{Op}
 use Rattle.melt_model.specs.declared.operations.Op.TheVariants as op
@@ -12,18 +12,18 @@ use Rattle.melt_model.specs.declared.operations.Reply.{Reply}
 use Rattle.melt_model.specs.declared.operations.Reply.TheVariants as reply
 use Rattle.melt_model.specs.declared.history.Value.{Value}
 use Rattle.melt_model.specs.declared.history.Value.TheVariants.{Nil, Ref, Num}
-use Rattle.melt_model.specs.declared.history.Slot.TheVariants.{Field, Cell, Global}
-use Rattle.melt_model.specs.declared.history.Act.TheVariants.{Make, Read, Write}
+use Rattle.melt_model.specs.declared.history.Slot.TheVariants.{Field, Cell}
+use Rattle.melt_model.specs.declared.history.Act.TheVariants.{Read}
 use Rattle.melt_model.specs.declared.history.Entry.{Entry}
-use Rattle.melt_word.specs.Words.{cost_of, ref_word, IsRef}
+use Rattle.melt_word.specs.Words.{cost_of}
 use Rattle.melt_word.specs.declared.header.Shape as words
 use Rattle.melt_word.specs.declared.header.Header.{Header}
-use Rattle.melt_space.specs.Space.{SpaceWords, IsWord, HasHeader, word_at}
-use Rattle.melt_scion.specs.State.{State, HeaderAt, ObjectAt, IsFresh}
-use Rattle.melt_scion.specs.Placed.{Maps, MayHold, Formed, Placed}
+use Rattle.melt_space.specs.Space.{SpaceWords, IsWord, HasHeader}
+use Rattle.melt_scion.specs.State.{State, HeaderAt, ObjectAt}
+use Rattle.melt_scion.specs.Placed.{MayHold}
 use Rattle.melt_scion.specs.declared.heap.Names as heap
 use Rattle.melt_step.specs.Answering.{entry, gives, with_entry, Answers}
-use Rattle.melt_step.specs.Machine.{maps_of, numbers_of, held_value, held_values, of_thread, shown, StandsFor}
+use Rattle.melt_step.specs.Machine.{maps_of, held_value, shown, StandsFor}
 use Rattle.melt_step.proofs.Values.{held_is, named_value}
 
 -- an answer, by what the operation does
@@ -66,25 +66,11 @@ load_answers h rs dst src i n z v r h' rs' is at below told registers history =
     (part_there (λ (x : Shape). x.refs) h rs (value_in rs src) n i (shape_of z) (λ m. record { act = Some (Read (Field m i) v); reply = found v; registers = set rs dst v }) is at below)
     refl told registers history
 
--- a store to a slot that is there
-pub store_answers : (h : List Entry) (rs : List Value) (obj i src n : ℕ) (z : words.Shape) (r : Reply) (h' : List Entry) (rs' : List Value) → value_in rs obj ≡ Ref n → shape h n ≡ Some (shape_of z) → i < z.refs → reply.Done ≡ r → rs' ≡ rs → h' ≡ h ++ entry (Write (Field n i) (value_in rs src)) ∷ [] → Answers h rs (op.Store obj i src) r h' rs'
-store_answers h rs obj i src n z r h' rs' is at below told registers history =
-    Answers_by h rs (op.Store obj i src) Nil (record { act = Some (Write (Field n i) (value_in rs src)); reply = reply.Done; registers = rs }) r h' rs'
-    (part_there (λ (x : Shape). x.refs) h rs (value_in rs obj) n i (shape_of z) (λ m. record { act = Some (Write (Field m i) (value_in rs src)); reply = reply.Done; registers = rs }) is at below)
-    refl told registers history
-
 -- a read of a number word that is there
 pub get_answers : (h : List Entry) (rs : List Value) (src j n v : ℕ) (z : words.Shape) (r : Reply) (h' : List Entry) (rs' : List Value) → value_in rs src ≡ Ref n → shape h n ≡ Some (shape_of z) → j < z.nums → reply.Num v ≡ r → rs' ≡ rs → h' ≡ h ++ entry (Read (Cell n j) (Num v)) ∷ [] → Answers h rs (op.Get src j) r h' rs'
 get_answers h rs src j n v z r h' rs' is at below told registers history =
     Answers_by h rs (op.Get src j) (Num v) (record { act = Some (Read (Cell n j) (Num v)); reply = reply.Num v; registers = rs }) r h' rs'
     (part_there (λ (x : Shape). x.nums) h rs (value_in rs src) n j (shape_of z) (λ m. record { act = Some (Read (Cell m j) (Num v)); reply = reply.Num v; registers = rs }) is at below)
-    refl told registers history
-
--- a write to a number word that is there
-pub put_answers : (h : List Entry) (rs : List Value) (obj j v n : ℕ) (z : words.Shape) (r : Reply) (h' : List Entry) (rs' : List Value) → value_in rs obj ≡ Ref n → shape h n ≡ Some (shape_of z) → j < z.nums → reply.Done ≡ r → rs' ≡ rs → h' ≡ h ++ entry (Write (Cell n j) (Num v)) ∷ [] → Answers h rs (op.Put obj j v) r h' rs'
-put_answers h rs obj j v n z r h' rs' is at below told registers history =
-    Answers_by h rs (op.Put obj j v) Nil (record { act = Some (Write (Cell n j) (Num v)); reply = reply.Done; registers = rs }) r h' rs'
-    (part_there (λ (x : Shape). x.nums) h rs (value_in rs obj) n j (shape_of z) (λ m. record { act = Some (Write (Cell m j) (Num v)); reply = reply.Done; registers = rs }) is at below)
     refl told registers history
 
 -- two addresses that may stand in registers are those of different values

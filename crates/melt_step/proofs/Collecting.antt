@@ -1,18 +1,16 @@
 -- A collection of a machine's heap, and a new object in it.
-use Rattle.std.proofs.Common.{◌≡◌, ℕ, ◌+◌, ◌<◌, ◌≤◌, zero, suc, List, [], ◌∷◌, ◌++◌, length, get_or, refl, sym, ◌∙◌, ap, subst, arith}
-use Rattle.std.specs.Prelude.{◌-◌, ◌^◌, All, Option, None, Some, IsSome, replicate, true}
+use Rattle.std.proofs.Common.{◌≡◌, ℕ, ◌+◌, ◌<◌, List, [], ◌∷◌, ◌++◌, length, get_or, refl, sym, ◌∙◌, ap, subst, arith}
+use Rattle.std.specs.Prelude.{◌-◌, ◌^◌, All, None, Some, IsSome, replicate, true}
 use Rattle.std.proofs.lemmas.List.{length-replicate}
 use Rattle.melt_model.specs.declared.operations.Op.TheVariants as op
 use Rattle.melt_space.specs.declared.space.NoRoom.{NoRoom}
 use Rattle.melt_scion.specs.Heaps.{IsNewHeap}
 use Rattle.std.proofs.lemmas.List.Elements.{All-append, All-from_recursion}
-use Rattle.std.proofs.Math.ListN.{set}
 use Rattle.melt_model.specs.Alive.{Alive, words_of, CostsSum}
 use Rattle.melt_model.specs.declared.history.Entry.{Entry}
 use Rattle.melt_model.specs.declared.reports.Phase.TheVariants.{Inactive}
 use Rattle.melt_model.specs.declared.reports.Journal.{Journal}
 use Rattle.melt_scion.specs.declared.registers.Registers.{Registers}
-use Rattle.melt_scion.specs.declared.heap.Heap.{Heap}
 use Rattle.melt_copy.specs.Copying.{Collects}
 use Rattle.melt_step.specs.Machine.{IsStanding, IsFresh, HasCollected, HasRefused, HasStopped, StandsFor, UsesAlive, held_values, maps_of, numbers_of, of_thread, values_of}
 use Rattle.melt_step.specs.declared.machine.Machine.{Machine}

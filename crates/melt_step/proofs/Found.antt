@@ -1,5 +1,5 @@
 -- What a word that was decoded refers to.
-use Rattle.std.proofs.Common.{◌≡◌, ◌≢◌, ℕ, ◌+◌, ◌*◌, ◌<◌, ◌≤◌, zero, suc, List, refl, sym, ◌∙◌, ap, subst, arith, ◌⊎◌, inl, inr}
+use Rattle.std.proofs.Common.{◌≡◌, ℕ, ◌<◌, zero, suc, refl, sym, ◌∙◌, ap, subst, arith, inr}
 use Rattle.std.specs.Prelude.{Option, None, Some, IsSome, unwrap_or}
 use Rattle.std.specs.Option.{option_map}
 use Rattle.melt_model.specs.declared.history.Value.{Value}
@@ -8,7 +8,7 @@ use Rattle.melt_word.specs.Words.{IsRef, ref_word}
 use Rattle.melt_word.specs.declared.reference.Ref.{Ref}
 use Rattle.melt_word.specs.declared.reference.Ref.TheVariants.{Null, Clean, Stale, Disk}
 use Rattle.melt_word.proofs.OneToOne.{same_ref}
-use Rattle.melt_scion.specs.State.{State, IsFresh}
+use Rattle.melt_scion.specs.State.{State}
 use Rattle.melt_scion.specs.Placed.{Maps, Stands, MayStand, IsReferenceWord, MayHold, value_of}
 use Rattle.melt_scion.specs.Names.{name_at}
 use Rattle.melt_scion.specs.declared.heap.Names as heap
@@ -45,11 +45,6 @@ found_clean names word (suc a) v stands range is = some_value (name_at (numbers_
 
 pub may_clean : (maps : Maps) (s : State) (word a : ℕ) → IsReferenceWord maps s word → IsRef (Clean a) → word ≡ ref_word (Clean a) → MayHold maps s a
 may_clean maps s word a may range is = inr (may_stand_so maps s word (Clean a) may range is)
-
--- a stale address
-pub found_stale : (names : Option heap.Names) (word a : ℕ) (v : Value) → Stands (maps_of names) word v → IsRef (Stale a) → word ≡ ref_word (Stale a) → held_value names a ≡ v
-found_stale names word zero v stands range is = absurd (let some : 0 < 0 = range.not_null in omega arith)
-found_stale names word (suc a) v stands range is = some_value (name_at (numbers_of names) (suc a)) v (stands_for (maps_of names) word (Stale (suc a)) v stands range is)
 
 pub named_stale : (maps : Maps) (s : State) (word a : ℕ) → IsReferenceWord maps s word → IsRef (Stale a) → word ≡ ref_word (Stale a) → (n : ℕ) × (maps.address a ≡ Some n)
 named_stale maps s word a may range is = may_stand_so maps s word (Stale a) may range is

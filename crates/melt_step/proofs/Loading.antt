@@ -1,22 +1,19 @@
 -- What a load finds: the reference in a slot, made clean where it was stale.
-use Rattle.std.proofs.Common.{◌≡◌, ◌≢◌, ℕ, ◌+◌, ◌*◌, ◌<◌, ◌≤◌, zero, suc, List, [], ◌∷◌, ◌++◌, length, get_or, refl, sym, ◌∙◌, ap, subst, arith, inl, inr}
+use Rattle.std.proofs.Common.{◌≡◌, ℕ, ◌+◌, ◌*◌, ◌<◌, List, [], ◌∷◌, ◌++◌, length, get_or, refl, sym, ◌∙◌, ap, subst, arith, inl, inr}
 use Rattle.std.proofs.Math.ListN.{set, length-set}
 use Rattle.std.proofs.lemmas.List.{get_or-set_same}
-use Rattle.std.specs.Prelude.{Option, None, Some}
+use Rattle.std.specs.Prelude.{Option, Some}
 use Rattle.std.specs.Option.{option_map_or}
 use Rattle.melt_model.specs.History.{Shape, shape, last}
 use Rattle.melt_model.specs.declared.history.Value.{Value}
 use Rattle.melt_model.specs.declared.history.Slot.{Slot}
 use Rattle.melt_model.specs.declared.history.Slot.TheVariants.{Field, Global}
 use Rattle.melt_model.specs.declared.history.Entry.{Entry}
-use Rattle.melt_word.specs.Words.{IsRef, IsAddress, ref_word}
+use Rattle.melt_word.specs.Words.{IsAddress, ref_word}
 use Rattle.melt_word.specs.declared.header.Shape as words
-use Rattle.melt_word.specs.declared.header.Header.{Header}
-use Rattle.melt_word.specs.declared.reference.Ref.{Ref}
-use Rattle.melt_word.specs.declared.reference.Ref.TheVariants.{Null, Clean, Stale, Disk}
+use Rattle.melt_word.specs.declared.reference.Ref.TheVariants.{Null, Clean, Stale}
 use Rattle.melt_space.specs.Space.{SpaceWords, word_at, SetsWord}
-use Rattle.melt_scion.specs.State.{State, HeaderAt, IsFresh}
-use Rattle.melt_scion.specs.Placed.{Maps, Stands, IsReferenceWord, MayHold}
+use Rattle.melt_scion.specs.Placed.{Stands, IsReferenceWord, MayHold}
 use Rattle.melt_scion.specs.declared.heap.Names as heap
 use Rattle.melt_step.specs.Machine.{maps_of, held_value, shown, StandsFor, IsStanding, maps_in, state_in, IsObject, HoldsRef, HasCleared, HasFound, HasRead, HasReplied, IsHeld, KeepsRest, held_values, values_of}
 use Rattle.melt_step.specs.Answering.{entry}
@@ -27,7 +24,7 @@ use Rattle.melt_scion.specs.declared.registers.Registers.{Registers}
 use Rattle.melt_step.specs.declared.machine.Object.{Object}
 use Rattle.melt_step.specs.declared.machine.Machine.{Machine}
 use Rattle.melt_step.proofs.Answering.{object_shape, load_answers}
-use Rattle.melt_step.proofs.Found.{found_null, found_clean, may_clean, named_stale, is_some, not_disk}
+use Rattle.melt_step.proofs.Found.{found_null, found_clean, may_clean, named_stale}
 use Rattle.melt_step.proofs.Standing.{StandsFor_untag, StandsFor_untag_global, part_stays}
 
 -- a part of the shape that the history has is one of the header

@@ -2,38 +2,32 @@
 use Rattle.std.proofs.Common.{◌≡◌, ℕ, ◌+◌, ◌<◌, ◌≤◌, List, [], ◌∷◌, ◌++◌, length, zero, suc, refl, sym, ◌∙◌, ap, subst, arith, append_assoc, length-append}
 use Rattle.std.proofs.lemmas.List.{append-nil}
 use Rattle.std.proofs.lemmas.List.Elements.{All-from_recursion}
-use Rattle.std.specs.Prelude.{◌↔◌, Option, None, Some, unwrap_or, All, IsSome, IfSome, slice_get, drop, replicate}
+use Rattle.std.specs.Prelude.{Option, None, Some, unwrap_or, slice_get, drop}
 use Rattle.std.specs.List.{AllByRecursion}
-use Rattle.std.specs.Option.{option_map_or}
-use Rattle.melt_model.specs.History.{Legal, last}
+use Rattle.melt_model.specs.History.{Legal}
 use Rattle.melt_model.specs.Thread.{Deed, does, Transcript, registers_after, value_in}
 use Rattle.melt_model.specs.Standing.{HoldReferences, Stands}
-use Rattle.melt_model.specs.Alive.{Held, Alive, in_register, in_global, in_slot, words_of, CostsSum}
+use Rattle.melt_model.specs.Alive.{Alive, words_of}
 use Rattle.melt_model.specs.declared.config.Config.{Config}
 use Rattle.melt_model.specs.declared.history.Value.{Value}
-use Rattle.melt_model.specs.declared.history.Value.TheVariants.{Nil, Ref}
-use Rattle.melt_model.specs.declared.history.Slot.TheVariants.{Field, Global}
+use Rattle.melt_model.specs.declared.history.Value.TheVariants.{Nil}
 use Rattle.melt_model.specs.declared.history.Act.{Act}
 use Rattle.melt_model.specs.declared.history.Entry.{Entry}
 use Rattle.melt_model.specs.declared.operations.Op.{Op}
-use Rattle.melt_model.specs.declared.operations.Op.TheVariants as op
 use Rattle.melt_model.specs.declared.operations.Reply.{Reply}
-use Rattle.melt_model.specs.declared.reports.Phase.TheVariants.{Inactive}
-use Rattle.melt_model.specs.declared.reports.Journal.{Journal}
 use Rattle.melt_model.specs.declared.reports.ThreadEnd.{ThreadEnd}
 use Rattle.melt_model.specs.declared.reports.ThreadEnd.TheVariants as end
 use Rattle.melt_model.specs.declared.reports.ThreadReport.{ThreadReport}
 use Rattle.melt_model.specs.declared.reports.Report.{Report}
 use Rattle.melt_model.proofs.Sums.{CostsSum-same}
-use Rattle.melt_model.proofs.Transcripts.{Stands_start, Stands_local, Stands_entry, Transcript_so_far, one_reply_each, registers_so_far}
+use Rattle.melt_model.proofs.Transcripts.{Stands_local, Stands_entry, Transcript_so_far, one_reply_each, registers_so_far}
 use Rattle.melt_trace.specs.Script.{Script, expand, operations}
 use Rattle.melt_trace.specs.declared.script.Item.{Item}
 use Rattle.std.proofs.lemmas.Option.{slice_get_past}
 use Rattle.melt_step.proofs.Values.{get_or_replicate}
-use Rattle.melt_scion.specs.declared.heap.Heap.{Heap}
 use Rattle.melt_step.specs.Answering.{Answers, entry, gives, with_entry}
-use Rattle.melt_step.specs.Machine.{IsStanding, IsFresh, IsFull, IsUnderWay, EndsSo, HasEnded, HasReplied, HasStopped, HasToldAll, UsesAlive, maps_of, of_thread, values_of}
-use Rattle.melt_step.specs.Run.{HasHistory, IsOutOfHeap, IsStepReport, IsLeft, HasRun, MayEnd, answered, registers_at_end}
+use Rattle.melt_step.specs.Machine.{IsStanding, IsFull, IsUnderWay, EndsSo, HasEnded, HasReplied, maps_of, of_thread, values_of}
+use Rattle.melt_step.specs.Run.{IsStepReport, HasRun, MayEnd, registers_at_end}
 use Rattle.melt_step.specs.declared.machine.Machine.{Machine}
 use Rattle.melt_step.proofs.Standing.{names_are, placed_left, references_held}
 

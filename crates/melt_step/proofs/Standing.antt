@@ -5,8 +5,7 @@ use Rattle.std.proofs.Math.ListN.{set, length-set}
 use Rattle.std.proofs.lemmas.List.{get_or-set_same, get_or-set_other, length-replicate}
 use Rattle.std.specs.Prelude.{Option, None, Some, IsSome, ◌↔◌, replicate, false}
 use Rattle.std.specs.Option.{option_map_or}
-use Rattle.melt_model.specs.History.{Shape, shape, shapes, shape_made, read_of, write_of, made, last, IsSlot, IsReference, CanHold, MayFollow, Legal}
-use Rattle.melt_model.specs.Thread.{value_in}
+use Rattle.melt_model.specs.History.{Shape, shape, shapes, shape_made, made, last, IsSlot, IsReference, CanHold, MayFollow, Legal}
 use Rattle.melt_model.specs.Standing.{HoldReferences}
 use Rattle.melt_model.specs.Alive.{Alive, words_of, CostsSum}
 use Rattle.melt_model.specs.declared.history.Value.{Value}
@@ -16,15 +15,15 @@ use Rattle.melt_model.specs.declared.history.Slot.TheVariants.{Field, Cell, Glob
 use Rattle.melt_model.specs.declared.history.Act.{Act}
 use Rattle.melt_model.specs.declared.history.Act.TheVariants.{Make, Read, Write}
 use Rattle.melt_model.specs.declared.history.Entry.{Entry}
-use Rattle.melt_model.proofs.Histories.{made-append, shape-append, Legal-push, last_holds}
+use Rattle.melt_model.proofs.Histories.{made-append, shape-append, Legal-push}
 use Rattle.melt_model.proofs.Sums.{CostsSum-same, CostsSum-cost, CostsSum-more, CostsSum-empty}
 use Rattle.melt_word.specs.Words.{IsShape, cost_of, header_word, ref_word}
 use Rattle.melt_word.specs.declared.header.Shape as words
 use Rattle.melt_word.specs.declared.header.Header.{Header}
 use Rattle.melt_space.specs.Space.{SpaceWords, word_at, Makes, SetsWord}
-use Rattle.melt_scion.specs.State.{State, HeaderAt, IsFresh, Reached}
+use Rattle.melt_scion.specs.State.{State, HeaderAt, IsFresh}
 use Rattle.melt_scion.specs.Placed.{Maps, Stands, IsReferenceWord, MayHold, Formed, value_at, Placed}
-use Rattle.melt_scion.specs.Changes.{SameBounds, WordChanges, GlobalChanges, RegisterChanges, ObjectAppears, NameAppears}
+use Rattle.melt_scion.specs.Changes.{SameBounds, WordChanges, GlobalChanges, ObjectAppears, NameAppears}
 use Rattle.melt_scion.specs.Collected.{InUse, InReach}
 use Rattle.melt_scion.specs.Names.{name_at}
 use Rattle.melt_scion.specs.Heaps.{state_of, HasNames, KeepsNames, NamesMade}
@@ -35,18 +34,18 @@ use Rattle.melt_model.specs.declared.reports.Phase.{Phase}
 use Rattle.melt_model.specs.declared.reports.Journal.{Journal}
 use Rattle.std.proofs.Math.Path.{fun_ext}
 use Rattle.melt_scion.specs.declared.heap.Names as heap
-use Rattle.melt_scion.proofs.Entries.{was_made, made_shape}
+use Rattle.melt_scion.proofs.Entries.{made_shape}
 use Rattle.melt_scion.proofs.Frame.{Placed_stays}
 use Rattle.melt_scion.proofs.Geometry.{one_header}
 use Rattle.melt_scion.proofs.Writes.{SameObjects_by_words}
-use Rattle.melt_scion.proofs.Reaching.{reached_named, reached_alive, alive_reached}
+use Rattle.melt_scion.proofs.Reaching.{reached_alive, alive_reached}
 use Rattle.melt_scion.proofs.Tags.{behind_header}
-use Rattle.melt_word.specs.declared.reference.Ref.TheVariants.{Null, Clean, Stale, Disk}
+use Rattle.melt_word.specs.declared.reference.Ref.TheVariants.{Stale}
 use Rattle.melt_scion.proofs.Events.{Placed_clear, Placed_untag_slot, Placed_untag_global, Placed_start, Placed_read, Placed_slot, Placed_number, Placed_global, Placed_make}
 use Rattle.melt_step.specs.Answering.{entry}
 use Rattle.melt_step.specs.Machine.{maps_of, numbers_of, held_value, held_values, of_thread, shown, StandsFor}
 use Rattle.melt_step.proofs.Answering.{object_shape, field_there, cell_there}
-use Rattle.melt_step.proofs.Values.{get_or_set_keeps, get_or_replicate, may_stand, stands_for_held, value_held, may_value, may_reference, may_small, named_made, named_value, held_is, held_values-set, same_values}
+use Rattle.melt_step.proofs.Values.{get_or_set_keeps, get_or_replicate, may_stand, stands_for_held, value_held, may_value, may_reference, named_made, named_value, held_is, held_values-set, same_values}
 
 -- all registers are set at once
 pub Placed_registers : (h : List Entry) (value new : ℕ → ℕ → Value) (maps : Maps) (s t : State) → Placed h value maps s → SameBounds s t → ((k : ℕ) → t.word k ≡ s.word k) → ((g : ℕ) → t.global g ≡ s.global g) → ((u r : ℕ) → MayHold maps s (t.register u r)) → ((u r : ℕ) → value_at maps (t.register u r) ≡ Some (new u r)) → Placed h new maps t

@@ -1,21 +1,18 @@
 -- What the registers of the one thread hold, and the names of addresses.
-use Rattle.std.proofs.Common.{◌≡◌, ◌≢◌, ℕ, ◌+◌, ◌*◌, ◌^◌, ◌<◌, ◌≤◌, zero, suc, List, [], ◌∷◌, ◌++◌, length, get_or, map, refl, sym, ◌∙◌, ap, subst, arith, ◌⊎◌, inl, inr, cond, eqb}
-use Rattle.std.proofs.lemmas.Bool.{eq-eqb, ne_eqb}
+use Rattle.std.proofs.Common.{◌≡◌, ℕ, ◌+◌, ◌*◌, ◌<◌, ◌≤◌, zero, suc, List, [], ◌∷◌, length, get_or, refl, sym, ◌∙◌, ap, subst, arith, inl, inr}
 use Rattle.std.proofs.Math.ListN.{set, get_or-map, length-map}
 use Rattle.std.proofs.lemmas.List.{map-set, ext_get_or}
-use Rattle.std.specs.Prelude.{Option, None, Some, unwrap_or, replicate, IsSome, false}
+use Rattle.std.specs.Prelude.{Option, None, Some, unwrap_or, replicate}
 use Rattle.std.specs.Option.{option_map}
-use Rattle.melt_model.specs.History.{shape, last, made, IsReference, Legal}
-use Rattle.melt_model.specs.Thread.{value_in, value_eq}
+use Rattle.melt_model.specs.History.{made, IsReference}
+use Rattle.melt_model.specs.Thread.{value_in}
 use Rattle.melt_model.specs.declared.history.Value.{Value}
-use Rattle.melt_model.specs.declared.history.Value.TheVariants.{Nil, Ref, Num}
-use Rattle.melt_model.specs.declared.history.Slot.TheVariants.{Field, Cell, Global}
+use Rattle.melt_model.specs.declared.history.Value.TheVariants.{Nil, Ref}
 use Rattle.melt_model.specs.declared.history.Entry.{Entry}
-use Rattle.melt_word.specs.Words.{IsAddress, ref_word, cost_of}
-use Rattle.melt_word.specs.declared.header.Header.{Header}
+use Rattle.melt_word.specs.Words.{cost_of}
 use Rattle.melt_word.specs.declared.reference.Ref.TheVariants.{Null, Clean}
-use Rattle.melt_scion.specs.State.{State, HeaderAt, IsFresh, ObjectAt}
-use Rattle.melt_scion.specs.Placed.{Maps, Stands, IsReferenceWord, MayHold, Formed, value_at, value_of, Placed}
+use Rattle.melt_scion.specs.State.{State}
+use Rattle.melt_scion.specs.Placed.{Maps, Stands, IsReferenceWord, MayHold, Formed, value_at, Placed}
 use Rattle.melt_scion.specs.Names.{name_at}
 use Rattle.melt_scion.specs.declared.heap.Names as heap
 use Rattle.melt_scion.proofs.Entries.{was_made}

@@ -2,6 +2,7 @@
 #![tactic(auto)]
 
 mod machine;
+mod parts;
 pub mod run;
 
 pub use run::run_schedule;

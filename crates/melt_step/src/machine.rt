@@ -1,31 +1,30 @@
 //! A heap over which the operations of one thread are answered, one after the other.
-ghost use Rattle.std.specs.Prelude.{◌≡◌, ◌≢◌, ◌+◌, ◌*◌, ◌^◌, ◌<◌, ◌≤◌, ℕ, length, slice_index, slice_set, Some, IfErr, IfOk, IfNone, IfSome, IsSome, OnOk};
+ghost use Rattle.std.specs.Prelude.{◌≡◌, ◌+◌, ◌^◌, ◌<◌, length, IfErr, IfNone, IfOk, IfSome, IsSome, OnOk};
 ghost use Rattle.melt_model.specs.History.{last, IsSlot};
 ghost use Rattle.melt_model.specs.Thread.{found as found_in, value_in};
 ghost use Rattle.melt_model.specs.declared.history.Value.TheVariants.{Nil};
 ghost use Rattle.melt_model.specs.declared.history.Slot.TheVariants.{Field};
 ghost use Rattle.melt_trace.specs.Grammar.{InRange};
 ghost use Rattle.melt_word.specs.Words.{IsShape};
-ghost use Rattle.melt_word.specs.declared.reference.Ref.{Ref};
 ghost use Rattle.melt_scion.specs.Placed.{MayHold};
-ghost use Rattle.melt_scion.specs.Changes.{NameAppears};
-ghost use Rattle.melt_scion.specs.Heaps.{IsFormed};
-ghost use Rattle.melt_copy.specs.Copying.{Collects};
-ghost use Rattle.melt_step.specs.Machine.{EndsSo, HasAnswered, HasCleared, HasCollected, HasFound, HasMade, HasRead, HasRefused, HasReplied, HasSet, HasWritten, HoldsRef, IsFresh, IsHeld, IsNamed, IsObject, IsStanding, held_value, maps_in, maps_of, numbers_of, state_in, values_of};
+ghost use Rattle.melt_step.specs.Machine.{HasAnswered, HasCleared, HasCollected, HasFound, HasMade, HasRead, HasRefused, HasReplied, HasSet, HasWritten, IsFresh, IsHeld, IsObject, IsStanding, held_value, maps_in, state_in, values_of};
 
-use melt_copy::collect_copy;
-use melt_model::{Act, Entry, Journal, NoMemory, Op, Phase, Reply, Slot, Steps, Value};
-use melt_scion::{Globals, Heap, Names, Registers};
+use crate::parts::{
+    collect_uncounted, global_word, reference, reference_word, registers, set_global_word,
+    set_name, value_at,
+};
+use melt_model::{Act, Entry, Journal, NoMemory, Op, Reply, Slot, Value};
+use melt_scion::{Heap, Registers};
 use melt_space::NoRoom;
-use melt_word::{Header, Ref, Shape, decode_ref, encode_header, encode_ref};
+use melt_word::{Header, Ref, Shape, encode_header};
 use std::alloc::Global;
 use std::marker::Brand;
-use std::sync::ledger::{Blank, Ledger};
+use std::sync::ledger::Blank;
 
 /// The thread that all operations are of.
 const THREAD: u8 = 0;
 
-/// An object of the heap: its number, from 0 in the order of makes, and its address.
+/// An object of the heap: its number, from 0 in the order of makes, its address from 1 on, and its shape.
 #[derive(Clone, Copy, Debug)]
 pub struct Object {
     pub number: u64,
@@ -51,8 +50,8 @@ impl Object {
     }
 }
 
-/// What becomes of an operation: it got its reply, or it makes an object for which the heap has no room. `held` words
-/// are in use then, and it needs `need`.
+/// What becomes of an operation: it got its reply, or it would make an object of `need` words, for which the heap has
+/// no room even after a collection, with `held` words in use.
 #[derive(Clone, Copy, Debug)]
 pub enum Answer {
     Told(Reply),
@@ -67,94 +66,6 @@ fn found(value: Value) -> Reply
         Value::Nil => Reply::Null,
         Value::Ref(_) | Value::Num(_) => Reply::Ref,
     }
-}
-
-/// The value that an address in a register stands for.
-fn value_at(names: &Option<Names>, address: u32) -> Value
-    ensures { result ≡ held_value names.now address }
-{
-    match names
-        .as_ref()
-        .and_then(|names| names.addresses.get(address))
-    {
-        Some(number) => Value::Ref(u64::from(number)),
-        None => Value::Nil,
-    }
-}
-
-/// Gives an address its name.
-fn set_name(names: &mut Option<Names>, address: u32, number: u32)
-    requires named { IsSome names.old }
-    requires first { 1 ≤ address }
-    requires last { address ≤ length (numbers_of names.old) }
-    ensures named { IsSome names.new }
-    ensures size { length (numbers_of names.new) ≡ length (numbers_of names.old) }
-    ensures appears { NameAppears (maps_of names.old) (maps_of names.new) address number }
-{
-    if let Some(names) = names {
-        names.addresses.set(address, number);
-    }
-}
-
-/// The reference that a word holds.
-fn reference(word: u64) -> Ref
-    requires { (r : Ref) × HoldsRef word r }
-    ensures { HoldsRef word result }
-{
-    match decode_ref(word) {
-        Ok(reference) => reference,
-        Err(_) => unreachable!(),
-    }
-}
-
-/// The word of a clean reference to the object at an address, or of none where the address is 0.
-fn reference_word(address: u32) -> u64
-    requires { address < 2 ^ 30 }
-    ensures { result ≡ 4 * address }
-{
-    if address == 0 {
-        encode_ref(Ref::Null)
-    } else {
-        encode_ref(Ref::Clean(address))
-    }
-}
-
-fn global_word(globals: &Globals, g: u8) -> u64
-    requires { g < length globals.now }
-    ensures { result ≡ slice_index globals.now g }
-{
-    globals.items[g as usize]
-}
-
-fn set_global_word(globals: &mut Globals, g: u8, word: u64)
-    requires { g < length globals.old }
-    ensures { globals.new ≡ slice_set globals.old g word }
-{
-    globals.items[g as usize] = word;
-}
-
-fn registers(regs: [u32; 16]) -> Registers
-    ensures same { result.regs ≡ regs }
-    ensures count { length result.regs ≡ 16 }
-{
-    Registers { regs }
-}
-
-/// Collects a heap, and counts no steps.
-fn collect_uncounted<L: Ledger>(
-    alloc: Global,
-    heap: &mut Heap,
-    held: &mut [Registers],
-    blank: Blank,
-) -> Result<Journal, NoMemory>
-    requires name { blank.name ≡ L.name }
-    requires parts { blank.parts ≡ L.parts }
-    requires some { 0 < blank.parts }
-    requires formed { IsFormed heap.old held.old }
-    ensures { IfOk result (Collects heap.old held.old heap.new held.new Phase.Inactive) }
-{
-    let mut steps = Steps::<L>::new(blank);
-    collect_copy(alloc, heap, held, Phase::Inactive, &mut steps)
 }
 
 /// A heap, the registers of the thread, and the history so far: the log of entries, how many of them are makes, and

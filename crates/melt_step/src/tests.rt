@@ -1,3 +1,5 @@
+ghost use Rattle.std.specs.Prelude.{◌≤◌};
+
 use super::*;
 use melt_model::{Config, NoMemory, Reply, ThreadEnd};
 use melt_trace::{Trace, parse};

@@ -1,4 +1,4 @@
-use Rattle.std.proofs.Common.{refl, sym}
+use Rattle.std.proofs.Common.{refl}
 use Rattle.melt_step.specs.Machine.{maps_in}
 use Rattle.melt_step.proofs.Found.{some_number}
 use Rattle.melt_step.proofs.Standing.{StandsFor_clear, fresh_cleared}

@@ -1,4 +1,4 @@
-use Rattle.std.proofs.Common.{length, refl, sym, ◌∙◌, ap}
+use Rattle.std.proofs.Common.{length, refl}
 use Rattle.melt_step.specs.Machine.{maps_of}
 use Rattle.melt_step.proofs.Standing.{names_are, names_made}
 use Rattle.melt_step.proofs.Collecting.{machine_collected}

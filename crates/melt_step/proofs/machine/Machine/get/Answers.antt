@@ -1,7 +1,4 @@
-use Rattle.std.proofs.Common.{◌≡◌, refl, sym, ◌∙◌, ap, subst, arith}
-use Rattle.melt_model.specs.History.{last}
-use Rattle.melt_model.specs.declared.history.Value.TheVariants.{Num}
-use Rattle.melt_model.specs.declared.history.Slot.TheVariants.{Cell}
+use Rattle.std.proofs.Common.{refl, arith}
 use Rattle.melt_step.proofs.Standing.{StandsFor_get}
 use Rattle.melt_step.proofs.Answering.{get_answers, object_shape}
 use Rattle.melt_step.specs.Machine.{values_of}

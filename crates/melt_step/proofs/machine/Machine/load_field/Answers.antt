@@ -1,4 +1,3 @@
-use Rattle.std.proofs.Common.{refl}
 use Rattle.melt_model.specs.declared.history.Slot.TheVariants.{Field}
 use Rattle.melt_step.specs.Machine.{maps_in, state_in}
 use Rattle.melt_step.proofs.Found.{named_stale, is_some, not_disk}

@@ -1,4 +1,3 @@
-use Rattle.std.proofs.Common.{refl}
 use Rattle.melt_model.specs.declared.history.Slot.TheVariants.{Global}
 use Rattle.melt_step.proofs.Loading.{global_reference, clean_found, stale_global_found}
 use Rattle.melt_step.proofs.machine.Machine.load_word.Goals as goal

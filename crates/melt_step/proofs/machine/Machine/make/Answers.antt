@@ -1,4 +1,4 @@
-use Rattle.std.proofs.Common.{subst, refl}
+use Rattle.std.proofs.Common.{subst}
 use Rattle.std.specs.Prelude.{IfErr, Result}
 use Rattle.melt_space.specs.declared.space.NoRoom.{NoRoom}
 use Rattle.melt_step.specs.Machine.{HasRefused}

@@ -1,6 +1,4 @@
-use Rattle.std.proofs.Common.{◌≡◌, get_or, sym, ◌∙◌}
-use Rattle.melt_step.specs.Machine.{IsNamed, held_value}
-use Rattle.melt_model.specs.declared.history.Value.TheVariants.{Ref}
+use Rattle.std.proofs.Common.{get_or, sym, ◌∙◌}
 use Rattle.melt_step.proofs.Values.{value_held, held_named}
 use Rattle.melt_step.proofs.Answering.{header_there, has_header}
 use Rattle.melt_step.proofs.machine.Machine.object.Goals as goal

@@ -1,9 +1,7 @@
-use Rattle.std.proofs.Common.{◌≡◌, get_or, sym, ◌∙◌, ap, refl, false, if◌then◌else◌, arith}
+use Rattle.std.proofs.Common.{◌≡◌, ap, refl, false, if◌then◌else◌, arith}
 use Rattle.std.specs.Prelude.{Bool}
 use Rattle.melt_model.specs.Thread.{value_in, value_eq}
-use Rattle.melt_model.specs.declared.operations.Reply.{Reply}
 use Rattle.melt_model.specs.declared.operations.Reply.TheVariants as reply
-use Rattle.melt_model.specs.declared.history.Value.{Value}
 use Rattle.melt_model.specs.declared.history.Value.TheVariants.{Nil}
 use Rattle.melt_step.specs.Machine.{values_of, state_in}
 use Rattle.melt_step.proofs.Values.{value_held}

@@ -1,4 +1,4 @@
-use Rattle.std.proofs.Common.{refl, sym, ◌∙◌}
+use Rattle.std.proofs.Common.{refl}
 use Rattle.melt_step.proofs.Values.{held_values-set}
 use Rattle.melt_step.proofs.Standing.{StandsFor_register}
 use Rattle.melt_step.proofs.machine.Machine.set_register.Goals as goal

@@ -1,4 +1,4 @@
-use Rattle.std.proofs.Common.{◌<◌, ◌≤◌, get_or, refl, sym, ◌∙◌, ap, arith, length}
+use Rattle.std.proofs.Common.{get_or, refl, sym, ◌∙◌, ap, arith, length}
 use Rattle.std.proofs.Math.ListN.{length-set}
 use Rattle.melt_model.specs.declared.history.Value.TheVariants.{Nil}
 use Rattle.melt_model.specs.declared.history.Slot.TheVariants.{Global}

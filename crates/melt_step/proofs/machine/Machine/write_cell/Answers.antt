@@ -1,4 +1,4 @@
-use Rattle.std.proofs.Common.{◌<◌, ◌≤◌, refl, sym, ◌∙◌, ap, arith}
+use Rattle.std.proofs.Common.{refl}
 use Rattle.melt_step.proofs.Standing.{StandsFor_put}
 use Rattle.melt_step.proofs.machine.Machine.write_cell.Goals as goal
 

@@ -1,4 +1,4 @@
-use Rattle.std.proofs.Common.{◌<◌, ◌≤◌, get_or, refl, sym, ◌∙◌, ap, arith, length}
+use Rattle.std.proofs.Common.{get_or, refl, sym, ◌∙◌, arith}
 use Rattle.melt_model.specs.declared.history.Slot.TheVariants.{Field}
 use Rattle.melt_step.proofs.Values.{value_held, may_small}
 use Rattle.melt_step.proofs.Standing.{StandsFor_store, same_write}
