@@ -55,11 +55,11 @@ object_copied space s plan f m object out first then_ last are of to first_is ex
     let as_was : (k : ℕ) → k < 2 + refs + nums → slice_index object k ≡ s.word (m.from + k) = λ k below. are.each k below ∙ sym (of.plans.word (m.from + k)) in
     let in_then : (k : ℕ) → k < length then_ → slice_index last k ≡ slice_index then_ k = λ k below. ap (λ (l : List ℕ). slice_index l k) last_is ∙ get_or_append_left then_ (drop (2 + refs) object) 0 k below in
     let front : (j : ℕ) → j < 2 → slice_index last (length out + j) ≡ s.word (m.from + j) = λ j below.
-        in_then (length out + j) (omega (arith, below, then_size))
-        ∙ (extends.before (length out + j) (omega (arith, below, first_size))
-        ∙ (ap (λ (l : List ℕ). slice_index l (length out + j)) first_is
-        ∙ (get_or-append-add out (take 2 object) j 0
-        ∙ (get_or-take 2 object j 0 below ∙ as_was j (omega (arith, below)))))) in
+    in_then (length out + j) (omega (arith, below, then_size))
+    ∙ (extends.before (length out + j) (omega (arith, below, first_size))
+    ∙ (ap (λ (l : List ℕ). slice_index l (length out + j)) first_is
+    ∙ (get_or-append-add out (take 2 object) j 0
+    ∙ (get_or-take 2 object j 0 below ∙ as_was j (omega (arith, below)))))) in
     record {
       header = word_in_at last (length out) 0 m.to (omega (arith, to)) ∙ (front 0 (omega arith) ∙ ap s.word (let sum : m.from + 0 ≡ m.from = omega arith in sum));
       home = word_in_at last (length out) 1 (m.to + 1) (omega (arith, to)) ∙ front 1 (omega arith);

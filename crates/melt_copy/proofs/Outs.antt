@@ -39,6 +39,7 @@ no_moves s plan used forward moves next = record {
   places = λ k m at. absurd (none_there plan.moves.items k m moves at);
   behind = next ∙ ap (λ (ms : List Move). 1 + words_in ms) (sym moves);
 }
+
 -- before the first object is found
 pub plans_start : (heap : Heap) (held : List Registers) (end : ℕ) (plan : Plan) (used : ℕ) → IsWhole (state_of heap held end) → used ≡ heap.space.used → plan.forward.items ≡ replicate (used + 1) 0 → plan.moves.items ≡ [] → plan.next ≡ 1 → PlansThreads heap.space (state_of heap held end) plan held
 plans_start heap held end plan used whole same forward moves next = record {

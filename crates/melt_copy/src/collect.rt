@@ -53,7 +53,13 @@ fn copy_out<L: Ledger>(
     find_all_held(&mut plan, &heap.space, held, steps)?;
     let held_words = plan.next - 1;
     let mut globals = Vec::with_capacity(alloc, heap.globals.items.len())?;
-    move_words(&mut globals, &mut plan, &heap.space, &heap.globals.items, steps)?;
+    move_words(
+        &mut globals,
+        &mut plan,
+        &heap.space,
+        &heap.globals.items,
+        steps,
+    )?;
     let words = copy_objects(alloc, &mut plan, &heap.space, steps)?;
     let numbers = numbers_for(alloc, &heap.names, &plan.moves, steps)?;
     Ok(Copied {
