@@ -16,3 +16,4 @@ pub mod Queue
 pub mod Held
 pub mod Outs
 pub mod Collects
+pub mod Building

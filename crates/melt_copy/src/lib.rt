@@ -7,3 +7,6 @@ mod copy;
 pub mod plan;
 
 pub use collect::collect_copy;
+
+#[cfg(test)]
+mod tests;

@@ -37,3 +37,18 @@ fn a_new_heap_has_names_where_they_were_asked_for(rt: HostRuntime) -> Result<(),
     }
     Ok(())
 }
+
+#[test]
+fn the_first_names_are_cleared(rt: HostRuntime) -> Result<(), Fail> {
+    let mut names = AddressNames::new(rt.alloc(), 4)?;
+    names.set(1, 5);
+    names.set(2, 6);
+    names.set(3, 7);
+    names.clear(0);
+    assert_eq!(rt; names.get(1), Some(5));
+    names.clear(2);
+    for (address, want) in [(0, None), (1, None), (2, None), (3, Some(7)), (4, None)] {
+        assert_eq!(rt; names.get(address), want, "at {address}");
+    }
+    Ok(())
+}

@@ -1,0 +1,99 @@
+ghost use Rattle.std.specs.Prelude.{◌≡◌, ◌<◌};
+ghost use Rattle.melt_scion.specs.Heaps.{IsFormed};
+
+use super::*;
+use melt_model::{Journal, NoMemory, Phase, Steps};
+use melt_scion::{AddressNames, Globals, Heap, Names, Registers};
+use melt_space::Space;
+use melt_word::{Header, Ref, Shape, encode_header, encode_ref};
+use std::alloc::Global;
+use std::marker::Brand;
+use std::sync::ledger::{Blank, Ledger};
+use std::test::Fail;
+
+/// Collects a heap, and counts no steps.
+fn collect_uncounted<L: Ledger>(
+    alloc: Global,
+    heap: &mut Heap,
+    held: &mut [Registers],
+    blank: Blank,
+) -> Result<Journal, NoMemory>
+    requires name { blank.name ≡ L.name }
+    requires parts { blank.parts ≡ L.parts }
+    requires some { 0 < blank.parts }
+    requires formed { IsFormed heap.old held.old }
+{
+    let mut steps = Steps::<L>::new(blank);
+    collect_copy(alloc, heap, held, Phase::Inactive, &mut steps)
+}
+
+/// The journal of a collection after which so many words are in use, all of objects in registers.
+fn all_held(words: u32) -> Journal {
+    Journal {
+        phase: Phase::Inactive,
+        held: words,
+        live: words,
+        bodies: 0,
+        stubs: 0,
+        end: 0,
+    }
+}
+
+#[test]
+fn a_heap_without_objects_stays_so(rt: HostRuntime) -> Result<(), Fail> {
+    let alloc = rt.alloc();
+    let mut heap = Heap::new(alloc, 4, 1, true)?;
+    let mut held = [Registers { regs: [0; 16] }];
+    let journal = collect_uncounted::<Brand>(alloc, &mut heap, &mut held, Blank::new(1))?;
+    assert_eq!(rt; journal, all_held(0));
+    assert_eq!(rt; heap.space.words(), 4);
+    assert_eq!(rt; heap.space.used(), 0);
+    assert_eq!(rt; heap.globals.items.as_slice(), [0].as_slice());
+    assert_eq!(rt; held, [Registers { regs: [0; 16] }]);
+    Ok(())
+}
+
+#[test]
+fn what_a_register_holds_moves_to_the_front(rt: HostRuntime) -> Result<(), Fail> {
+    let alloc = rt.alloc();
+    let pair = Shape { refs: 1, nums: 1 };
+    let mut space = Space::new(alloc, 9)?;
+    let first = space.make(Shape { refs: 0, nums: 1 })?;
+    let second = space.make(pair)?;
+    space.set_word(6, encode_ref(Ref::Stale(second)));
+    space.set_word(7, 9);
+    let mut addresses = AddressNames::new(alloc, 9)?;
+    addresses.set(first, 0);
+    addresses.set(second, 1);
+    let mut heap = Heap {
+        space,
+        globals: Globals {
+            items: vec![in alloc; 0; 1]?,
+        },
+        names: Some(Names { addresses }),
+    };
+    let mut regs = [0; 16];
+    regs[3] = second;
+    let mut held = [Registers { regs: [0; 16] }, Registers { regs }];
+    let journal = collect_uncounted::<Brand>(alloc, &mut heap, &mut held, Blank::new(1))?;
+    assert_eq!(rt; journal, all_held(4));
+    assert_eq!(rt; heap.space.words(), 9);
+    assert_eq!(rt; heap.space.used(), 4);
+    let header = Header {
+        shape: pair,
+        stale: false,
+    };
+    assert_eq!(rt; heap.space.word(1), encode_header(header));
+    assert_eq!(rt; heap.space.word(2), 0);
+    assert_eq!(rt; heap.space.word(3), encode_ref(Ref::Stale(1)));
+    assert_eq!(rt; heap.space.word(4), 9);
+    assert_eq!(rt; held[0].regs, [0; 16]);
+    assert_eq!(rt; held[1].regs[2], 0);
+    assert_eq!(rt; held[1].regs[3], 1);
+    assert!(rt; heap.names.is_some());
+    if let Some(names) = &heap.names {
+        assert_eq!(rt; names.addresses.get(1), Some(1));
+        assert_eq!(rt; names.addresses.get(4), None);
+    }
+    Ok(())
+}
