@@ -3,8 +3,7 @@ use Rattle.std.proofs.Common.{◌≡◌, ℕ, suc, ◌<◌, ◌≤◌, Bool, tru
 use Rattle.std.proofs.lemmas.Bool.{cond-false, lt-leb}
 use Rattle.std.proofs.lemmas.List.{length-take-le, take-append-drop, length-replicate}
 use Rattle.std.specs.Prelude.{Option, None, Some, slice_get, replicate, nat_le, Err, ◌||◌, if◌then◌else◌}
-use Rattle.std.specs.List.{list_any, AllByRecursion}
-use Rattle.std.proofs.lemmas.List.Elements.{recursion_from_All}
+use Rattle.std.specs.List.{list_any}
 use Rattle.melt_io.specs.Outside.{Rose, TakesFront}
 use Rattle.melt_io.specs.Whole.{TakesCount}
 use Rattle.melt_model.specs.declared.config.Config.{Config}

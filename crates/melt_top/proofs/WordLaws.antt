@@ -1,5 +1,5 @@
 -- Words by twos.
-use Rattle.std.proofs.Common.{◌≡◌, ℕ, ◌<◌, ◌≤◌, List, [], ◌∷◌, length, map, drop, get_or, refl, sym, ap, ◌∙◌, arith}
+use Rattle.std.proofs.Common.{◌≡◌, ℕ, ◌≤◌, List, [], ◌∷◌, length, map, drop, get_or, sym, ap, ◌∙◌, arith}
 use Rattle.std.specs.Prelude.{Option, Some, option_and_then}
 use Rattle.melt_top.specs.Command.{with_option, options}
 use Rattle.melt_top.specs.declared.command.Given.{Given}

@@ -1,5 +1,5 @@
 -- What a call of the program does, from the words and the bytes read to the bytes written.
-use Rattle.std.specs.Prelude.{◌≡◌, ℕ, ◌<◌, ◌≤◌, List, [], length, take, Option, None, Some, IfSome, IfNone, ◌⊎◌, Result, Ok, Err}
+use Rattle.std.specs.Prelude.{◌≡◌, ℕ, ◌<◌, ◌≤◌, List, [], length, take, Option, None, Some, IfSome, IfNone, ◌⊎◌, Ok, Err}
 use Rattle.melt_io.specs.Outside.{Rose, TakesFront, Appends}
 use Rattle.melt_model.specs.declared.config.Config.{Config}
 use Rattle.melt_model.specs.declared.reports.Report.{Report}

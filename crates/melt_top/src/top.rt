@@ -82,11 +82,7 @@ fn trace_answer(alloc: Global, config: Config, bytes: &[u8]) -> Result<Answer, N
 }
 
 /// What is due for the input of `step`.
-fn step_answer<S: Source>(
-    alloc: Global,
-    config: Config,
-    input: &mut S,
-) -> Result<Answer, NoMemory>
+fn step_answer<S: Source>(alloc: Global, config: Config, input: &mut S) -> Result<Answer, NoMemory>
     requires { InRanges config }
     ensures { IfOk result (λ answer. StepDue config
         (record { before = S.left input.old; after = S.left input.new; faults_before = S.faults input.old; faults_after = S.faults input.new })
