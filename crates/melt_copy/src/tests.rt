@@ -27,12 +27,13 @@ fn collect_uncounted<L: Ledger>(
     collect_copy(alloc, heap, held, Phase::Inactive, &mut steps)
 }
 
-/// The journal of a collection after which so many words are in use, all of objects in registers.
-fn all_held(words: u32) -> Journal {
+/// The journal of a collection after which so many words are in use, and so many of these are those of objects in
+/// registers.
+fn journal_of(live: u32, held: u32) -> Journal {
     Journal {
         phase: Phase::Inactive,
-        held: words,
-        live: words,
+        held,
+        live,
         bodies: 0,
         stubs: 0,
         end: 0,
@@ -45,7 +46,7 @@ fn a_heap_without_objects_stays_so(rt: HostRuntime) -> Result<(), Fail> {
     let mut heap = Heap::new(alloc, 4, 1, true)?;
     let mut held = [Registers { regs: [0; 16] }];
     let journal = collect_uncounted::<Brand>(alloc, &mut heap, &mut held, Blank::new(1))?;
-    assert_eq!(rt; journal, all_held(0));
+    assert_eq!(rt; journal, journal_of(0, 0));
     assert_eq!(rt; heap.space.words(), 4);
     assert_eq!(rt; heap.space.used(), 0);
     assert_eq!(rt; heap.globals.items.as_slice(), [0].as_slice());
@@ -54,46 +55,55 @@ fn a_heap_without_objects_stays_so(rt: HostRuntime) -> Result<(), Fail> {
 }
 
 #[test]
-fn what_a_register_holds_moves_to_the_front(rt: HostRuntime) -> Result<(), Fail> {
+fn what_is_reached_moves_to_the_front(rt: HostRuntime) -> Result<(), Fail> {
     let alloc = rt.alloc();
     let pair = Shape { refs: 1, nums: 1 };
-    let mut space = Space::new(alloc, 9)?;
+    let leaf = Shape { refs: 0, nums: 0 };
+    let mut space = Space::new(alloc, 10)?;
     let first = space.make(Shape { refs: 0, nums: 1 })?;
     let second = space.make(pair)?;
-    space.set_word(6, encode_ref(Ref::Stale(second)));
+    let third = space.make(leaf)?;
+    space.set_word(6, encode_ref(Ref::Stale(third)));
     space.set_word(7, 9);
-    let mut addresses = AddressNames::new(alloc, 9)?;
+    let mut addresses = AddressNames::new(alloc, 10)?;
     addresses.set(first, 0);
     addresses.set(second, 1);
+    addresses.set(third, 2);
+    let items = vec![in alloc; encode_ref(Ref::Clean(third)); 1]?;
     let mut heap = Heap {
         space,
-        globals: Globals {
-            items: vec![in alloc; 0; 1]?,
-        },
+        globals: Globals { items },
         names: Some(Names { addresses }),
     };
     let mut regs = [0; 16];
     regs[3] = second;
     let mut held = [Registers { regs: [0; 16] }, Registers { regs }];
     let journal = collect_uncounted::<Brand>(alloc, &mut heap, &mut held, Blank::new(1))?;
-    assert_eq!(rt; journal, all_held(4));
-    assert_eq!(rt; heap.space.words(), 9);
-    assert_eq!(rt; heap.space.used(), 4);
-    let header = Header {
-        shape: pair,
+    assert_eq!(rt; journal, journal_of(6, 4));
+    assert_eq!(rt; heap.space.words(), 10);
+    assert_eq!(rt; heap.space.used(), 6);
+    let header = |shape| Header {
+        shape,
         stale: false,
     };
-    assert_eq!(rt; heap.space.word(1), encode_header(header));
+    assert_eq!(rt; heap.space.word(1), encode_header(header(pair)));
     assert_eq!(rt; heap.space.word(2), 0);
-    assert_eq!(rt; heap.space.word(3), encode_ref(Ref::Stale(1)));
+    assert_eq!(rt; heap.space.word(3), encode_ref(Ref::Stale(5)));
     assert_eq!(rt; heap.space.word(4), 9);
+    assert_eq!(rt; heap.space.word(5), encode_header(header(leaf)));
+    assert_eq!(rt; heap.space.word(6), 0);
+    assert_eq!(rt;
+        heap.globals.items.as_slice(),
+        [encode_ref(Ref::Clean(5))].as_slice()
+    );
     assert_eq!(rt; held[0].regs, [0; 16]);
     assert_eq!(rt; held[1].regs[2], 0);
     assert_eq!(rt; held[1].regs[3], 1);
     assert!(rt; heap.names.is_some());
     if let Some(names) = &heap.names {
-        assert_eq!(rt; names.addresses.get(1), Some(1));
-        assert_eq!(rt; names.addresses.get(4), None);
+        for (address, want) in [(1, Some(1)), (4, None), (5, Some(2)), (8, None)] {
+            assert_eq!(rt; names.addresses.get(address), want, "at {address}");
+        }
     }
     Ok(())
 }
