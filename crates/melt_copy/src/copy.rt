@@ -47,6 +47,7 @@ pub fn find_all_held<L: Ledger>(
     ensures plans { (s : State) → PlansThreads space.now s plan.old held.now → Plans space.now s plan.new }
 {
     for registers in held {
+        steps.tick();
         find_held(plan, space, registers, steps)?;
     }
     Ok(())
@@ -114,6 +115,7 @@ pub fn copy_objects<L: Ledger>(
     let mut words = Vec::with_capacity(alloc, space.used() as usize)?;
     let mut done = 0;
     while done < plan.moves.len() {
+        steps.tick();
         let m = plan.moves[done];
         copy_object(&mut words, plan, space, m, steps)?;
         done += 1;
