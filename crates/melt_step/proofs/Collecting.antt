@@ -1,5 +1,5 @@
 -- A collection of a machine's heap, and a new object in it.
-use Rattle.std.proofs.Common.{◌≡◌, ℕ, ◌+◌, ◌<◌, List, [], ◌∷◌, ◌++◌, length, get_or, refl, sym, ◌∙◌, ap, subst, arith}
+use Rattle.std.proofs.Common.{◌≡◌, ℕ, ◌+◌, ◌<◌, List, [], ◌∷◌, ◌++◌, length, get_or, refl, sym, ◌∙◌, ap, subst, arith, length-append}
 use Rattle.std.specs.Prelude.{◌-◌, ◌^◌, All, None, Some, IsSome, replicate, true}
 use Rattle.std.proofs.lemmas.List.{length-replicate}
 use Rattle.melt_model.specs.declared.operations.Op.TheVariants as op
@@ -44,6 +44,7 @@ machine_collected m new held_after none journal st collects one regs sixteen log
       registers = after.1;
       history = log;
       alive = subst (λ (h : List Entry). CostsSum (words_of h) (Alive h (of_thread (values_of new))) new.heap.space.used) (sym log) after.2;
+      journal = ap length journals ∙ length-append m.journal.items (journal ∷ []);
     }
 
 -- an operation that makes an object stopped, since there was no room before and behind a collection
@@ -70,6 +71,7 @@ stopped m first collected new dst refs nums used early late refused by_collectio
         reach = subst (UsesAlive new) (sym is_used) after.alive;
         above = omega arith;
       };
+      journal = omega (arith, after.journal);
     }
 
 -- a new machine

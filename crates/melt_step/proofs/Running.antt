@@ -2,8 +2,10 @@
 use Rattle.std.proofs.Common.{◌≡◌, ℕ, ◌+◌, ◌<◌, ◌≤◌, List, [], ◌∷◌, ◌++◌, length, zero, suc, refl, sym, ◌∙◌, ap, subst, arith, append_assoc, length-append}
 use Rattle.std.proofs.lemmas.List.{append-nil}
 use Rattle.std.proofs.lemmas.List.Elements.{All-from_recursion}
-use Rattle.std.specs.Prelude.{Option, None, Some, unwrap_or, slice_get, drop}
-use Rattle.std.specs.List.{AllByRecursion}
+use Rattle.std.proofs.lemmas.List.Sums.{sum_by-append}
+use Rattle.std.specs.Prelude.{Option, None, Some, unwrap_or, slice_get, take, drop, if◌then◌else◌}
+use Rattle.std.proofs.Math.Seq.{take-append_seam}
+use Rattle.std.specs.List.{AllByRecursion, count_by}
 use Rattle.melt_model.specs.History.{Legal}
 use Rattle.melt_model.specs.Thread.{Deed, does, Transcript, registers_after, value_in}
 use Rattle.melt_model.specs.Standing.{HoldReferences, Stands}
@@ -25,8 +27,8 @@ use Rattle.melt_trace.specs.Script.{Script, expand, operations}
 use Rattle.melt_trace.specs.declared.script.Item.{Item}
 use Rattle.std.proofs.lemmas.Option.{slice_get_past}
 use Rattle.melt_step.proofs.Values.{get_or_replicate}
-use Rattle.melt_step.specs.Answering.{Answers, entry, gives, with_entry}
-use Rattle.melt_step.specs.Machine.{IsStanding, IsFull, IsUnderWay, EndsSo, HasEnded, HasReplied, maps_of, of_thread, values_of}
+use Rattle.melt_step.specs.Answering.{Answers, entry, gives, with_entry, is_collect}
+use Rattle.melt_step.specs.Machine.{IsStanding, IsFull, IsUnderWay, EndsSo, HasEnded, HasReplied, HasStopped, HasToldAll, maps_of, of_thread, values_of}
 use Rattle.melt_step.specs.Run.{IsStepReport, HasRun, MayEnd, registers_at_end}
 use Rattle.melt_step.specs.declared.machine.Machine.{Machine}
 use Rattle.melt_step.proofs.Standing.{names_are, placed_left, references_held}
@@ -88,12 +90,36 @@ under_way_on m new size count now later ops left rest replies replies_after o r 
         stands = replied.stands;
         told = subst (λ (rs : List Reply). Stands new.log.items 0 (way.done ++ o ∷ []) rs (values_of new)) (sym is_replies) told;
         own = own_answers m.log.items new.log.items (values_of m) (values_of new) o r way.so_far.own replied.answers;
+        collections = omega (arith, sum_by-append (λ (p : Op). if is_collect p then 1 else 0) way.done (o ∷ []), way.so_far.collections, replied.journal);
       };
       words = replied.sizes.words ∙ way.words;
       globals = replied.sizes.globals ∙ way.globals;
       few = let a : new.made ≤ m.made + 1 = replied.few in let b : m.made ≤ length way.done = way.few in let c = length-append way.done (o ∷ []) in omega arith;
       same_globals = same ∙ way.same_globals;
     }
+
+-- what was told stays so where the history and the registers do
+told_stays : (m new : Machine) (ops : List Op) (replies : List Reply) → IsStanding new → values_of new ≡ values_of m → new.log.items ≡ m.log.items → length m.journal.items ≤ length new.journal.items → HasToldAll m ops replies → HasToldAll new ops replies
+told_stays m new ops replies st registers history journal told = record {
+  stands = st;
+  told = subst (λ (h : List Entry). Stands h 0 ops replies (values_of new)) (sym history) (subst (Stands m.log.items 0 ops replies) (sym registers) told.told);
+  own = subst (AllByRecursion (λ (e : Entry). e.thread ≡ 0)) (sym history) told.own;
+  collections = omega (arith, told.collections, journal);
+}
+
+-- the next operation was not answered
+pub ended_full : (m new : Machine) (size count now held need : ℕ) (ops left : List Op) (replies : List Reply) (o : Op) (r : ThreadReport) → IsUnderWay size count now m ops left replies → HasStopped m new o held need → slice_get left 0 ≡ Some o → r ≡ (record { replies = replies; end = end.OutOfHeap held need }) → HasEnded size count new ops r
+ended_full m new size count now held need ops left replies o r way stops first is =
+    let ended : HasEnded size count new ops (record { replies = replies; end = end.OutOfHeap held need }) = record {
+      done = way.done;
+      left = left;
+      split = way.split;
+      so_far = told_stays m new way.done replies stops.stands stops.registers stops.history stops.journal way.so_far;
+      words = stops.sizes.words ∙ way.words;
+      globals = stops.sizes.globals ∙ way.globals;
+      ends = (o, first, stops.full);
+    } in
+    subst (HasEnded size count new ops) (sym is) ended
 
 -- Objects that are alive, where registers hold the same.
 alive_same : (h : List Entry) (value other : ℕ → ℕ → Value) (n : ℕ) → ((t r : ℕ) → value t r ≡ other t r) → Alive h value n → Alive h other n
@@ -136,6 +162,12 @@ registers_same script m r done left one split told zero k =
 registers_same script m r done left one split told (suc t) k =
     let none : value_in (registers_after m.log.items (suc t) [] 0) k ≡ Nil = get_or_replicate 16 k Nil in
     sym none ∙ ap (λ (ops : List Op). value_in (registers_after m.log.items (suc t) ops 0) k) (sym (no_operations script t one))
+
+-- the operations that were answered
+answered_are : (script : Script) (r : ThreadReport) (done left : List Op) (log : List Entry) (rs : List Value) → done ++ left ≡ operations script 0 → Stands log 0 done r.replies rs → take (length r.replies) (operations script 0) ≡ done
+answered_are script r done left log rs split told =
+    ap (λ (k : ℕ). take k (operations script 0)) (one_reply_each log 0 done r.replies rs told)
+    ∙ (ap (take (length done)) (sym split) ∙ take-append_seam done left)
 
 -- why the thread ended
 may_end : (script : Script) (config : Config) (m : Machine) (r : ThreadReport) (done left : List Op) (e : ThreadEnd) → length script.programs ≡ 1 → length m.heap.space.list ≡ config.heap → done ++ left ≡ operations script 0 → Stands m.log.items 0 done r.replies (values_of m) → EndsSo m left e → MayEnd script config (report_of r m) 0 e
@@ -185,6 +217,7 @@ one_report script config m r one ended =
           subst (λ (k : ℕ). MayEnd script config (report_of r m) k x.end) (sym p.0) (subst (λ (y : ThreadReport). MayEnd script config (report_of r m) 0 y.end) p.1 here);
       no_halt = refl;
       inactive = st.inactive;
+      collections = subst (λ (ops : List Op). count_by is_collect ops ≤ length m.journal.items) (sym (answered_are script r ended.done ended.left m.log.items (values_of m) ended.split told)) ended.so_far.collections;
     }
 
 pub has_run : (script : Script) (config : Config) (m : Machine) (r : ThreadReport) (threads : List ThreadReport) → length script.programs ≡ 1 → HasEnded config.heap script.globals m (operations script 0) r → threads ≡ r ∷ [] → HasRun script config (record { threads = threads; journal = m.journal.items; halt = None; log = m.log.items }) (Some m.heap)

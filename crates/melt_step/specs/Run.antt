@@ -1,5 +1,6 @@
 -- What a report of a run by the written order says of a trace.
-use Rattle.std.specs.Prelude.{◌≡◌, ℕ, ◌+◌, ◌<◌, List, [], length, All, slice_get, Option, None, Some, IfSome, IsSome}
+use Rattle.std.specs.Prelude.{◌≡◌, ℕ, ◌+◌, ◌<◌, ◌≤◌, List, [], length, All, take, slice_get, Option, None, Some, IfSome, IsSome}
+use Rattle.std.specs.List.{count_by}
 use Rattle.std.specs.Option.{option_map_or}
 use Rattle.melt_model.specs.Alive.{Alive, words_of, CostsSum}
 use Rattle.melt_model.specs.History.{Legal}
@@ -18,6 +19,7 @@ use Rattle.melt_trace.specs.Script.{Script, operations}
 use Rattle.melt_scion.specs.Placed.{Maps, Placed}
 use Rattle.melt_scion.specs.Heaps.{state_of, HasNames}
 use Rattle.melt_scion.specs.declared.heap.Heap.{Heap}
+use Rattle.melt_step.specs.Answering.{is_collect}
 
 -- The threads' replies are those of one legal history of a heap that never collects, which holds the calls
 -- of each thread once and in order, and no others.
@@ -54,12 +56,14 @@ MayEnd script config report t end.DiskFault = ⊥
 MayEnd script config report t (end.Damaged home at word) = ⊥
 MayEnd script config report t end.Halted = ⊥
 
--- What a run reports of a trace. Its history is the one that it stored.
+-- What a run reports of a trace. Its history is the one that it stored, and each collection that the thread asked
+-- for is in its journal.
 pub record IsStepReport (script : Script) (config : Config) (report : Report) : Type 0 where
   pub history : HasHistory script report.log report
   pub ends : (t : ℕ) (r : ThreadReport) → slice_get report.threads t ≡ Some r → MayEnd script config report t r.end
   pub no_halt : report.halt ≡ None
   pub inactive : All (λ j. j.phase ≡ Inactive) report.journal
+  pub collections : count_by is_collect (take (answered report 0) (operations script 0)) ≤ length report.journal
 
 -- the heap stands for the history when all threads have ended
 pub record IsLeft (report : Report) (heap : Heap) : Type 0 where

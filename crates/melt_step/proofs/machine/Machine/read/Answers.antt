@@ -18,4 +18,5 @@ returns c =
       told = ap found (sym c.value_at-value.ensures) ∙ sym c.found.ensures;
       registers = held_values-set m.heap.names m.held.regs c.args.dst c.args.address;
       history = same_read m.log.items c.push.new.self.items c.args.slot v _ c.value_at-value.ensures c.in_ok-push.ensures.items;
+      journal = refl;
     }

@@ -21,6 +21,7 @@ returns-else-self-a c =
       stands = c.requires.stands;
       sizes = record { globals = refl; words = refl };
       few = omega arith;
+      journal = omega arith;
       answers = record {
         value = Nil;
         given = refl;

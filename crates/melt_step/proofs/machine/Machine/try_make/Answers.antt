@@ -19,4 +19,5 @@ returns-clause-made c =
       made = refl;
       registers = made.1;
       history = c.in_ok-push.ensures.items;
+      journal = refl;
     }

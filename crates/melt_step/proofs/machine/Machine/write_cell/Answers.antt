@@ -18,4 +18,5 @@ returns c =
       told = refl;
       registers = refl;
       history = c.in_ok-push.ensures.items;
+      journal = refl;
     }

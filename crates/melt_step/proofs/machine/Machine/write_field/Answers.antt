@@ -27,4 +27,5 @@ returns c =
       told = refl;
       registers = refl;
       history = same_write m.log.items c.push.new.self.items (Field o.number c.args.i) c.value_at-value.result _ (c.value_at-value.ensures ∙ sym (value_held m.heap.names m.held.regs c.args.src)) c.in_ok-push.ensures.items;
+      journal = refl;
     }
