@@ -175,6 +175,7 @@ load_replied m found new dst src i address o r st held below finds reads =
       sizes = record { globals = reads.sizes.globals ∙ finds.rest.sizes.globals; words = reads.sizes.words ∙ finds.rest.sizes.words };
       few = let a : new.made ≡ found.made = reads.made in let b : found.made ≡ m.made = finds.rest.made in omega arith;
       journal = omega (arith, ap length reads.journal, ap length finds.rest.journal);
+      room = tt;
       answers = load_answers m.log.items (values_of m) dst src i o.number o.shape v r new.log.items (values_of new) held.value (machine_shape m o st held.is) below reads.told
           (reads.registers ∙ ap (λ (vs : List Value). set vs dst v) (values_stay m found finds.rest))
           (reads.history ∙ ap (λ (h : List Entry). h ++ entry (Read (Field o.number i) v) ∷ []) finds.rest.log);

@@ -1,5 +1,5 @@
 -- A heap over which the operations of one thread are answered, and the history that it stands for.
-use Rattle.std.specs.Prelude.{◌≡◌, ◌≢◌, ℕ, zero, suc, ◌+◌, ◌^◌, ◌<◌, ◌≤◌, List, [], ◌∷◌, ◌++◌, length, map, replicate, slice_set, slice_get, All, Option, None, Some, IsSome, unwrap_or, if◌then◌else◌}
+use Rattle.std.specs.Prelude.{◌≡◌, ◌≢◌, ℕ, zero, suc, ◌+◌, ◌^◌, ◌<◌, ◌≤◌, List, [], ◌∷◌, ◌++◌, length, map, take, replicate, slice_set, slice_get, All, Option, None, Some, IsSome, unwrap_or, if◌then◌else◌}
 use Rattle.std.specs.List.{AllByRecursion, count_by}
 use Rattle.melt_model.specs.History.{made as makes, last, Legal}
 use Rattle.melt_model.specs.Thread.{found, value_in}
@@ -135,6 +135,19 @@ pub record HasFound (old new : Machine) (slot : Slot) (address : ℕ) : Type 0 w
   pub may_hold : MayHold (maps_in new) (state_in new) address
   pub value : held_value new.heap.names address ≡ last new.log.items slot
 
+-- the words in use are those of the objects that registers and globals reach
+abbrev pub UsesAlive : Machine → ℕ → Type 0
+UsesAlive m words = CostsSum (words_of m.log.items) (Alive m.log.items (of_thread (values_of m))) words
+
+-- so many words more have room beside those of the objects that registers and globals reach
+abbrev pub HasRoom : Machine → ℕ → Type 0
+HasRoom m need = (held : ℕ) → UsesAlive m held → held + need ≤ length m.heap.space.list
+
+-- the object that the operation makes, if it makes one, has room
+abbrev pub HasRoomFor : Machine → Op → Type 0
+HasRoomFor m (op.New dst refs nums) = HasRoom m (2 + refs + nums)
+HasRoomFor m o = Unit {0}
+
 -- an operation was replied to
 pub record HasReplied (old new : Machine) (o : Op) (r : Reply) : Type 0 where
   pub stands : IsStanding new
@@ -142,6 +155,7 @@ pub record HasReplied (old new : Machine) (o : Op) (r : Reply) : Type 0 where
   pub few : new.made ≤ old.made + 1
   pub journal : length old.journal.items + (if is_collect o then 1 else 0) ≤ length new.journal.items
   pub answers : Answers old.log.items (values_of old) o r new.log.items (values_of new)
+  pub room : HasRoomFor old o
 
 -- what a slot refers to was read into a register
 pub record HasRead (old new : Machine) (dst : ℕ) (slot : Slot) (value : Value) (r : Reply) : Type 0 where
@@ -180,16 +194,13 @@ pub record HasMade (old new : Machine) (dst : ℕ) (shape : Shape) : Type 0 wher
   pub made : new.made ≡ old.made + 1
   pub registers : values_of new ≡ slice_set (values_of old) dst (Ref (makes old.log.items))
   pub history : new.log.items ≡ old.log.items ++ entry (Make shape.refs shape.nums) ∷ []
+  pub room : HasRoom old (2 + shape.refs + shape.nums)
   pub journal : new.journal.items ≡ old.journal.items
 
 -- there was no room, and nothing changed
 pub record HasRefused (old new : Machine) (shape : Shape) (no_room : NoRoom) : Type 0 where
   pub stays : new ≡ old
   pub lacks : Lacks old.heap.space shape no_room
-
--- the words in use are those of the objects that registers and globals reach
-abbrev pub UsesAlive : Machine → ℕ → Type 0
-UsesAlive m words = CostsSum (words_of m.log.items) (Alive m.log.items (of_thread (values_of m))) words
 
 -- a collection, which is written down: the history and the values in registers stay
 pub record HasCollected (old new : Machine) : Type 0 where
@@ -233,12 +244,24 @@ pub record IsFresh (size count : ℕ) (m : Machine) : Type 0 where
   pub registers : values_of m ≡ replicate 16 Nil
   pub made : m.made ≡ 0
 
+-- The history and the registers were these when the first k operations were answered, and the next was answered too.
+-- If it made an object, that had room beside those that registers and globals reached then.
+pub record WasAnswered (log : List Entry) (words : ℕ) (ops : List Op) (k : ℕ) : Type 0 where
+  pub before : List Entry
+  pub behind : List Entry
+  pub replies : List Reply
+  pub registers : List Value
+  pub split : before ++ behind ≡ log
+  pub told : Stands before 0 (take k ops) replies registers
+  pub room : (dst refs nums held : ℕ) → slice_get ops k ≡ Some (op.New dst refs nums) → CostsSum (words_of before) (Alive before (of_thread registers)) held → held + (2 + refs + nums) ≤ words
+
 -- operations were answered, and each entry is the one thread's
 pub record HasToldAll (m : Machine) (ops : List Op) (replies : List Reply) : Type 0 where
   pub stands : IsStanding m
   pub told : Stands m.log.items 0 ops replies (values_of m)
   pub own : AllByRecursion (λ (e : Entry). e.thread ≡ 0) m.log.items
   pub collections : count_by is_collect ops ≤ length m.journal.items
+  pub each : (k : ℕ) → k < length ops → WasAnswered m.log.items (length m.heap.space.list) ops k
 
 -- why the thread ended, with these operations left
 abbrev pub EndsSo : Machine → List Op → ThreadEnd → Type 0

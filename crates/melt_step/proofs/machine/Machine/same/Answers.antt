@@ -22,6 +22,7 @@ returns-else-self-a c =
       sizes = record { globals = refl; words = refl };
       few = omega arith;
       journal = omega arith;
+      room = tt;
       answers = record {
         value = Nil;
         given = refl;
