@@ -1,8 +1,15 @@
 -- A collection of a machine's heap, and a new object in it.
-use Rattle.std.proofs.Common.{◌≡◌, ℕ, ◌+◌, ◌<◌, List, [], ◌∷◌, ◌++◌, length, get_or, refl, sym, ◌∙◌, ap, subst, arith}
+use Rattle.std.proofs.Common.{◌≡◌, ℕ, ◌+◌, ◌<◌, ◌≤◌, List, [], ◌∷◌, ◌++◌, length, get_or, refl, sym, ◌∙◌, ap, subst, arith, length-append}
 use Rattle.std.specs.Prelude.{◌-◌, ◌^◌, All, None, Some, IsSome, replicate, true}
 use Rattle.std.proofs.lemmas.List.{length-replicate}
 use Rattle.melt_model.specs.declared.operations.Op.TheVariants as op
+use Rattle.melt_model.specs.declared.operations.Reply.TheVariants as reply
+use Rattle.melt_model.specs.declared.history.Value.{Value}
+use Rattle.melt_model.specs.declared.history.Value.TheVariants.{Ref}
+use Rattle.melt_model.specs.declared.history.Act.TheVariants.{Make}
+use Rattle.melt_model.specs.History.{made}
+use Rattle.melt_step.specs.Answering.{entry}
+use Rattle.std.proofs.Math.ListN.{set}
 use Rattle.melt_space.specs.declared.space.NoRoom.{NoRoom}
 use Rattle.melt_scion.specs.Heaps.{IsNewHeap}
 use Rattle.std.proofs.lemmas.List.Elements.{All-append, All-from_recursion}
@@ -12,7 +19,7 @@ use Rattle.melt_model.specs.declared.reports.Phase.TheVariants.{Inactive}
 use Rattle.melt_model.specs.declared.reports.Journal.{Journal}
 use Rattle.melt_scion.specs.declared.registers.Registers.{Registers}
 use Rattle.melt_copy.specs.Copying.{Collects}
-use Rattle.melt_step.specs.Machine.{IsStanding, IsFresh, HasCollected, HasRefused, HasStopped, StandsFor, UsesAlive, held_values, maps_of, numbers_of, of_thread, values_of}
+use Rattle.melt_step.specs.Machine.{IsStanding, IsFresh, HasCollected, HasMade, HasRefused, HasReplied, HasStopped, StandsFor, UsesAlive, held_values, maps_of, numbers_of, of_thread, values_of}
 use Rattle.melt_step.specs.declared.machine.Machine.{Machine}
 use Rattle.melt_step.proofs.Standing.{StandsFor_collected, StandsFor_start, names_are}
 
@@ -44,6 +51,7 @@ machine_collected m new held_after none journal st collects one regs sixteen log
       registers = after.1;
       history = log;
       alive = subst (λ (h : List Entry). CostsSum (words_of h) (Alive h (of_thread (values_of new))) new.heap.space.used) (sym log) after.2;
+      journal = ap length journals ∙ length-append m.journal.items (journal ∷ []);
     }
 
 -- an operation that makes an object stopped, since there was no room before and behind a collection
@@ -70,6 +78,38 @@ stopped m first collected new dst refs nums used early late refused by_collectio
         reach = subst (UsesAlive new) (sym is_used) after.alive;
         above = omega arith;
       };
+      journal = omega (arith, after.journal);
+    }
+
+-- what is alive in a machine is alive after a collection
+alive_later : (m new : Machine) (held : ℕ) → HasCollected m new → UsesAlive m held → UsesAlive new held
+alive_later m new held done alive =
+    subst (λ (h : List Entry). CostsSum (words_of h) (Alive h (of_thread (values_of new))) held) (sym done.history)
+    (subst (λ (vs : List Value). CostsSum (words_of m.log.items) (Alive m.log.items (of_thread vs)) held) (sym done.registers) alive)
+
+-- an operation that makes an object was replied to behind a collection
+pub made_later : (m first collected new : Machine) (dst refs nums : ℕ) (early : NoRoom) → HasRefused m first (record { refs = refs; nums = nums }) early → HasCollected first collected → HasMade collected new dst (record { refs = refs; nums = nums }) → HasReplied m new (op.New dst refs nums) reply.Done
+made_later m first collected new dst refs nums early refused by_collection makes =
+    let done : HasCollected m collected = subst (λ (x : Machine). HasCollected x collected) refused.stays by_collection in
+    let log : collected.log.items ≡ m.log.items = done.history in
+    let size : length collected.heap.space.list ≡ length m.heap.space.list = done.sizes.words in
+    record {
+      stands = makes.stands;
+      sizes = record { globals = makes.sizes.globals ∙ done.sizes.globals; words = makes.sizes.words ∙ size };
+      few = omega (arith, makes.made, done.made);
+      journal = omega (arith, ap length makes.journal, done.journal);
+      answers = record {
+        value = Ref (made m.log.items);
+        given = refl;
+        told = refl;
+        registers = makes.registers
+            ∙ (ap (λ (vs : List Value). set vs dst (Ref (made collected.log.items))) done.registers
+            ∙ ap (λ (h : List Entry). set (values_of m) dst (Ref (made h))) log);
+        history = makes.history ∙ ap (λ (h : List Entry). h ++ entry (Make refs nums) ∷ []) log;
+      };
+      room = λ held alive.
+          let fits : held + (2 + refs + nums) ≤ length collected.heap.space.list = makes.room held (alive_later m collected held done alive) in
+          omega arith;
     }
 
 -- a new machine

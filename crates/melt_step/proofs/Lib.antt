@@ -4,4 +4,5 @@ pub mod Standing
 pub mod Answering
 pub mod Loading
 pub mod Collecting
+pub mod Earlier
 pub mod Running

@@ -75,7 +75,7 @@ global_reference m g word st within is = (
 )
 
 same_rest : (m : Machine) → KeepsRest m m
-same_rest m = record { sizes = record { globals = refl; words = refl }; names = refl; held = refl; log = refl; made = refl }
+same_rest m = record { sizes = record { globals = refl; words = refl }; names = refl; held = refl; log = refl; made = refl; journal = refl }
 
 -- a slot that refers to nothing
 pub null_found : (m : Machine) (slot : Slot) (word : ℕ) → IsStanding m → Stands (maps_in m) word (last m.log.items slot) → HoldsRef word Null → HasFound m m slot 0
@@ -128,6 +128,7 @@ stale_field_found m cleared o i at was word a after st is below is_at is_was hol
         held = clear.rest.held;
         log = clear.rest.log;
         made = clear.rest.made;
+        journal = clear.rest.journal;
       };
       may_hold = found.0;
       value = found.1;
@@ -154,6 +155,7 @@ stale_global_found m cleared g was word a after st within is_was holds clear is_
         held = clear.rest.held;
         log = clear.rest.log;
         made = clear.rest.made;
+        journal = clear.rest.journal;
       };
       may_hold = found.0;
       value = found.1;
@@ -172,6 +174,8 @@ load_replied m found new dst src i address o r st held below finds reads =
       stands = reads.stands;
       sizes = record { globals = reads.sizes.globals ∙ finds.rest.sizes.globals; words = reads.sizes.words ∙ finds.rest.sizes.words };
       few = let a : new.made ≡ found.made = reads.made in let b : found.made ≡ m.made = finds.rest.made in omega arith;
+      journal = omega (arith, ap length reads.journal, ap length finds.rest.journal);
+      room = tt;
       answers = load_answers m.log.items (values_of m) dst src i o.number o.shape v r new.log.items (values_of new) held.value (machine_shape m o st held.is) below reads.told
           (reads.registers ∙ ap (λ (vs : List Value). set vs dst v) (values_stay m found finds.rest))
           (reads.history ∙ ap (λ (h : List Entry). h ++ entry (Read (Field o.number i) v) ∷ []) finds.rest.log);
@@ -179,4 +183,4 @@ load_replied m found new dst src i address o r st held below finds reads =
 
 -- words of the space alone change
 pub space_rest : (m : Machine) (after : SpaceWords) → length after.list ≡ length m.heap.space.list → KeepsRest m (with_space m after)
-space_rest m after size = record { sizes = record { globals = refl; words = size }; names = refl; held = refl; log = refl; made = refl }
+space_rest m after size = record { sizes = record { globals = refl; words = size }; names = refl; held = refl; log = refl; made = refl; journal = refl }

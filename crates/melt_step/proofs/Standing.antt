@@ -16,7 +16,7 @@ use Rattle.melt_model.specs.declared.history.Act.{Act}
 use Rattle.melt_model.specs.declared.history.Act.TheVariants.{Make, Read, Write}
 use Rattle.melt_model.specs.declared.history.Entry.{Entry}
 use Rattle.melt_model.proofs.Histories.{made-append, shape-append, Legal-push}
-use Rattle.melt_model.proofs.Sums.{CostsSum-same, CostsSum-cost, CostsSum-more, CostsSum-empty}
+use Rattle.melt_model.proofs.Sums.{CostsSum-same, CostsSum-cost, CostsSum-more, CostsSum-empty, CostsSum-part}
 use Rattle.melt_word.specs.Words.{IsShape, cost_of, header_word, ref_word}
 use Rattle.melt_word.specs.declared.header.Shape as words
 use Rattle.melt_word.specs.declared.header.Header.{Header}
@@ -299,6 +299,15 @@ StandsFor_make space after globals names names_after regs log count dst address 
       },
       held_values-set names_after regs dst address ∙ (ap (λ (vs : List Value). set vs dst (held_value names_after address)) before ∙ ap (set (held_values names regs) dst) value),
     )
+
+-- a new object has room beside all objects that are alive
+pub room_beside : (space after : SpaceWords) (globals : List ℕ) (names : Option heap.Names) (regs : List ℕ) (log : List Entry) (count address held : ℕ) (z : words.Shape) → StandsFor space globals names regs log count → Makes space after z address → CostsSum (words_of log) (Alive log (of_thread (held_values names regs))) held → held + (2 + z.refs + z.nums) ≤ length space.list
+room_beside space after globals names regs log count address held z s makes alive =
+    let value : ℕ → ℕ → Value = of_thread (held_values names regs) in
+    let within : held ≤ space.used = CostsSum-part (words_of log) (Alive log value) (InUse (maps_of names)) held space.used
+    (λ n lives. let found = alive_reached log value (maps_of names) (shown space globals regs) n s.legal s.placed lives in (found.0, found.1)) alive s.in_use in
+    let fits : space.used + cost_of z ≤ length space.list = makes.fits in
+    omega arith
 
 -- the registers hold Nil or objects that were made
 pub references_held : (space : SpaceWords) (globals : List ℕ) (names : Option heap.Names) (regs : List ℕ) (log : List Entry) (count : ℕ) → StandsFor space globals names regs log count → HoldReferences log (held_values names regs)

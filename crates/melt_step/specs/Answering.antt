@@ -1,5 +1,5 @@
 -- One operation of a thread that was answered, as its history tells it.
-use Rattle.std.specs.Prelude.{◌≡◌, List, [], ◌∷◌, ◌++◌, Option, None, Some, unwrap_or}
+use Rattle.std.specs.Prelude.{◌≡◌, Bool, true, false, List, [], ◌∷◌, ◌++◌, Option, None, Some, unwrap_or}
 use Rattle.melt_model.specs.History.{given}
 use Rattle.melt_model.specs.Thread.{does}
 use Rattle.melt_model.specs.declared.history.Value.{Value}
@@ -7,7 +7,13 @@ use Rattle.melt_model.specs.declared.history.Value.TheVariants.{Nil}
 use Rattle.melt_model.specs.declared.history.Act.{Act}
 use Rattle.melt_model.specs.declared.history.Entry.{Entry}
 use Rattle.melt_model.specs.declared.operations.Op.{Op}
+use Rattle.melt_model.specs.declared.operations.Op.TheVariants as op
 use Rattle.melt_model.specs.declared.operations.Reply.{Reply}
+
+-- whether an operation asks for a collection
+abbrev pub is_collect : Op → Bool
+is_collect op.Collect = true
+is_collect o = false
 
 -- an entry of the one thread
 abbrev pub entry : Act → Entry

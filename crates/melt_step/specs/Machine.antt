@@ -1,6 +1,6 @@
 -- A heap over which the operations of one thread are answered, and the history that it stands for.
-use Rattle.std.specs.Prelude.{◌≡◌, ◌≢◌, ℕ, zero, suc, ◌+◌, ◌^◌, ◌<◌, ◌≤◌, List, [], ◌∷◌, ◌++◌, length, map, replicate, slice_set, slice_get, All, Option, None, Some, IsSome, unwrap_or}
-use Rattle.std.specs.List.{AllByRecursion}
+use Rattle.std.specs.Prelude.{◌≡◌, ◌≢◌, ℕ, zero, suc, ◌+◌, ◌^◌, ◌<◌, ◌≤◌, List, [], ◌∷◌, ◌++◌, length, map, take, replicate, slice_set, slice_get, All, Option, None, Some, IsSome, unwrap_or, if◌then◌else◌}
+use Rattle.std.specs.List.{AllByRecursion, count_by}
 use Rattle.melt_model.specs.History.{made as makes, last, Legal}
 use Rattle.melt_model.specs.Thread.{found, value_in}
 use Rattle.melt_model.specs.Standing.{Stands}
@@ -31,7 +31,7 @@ use Rattle.melt_scion.specs.Collected.{InUse}
 use Rattle.melt_scion.specs.Names.{name_at}
 use Rattle.melt_scion.specs.Heaps.{state_of}
 use Rattle.melt_scion.specs.declared.heap.Names as heap
-use Rattle.melt_step.specs.Answering.{Answers, entry}
+use Rattle.melt_step.specs.Answering.{Answers, entry, is_collect}
 use Rattle.melt_step.specs.declared.machine.Object.{Object}
 use Rattle.melt_step.specs.declared.machine.Answer.{Answer}
 use Rattle.melt_step.specs.declared.machine.Answer.TheVariants as answer
@@ -118,6 +118,7 @@ pub record KeepsRest (old new : Machine) : Type 0 where
   pub held : new.held ≡ old.held
   pub log : new.log.items ≡ old.log.items
   pub made : new.made ≡ old.made
+  pub journal : new.journal.items ≡ old.journal.items
 
 -- the object at an address has no stale bit, and each word but its header is as before
 pub record HasCleared (old new : Machine) (address : ℕ) : Type 0 where
@@ -134,12 +135,27 @@ pub record HasFound (old new : Machine) (slot : Slot) (address : ℕ) : Type 0 w
   pub may_hold : MayHold (maps_in new) (state_in new) address
   pub value : held_value new.heap.names address ≡ last new.log.items slot
 
+-- the words in use are those of the objects that registers and globals reach
+abbrev pub UsesAlive : Machine → ℕ → Type 0
+UsesAlive m words = CostsSum (words_of m.log.items) (Alive m.log.items (of_thread (values_of m))) words
+
+-- so many words more have room beside those of the objects that registers and globals reach
+abbrev pub HasRoom : Machine → ℕ → Type 0
+HasRoom m need = (held : ℕ) → UsesAlive m held → held + need ≤ length m.heap.space.list
+
+-- the object that the operation makes, if it makes one, has room
+abbrev pub HasRoomFor : Machine → Op → Type 0
+HasRoomFor m (op.New dst refs nums) = HasRoom m (2 + refs + nums)
+HasRoomFor m o = Unit {0}
+
 -- an operation was replied to
 pub record HasReplied (old new : Machine) (o : Op) (r : Reply) : Type 0 where
   pub stands : IsStanding new
   pub sizes : KeepsSizes old new
   pub few : new.made ≤ old.made + 1
+  pub journal : length old.journal.items + (if is_collect o then 1 else 0) ≤ length new.journal.items
   pub answers : Answers old.log.items (values_of old) o r new.log.items (values_of new)
+  pub room : HasRoomFor old o
 
 -- what a slot refers to was read into a register
 pub record HasRead (old new : Machine) (dst : ℕ) (slot : Slot) (value : Value) (r : Reply) : Type 0 where
@@ -149,6 +165,7 @@ pub record HasRead (old new : Machine) (dst : ℕ) (slot : Slot) (value : Value)
   pub told : found value ≡ r
   pub registers : values_of new ≡ slice_set (values_of old) dst value
   pub history : new.log.items ≡ old.log.items ++ entry (Read slot value) ∷ []
+  pub journal : new.journal.items ≡ old.journal.items
 
 -- a slot was written
 pub record HasWritten (old new : Machine) (slot : Slot) (value : Value) (r : Reply) : Type 0 where
@@ -158,6 +175,7 @@ pub record HasWritten (old new : Machine) (slot : Slot) (value : Value) (r : Rep
   pub told : reply.Done ≡ r
   pub registers : values_of new ≡ values_of old
   pub history : new.log.items ≡ old.log.items ++ entry (Write slot value) ∷ []
+  pub journal : new.journal.items ≡ old.journal.items
 
 -- a register was set
 pub record HasSet (old new : Machine) (dst : ℕ) (value : Value) (r : Reply) : Type 0 where
@@ -167,6 +185,7 @@ pub record HasSet (old new : Machine) (dst : ℕ) (value : Value) (r : Reply) : 
   pub told : reply.Done ≡ r
   pub registers : values_of new ≡ slice_set (values_of old) dst value
   pub history : new.log.items ≡ old.log.items
+  pub journal : new.journal.items ≡ old.journal.items
 
 -- an object was made and put into a register
 pub record HasMade (old new : Machine) (dst : ℕ) (shape : Shape) : Type 0 where
@@ -175,17 +194,15 @@ pub record HasMade (old new : Machine) (dst : ℕ) (shape : Shape) : Type 0 wher
   pub made : new.made ≡ old.made + 1
   pub registers : values_of new ≡ slice_set (values_of old) dst (Ref (makes old.log.items))
   pub history : new.log.items ≡ old.log.items ++ entry (Make shape.refs shape.nums) ∷ []
+  pub room : HasRoom old (2 + shape.refs + shape.nums)
+  pub journal : new.journal.items ≡ old.journal.items
 
 -- there was no room, and nothing changed
 pub record HasRefused (old new : Machine) (shape : Shape) (no_room : NoRoom) : Type 0 where
   pub stays : new ≡ old
   pub lacks : Lacks old.heap.space shape no_room
 
--- the words in use are those of the objects that registers and globals reach
-abbrev pub UsesAlive : Machine → ℕ → Type 0
-UsesAlive m words = CostsSum (words_of m.log.items) (Alive m.log.items (of_thread (values_of m))) words
-
--- a collection: the history and the values in registers stay
+-- a collection, which is written down: the history and the values in registers stay
 pub record HasCollected (old new : Machine) : Type 0 where
   pub stands : IsStanding new
   pub sizes : KeepsSizes old new
@@ -193,6 +210,7 @@ pub record HasCollected (old new : Machine) : Type 0 where
   pub registers : values_of new ≡ values_of old
   pub history : new.log.items ≡ old.log.items
   pub alive : UsesAlive new new.heap.space.used
+  pub journal : length new.journal.items ≡ length old.journal.items + 1
 
 -- the operation makes an object for which there is no room
 pub record IsFull (m : Machine) (o : Op) (held need : ℕ) : Type 0 where
@@ -211,6 +229,7 @@ pub record HasStopped (old new : Machine) (o : Op) (held need : ℕ) : Type 0 wh
   pub registers : values_of new ≡ values_of old
   pub history : new.log.items ≡ old.log.items
   pub full : IsFull new o held need
+  pub journal : length old.journal.items ≤ length new.journal.items
 
 abbrev pub HasAnswered : Machine → Machine → Op → Answer → Type 0
 HasAnswered old new o (answer.Told r) = HasReplied old new o r
@@ -225,11 +244,24 @@ pub record IsFresh (size count : ℕ) (m : Machine) : Type 0 where
   pub registers : values_of m ≡ replicate 16 Nil
   pub made : m.made ≡ 0
 
+-- The history and the registers were these when the first k operations were answered, and the next was answered too.
+-- If it made an object, that had room beside those that registers and globals reached then.
+pub record WasAnswered (log : List Entry) (words : ℕ) (ops : List Op) (k : ℕ) : Type 0 where
+  pub before : List Entry
+  pub behind : List Entry
+  pub replies : List Reply
+  pub registers : List Value
+  pub split : before ++ behind ≡ log
+  pub told : Stands before 0 (take k ops) replies registers
+  pub room : (dst refs nums held : ℕ) → slice_get ops k ≡ Some (op.New dst refs nums) → CostsSum (words_of before) (Alive before (of_thread registers)) held → held + (2 + refs + nums) ≤ words
+
 -- operations were answered, and each entry is the one thread's
 pub record HasToldAll (m : Machine) (ops : List Op) (replies : List Reply) : Type 0 where
   pub stands : IsStanding m
   pub told : Stands m.log.items 0 ops replies (values_of m)
   pub own : AllByRecursion (λ (e : Entry). e.thread ≡ 0) m.log.items
+  pub collections : count_by is_collect ops ≤ length m.journal.items
+  pub each : (k : ℕ) → k < length ops → WasAnswered m.log.items (length m.heap.space.list) ops k
 
 -- why the thread ended, with these operations left
 abbrev pub EndsSo : Machine → List Op → ThreadEnd → Type 0

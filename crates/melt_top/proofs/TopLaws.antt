@@ -4,7 +4,7 @@ use Rattle.std.proofs.lemmas.Bool.{cond-false, lt-leb}
 use Rattle.std.proofs.lemmas.List.{length-take-le, take-append-drop, length-replicate}
 use Rattle.std.specs.Prelude.{Option, None, Some, slice_get, replicate, nat_le, Err, ◌||◌, if◌then◌else◌}
 use Rattle.std.specs.List.{list_any}
-use Rattle.melt_io.specs.Outside.{Rose, TakesFront}
+use Rattle.melt_io.specs.Outside.{Rose, TakesFront, Appends}
 use Rattle.melt_io.specs.Whole.{TakesCount}
 use Rattle.melt_model.specs.declared.config.Config.{Config}
 use Rattle.melt_model.specs.declared.reports.Report.{Report}
@@ -16,7 +16,7 @@ use Rattle.melt_step.specs.Run.{MayEnd, IsStepReport}
 use Rattle.melt_trace.specs.Language.{script_of}
 use Rattle.melt_top.specs.Text.{read_fault_text, refused_text}
 use Rattle.melt_top.specs.Command.{status_of, ended, is_disk_fault, is_damaged, is_out_of_heap, halted_by_fault, halted_by_full}
-use Rattle.melt_top.specs.Headline.{Change, StepDue, Due, IsBuilt}
+use Rattle.melt_top.specs.Headline.{Change, StepDue, Due, WroteAll, Outcome, IsBuilt}
 use Rattle.melt_top.specs.declared.command.Command.{Command}
 use Rattle.melt_top.specs.declared.command.Command.TheVariants.{Step}
 use Rattle.melt_top.specs.declared.status.Status.{Status}
@@ -63,7 +63,22 @@ none_ended test [] none = refl
 none_ended test (r ∷ threads) none =
     ap (λ (b : Bool). b || list_any (λ (x : ThreadReport). test x.end) threads) (none 0 r refl) ∙ none_ended test threads (λ t x at. none (suc t) x at)
 
-chosen : (a b c d : Bool) → a ≡ false → b ≡ false → c ≡ false → IsBuilt (if a then status.DiskFault else if b then status.Damaged else if c then status.DiskFull else if d then status.OutOfHeap else status.Done)
+-- the statuses that may be due
+abbrev MayBeDue : Status → Type 0
+MayBeDue status.Done = Unit {0}
+MayBeDue status.Usage = Unit {0}
+MayBeDue status.Trace = Unit {0}
+MayBeDue status.ReadFault = Unit {0}
+MayBeDue status.DiskFault = ⊥
+MayBeDue status.OutOfHeap = Unit {0}
+MayBeDue status.DiskFull = ⊥
+MayBeDue status.WriteFault = ⊥
+MayBeDue status.NoMemory = ⊥
+MayBeDue status.Damaged = ⊥
+MayBeDue status.BadDump = ⊥
+MayBeDue status.Illegal = ⊥
+
+chosen : (a b c d : Bool) → a ≡ false → b ≡ false → c ≡ false → MayBeDue (if a then status.DiskFault else if b then status.Damaged else if c then status.DiskFull else if d then status.OutOfHeap else status.Done)
 chosen true b c d p q r = absurd (cc)
 chosen false true c d p q r = absurd (cc)
 chosen false false true d p q r = absurd (cc)
@@ -74,24 +89,62 @@ either : (a b : Bool) → a ≡ false → b ≡ false → (a || b) ≡ false
 either true b p q = p
 either false b p q = q
 
--- the status of a run is one of today
-ran_status : (script : Script) (config : Config) (report : Report) → IsStepReport script config report → IsBuilt (status_of report)
+-- the status of a run
+ran_status : (script : Script) (config : Config) (report : Report) → IsStepReport script config report → MayBeDue (status_of report)
 ran_status script config report reported =
     chosen (ended is_disk_fault report || halted_by_fault report.halt) (ended is_damaged report) (halted_by_full report.halt) (ended is_out_of_heap report)
     (either (ended is_disk_fault report) (halted_by_fault report.halt) (none_ended is_disk_fault report.threads (λ t r at. (ends_so script config report t r.end (reported.ends t r at)).0)) (ap halted_by_fault reported.no_halt))
     (none_ended is_damaged report.threads (λ t r at. (ends_so script config report t r.end (reported.ends t r at)).1)) (ap halted_by_full reported.no_halt)
 
-step_built : (config : Config) (input : Change) (due : Status) (output : List ℕ) → StepDue config input due output → IsBuilt due
-step_built config input due output (inl failed) = subst IsBuilt (sym failed.status) tt
-step_built config input due output (inr read) = elim read.trace [
-  | inl refused ↦ subst IsBuilt (sym refused.status) tt
+step_due : (config : Config) (input : Change) (due : Status) (output : List ℕ) → StepDue config input due output → MayBeDue due
+step_due config input due output (inl failed) = subst MayBeDue (sym failed.status) tt
+step_due config input due output (inr read) = elim read.trace [
+  | inl refused ↦ subst MayBeDue (sym refused.status) tt
   | inr other ↦ elim other [
-    | inl form ↦ subst IsBuilt (sym form.status) tt
-    | inr ran ↦ subst IsBuilt (sym ran.ran.status) (ran_status ran.script config ran.ran.report ran.ran.run.reported)
+    | inl form ↦ subst MayBeDue (sym form.status) tt
+    | inr ran ↦ subst MayBeDue (sym ran.ran.status) (ran_status ran.script config ran.ran.report ran.ran.run.reported)
   ]
 ]
 
+is_due : (command : Option Command) (input : Change) (due : Status) (output : List ℕ) → Due command input due output → MayBeDue due
+is_due None input due output is = subst MayBeDue (sym is.status) tt
+is_due (Some (Step config)) input due output is = step_due config input due output is
+
+built : (due : Status) → MayBeDue due → IsBuilt due
+built status.Done may = tt
+built status.Usage may = tt
+built status.Trace may = tt
+built status.ReadFault may = tt
+built status.DiskFault may = may
+built status.OutOfHeap may = tt
+built status.DiskFull may = may
+built status.WriteFault may = tt
+built status.NoMemory may = tt
+built status.Damaged may = may
+built status.BadDump may = may
+built status.Illegal may = may
+
 -- what is due has a status of today
 pub due_built : (command : Option Command) (input : Change) (due : Status) (output : List ℕ) → Due command input due output → IsBuilt due
-due_built None input due output is = subst IsBuilt (sym is.status) tt
-due_built (Some (Step config)) input due output is = step_built config input due output is
+due_built command input due output is = built due (is_due command input due output is)
+
+-- what was done, where all was written that may be due
+outcome : (command : Option Command) (input out : Change) (due : Status) → MayBeDue due → WroteAll command input out due → Outcome command input out due
+outcome command input out status.Done may wrote = wrote
+outcome command input out status.Usage may wrote = wrote
+outcome command input out status.Trace may wrote = wrote
+outcome command input out status.ReadFault may wrote = wrote
+outcome command input out status.DiskFault may wrote = wrote
+outcome command input out status.OutOfHeap may wrote = wrote
+outcome command input out status.DiskFull may wrote = wrote
+outcome command input out status.WriteFault may wrote = absurd may
+outcome command input out status.NoMemory may wrote = absurd may
+outcome command input out status.Damaged may wrote = wrote
+outcome command input out status.BadDump may wrote = wrote
+outcome command input out status.Illegal may wrote = wrote
+
+-- everything that was due was written
+pub wrote_all : (command : Option Command) (input out : Change) (due : Status) (output bytes : List ℕ) → Due command input due output → bytes ≡ output → Appends out.before bytes out.after → Outcome command input out due
+wrote_all command input out due output bytes is same written =
+    outcome command input out due (is_due command input due output is)
+    (record { output = output; due = is; written = subst (λ (xs : List ℕ). Appends out.before xs out.after) same written })

@@ -19,5 +19,7 @@ returns c =
       };
       sizes = record { globals = refl; words = refl };
       few = omega arith;
+      journal = omega arith;
+      room = tt;
       answers = get_answers m.log.items (values_of m) c.args.src c.args.j o.number v o.shape _ _ _ held.value (object_shape m.heap.space m.heap.globals m.heap.names m.held.regs m.log.items m.made o.address o.number o.shape is.header s is.named is.starts is.shape) c.if-j-object.false refl refl c.in_ok-push.ensures.items;
     }

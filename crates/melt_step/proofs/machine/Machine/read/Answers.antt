@@ -1,5 +1,6 @@
-use Rattle.std.proofs.Common.{refl, sym, ◌∙◌, ap}
+use Rattle.std.proofs.Common.{List, refl, sym, ◌∙◌, ap}
 use Rattle.melt_model.specs.Thread.{found}
+use Rattle.melt_model.specs.declared.reports.Journal.{Journal}
 use Rattle.melt_step.proofs.Values.{held_values-set}
 use Rattle.melt_step.proofs.Standing.{StandsFor_load, same_read}
 use Rattle.melt_step.proofs.machine.Machine.read.Goals as goal
@@ -18,4 +19,5 @@ returns c =
       told = ap found (sym c.value_at-value.ensures) ∙ sym c.found.ensures;
       registers = held_values-set m.heap.names m.held.regs c.args.dst c.args.address;
       history = same_read m.log.items c.push.new.self.items c.args.slot v _ c.value_at-value.ensures c.in_ok-push.ensures.items;
+      journal = refl {A = List Journal};
     }

@@ -21,6 +21,8 @@ returns-else-self-a c =
       stands = c.requires.stands;
       sizes = record { globals = refl; words = refl };
       few = omega arith;
+      journal = omega arith;
+      room = tt;
       answers = record {
         value = Nil;
         given = refl;

@@ -16,4 +16,5 @@ returns c =
       told = refl;
       registers = held_values-set m.heap.names m.held.regs c.args.dst c.args.address;
       history = refl;
+      journal = refl;
     }

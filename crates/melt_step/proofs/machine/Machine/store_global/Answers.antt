@@ -24,6 +24,8 @@ returns c =
       };
       sizes = record { globals = ap length c.set_global_word.ensures ∙ length-set m.heap.globals c.args.g c.reference_word.result; words = refl };
       few = omega arith;
+      journal = omega arith;
+      room = tt;
       answers = record {
         value = Nil;
         given = refl;

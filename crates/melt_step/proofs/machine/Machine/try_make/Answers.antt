@@ -2,7 +2,7 @@ use Rattle.std.proofs.Common.{◌+◌, refl, sym, subst, List}
 use Rattle.std.proofs.Math.ListN.{set}
 use Rattle.melt_model.specs.declared.history.Entry.{Entry}
 use Rattle.melt_step.specs.Machine.{StandsFor}
-use Rattle.melt_step.proofs.Standing.{StandsFor_make}
+use Rattle.melt_step.proofs.Standing.{StandsFor_make, room_beside}
 use Rattle.melt_step.proofs.machine.Machine.try_make.Goals as goal
 
 pub returns-clause-made : goal.returns-clause-made
@@ -19,4 +19,6 @@ returns-clause-made c =
       made = refl;
       registers = made.1;
       history = c.in_ok-push.ensures.items;
+      room = λ held alive. room_beside m.heap.space c.make.new.self m.heap.globals m.heap.names m.held.regs m.log.items m.made c.in-Ok.address held c.args.shape c.requires.stands.stands c.in-Ok.ensures.made alive;
+      journal = refl;
     }

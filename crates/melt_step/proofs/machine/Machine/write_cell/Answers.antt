@@ -1,4 +1,5 @@
-use Rattle.std.proofs.Common.{refl}
+use Rattle.std.proofs.Common.{List, refl}
+use Rattle.melt_model.specs.declared.reports.Journal.{Journal}
 use Rattle.melt_step.proofs.Standing.{StandsFor_put}
 use Rattle.melt_step.proofs.machine.Machine.write_cell.Goals as goal
 
@@ -18,4 +19,5 @@ returns c =
       told = refl;
       registers = refl;
       history = c.in_ok-push.ensures.items;
+      journal = refl {A = List Journal};
     }

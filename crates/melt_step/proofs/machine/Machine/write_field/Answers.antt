@@ -1,5 +1,6 @@
-use Rattle.std.proofs.Common.{get_or, refl, sym, ◌∙◌, arith}
+use Rattle.std.proofs.Common.{List, get_or, refl, sym, ◌∙◌, arith}
 use Rattle.melt_model.specs.declared.history.Slot.TheVariants.{Field}
+use Rattle.melt_model.specs.declared.reports.Journal.{Journal}
 use Rattle.melt_step.proofs.Values.{value_held, may_small}
 use Rattle.melt_step.proofs.Standing.{StandsFor_store, same_write}
 use Rattle.melt_step.specs.Machine.{maps_in, state_in}
@@ -27,4 +28,5 @@ returns c =
       told = refl;
       registers = refl;
       history = same_write m.log.items c.push.new.self.items (Field o.number c.args.i) c.value_at-value.result _ (c.value_at-value.ensures ∙ sym (value_held m.heap.names m.held.regs c.args.src)) c.in_ok-push.ensures.items;
+      journal = refl {A = List Journal};
     }
