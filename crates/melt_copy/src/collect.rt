@@ -39,10 +39,18 @@ fn numbers_for<L: Ledger>(
     }
 }
 
-/// Copies everything that can be reached. The heap and the registers stay.
+/// A vector for what is to be copied.
+fn room_for_copy(alloc: Global, heap: &mut Heap) -> Result<Vec<u64>, NoMemory>
+    ensures { heap.new ≡ heap.old }
+{
+    heap.space.room_for_copy(alloc)
+}
+
+/// Copies everything that can be reached, the words of objects into `room`. The heap and the registers stay.
 fn copy_out<L: Ledger>(
     alloc: Global,
     heap: &Heap,
+    room: Vec<u64>,
     held: &[Registers],
     steps: &mut Steps<L>,
 ) -> Result<Copied, NoMemory>
@@ -60,7 +68,7 @@ fn copy_out<L: Ledger>(
         &heap.globals.items,
         steps,
     )?;
-    let words = copy_objects(alloc, &mut plan, &heap.space, steps)?;
+    let words = copy_objects(room, &mut plan, &heap.space, steps)?;
     let numbers = numbers_for(alloc, &heap.names, &plan.moves, steps)?;
     Ok(Copied {
         plan,
@@ -100,7 +108,7 @@ fn put_back<L: Ledger>(
     ensures { IsPutBack heap.old heap.new held.old held.new copied }
 {
     let used = heap.space.used();
-    heap.space.replace(&copied.words);
+    heap.space.replace(copied.words);
     heap.globals = Globals {
         items: copied.globals,
     };
@@ -131,7 +139,8 @@ pub fn collect_copy<L: Ledger>(
     ensures heap_stays { OnErr result (heap.new ≡ heap.old) }
     ensures registers_stay { OnErr result (held.new ≡ held.old) }
 {
-    let copied = copy_out(alloc, heap, held, steps)?;
+    let room = room_for_copy(alloc, heap)?;
+    let copied = copy_out(alloc, heap, room, held, steps)?;
     let held_words = copied.held;
     put_back(heap, held, copied, steps);
     Ok(Journal {

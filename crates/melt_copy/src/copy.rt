@@ -10,7 +10,6 @@ use melt_model::{NoMemory, Steps};
 use melt_scion::Registers;
 use melt_space::Space;
 use melt_word::cost;
-use std::alloc::Global;
 use std::sync::ledger::Ledger;
 
 /// Finds the objects in the registers of a thread.
@@ -97,13 +96,13 @@ fn copy_object<L: Ledger>(
     Ok(())
 }
 
-/// Copies the objects that were found, and those that are found meanwhile. The first word of the copy is that at
-/// address 1.
+/// Copies the objects that were found, and those that are found meanwhile, into `words`, whose items go. The first word
+/// of the copy is that at address 1.
 ///
 /// The order is that of C. J. Cheney, "A Nonrecursive List Compacting Algorithm", Communications of the ACM 13 (1970):
 /// the objects that were found and not copied yet are a queue.
 pub fn copy_objects<L: Ledger>(
-    alloc: Global,
+    mut words: Vec<u64>,
     plan: &mut Plan,
     space: &Space,
     steps: &mut Steps<L>,
@@ -112,7 +111,7 @@ pub fn copy_objects<L: Ledger>(
     ensures copied { IfOk result (λ words. (s : State) → Plans space.now s plan.old → HasCopied space.now s plan.new words.items (length plan.new.moves.items)) }
     ensures grows { Grows plan.old plan.new }
 {
-    let mut words = Vec::with_capacity(alloc, space.used() as usize)?;
+    words.clear();
     let mut done = 0;
     while done < plan.moves.len() {
         steps.tick();

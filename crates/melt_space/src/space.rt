@@ -1,5 +1,6 @@
 //! A space of 64-bit words, in which objects are made one behind the other.
-ghost use Rattle.std.specs.Prelude.{◌≡◌, ◌+◌, ◌-◌, ◌^◌, ◌<◌, ◌≤◌, ◌++◌, drop, length, IfErr, IfOk, IsErr, OnErr};
+ghost use Rattle.std.specs.Prelude.{◌≡◌, ◌+◌, ◌-◌, ◌^◌, ◌<◌, ◌≤◌, ◌++◌, [], drop, length, IfErr, IfOk, IsErr, OnErr};
+ghost use Rattle.std.specs.Vec.{vec_capacity};
 ghost use Rattle.melt_word.specs.Words.{IsHeader, IsShape, cost_of, header_word};
 ghost use Rattle.melt_word.specs.declared.header.Header.{Header};
 ghost use Rattle.melt_space.specs.Space.{AreWords, HasHeader, IsFresh, IsSpace, IsWord, Lacks, Makes, Replaces, SetsWord, word_at};
@@ -22,6 +23,8 @@ pub struct NoRoom {
 pub struct Space {
     words: Vec<u64>,
     used: u32,
+    /// A vector whose items are of no use, kept for the next copy.
+    spare: Option<Vec<u64>>,
 }
 
 impl Model for Space {
@@ -49,7 +52,11 @@ impl Space {
         ensures { IfOk result (IsFresh words) }
     {
         let words = vec![in alloc; 0; words as usize]?;
-        Ok(Space { words, used: 0 })
+        Ok(Space {
+            words,
+            used: 0,
+            spare: None,
+        })
     }
 
     /// Makes a clean object in the first free words and answers its address. It has no home, its
@@ -143,12 +150,32 @@ impl Space {
         self.used = used;
     }
 
-    /// Puts these words, at most all of them, in the place of the first ones, and says that they are those in use.
-    pub fn replace(&mut self, words: &[u64])
-        requires { length words.now ≤ length self.old.list }
-        ensures { Replaces self.old self.new words.now }
+    /// An empty vector with room for the words in use, for a copy of them.
+    ///
+    /// Takes memory only where no vector is kept, or one that is too small, which is let go first.
+    pub fn room_for_copy(&mut self, alloc: Global) -> Result<Vec<u64>, NoMemory>
+        ensures empty { IfOk result (λ room. room.items ≡ []) }
+        ensures room { IfOk result (λ room. self.old.used ≤ vec_capacity room) }
+        ensures unchanged { self.new ≡ self.old }
     {
-        put_front(&mut self.words, words);
+        let used = self.used as usize;
+        if let Some(mut spare) = self.spare.take() {
+            if used <= spare.capacity() {
+                spare.clear();
+                return Ok(spare);
+            }
+        }
+        Ok(Vec::with_capacity(alloc, used)?)
+    }
+
+    /// Puts these words, at most all of them, in the place of the first ones, and says that they are those in use.
+    /// Keeps the vector for the next copy.
+    pub fn replace(&mut self, words: Vec<u64>)
+        requires { length words.items ≤ length self.old.list }
+        ensures { Replaces self.old self.new words.items }
+    {
+        put_front(&mut self.words, &words);
         self.used = words.len() as u32;
+        self.spare = Some(words);
     }
 }

@@ -61,7 +61,7 @@ fn the_first_words_are_replaced(rt: HostRuntime) -> Result<(), Fail> {
     space.set_word(1, 8);
     space.set_word(3, 9);
     space.set_used(3);
-    space.replace(&[5, 6]);
+    space.replace(vec![in rt.alloc(); 5, 6]?);
     assert_eq!(rt; space.used(), 2);
     assert_eq!(rt; space.word(1), 5);
     assert_eq!(rt; space.word(2), 6);
@@ -79,5 +79,24 @@ fn words_are_read_from_an_address_on(rt: HostRuntime) -> Result<(), Fail> {
     space.set_word(4, 9);
     assert_eq!(rt; space.words_at(2, 2), [7, 8].as_slice());
     assert_eq!(rt; space.words_at(3, 2), [8, 9].as_slice());
+    Ok(())
+}
+
+#[test]
+fn a_vector_is_kept_for_the_next_copy(rt: HostRuntime) -> Result<(), Fail> {
+    let alloc = rt.alloc();
+    let mut space = Space::new(alloc, 6)?;
+    assert_eq!(rt; space.words(), 6);
+    space.set_used(2);
+    let mut room = space.room_for_copy(alloc)?;
+    assert_eq!(rt; room.capacity(), 2);
+    room.extend_from_slice(&[5, 6])?;
+    space.replace(room);
+    let again = space.room_for_copy(alloc)?;
+    assert_eq!(rt; again.len(), 0);
+    assert_eq!(rt; again.capacity(), 2);
+    space.replace(again);
+    space.set_used(4);
+    assert_eq!(rt; space.room_for_copy(alloc)?.capacity(), 4);
     Ok(())
 }
