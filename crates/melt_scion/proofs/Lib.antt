@@ -1,3 +1,4 @@
+pub mod Named
 pub mod Geometry
 pub mod Frame
 pub mod Entries

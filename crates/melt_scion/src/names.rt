@@ -1,5 +1,5 @@
 //! The names of addresses: which object stands at an address.
-ghost use Rattle.std.specs.Prelude.{◌≡◌, ◌≤◌, ◌<◌, ◌^◌, ◌++◌, drop, length, replicate, None, IfOk};
+ghost use Rattle.std.specs.Prelude.{◌≡◌, ◌≤◌, ◌<◌, ◌^◌, ◌++◌, drop, false, length, replicate, slice_index_or, None, IfOk};
 ghost use Rattle.melt_scion.specs.Names.{Clears, SetsName, name_at};
 
 use melt_model::NoMemory;
@@ -9,23 +9,36 @@ use std::marker::Model;
 /// A finite map from addresses to the numbers of the objects that start there.
 #[derive(Debug, Drop)]
 pub struct AddressNames {
-    numbers: Vec<Option<u32>>,
+    /// For each address from 1 on, whether an object starts there.
+    named: Vec<bool>,
+    /// The number of that object. Where none starts, it means nothing.
+    numbers: Vec<u32>,
 }
 
 impl Model for AddressNames {
-    ghost use Rattle.std.specs.Prelude.{List, Option, ℕ};
+    ghost use Rattle.std.specs.Prelude.{List, Option, ℕ, ◌≡◌, length};
+    ghost use Rattle.melt_scion.specs.Names.{names_of};
 
     ghost Value = { List (Option ℕ) };
 
-    ghost view = { λ names. names.numbers.items };
+    ghost view = { λ names. names_of names.named.items names.numbers.items };
+
+    ghost invariant = { λ names. length names.named.items ≡ length names.numbers.items };
 }
 
-/// Takes away the first numbers, so many of them.
-fn forget(numbers: &mut [Option<u32>], count: usize)
-    requires { count ≤ length numbers.old }
-    ensures { numbers.new ≡ replicate count None ++ drop count numbers.old }
+/// Whether an object starts at the address behind an index.
+fn is_named(named: &[bool], index: usize) -> bool
+    ensures { result ≡ slice_index_or named.now index false }
 {
-    numbers[..count].fill(None);
+    named.get(index).copied().unwrap_or(false)
+}
+
+/// Takes away the first names, so many of them.
+fn forget(named: &mut [bool], count: usize)
+    requires { count ≤ length named.old }
+    ensures { named.new ≡ replicate count false ++ drop count named.old }
+{
+    named[..count].fill(false);
 }
 
 impl AddressNames {
@@ -34,8 +47,9 @@ impl AddressNames {
         requires { words < 2 ^ 30 }
         ensures { IfOk result (λ names. names ≡ replicate words None) }
     {
-        let numbers = vec![in alloc; None; words as usize]?;
-        Ok(AddressNames { numbers })
+        let named = vec![in alloc; false; words as usize]?;
+        let numbers = vec![in alloc; 0; words as usize]?;
+        Ok(AddressNames { named, numbers })
     }
 
     /// The number of the object that starts at an address, if one does.
@@ -43,7 +57,11 @@ impl AddressNames {
         ensures { result ≡ name_at self.now address }
     {
         let index = (address as usize).checked_sub(1)?;
-        self.numbers.get(index).copied().flatten()
+        if is_named(&self.named, index) {
+            Some(self.numbers[index])
+        } else {
+            None
+        }
     }
 
     /// Says that the object of this number starts at an address, from 1 to the `words` that the names are for.
@@ -52,7 +70,9 @@ impl AddressNames {
         requires last { address ≤ length self.old }
         ensures { SetsName self.old self.new address number }
     {
-        self.numbers[address as usize - 1] = Some(number);
+        let index = address as usize - 1;
+        self.named[index] = true;
+        self.numbers[index] = number;
     }
 
     /// Says that no object starts at an address from 1 to `last`, at most the `words` that the names are for.
@@ -60,6 +80,6 @@ impl AddressNames {
         requires { last ≤ length self.old }
         ensures { Clears self.old self.new last }
     {
-        forget(&mut self.numbers, last as usize);
+        forget(&mut self.named, last as usize);
     }
 }
