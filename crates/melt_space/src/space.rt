@@ -1,5 +1,5 @@
 //! A space of 64-bit words, in which objects are made one behind the other.
-ghost use Rattle.std.specs.Prelude.{◌≡◌, ◌+◌, ◌-◌, ◌^◌, ◌<◌, ◌≤◌, ◌++◌, [], drop, length, IfErr, IfOk, IsErr, OnErr};
+ghost use Rattle.std.specs.Prelude.{◌≡◌, ◌+◌, ◌-◌, ◌^◌, ◌<◌, ◌≤◌, ◌++◌, [], drop, length, if◌then◌else◌, IfErr, IfOk, IsErr, OnErr};
 ghost use Rattle.std.specs.Vec.{vec_capacity};
 ghost use Rattle.melt_word.specs.Words.{IsHeader, IsShape, cost_of, header_word};
 ghost use Rattle.melt_word.specs.declared.header.Header.{Header};
@@ -9,6 +9,7 @@ use melt_model::NoMemory;
 use melt_word::{Header, Shape, cost, decode_header, encode_header};
 use std::alloc::Global;
 use std::marker::Model;
+use std::mem::replace;
 
 /// No room for an object: the words that are free, and those that it needs, from 2 to 126.
 #[derive(Clone, Copy, Debug, PartialEq, Eq)]
@@ -43,6 +44,32 @@ fn put_front(list: &mut [u64], words: &[u64])
     ensures { list.new ≡ words.now ++ drop (length words.now) list.old }
 {
     list[..words.len()].copy_from_slice(words);
+}
+
+/// Puts the words of the list that would stand behind these there, where they are fewer and there is room for them.
+/// Answers whether it did.
+fn complete(words: &mut Vec<u64>, list: &[u64]) -> bool
+    requires { length words.old.items ≤ length list.now }
+    ensures { words.new.items ≡ (if result then words.old.items ++ drop (length words.old.items) list.now else words.old.items) }
+{
+    let count = words.len();
+    let behind = list.len() - count;
+    if behind < count && behind <= words.capacity() - count {
+        return words.extend_from_slice(&list[count..]).is_ok();
+    }
+    false
+}
+
+/// Puts these words in the place of the first ones, and gives the vector that is left over.
+fn exchange(list: &mut Vec<u64>, mut words: Vec<u64>) -> Vec<u64>
+    requires { length words.items ≤ length list.old.items }
+    ensures { list.new.items ≡ words.items ++ drop (length words.items) list.old.items }
+{
+    if complete(&mut words, list) {
+        return replace(list, words);
+    }
+    put_front(list, &words);
+    words
 }
 
 impl Space {
@@ -150,7 +177,8 @@ impl Space {
         self.used = used;
     }
 
-    /// An empty vector with room for the words in use, for a copy of them.
+    /// An empty vector with room for the words in use, for a copy of them. Where they are most of all words, it has room
+    /// for all, so that `replace` can let it take their place.
     ///
     /// Takes memory only where no vector is kept, or one that is too small, which is let go first.
     pub fn room_for_copy(&mut self, alloc: Global) -> Result<Vec<u64>, NoMemory>
@@ -165,7 +193,9 @@ impl Space {
                 return Ok(spare);
             }
         }
-        Ok(Vec::with_capacity(alloc, used)?)
+        let all = self.words.len();
+        let room = if all - used < used { all } else { used };
+        Ok(Vec::with_capacity(alloc, room)?)
     }
 
     /// Puts these words, at most all of them, in the place of the first ones, and says that they are those in use.
@@ -174,8 +204,8 @@ impl Space {
         requires { length words.items ≤ length self.old.list }
         ensures { Replaces self.old self.new words.items }
     {
-        put_front(&mut self.words, &words);
-        self.used = words.len() as u32;
-        self.spare = Some(words);
+        let count = words.len();
+        self.spare = Some(exchange(&mut self.words, words));
+        self.used = count as u32;
     }
 }

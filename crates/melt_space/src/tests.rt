@@ -97,6 +97,27 @@ fn a_vector_is_kept_for_the_next_copy(rt: HostRuntime) -> Result<(), Fail> {
     assert_eq!(rt; again.capacity(), 2);
     space.replace(again);
     space.set_used(4);
-    assert_eq!(rt; space.room_for_copy(alloc)?.capacity(), 4);
+    assert_eq!(rt; space.room_for_copy(alloc)?.capacity(), 6);
+    Ok(())
+}
+
+#[test]
+fn a_copy_of_most_words_takes_their_place(rt: HostRuntime) -> Result<(), Fail> {
+    let alloc = rt.alloc();
+    let mut space = Space::new(alloc, 3)?;
+    assert_eq!(rt; space.words(), 3);
+    space.set_word(1, 8);
+    space.set_word(3, 9);
+    space.set_used(2);
+    let mut room = space.room_for_copy(alloc)?;
+    assert_eq!(rt; room.capacity(), 3);
+    room.extend_from_slice(&[5, 6])?;
+    space.replace(room);
+    assert_eq!(rt; space.used(), 2);
+    assert_eq!(rt; space.words(), 3);
+    assert_eq!(rt; space.word(1), 5);
+    assert_eq!(rt; space.word(2), 6);
+    assert_eq!(rt; space.word(3), 9);
+    assert_eq!(rt; space.room_for_copy(alloc)?.len(), 0);
     Ok(())
 }
