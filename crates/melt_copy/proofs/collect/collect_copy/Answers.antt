@@ -16,7 +16,7 @@ put_back-requires-clause-nothing g c =
     nothing_goes _ _ c.in_ok-copied.copied (c.in_ok-copied.ensures formed.maps formed.end formed.formed)
 
 pub put_back-requires-clause-names : goal.put_back-requires-clause-names
-put_back-requires-clause-names g c = may_rename c.args.heap.now c.args.held.now c.in_ok-copied.copied c.requires.formed c.in_ok-copied.ensures
+put_back-requires-clause-names g c = may_rename c.args.phase c.args.heap.now c.args.held.now c.in_ok-copied.copied c.requires.formed c.in_ok-copied.ensures
 
 pub returns-clause-collected : goal.returns-clause-collected
-returns-clause-collected g c = put_collects c.args.heap.now _ c.args.held.now c.put_back.new.held c.in_ok-copied.copied c.args.phase _ c.in_ok-copied.ensures c.put_back.ensures refl refl c.used.ensures.value refl refl refl
+returns-clause-collected g c = put_collects c.args.heap.now _ c.args.held.now c.put_back.new.held c.in_ok-copied.copied c.args.phase _ c.requires.phase c.in_ok-copied.ensures c.put_back.ensures refl refl c.used.ensures.value refl refl refl
