@@ -1,8 +1,8 @@
 //! Where each object that a collection finds goes.
 ghost use Rattle.std.specs.Prelude.{◌≡◌, ◌≢◌, ℕ, ◌+◌, ◌^◌, ◌<◌, ◌≤◌, ◌⊎◌, [], slice_get, slice_index, length, replicate, Some, IfOk};
+ghost use Rattle.melt_word.specs.Words.{IsAddress, IsRef};
 ghost use Rattle.melt_scion.specs.State.{State};
 ghost use Rattle.melt_copy.specs.declared.plan.Move.{Move};
-ghost use Rattle.melt_word.specs.Words.{IsAddress, IsRef};
 ghost use Rattle.melt_copy.specs.Moving.{WordMoves, tagged};
 ghost use Rattle.melt_copy.specs.Plans.{Grows, Plans, PlansAt, PlansFor, goes};
 

@@ -1,7 +1,7 @@
 ghost use Rattle.std.specs.Prelude.{◌≡◌, ◌<◌, IfOk};
+ghost use Rattle.melt_word.specs.Words.{IsShape};
 ghost use Rattle.melt_scion.specs.Heaps.{IsFormed};
 ghost use Rattle.melt_copy.specs.Copying.{IsCopying};
-ghost use Rattle.melt_word.specs.Words.{IsShape};
 
 use super::*;
 use melt_model::{Journal, NoMemory, Phase, Steps};
