@@ -1,6 +1,6 @@
 -- What was copied and put back is a collection.
 use Rattle.std.proofs.Common.{◌≡◌, ℕ, ◌+◌, ◌-◌, ◌<◌, ◌≤◌, zero, suc, List, [], ◌∷◌, length, take, refl, sym, subst, ap, ◌∙◌, arith, inl, inr}
-use Rattle.std.specs.Prelude.{Option, None, Some, slice_get, slice_index, if◌then◌else◌, ◌==◌}
+use Rattle.std.specs.Prelude.{Bool, Option, None, Some, slice_get, slice_index, if◌then◌else◌, ◌==◌}
 use Rattle.std.proofs.lemmas.Bool.Decides.{eqb_tells}
 use Rattle.melt_model.specs.Alive.{Held, words_of, CostsSum}
 use Rattle.melt_model.specs.declared.reports.Journal.{Journal}
@@ -20,19 +20,19 @@ use Rattle.melt_copy.specs.declared.collect.Copied.{Copied}
 use Rattle.melt_copy.specs.Moving.{IsPlan, IsCopy, ObjectMoves, WordMoves, words_in, name_after, maps_after}
 use Rattle.melt_copy.specs.Plans.{goes, word_in}
 use Rattle.melt_copy.specs.Copied.{NumbersAre, IsCopied, Copies, MayRename, AreRenamed, IsPutBack}
-use Rattle.melt_copy.specs.Copying.{Collects}
+use Rattle.melt_copy.specs.Copying.{IsCopying, Collects}
 use Rattle.melt_copy.proofs.Places.{place_below, same_place}
 use Rattle.melt_copy.proofs.Sources.{plan_words}
 use Rattle.melt_copy.proofs.Moved.{copy_collects, copy_marks, copy_counts}
 
 -- what was copied fits into the words that were in use
-pub copied_fits : (s : State) (names : Option Names) (copied : Copied) → IsCopied s names copied → length copied.words.items ≤ s.free - 1
+pub copied_fits : {phase : Phase} (s : State) (names : Option Names) (copied : Copied) → IsCopied phase s names copied → length copied.words.items ≤ s.free - 1
 copied_fits s names copied is =
     let words = plan_words s (goes copied.plan) copied.plan.moves.items copied.plan.next is.whole is.holds in
     omega (arith, words, is.size)
 
 -- no object stands at address 0
-pub nothing_goes : (s : State) (names : Option Names) (copied : Copied) → IsCopied s names copied → goes copied.plan 0 ≡ 0
+pub nothing_goes : {phase : Phase} (s : State) (names : Option Names) (copied : Copied) → IsCopied phase s names copied → goes copied.plan 0 ≡ 0
 nothing_goes s names copied is =
     elim (eqb_tells (goes copied.plan 0) 0) [
       | inl same ↦ same.1
@@ -61,8 +61,8 @@ can_rename used size maps (Some names) moves numbers has made are fits behind pl
   apart = apart;
 }
 
-pub may_rename : (heap : Heap) (held : List Registers) (copied : Copied) → IsFormed heap held → Copies heap held copied → MayRename heap.space.used heap.names copied.plan.moves.items copied.numbers.items
-may_rename heap held copied formed copies =
+pub may_rename : (phase : Phase) (heap : Heap) (held : List Registers) (copied : Copied) → IsFormed heap held → Copies phase heap held copied → MayRename heap.space.used heap.names copied.plan.moves.items copied.numbers.items
+may_rename phase heap held copied formed copies =
     let s : State = state_of heap held formed.end in
     let is = copies formed.maps formed.end formed.formed in
     let f = goes copied.plan in
@@ -93,11 +93,11 @@ names_stay None (Some new) moves renamed = absurd renamed
 names_stay (Some old) None moves renamed = absurd renamed
 
 -- an object in other words that are the same where it stands
-other_words : (f : ℕ → ℕ) (s : State) (v w : ℕ → ℕ) (m : Move) → ((k : ℕ) → m.to ≤ k → k < m.to + cost_of m.shape → w k ≡ v k) → ObjectMoves f s v m → ObjectMoves f s w m
-other_words f s v w m same object = record {
-  header = same m.to (omega arith) (omega arith) ∙ object.header;
+other_words : {phase : Phase} {bit : Bool} (f : ℕ → ℕ) (s : State) (v w : ℕ → ℕ) (m : Move) → ((k : ℕ) → m.to ≤ k → k < m.to + cost_of m.shape → w k ≡ v k) → ObjectMoves phase bit f s v m → ObjectMoves phase bit f s w m
+other_words {phase} f s v w m same object = record {
+  header = λ header starts. same m.to (omega arith) (omega arith) ∙ object.header header starts;
   home = same (m.to + 1) (omega arith) (omega arith) ∙ object.home;
-  slots = λ i below. subst (WordMoves f (s.word (m.from + 2 + i))) (sym (same (m.to + 2 + i) (omega arith) (omega (arith, below)))) (object.slots i below);
+  slots = λ i below. subst (WordMoves phase f (s.word (m.from + 2 + i))) (sym (same (m.to + 2 + i) (omega arith) (omega (arith, below)))) (object.slots i below);
   numbers = λ j below. same (m.to + 2 + m.shape.refs + j) (omega arith) (omega (arith, below)) ∙ object.numbers j below;
 }
 
@@ -106,8 +106,8 @@ replaced_word old new words zero replaces first last = absurd (omega (arith, fir
 replaced_word old new words (suc k) replaces first last = replaces.front k (omega (arith, last))
 
 -- the heap that was put back is a copy
-put_copy : (old new : Heap) (held after : List Registers) (end : ℕ) (copied : Copied) → (is : IsCopied (state_of old held end) old.names copied) → IsPutBack old new held after copied → IsCopy (state_of old held end) (state_of new after end) (goes copied.plan) copied.plan.moves.items is.front
-put_copy old new held after end copied is put =
+put_copy : (phase : Phase) (old new : Heap) (held after : List Registers) (end : ℕ) (copied : Copied) → (is : IsCopied phase (state_of old held end) old.names copied) → IsPutBack old new held after copied → IsCopy phase (state_of old held end) (state_of new after end) (goes copied.plan) copied.plan.moves.items is.front
+put_copy phase old new held after end copied is put =
     let s : State = state_of old held end in
     let f = goes copied.plan in
     let moves = copied.plan.moves.items in
@@ -119,7 +119,7 @@ put_copy old new held after end copied is put =
           other_words f s (word_in copied.words.items) (word_at new.space) m
           (λ a from to. replaced_word old.space new.space copied.words.items a put.space (let first = place.0 in omega (arith, first, from)) (let below = place.1 in let behind = is.holds.behind in omega (arith, below, to, behind, is.size)))
           (is.objects k m at);
-      global = λ g below. subst (λ (ws : List ℕ). WordMoves f (s.global g) (slice_index ws g)) (sym put.globals) (is.globals g below);
+      global = λ g below. subst (λ (ws : List ℕ). WordMoves phase f (s.global g) (slice_index ws g)) (sym put.globals) (is.globals g below);
       register = put.registers;
       held = is.held;
       size = put.space.size;
@@ -128,14 +128,14 @@ put_copy old new held after end copied is put =
     }
 
 -- what was put back is a collection
-pub put_collects : (old new : Heap) (held after : List Registers) (copied : Copied) (phase : Phase) (journal : Journal) → Copies old held copied → IsPutBack old new held after copied → journal.phase ≡ phase → journal.held ≡ copied.held → journal.live ≡ new.space.used → journal.bodies ≡ 0 → journal.stubs ≡ 0 → journal.end ≡ 0 → Collects old held new after phase journal
-put_collects old new held after copied phase journal copies put phase_is held_is live_is bodies stubs ends maps end names formed =
+pub put_collects : (old new : Heap) (held after : List Registers) (copied : Copied) (phase : Phase) (journal : Journal) → IsCopying phase → Copies phase old held copied → IsPutBack old new held after copied → journal.phase ≡ phase → journal.held ≡ copied.held → journal.live ≡ new.space.used → journal.bodies ≡ 0 → journal.stubs ≡ 0 → journal.end ≡ 0 → Collects old held new after phase journal
+put_collects old new held after copied phase journal copying copies put phase_is held_is live_is bodies stubs ends maps end names formed =
     let s : State = state_of old held end in
     let t : State = state_of new after end in
     let f = goes copied.plan in
     let moves = copied.plan.moves.items in
     let is = copies maps end formed in
-    let copy = put_copy old new held after end copied is put in
+    let copy = put_copy phase old new held after end copied is put in
     let counts = copy_counts maps s t f moves is.front is.whole formed copy in
     let live : journal.live ≡ words_in moves = live_is ∙ (put.space.used ∙ is.size) in
     let held_words : journal.held ≡ words_in (take is.front moves) = held_is ∙ is.held_words in
@@ -144,7 +144,7 @@ put_collects old new held after copied phase journal copies put phase_is held_is
       names = has_names maps old.names new.names moves names put.names;
       names_stay = names_stay old.names new.names moves put.names;
       collected = copy_collects maps s t f moves is.front is.whole formed copy;
-      marks = copy_marks maps s t f moves is.front is.whole formed copy;
+      marks = copy_marks phase maps s t f moves is.front copying is.whole formed copy;
       counts = record {
         live_words = λ h value placed. subst (CostsSum (words_of h) (InUse (maps_after maps moves))) (sym live) (counts.live_words h value placed);
         held_words = λ h value placed. subst (CostsSum (words_of h) (Held value)) (sym held_words) (counts.held_words h value placed);

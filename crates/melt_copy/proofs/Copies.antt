@@ -1,15 +1,18 @@
 -- The words of one object that is copied.
-use Rattle.std.proofs.Common.{◌≡◌, ℕ, ◌+◌, ◌-◌, ◌<◌, zero, suc, List, ◌++◌, length, take, drop, sym, subst, ap, ◌∙◌, arith, length-append, length-drop}
-use Rattle.std.specs.Prelude.{slice_index}
+use Rattle.std.proofs.Common.{◌≡◌, ℕ, ◌+◌, ◌-◌, ◌<◌, zero, suc, List, [], ◌∷◌, ◌++◌, length, take, drop, sym, subst, ap, ◌∙◌, arith, length-append, length-drop}
+use Rattle.std.specs.Prelude.{Bool, slice_index}
 use Rattle.std.proofs.lemmas.List.{get_or_append_left, get_or-append-add, get_or-take, get_or-drop, length-take-le}
-use Rattle.melt_word.specs.Words.{cost_of}
+use Rattle.melt_model.specs.declared.reports.Phase.{Phase}
+use Rattle.melt_word.specs.Words.{IsHeader, header_word, cost_of}
+use Rattle.melt_word.specs.declared.header.Header.{Header}
 use Rattle.melt_space.specs.Space.{SpaceWords, word_at, AreWords}
 use Rattle.melt_scion.specs.State.{State, RefersTo}
 use Rattle.melt_scion.specs.State.Reached.{in_slot}
 use Rattle.melt_copy.specs.declared.plan.Move.{Move}
 use Rattle.melt_copy.specs.declared.plan.Plan.{Plan}
-use Rattle.melt_copy.specs.Moving.{IsRefWord, WordMoves, ObjectMoves}
+use Rattle.melt_copy.specs.Moving.{IsRefWord, WordMoves, ObjectMoves, header_after}
 use Rattle.melt_copy.specs.Plans.{word_in, Extends, PlansIn, PlansOf}
+use Rattle.melt_copy.proofs.Sources.{source_shape}
 
 slots_length : (refs nums : ℕ) (object : List ℕ) → length object ≡ 2 + refs + nums → length (take (2 + refs - 2) (drop 2 object)) ≡ refs
 slots_length refs nums object size =
@@ -43,32 +46,31 @@ word_in_at words n j zero is = absurd (omega (arith, is))
 word_in_at words n j (suc k) is = ap (slice_index words) (omega (arith, is))
 
 -- an object whose words were put behind those that were there
-pub object_copied : (space : SpaceWords) (s : State) (plan : Plan) (f : ℕ → ℕ) (m : Move) (object out first then_ last : List ℕ) → AreWords space m.from (cost_of m.shape) object → PlansOf space s plan m → m.to ≡ length out + 1 → first ≡ out ++ take 2 object → Extends first then_ (length (take (2 + m.shape.refs - 2) (drop 2 object))) → ((i : ℕ) → i < length (take (2 + m.shape.refs - 2) (drop 2 object)) → WordMoves f (slice_index (take (2 + m.shape.refs - 2) (drop 2 object)) i) (slice_index then_ (length first + i))) → last ≡ then_ ++ drop (2 + m.shape.refs) object → ObjectMoves f s (word_in last) m
-object_copied space s plan f m object out first then_ last are of to first_is extends moves last_is =
+pub object_copied : (phase : Phase) (held : Bool) (space : SpaceWords) (s : State) (plan : Plan) (f : ℕ → ℕ) (m : Move) (object out first then_ last : List ℕ) (before header home : ℕ) → AreWords space m.from (cost_of m.shape) object → PlansOf space s plan m → m.to ≡ length out + 1 → before ≡ slice_index object 0 → ((h : Header) → IsHeader h → h.shape ≡ m.shape → before ≡ header_word h → header ≡ header_word (header_after phase held h)) → home ≡ slice_index object 1 → first ≡ out ++ header ∷ home ∷ [] → Extends first then_ (length (take (2 + m.shape.refs - 2) (drop 2 object))) → ((i : ℕ) → i < length (take (2 + m.shape.refs - 2) (drop 2 object)) → WordMoves phase f (slice_index (take (2 + m.shape.refs - 2) (drop 2 object)) i) (slice_index then_ (length first + i))) → last ≡ then_ ++ drop (2 + m.shape.refs) object → ObjectMoves phase held f s (word_in last) m
+object_copied phase held space s plan f m object out first then_ last before header home are of to before_is header_is home_is first_is extends moves last_is =
     let refs : ℕ = m.shape.refs in
     let nums : ℕ = m.shape.nums in
     let size : length object ≡ 2 + refs + nums = are.count_is in
-    let two : length (take 2 object) ≡ 2 = length-take-le 2 object (omega (arith, size)) in
-    let first_size : length first ≡ length out + 2 = ap length first_is ∙ (length-append out (take 2 object) ∙ ap (λ (n : ℕ). length out + n) two) in
+    let first_size : length first ≡ length out + 2 = ap length first_is ∙ length-append out (header ∷ home ∷ []) in
     let slots : length (take (2 + refs - 2) (drop 2 object)) ≡ refs = slots_length refs nums object size in
     let then_size : length then_ ≡ length out + 2 + refs = omega (arith, extends.size, first_size, slots) in
     let as_was : (k : ℕ) → k < 2 + refs + nums → slice_index object k ≡ s.word (m.from + k) = λ k below. are.each k below ∙ sym (of.plans.word (m.from + k)) in
     let in_then : (k : ℕ) → k < length then_ → slice_index last k ≡ slice_index then_ k = λ k below. ap (λ (l : List ℕ). slice_index l k) last_is ∙ get_or_append_left then_ (drop (2 + refs) object) 0 k below in
-    let front : (j : ℕ) → j < 2 → slice_index last (length out + j) ≡ s.word (m.from + j) = λ j below.
+    let front : (j : ℕ) → j < 2 → slice_index last (length out + j) ≡ slice_index (header ∷ home ∷ []) j = λ j below.
     in_then (length out + j) (omega (arith, below, then_size))
     ∙ (extends.before (length out + j) (omega (arith, below, first_size))
-    ∙ (ap (λ (l : List ℕ). slice_index l (length out + j)) first_is
-    ∙ (get_or-append-add out (take 2 object) j 0
-    ∙ (get_or-take 2 object j 0 below ∙ as_was j (omega (arith, below)))))) in
+    ∙ (ap (λ (l : List ℕ). slice_index l (length out + j)) first_is ∙ get_or-append-add out (header ∷ home ∷ []) j 0)) in
     record {
-      header = word_in_at last (length out) 0 m.to (omega (arith, to)) ∙ (front 0 (omega arith) ∙ ap s.word (let sum : m.from + 0 ≡ m.from = omega arith in sum));
-      home = word_in_at last (length out) 1 (m.to + 1) (omega (arith, to)) ∙ front 1 (omega arith);
+      header = λ h starts.
+          let word : before ≡ header_word h = before_is ∙ (as_was 0 (omega arith) ∙ (ap s.word (let sum : m.from + 0 ≡ m.from = omega arith in sum) ∙ starts.word)) in
+          word_in_at last (length out) 0 m.to (omega (arith, to)) ∙ (front 0 (omega arith) ∙ header_is h starts.in_range (source_shape s m h of.move starts) word);
+      home = word_in_at last (length out) 1 (m.to + 1) (omega (arith, to)) ∙ (front 1 (omega arith) ∙ (home_is ∙ as_was 1 (omega arith)));
       slots = λ i below.
           let place : word_in last (m.to + 2 + i) ≡ slice_index then_ (length first + i) =
           word_in_at last (length out) (2 + i) (m.to + 2 + i) (omega (arith, to))
           ∙ (in_then (length out + (2 + i)) (omega (arith, below, then_size)) ∙ ap (slice_index then_) (let sum : length out + (2 + i) ≡ length first + i = omega (arith, first_size) in sum)) in
-          subst (WordMoves f (s.word (m.from + 2 + i))) (sym place)
-          (subst (λ (w : ℕ). WordMoves f w (slice_index then_ (length first + i))) (slot_word space s m.from refs nums object i of.plans.word are below)
+          subst (WordMoves phase f (s.word (m.from + 2 + i))) (sym place)
+          (subst (λ (w : ℕ). WordMoves phase f w (slice_index then_ (length first + i))) (slot_word space s m.from refs nums object i of.plans.word are below)
           (moves i (omega (arith, below, slots))));
       numbers = λ j below.
           word_in_at last (length out) (2 + refs + j) (m.to + 2 + refs + j) (omega (arith, to))
@@ -77,20 +79,4 @@ object_copied space s plan f m object out first then_ last are of to first_is ex
           ∙ (get_or-append-add then_ (drop (2 + refs) object) j 0
           ∙ (get_or-drop (2 + refs) object j 0
           ∙ (as_was (2 + refs + j) (omega (arith, below)) ∙ ap s.word (let sum : m.from + (2 + refs + j) ≡ m.from + 2 + refs + j = omega arith in sum))))));
-    }
-
--- how many words an object adds
-pub object_extends : (out object first then_ last : List ℕ) (refs nums : ℕ) → length object ≡ 2 + refs + nums → first ≡ out ++ take 2 object → Extends first then_ (length (take (2 + refs - 2) (drop 2 object))) → last ≡ then_ ++ drop (2 + refs) object → Extends out last (2 + refs + nums)
-object_extends out object first then_ last refs nums size first_is extends last_is =
-    let two : length (take 2 object) ≡ 2 = length-take-le 2 object (omega (arith, size)) in
-    let first_size : length first ≡ length out + 2 = ap length first_is ∙ (length-append out (take 2 object) ∙ ap (λ (n : ℕ). length out + n) two) in
-    let slots : length (take (2 + refs - 2) (drop 2 object)) ≡ refs = slots_length refs nums object size in
-    let then_size : length then_ ≡ length out + 2 + refs = omega (arith, extends.size, first_size, slots) in
-    record {
-      size = ap length last_is ∙ (length-append then_ (drop (2 + refs) object) ∙ (let rest : length (drop (2 + refs) object) ≡ length object - (2 + refs) = length-drop (2 + refs) object in omega (arith, rest, size, then_size)));
-      before = λ k below.
-          ap (λ (l : List ℕ). slice_index l k) last_is
-          ∙ (get_or_append_left then_ (drop (2 + refs) object) 0 k (omega (arith, below, then_size))
-          ∙ (extends.before k (omega (arith, below, first_size))
-          ∙ (ap (λ (l : List ℕ). slice_index l k) first_is ∙ get_or_append_left out (take 2 object) 0 k below)));
     }

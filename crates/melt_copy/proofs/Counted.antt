@@ -5,6 +5,7 @@ use Rattle.std.specs.Option.{option_map, option_map_or}
 use Rattle.std.proofs.lemmas.Option.{same_Some}
 use Rattle.melt_model.specs.History.{Shape}
 use Rattle.melt_model.specs.Alive.{Held, words_of, CostsSum}
+use Rattle.melt_model.specs.declared.reports.Phase.{Phase}
 use Rattle.melt_model.specs.declared.history.Entry.{Entry}
 use Rattle.melt_model.specs.declared.history.Value.{Value}
 use Rattle.melt_model.specs.declared.history.Value.TheVariants.{Ref}
@@ -38,7 +39,7 @@ has_cost : (maps : Maps) (s : State) (h : List Entry) (value : ℕ → ℕ → V
 has_cost maps s h value m placed is =
     ap (λ (z : Option Shape). option_map_or (λ (x : Shape). 2 + x.refs + x.nums) z 0) (placed.shapes m.from (number_of maps m) is.header (has_number maps s h value m placed is) is.starts) ∙ source_cost s m is
 
-numbers_differ : (maps : Maps) (s t : State) (f : ℕ → ℕ) (moves : List Move) (front : ℕ) (h : List Entry) (value : ℕ → ℕ → Value) (i j : ℕ) (a b : Move) → IsCopy s t f moves front → Placed h value maps s → slice_get moves i ≡ Some a → slice_get moves j ≡ Some b → i < j → number_of maps a ≢ number_of maps b
+numbers_differ : {phase : Phase} (maps : Maps) (s t : State) (f : ℕ → ℕ) (moves : List Move) (front : ℕ) (h : List Entry) (value : ℕ → ℕ → Value) (i j : ℕ) (a b : Move) → IsCopy phase s t f moves front → Placed h value maps s → slice_get moves i ≡ Some a → slice_get moves j ≡ Some b → i < j → number_of maps a ≢ number_of maps b
 numbers_differ maps s t f moves front h value i j a b copy placed first second before same =
     let named_a = has_number maps s h value a placed (copy.plan.whole i a first) in
     let named_b = has_number maps s h value b placed (copy.plan.whole j b second) in
@@ -46,7 +47,7 @@ numbers_differ maps s t f moves front h value i j a b copy placed first second b
     omega (arith, (same_source s f moves t.free i j a b copy.plan first second from).0, before)
 
 -- the words of all objects of a copy
-pub live_words : (maps : Maps) (s t : State) (f : ℕ → ℕ) (moves : List Move) (front : ℕ) (h : List Entry) (value : ℕ → ℕ → Value) → IsCopy s t f moves front → Placed h value maps s → CostsSum (words_of h) (InUse (maps_after maps moves)) (words_in moves)
+pub live_words : {phase : Phase} (maps : Maps) (s t : State) (f : ℕ → ℕ) (moves : List Move) (front : ℕ) (h : List Entry) (value : ℕ → ℕ → Value) → IsCopy phase s t f moves front → Placed h value maps s → CostsSum (words_of h) (InUse (maps_after maps moves)) (words_in moves)
 live_words maps s t f moves front h value copy placed =
     counts_moves (words_of h) (InUse (maps_after maps moves)) (number_of maps) moves
     (λ i j a b first second before. numbers_differ maps s t f moves front h value i j a b copy placed first second before)
@@ -70,7 +71,7 @@ held_holds maps s h value u r m whole placed is holds =
     )
 
 -- the words of the objects in registers
-pub held_words : (maps : Maps) (s t : State) (f : ℕ → ℕ) (moves : List Move) (front : ℕ) (h : List Entry) (value : ℕ → ℕ → Value) → IsWhole s → IsCopy s t f moves front → Placed h value maps s → CostsSum (words_of h) (Held value) (words_in (take front moves))
+pub held_words : {phase : Phase} (maps : Maps) (s t : State) (f : ℕ → ℕ) (moves : List Move) (front : ℕ) (h : List Entry) (value : ℕ → ℕ → Value) → IsWhole s → IsCopy phase s t f moves front → Placed h value maps s → CostsSum (words_of h) (Held value) (words_in (take front moves))
 held_words maps s t f moves front h value whole copy placed =
     counts_moves (words_of h) (Held value) (number_of maps) (take front moves)
     (λ i j a b first second before. numbers_differ maps s t f moves front h value i j a b copy placed (slice_get-take moves front i a first).1 (slice_get-take moves front j b second).1 before)

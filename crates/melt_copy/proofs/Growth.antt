@@ -1,9 +1,10 @@
 -- What a plan found stays found when it grows, and so does what was copied.
 use Rattle.std.proofs.Common.{◌≡◌, ℕ, ◌+◌, ◌<◌, ◌≤◌, zero, suc, List, [], ◌∷◌, ◌++◌, length, length-append, below_more, refl, sym, subst, ap, ◌∙◌, arith, append_assoc}
-use Rattle.std.specs.Prelude.{slice_get, slice_index, Some}
+use Rattle.std.specs.Prelude.{Bool, slice_get, slice_index, Some}
 use Rattle.std.proofs.lemmas.List.{append-nil, get_or_append_left, get_or_push}
 use Rattle.std.proofs.lemmas.Option.{slice_get_within}
 use Rattle.melt_model.proofs.Histories.{slice_get-append_left}
+use Rattle.melt_model.specs.declared.reports.Phase.{Phase}
 use Rattle.melt_word.specs.Words.{ref_word, cost_of}
 use Rattle.melt_word.specs.declared.reference.Ref.{Ref}
 use Rattle.melt_word.specs.declared.reference.Ref.TheVariants.{Null, Clean, Stale, Disk}
@@ -11,7 +12,7 @@ use Rattle.melt_space.specs.Space.{SpaceWords}
 use Rattle.melt_scion.specs.State.{State}
 use Rattle.melt_copy.specs.declared.plan.Move.{Move}
 use Rattle.melt_copy.specs.declared.plan.Plan.{Plan}
-use Rattle.melt_copy.specs.Moving.{WordMoves, ObjectMoves, moved, IsFound}
+use Rattle.melt_copy.specs.Moving.{WordMoves, ObjectMoves, tagged, moved, IsFound}
 use Rattle.melt_copy.specs.Plans.{goes, Grows, word_in, Extends, Plans, PlansIn, PlansFor}
 
 pub Grows-start : (plan : Plan) → Grows plan plan
@@ -30,11 +31,11 @@ Grows-more a b c first then_ = record {
 pub stays_there : (a b : Plan) (k : ℕ) (m : Move) → Grows a b → slice_get a.moves.items k ≡ Some m → slice_get b.moves.items k ≡ Some m
 stays_there a b k m grows at = ap (λ (ms : List Move). slice_get ms k) grows.moves ∙ (slice_get-append_left a.moves.items grows.rest k (slice_get_within a.moves.items k m at) ∙ at)
 
-same_reference : (a b : Plan) (r : Ref) → Grows a b → IsFound (goes a) r → moved (goes b) r ≡ moved (goes a) r
-same_reference a b Null grows found = refl
-same_reference a b (Clean at) grows found = ap Clean (grows.goes at found)
-same_reference a b (Stale at) grows found = ap Stale (grows.goes at found)
-same_reference a b (Disk home) grows found = refl
+same_reference : (phase : Phase) (a b : Plan) (r : Ref) → Grows a b → IsFound (goes a) r → moved phase (goes b) r ≡ moved phase (goes a) r
+same_reference phase a b Null grows found = refl
+same_reference phase a b (Clean at) grows found = ap (tagged phase) (grows.goes at found)
+same_reference phase a b (Stale at) grows found = ap Stale (grows.goes at found)
+same_reference phase a b (Disk home) grows found = refl
 
 still_found : (a b : Plan) (r : Ref) → Grows a b → IsFound (goes a) r → IsFound (goes b) r
 still_found a b Null grows found = tt
@@ -43,13 +44,13 @@ still_found a b (Stale at) grows found = λ (nought : goes b at ≡ 0). found (s
 still_found a b (Disk home) grows found = tt
 
 -- a word that moved by a plan moves so by one that grew from it
-pub WordMoves-more : (a b : Plan) (old new : ℕ) → Grows a b → WordMoves (goes a) old new → WordMoves (goes b) old new
-WordMoves-more a b old new grows moves = record {
+pub WordMoves-more : {phase : Phase} (a b : Plan) (old new : ℕ) → Grows a b → WordMoves phase (goes a) old new → WordMoves phase (goes b) old new
+WordMoves-more {phase} a b old new grows moves = record {
   reference = moves.reference;
   in_range = moves.in_range;
   was = moves.was;
   found = still_found a b moves.reference grows moves.found;
-  is = moves.is ∙ ap ref_word (sym (same_reference a b moves.reference grows moves.found));
+  is = moves.is ∙ ap ref_word (sym (same_reference phase a b moves.reference grows moves.found));
 }
 
 pub Extends-start : (words : List ℕ) → Extends words words 0
@@ -66,12 +67,12 @@ word_in_before a b n zero extends below = refl
 word_in_before a b n (suc k) extends below = extends.before k (omega (arith, below))
 
 -- an object that was copied stays so
-pub ObjectMoves-more : (a b : Plan) (s : State) (words more : List ℕ) (n : ℕ) (m : Move) → Grows a b → Extends words more n → m.to + cost_of m.shape ≤ length words + 1 → ObjectMoves (goes a) s (word_in words) m → ObjectMoves (goes b) s (word_in more) m
-ObjectMoves-more a b s words more n m grows extends within object = record {
-  header = word_in_before words more n m.to extends (omega (arith, within)) ∙ object.header;
+pub ObjectMoves-more : {phase : Phase} {held : Bool} (a b : Plan) (s : State) (words more : List ℕ) (n : ℕ) (m : Move) → Grows a b → Extends words more n → m.to + cost_of m.shape ≤ length words + 1 → ObjectMoves phase held (goes a) s (word_in words) m → ObjectMoves phase held (goes b) s (word_in more) m
+ObjectMoves-more {phase} a b s words more n m grows extends within object = record {
+  header = λ header starts. word_in_before words more n m.to extends (omega (arith, within)) ∙ object.header header starts;
   home = word_in_before words more n (m.to + 1) extends (omega (arith, within)) ∙ object.home;
   slots = λ i below.
-      subst (WordMoves (goes b) (s.word (m.from + 2 + i))) (sym (word_in_before words more n (m.to + 2 + i) extends (omega (arith, within, below))))
+      subst (WordMoves phase (goes b) (s.word (m.from + 2 + i))) (sym (word_in_before words more n (m.to + 2 + i) extends (omega (arith, within, below))))
       (WordMoves-more a b _ _ grows (object.slots i below));
   numbers = λ j below. word_in_before words more n (m.to + 2 + m.shape.refs + j) extends (omega (arith, within, below)) ∙ object.numbers j below;
 }
@@ -88,11 +89,11 @@ Extends-push a b c n w extends is = record {
 }
 
 -- one word more that moved
-pub moves_push : (f g : Plan) (words a b c : List ℕ) (n w : ℕ) → Extends a b n → c ≡ b ++ w ∷ [] → Grows f g → ((i : ℕ) → i < n → WordMoves (goes f) (slice_index words i) (slice_index b (length a + i))) → WordMoves (goes g) (slice_index words n) w → (i : ℕ) → i < n + 1 → WordMoves (goes g) (slice_index words i) (slice_index c (length a + i))
-moves_push f g words a b c n w extends is grows before here =
+pub moves_push : {phase : Phase} (f g : Plan) (words a b c : List ℕ) (n w : ℕ) → Extends a b n → c ≡ b ++ w ∷ [] → Grows f g → ((i : ℕ) → i < n → WordMoves phase (goes f) (slice_index words i) (slice_index b (length a + i))) → WordMoves phase (goes g) (slice_index words n) w → (i : ℕ) → i < n + 1 → WordMoves phase (goes g) (slice_index words i) (slice_index c (length a + i))
+moves_push {phase} f g words a b c n w extends is grows before here =
     below_more _ _
     (λ i below.
     let same : slice_index c (length a + i) ≡ slice_index b (length a + i) = ap (λ (l : List ℕ). slice_index l (length a + i)) is ∙ get_or_append_left b (w ∷ []) 0 (length a + i) (omega (arith, extends.size, below)) in
-    subst (WordMoves (goes g) (slice_index words i)) (sym same) (WordMoves-more f g _ _ grows (before i below)))
+    subst (WordMoves phase (goes g) (slice_index words i)) (sym same) (WordMoves-more f g _ _ grows (before i below)))
     (let last : slice_index c (length a + n) ≡ w = ap (λ (l : List ℕ). slice_index l (length a + n)) is ∙ get_or_push b w 0 (length a + n) (omega (arith, extends.size)) in
-    subst (WordMoves (goes g) (slice_index words n)) (sym last) here)
+    subst (WordMoves phase (goes g) (slice_index words n)) (sym last) here)

@@ -1,6 +1,7 @@
 pub mod Places
 pub mod Packing
 pub mod Sources
+pub mod Phases
 pub mod Renaming
 pub mod Committing
 pub mod Carried

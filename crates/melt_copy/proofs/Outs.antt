@@ -1,9 +1,10 @@
 -- A heap that is copied out.
 use Rattle.std.proofs.Common.{◌≡◌, ℕ, ◌+◌, ◌-◌, ◌<◌, List, [], length, take, replicate, refl, sym, subst, ap, ◌∙◌, arith, inl, inr}
-use Rattle.std.specs.Prelude.{Some, slice_get, slice_index}
+use Rattle.std.specs.Prelude.{nat_lt, Some, slice_get, slice_index}
 use Rattle.std.proofs.lemmas.List.{length-replicate, get_or-replicate, get_or_past, take_all}
 use Rattle.std.proofs.lemmas.Bool.{cases_lt}
 use Rattle.std.proofs.lemmas.Option.{slice_get_within}
+use Rattle.melt_model.specs.declared.reports.Phase.{Phase}
 use Rattle.melt_space.specs.Space.{IsSpace}
 use Rattle.melt_scion.specs.State.{State}
 use Rattle.melt_scion.specs.State.Reached.{in_register, in_global}
@@ -76,8 +77,8 @@ front_held heap held end start first last nothing plans finds grows = record {
 }
 
 -- everything that can be reached was copied
-pub is_copied : (heap : Heap) (held : List Registers) (end : ℕ) (start first second last : Plan) (none globals : List ℕ) (copied : Copied) → copied.plan ≡ last → copied.globals.items ≡ globals → copied.held ≡ first.next - 1 → none ≡ [] → start.moves.items ≡ [] → Plans heap.space (state_of heap held end) first → FindsThreads start first held → Grows first second → Extends none globals (length heap.globals) → ((g : ℕ) → g < length heap.globals → WordMoves (goes second) (slice_index heap.globals g) (slice_index globals (length none + g))) → Grows second last → HasCopied heap.space (state_of heap held end) last copied.words.items (length last.moves.items) → NumbersAre heap.names last.moves.items copied.numbers.items → IsCopied (state_of heap held end) heap.names copied
-is_copied heap held end start first second last none globals copied plan_is globals_is held_is empty nothing plans finds grows extends moves grows_more has numbers =
+pub is_copied : (phase : Phase) (heap : Heap) (held : List Registers) (end : ℕ) (start first second last : Plan) (none globals : List ℕ) (copied : Copied) → copied.plan ≡ last → copied.globals.items ≡ globals → copied.held ≡ first.next - 1 → none ≡ [] → start.moves.items ≡ [] → Plans heap.space (state_of heap held end) first → FindsThreads start first held → Grows first second → Extends none globals (length heap.globals) → ((g : ℕ) → g < length heap.globals → WordMoves phase (goes second) (slice_index heap.globals g) (slice_index globals (length none + g))) → Grows second last → HasCopied phase (length first.moves.items) heap.space (state_of heap held end) last copied.words.items (length last.moves.items) → NumbersAre heap.names last.moves.items copied.numbers.items → IsCopied phase (state_of heap held end) heap.names copied
+is_copied phase heap held end start first second last none globals copied plan_is globals_is held_is empty nothing plans finds grows extends moves grows_more has numbers =
     let s : State = state_of heap held end in
     let all_grows : Grows first last = Grows-more first second last grows grows_more in
     let n_zero : length none ≡ 0 = ap length empty in
@@ -88,13 +89,13 @@ is_copied heap held end start first second last none globals copied plan_is glob
       size = has.size ∙ (ap words_in whole_front ∙ ap (λ (p : Plan). words_in p.moves.items) (sym plan_is));
       objects = λ k m at.
           let there : slice_get last.moves.items k ≡ Some m = ap (λ (p : Plan). slice_get p.moves.items k) (sym plan_is) ∙ at in
-          subst (λ (p : Plan). ObjectMoves (goes p) s (word_in copied.words.items) m) (sym plan_is) (has.objects k m (slice_get_within last.moves.items k m there) there);
+          subst (λ (p : Plan). ObjectMoves phase (nat_lt k (length first.moves.items)) (goes p) s (word_in copied.words.items) m) (sym plan_is) (has.objects k m (slice_get_within last.moves.items k m there) there);
       globals_count = ap length globals_is ∙ (let size = extends.size in omega (arith, size, n_zero));
       globals = λ g below.
-          let here : WordMoves (goes second) (slice_index heap.globals g) (slice_index globals g) =
-          subst (λ (n : ℕ). WordMoves (goes second) (slice_index heap.globals g) (slice_index globals n)) (omega (arith, n_zero)) (moves g below) in
-          subst (λ (p : Plan). WordMoves (goes p) (s.global g) (slice_index copied.globals.items g)) (sym plan_is)
-          (subst (λ (ws : List ℕ). WordMoves (goes last) (s.global g) (slice_index ws g)) (sym globals_is) (WordMoves-more second last _ _ grows_more here));
+          let here : WordMoves phase (goes second) (slice_index heap.globals g) (slice_index globals g) =
+          subst (λ (n : ℕ). WordMoves phase (goes second) (slice_index heap.globals g) (slice_index globals n)) (omega (arith, n_zero)) (moves g below) in
+          subst (λ (p : Plan). WordMoves phase (goes p) (s.global g) (slice_index copied.globals.items g)) (sym plan_is)
+          (subst (λ (ws : List ℕ). WordMoves phase (goes last) (s.global g) (slice_index ws g)) (sym globals_is) (WordMoves-more second last _ _ grows_more here));
       front = length first.moves.items;
       held = subst (λ (p : Plan). AreHeld s p.moves.items (length first.moves.items)) (sym plan_is) (front_held heap held end start first last nothing plans finds all_grows);
       held_words =
@@ -117,14 +118,14 @@ outs_held old now held start plan used words same formed space is forward moves 
     let s : State = state_of old held before.end in
     (s, plans_globals old held before.end plan words globals (finds s (plans_start old held before.end start used (whole_heap before.maps old held before.end space before.formed) is forward moves next)))
 
-pub copies : (old now : Heap) (held : List Registers) (start first second last : Plan) (used : ℕ) (words none globals : List ℕ) (copied : Copied) → old ≡ now → IsSpace old.space → used ≡ old.space.used → start.forward.items ≡ replicate (used + 1) 0 → start.moves.items ≡ [] → start.next ≡ 1 → ((s : State) → PlansThreads old.space s start held → Plans old.space s first) → FindsThreads start first held → words ≡ old.globals → ((s : State) → PlansIn old.space s first words → Plans old.space s second) → Grows first second → none ≡ [] → Extends none globals (length words) → ((g : ℕ) → g < length words → WordMoves (goes second) (slice_index words g) (slice_index globals (length none + g))) → Grows second last → ((s : State) → Plans old.space s second → HasCopied old.space s last copied.words.items (length last.moves.items)) → (moves : List Move) → moves ≡ last.moves.items → NumbersAre old.names moves copied.numbers.items → copied.plan ≡ last → copied.globals.items ≡ globals → copied.held ≡ first.next - 1 → Copies now held copied
-copies old now held start first second last used words none globals copied same space is forward moves next finds found words_is finds_globals grows empty extends move grows_more has ms ms_is numbers plan_is globals_is held_is =
-    subst (λ (heap : Heap). Copies heap held copied) same (λ maps end formed.
+pub copies : (phase : Phase) (old now : Heap) (held : List Registers) (start first second last : Plan) (used front : ℕ) (words none globals : List ℕ) (copied : Copied) → front ≡ length first.moves.items → old ≡ now → IsSpace old.space → used ≡ old.space.used → start.forward.items ≡ replicate (used + 1) 0 → start.moves.items ≡ [] → start.next ≡ 1 → ((s : State) → PlansThreads old.space s start held → Plans old.space s first) → FindsThreads start first held → words ≡ old.globals → ((s : State) → PlansIn old.space s first words → Plans old.space s second) → Grows first second → none ≡ [] → Extends none globals (length words) → ((g : ℕ) → g < length words → WordMoves phase (goes second) (slice_index words g) (slice_index globals (length none + g))) → Grows second last → ((s : State) → Plans old.space s second → HasCopied phase front old.space s last copied.words.items (length last.moves.items)) → (moves : List Move) → moves ≡ last.moves.items → NumbersAre old.names moves copied.numbers.items → copied.plan ≡ last → copied.globals.items ≡ globals → copied.held ≡ first.next - 1 → Copies phase now held copied
+copies phase old now held start first second last used front words none globals copied front_is same space is forward moves next finds found words_is finds_globals grows empty extends move grows_more has ms ms_is numbers plan_is globals_is held_is =
+    subst (λ (heap : Heap). Copies phase heap held copied) same (λ maps end formed.
     let s : State = state_of old held end in
     let begun = plans_start old held end start used (whole_heap maps old held end space formed) is forward moves next in
     let plans = finds s begun in
     let moved = finds_globals s (plans_globals old held end first words words_is plans) in
-    is_copied old held end start first second last none globals copied plan_is globals_is held_is empty moves plans found grows
+    is_copied phase old held end start first second last none globals copied plan_is globals_is held_is empty moves plans found grows
     (subst (λ (ws : List ℕ). Extends none globals (length ws)) words_is extends)
-    (subst (λ (ws : List ℕ). (g : ℕ) → g < length ws → WordMoves (goes second) (slice_index ws g) (slice_index globals (length none + g))) words_is move)
-    grows_more (has s moved) (subst (λ (l : List Move). NumbersAre old.names l copied.numbers.items) ms_is numbers))
+    (subst (λ (ws : List ℕ). (g : ℕ) → g < length ws → WordMoves phase (goes second) (slice_index ws g) (slice_index globals (length none + g))) words_is move)
+    grows_more (subst (λ (n : ℕ). HasCopied phase n old.space s last copied.words.items (length last.moves.items)) front_is (has s moved)) (subst (λ (l : List Move). NumbersAre old.names l copied.numbers.items) ms_is numbers))

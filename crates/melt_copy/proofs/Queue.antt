@@ -1,12 +1,13 @@
 -- The copied objects are a front of those that were found.
 use Rattle.std.proofs.Common.{◌≡◌, ℕ, zero, suc, ◌+◌, ◌<◌, ◌≤◌, List, [], ◌∷◌, length, take, get_or, refl, sym, subst, ap, ◌∙◌, arith, length-append, inl, inr}
-use Rattle.std.specs.Prelude.{slice_get, Some}
+use Rattle.std.specs.Prelude.{nat_lt, slice_get, Some}
 use Rattle.std.specs.List.{sum_by}
 use Rattle.std.proofs.lemmas.List.{take-append-le}
 use Rattle.std.proofs.lemmas.List.Sums.{sum-map, sum_by_more}
 use Rattle.std.proofs.lemmas.Bool.Decides.{eqb_tells}
 use Rattle.std.proofs.lemmas.Option.{slice_get_within, slice_get_read}
 use Rattle.melt_model.proofs.Histories.{slice_get-append_left}
+use Rattle.melt_model.specs.declared.reports.Phase.{Phase}
 use Rattle.melt_word.specs.Words.{cost_of}
 use Rattle.melt_space.specs.Space.{SpaceWords}
 use Rattle.melt_scion.specs.State.{State}
@@ -57,15 +58,15 @@ pub longer : (a b : Plan) → Grows a b → length a.moves.items ≤ length b.mo
 longer a b grows = let sum : length b.moves.items ≡ length a.moves.items + length grows.rest = ap length grows.moves ∙ length-append a.moves.items grows.rest in omega (arith, sum)
 
 -- the next object of the queue, which was found
-pub next_object : (space : SpaceWords) (s : State) (plan : Plan) (words : List ℕ) (done : ℕ) (m : Move) → HasCopied space s plan words done → done < length plan.moves.items → m ≡ get_or plan.moves.items done m → PlansOf space s plan m
+pub next_object : {phase : Phase} {front : ℕ} (space : SpaceWords) (s : State) (plan : Plan) (words : List ℕ) (done : ℕ) (m : Move) → HasCopied phase front space s plan words done → done < length plan.moves.items → m ≡ get_or plan.moves.items done m → PlansOf space s plan m
 next_object space s plan words done m copied below is = record {
   plans = copied.plans;
   move = copied.plans.holds.whole done m (slice_get_read plan.moves.items (length plan.moves.items) done m refl below is);
 }
 
 -- one object more was copied
-pub copied_more : (space : SpaceWords) (s : State) (a b : Plan) (words more : List ℕ) (done : ℕ) (m : Move) → HasCopied space s a words done → done < length a.moves.items → m ≡ get_or a.moves.items done m → Grows a b → Plans space s b → Extends words more (cost_of m.shape) → (m.to ≡ length words + 1 → ObjectMoves (goes b) s (word_in more) m) → HasCopied space s b more (done + 1)
-copied_more space s a b words more done m copied below is grows plans extends object =
+pub copied_more : (phase : Phase) (front : ℕ) (space : SpaceWords) (s : State) (a b : Plan) (words more : List ℕ) (done : ℕ) (m : Move) → HasCopied phase front space s a words done → done < length a.moves.items → m ≡ get_or a.moves.items done m → Grows a b → Plans space s b → Extends words more (cost_of m.shape) → (m.to ≡ length words + 1 → ObjectMoves phase (nat_lt done front) (goes b) s (word_in more) m) → HasCopied phase front space s b more (done + 1)
+copied_more phase front space s a b words more done m copied below is grows plans extends object =
     let at : slice_get a.moves.items done ≡ Some m = slice_get_read a.moves.items (length a.moves.items) done m refl below is in
     record {
       plans = plans;
@@ -75,8 +76,9 @@ copied_more space s a b words more done m copied below is grows plans extends ob
           elim (eqb_tells k done) [
             | inl same ↦
                 let one : x ≡ m = some_one x m (sym before ∙ (ap (slice_get a.moves.items) same.1 ∙ at)) in
-                subst (ObjectMoves (goes b) s (word_in more)) (sym one)
-                (object (let place = copied.plans.holds.places done m at in omega (arith, place, copied.size)))
+                subst (λ (i : ℕ). ObjectMoves phase (nat_lt i front) (goes b) s (word_in more) x) (sym same.1)
+                (subst (ObjectMoves phase (nat_lt done front) (goes b) s (word_in more)) (sym one)
+                (object (let place = copied.plans.holds.places done m at in omega (arith, place, copied.size))))
             | inr other ↦
                 let lower : k < done = omega (arith, under, other.1) in
                 let place = copied.plans.holds.places k x before in

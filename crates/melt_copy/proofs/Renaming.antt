@@ -5,6 +5,7 @@ use Rattle.std.specs.Option.{option_map}
 use Rattle.std.proofs.lemmas.Bool.{cases_eq, eq-eqb, ne_eqb, cond-true, cond-false}
 use Rattle.melt_model.specs.declared.history.Value.{Value}
 use Rattle.melt_model.specs.declared.history.Value.TheVariants as value
+use Rattle.melt_model.specs.declared.reports.Phase.{Phase}
 use Rattle.melt_word.specs.Words.{IsRef}
 use Rattle.melt_word.specs.declared.reference.Ref.{Ref}
 use Rattle.melt_word.specs.declared.reference.Ref.TheVariants.{Null, Clean, Stale, Disk}
@@ -13,6 +14,7 @@ use Rattle.melt_scion.specs.State.{State, IsFresh}
 use Rattle.melt_scion.specs.Placed.{Maps, value_of, Stands, MayStand, IsReferenceWord, MayHold, value_at}
 use Rattle.melt_copy.specs.declared.plan.Move.{Move}
 use Rattle.melt_copy.specs.Moving.{IsFound, moved, WordMoves, name_after, maps_after}
+use Rattle.melt_copy.proofs.Phases.{KeepsBits, tagged_in_range, tagged_value, tagged_may_stand}
 
 -- what moves to an address, where no two objects do
 pub name_after-at : (name : ℕ → Option ℕ) (moves : List Move) (k : ℕ) (m : Move) → slice_get moves k ≡ Some m → ((j : ℕ) (x : Move) → slice_get moves j ≡ Some x → x.to ≡ m.to → x ≡ m) → name_after name moves m.to ≡ name m.from
@@ -43,70 +45,70 @@ comes name (x ∷ moves) address n named =
           record { index = suc rest.index; move = rest.move; is = rest.is; to = rest.to; named = rest.named }
     ]
 
--- how addresses change: each object keeps its number and its header
-pub record Renames (maps : Maps) (s t : State) (f : ℕ → ℕ) (moves : List Move) : Type 0 where
+-- how addresses change: each object keeps its number; an object without the stale bit gets none if the phase leaves all
+-- of them, or if a register holds it
+pub record Renames (phase : Phase) (maps : Maps) (s t : State) (f : ℕ → ℕ) (moves : List Move) : Type 0 where
   pub names : (address : ℕ) → f address ≢ 0 → name_after maps.address moves (f address) ≡ maps.address address
-  pub headers : (address : ℕ) → f address ≢ 0 → t.word (f address) ≡ s.word address
+  pub fresh : KeepsBits phase → (address : ℕ) → f address ≢ 0 → IsFresh s address → IsFresh t (f address)
+  pub held : (u r : ℕ) → s.register u r ≢ 0 → IsFresh s (s.register u r) → IsFresh t (f (s.register u r))
   pub small : (address : ℕ) → f address ≢ 0 → f address < 2 ^ 30
   pub nothing : f 0 ≡ 0
   pub end : t.end ≡ s.end
 
--- an object without the stale bit stays so
-pub fresh_there : (maps : Maps) (s t : State) (f : ℕ → ℕ) (moves : List Move) (address : ℕ) → Renames maps s t f moves → f address ≢ 0 → IsFresh s address → IsFresh t (f address)
-fresh_there maps s t f moves address renames found fresh header there =
-    fresh header (record { in_range = there.in_range; word = sym (renames.headers address found) ∙ there.word })
-
 -- a reference that was moved is in range
-pub moved_in_range : (maps : Maps) (s t : State) (f : ℕ → ℕ) (moves : List Move) (r : Ref) → Renames maps s t f moves → IsFound f r → IsRef r → IsRef (moved f r)
-moved_in_range maps s t f moves Null renames found is = is
-moved_in_range maps s t f moves (Clean a) renames found is = record { not_null = omega arith; small = renames.small a found }
-moved_in_range maps s t f moves (Stale a) renames found is = record { not_null = omega arith; small = renames.small a found }
-moved_in_range maps s t f moves (Disk home) renames found is = is
+pub moved_in_range : {phase : Phase} (maps : Maps) (s t : State) (f : ℕ → ℕ) (moves : List Move) (r : Ref) → Renames phase maps s t f moves → IsFound f r → IsRef r → IsRef (moved phase f r)
+moved_in_range {phase} maps s t f moves Null renames found is = is
+moved_in_range {phase} maps s t f moves (Clean a) renames found is = tagged_in_range phase (f a) (record { not_null = omega arith; small = renames.small a found })
+moved_in_range {phase} maps s t f moves (Stale a) renames found is = record { not_null = omega arith; small = renames.small a found }
+moved_in_range {phase} maps s t f moves (Disk home) renames found is = is
 
 -- it stands for the same value
-pub moved_value : (maps : Maps) (s t : State) (f : ℕ → ℕ) (moves : List Move) (r : Ref) → Renames maps s t f moves → IsFound f r → value_of (maps_after maps moves) (moved f r) ≡ value_of maps r
-moved_value maps s t f moves Null renames found = refl
-moved_value maps s t f moves (Clean a) renames found = ap (option_map value.Ref) (renames.names a found)
-moved_value maps s t f moves (Stale a) renames found = ap (option_map value.Ref) (renames.names a found)
-moved_value maps s t f moves (Disk home) renames found = refl
+pub moved_value : {phase : Phase} (maps : Maps) (s t : State) (f : ℕ → ℕ) (moves : List Move) (r : Ref) → Renames phase maps s t f moves → IsFound f r → value_of (maps_after maps moves) (moved phase f r) ≡ value_of maps r
+moved_value {phase} maps s t f moves Null renames found = refl
+moved_value {phase} maps s t f moves (Clean a) renames found = tagged_value phase (maps_after maps moves) (f a) ∙ ap (option_map value.Ref) (renames.names a found)
+moved_value {phase} maps s t f moves (Stale a) renames found = ap (option_map value.Ref) (renames.names a found)
+moved_value {phase} maps s t f moves (Disk home) renames found = refl
 
 -- it may stand where it stood
-pub moved_may_stand : (maps : Maps) (s t : State) (f : ℕ → ℕ) (moves : List Move) (r : Ref) → Renames maps s t f moves → IsFound f r → MayStand maps s r → MayStand (maps_after maps moves) t (moved f r)
-moved_may_stand maps s t f moves Null renames found may = tt
-moved_may_stand maps s t f moves (Clean a) renames found may = ((may.0.0, renames.names a found ∙ may.0.1), fresh_there maps s t f moves a renames found may.1)
-moved_may_stand maps s t f moves (Stale a) renames found may = (may.0, renames.names a found ∙ may.1)
-moved_may_stand maps s t f moves (Disk home) renames found may = (may.0, omega (arith, renames.end, may.1))
+pub moved_may_stand : {phase : Phase} (maps : Maps) (s t : State) (f : ℕ → ℕ) (moves : List Move) (r : Ref) → Renames phase maps s t f moves → IsFound f r → MayStand maps s r → MayStand (maps_after maps moves) t (moved phase f r)
+moved_may_stand {phase} maps s t f moves Null renames found may = tt
+moved_may_stand {phase} maps s t f moves (Clean a) renames found may =
+    tagged_may_stand phase (maps_after maps moves) t (f a) (may.0.0, renames.names a found ∙ may.0.1) (λ keeps. renames.fresh keeps a found may.1)
+moved_may_stand {phase} maps s t f moves (Stale a) renames found may = (may.0, renames.names a found ∙ may.1)
+moved_may_stand {phase} maps s t f moves (Disk home) renames found may = (may.0, omega (arith, renames.end, may.1))
 
 -- a word that was moved is still that of a reference
-pub moved_word : (maps : Maps) (s t : State) (f : ℕ → ℕ) (moves : List Move) (old new : ℕ) → Renames maps s t f moves → WordMoves f old new → IsReferenceWord maps s old → IsReferenceWord (maps_after maps moves) t new
-moved_word maps s t f moves old new renames w is =
+pub moved_word : {phase : Phase} (maps : Maps) (s t : State) (f : ℕ → ℕ) (moves : List Move) (old new : ℕ) → Renames phase maps s t f moves → WordMoves phase f old new → IsReferenceWord maps s old → IsReferenceWord (maps_after maps moves) t new
+moved_word {phase} maps s t f moves old new renames w is =
     let same : is.reference ≡ w.reference = same_ref is.reference w.reference is.in_range w.in_range (sym is.is ∙ w.was) in
     record {
-      reference = moved f w.reference;
+      reference = moved phase f w.reference;
       in_range = moved_in_range maps s t f moves w.reference renames w.found w.in_range;
       is = w.is;
       stands = moved_may_stand maps s t f moves w.reference renames w.found (subst (MayStand maps s) same is.stands);
     }
 
 -- a word that was moved stands for the same value
-pub moved_stands : (maps : Maps) (s t : State) (f : ℕ → ℕ) (moves : List Move) (old new : ℕ) (v : Value) → Renames maps s t f moves → WordMoves f old new → Stands maps old v → Stands (maps_after maps moves) new v
-moved_stands maps s t f moves old new v renames w is =
+pub moved_stands : {phase : Phase} (maps : Maps) (s t : State) (f : ℕ → ℕ) (moves : List Move) (old new : ℕ) (v : Value) → Renames phase maps s t f moves → WordMoves phase f old new → Stands maps old v → Stands (maps_after maps moves) new v
+moved_stands {phase} maps s t f moves old new v renames w is =
     let same : is.reference ≡ w.reference = same_ref is.reference w.reference is.in_range w.in_range (sym is.is ∙ w.was) in
     record {
-      reference = moved f w.reference;
+      reference = moved phase f w.reference;
       in_range = moved_in_range maps s t f moves w.reference renames w.found w.in_range;
       is = w.is;
       stands_for = moved_value maps s t f moves w.reference renames w.found ∙ (ap (value_of maps) (sym same) ∙ is.stands_for);
     }
 
 -- what a register holds after the move
-pub moved_hold : (maps : Maps) (s t : State) (f : ℕ → ℕ) (moves : List Move) (address : ℕ) → Renames maps s t f moves → MayHold maps s address → MayHold (maps_after maps moves) t (f address)
-moved_hold maps s t f moves address renames may =
-    elim (cases_eq (f address) 0) [
+pub moved_hold : {phase : Phase} (maps : Maps) (s t : State) (f : ℕ → ℕ) (moves : List Move) (u r : ℕ) → Renames phase maps s t f moves → MayHold maps s (s.register u r) → MayHold (maps_after maps moves) t (f (s.register u r))
+moved_hold maps s t f moves u r renames may =
+    elim (cases_eq (f (s.register u r)) 0) [
       | inl none ↦ inl none
       | inr found ↦ elim may [
         | inl zero_there ↦ inl (ap f zero_there ∙ renames.nothing)
-        | inr named ↦ inr ((named.0.0, renames.names address found ∙ named.0.1), fresh_there maps s t f moves address renames found named.1)
+        | inr named ↦
+            let some : s.register u r ≢ 0 = λ none. found (ap f none ∙ renames.nothing) in
+            inr ((named.0.0, renames.names (s.register u r) found ∙ named.0.1), renames.held u r some named.1)
       ]
     ]
 
@@ -116,7 +118,7 @@ value_at_some maps zero some = absurd (some refl)
 value_at_some maps (suc a) some = refl
 
 -- a register stands for the same value
-pub moved_value_at : (maps : Maps) (s t : State) (f : ℕ → ℕ) (moves : List Move) (address : ℕ) → Renames maps s t f moves → (address ≢ 0 → f address ≢ 0) → value_at (maps_after maps moves) (f address) ≡ value_at maps address
+pub moved_value_at : {phase : Phase} (maps : Maps) (s t : State) (f : ℕ → ℕ) (moves : List Move) (address : ℕ) → Renames phase maps s t f moves → (address ≢ 0 → f address ≢ 0) → value_at (maps_after maps moves) (f address) ≡ value_at maps address
 moved_value_at maps s t f moves address renames all =
     elim (cases_eq address 0) [
       | inl none ↦ ap (λ (a : ℕ). value_at (maps_after maps moves) (f a)) none ∙ (ap (value_at (maps_after maps moves)) renames.nothing ∙ ap (value_at maps) (sym none))

@@ -2,6 +2,7 @@
 use Rattle.std.proofs.Common.{◌≡◌, ◌≢◌, ℕ, ◌+◌, ◌-◌, ◌≤◌, List, sym, ◌∙◌, ap, subst, arith, inl, inr}
 use Rattle.std.specs.Prelude.{slice_get, Some}
 use Rattle.std.proofs.lemmas.Bool.{cases_order}
+use Rattle.melt_model.specs.declared.reports.Phase.{Phase}
 use Rattle.melt_word.specs.Words.{cost_of}
 use Rattle.melt_word.specs.declared.header.Shape.{Shape}
 use Rattle.melt_word.specs.declared.header.Header.{Header}
@@ -80,13 +81,13 @@ found_in f (Stale a) address found at = let same : a ≡ address = cc in λ none
 found_in f (Disk home) address found at = absurd (cc)
 
 -- an address in a word that was moved was found
-pub found_in_word : (f : ℕ → ℕ) (old new address : ℕ) → WordMoves f old new → RefersTo old address → f address ≢ 0
+pub found_in_word : {phase : Phase} (f : ℕ → ℕ) (old new address : ℕ) → WordMoves phase f old new → RefersTo old address → f address ≢ 0
 found_in_word f old new address moves refers =
     let same : refers.reference ≡ moves.reference = same_ref refers.reference moves.reference refers.in_range moves.in_range (sym refers.is ∙ moves.was) in
     found_in f moves.reference address moves.found (ap address_in (sym same) ∙ refers.at)
 
 -- what can be reached was found
-pub reached_found : (s t : State) (f : ℕ → ℕ) (moves : List Move) (front : ℕ) → IsCopy s t f moves front → (address : ℕ) → Reached s address → f address ≢ 0
+pub reached_found : {phase : Phase} (s t : State) (f : ℕ → ℕ) (moves : List Move) (front : ℕ) → IsCopy phase s t f moves front → (address : ℕ) → Reached s address → f address ≢ 0
 reached_found s t f moves front copy address (in_register u r a holds first) =
     let held : s.register u r ≢ 0 = λ none. omega (arith, holds, none, first) in
     let m = copy.held.all u r held in

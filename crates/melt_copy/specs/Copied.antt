@@ -1,5 +1,6 @@
 -- What was copied, and what is put back.
-use Rattle.std.specs.Prelude.{◌≡◌, ℕ, ◌<◌, ◌≤◌, List, length, map, take, slice_get, slice_index, Option, None, Some}
+use Rattle.std.specs.Prelude.{◌≡◌, ℕ, ◌<◌, ◌≤◌, nat_lt, List, length, map, take, slice_get, slice_index, Option, None, Some}
+use Rattle.melt_model.specs.declared.reports.Phase.{Phase}
 use Rattle.melt_space.specs.Space.{Replaces}
 use Rattle.melt_scion.specs.State.{State}
 use Rattle.melt_scion.specs.Placed.{Maps, Formed}
@@ -18,22 +19,22 @@ abbrev pub NumbersAre : Option Names → List Move → List (Option ℕ) → Typ
 NumbersAre None moves numbers = Unit {0}
 NumbersAre (Some names) moves numbers = numbers ≡ map (λ (m : Move). name_at names.addresses m.from) moves
 
--- Everything that can be reached was copied.
-pub record IsCopied (s : State) (names : Option Names) (copied : Copied) : Type 0 where
+-- Everything that can be reached was copied in this phase.
+pub record IsCopied (phase : Phase) (s : State) (names : Option Names) (copied : Copied) : Type 0 where
+  pub front : ℕ
   pub whole : IsWhole s
   pub holds : IsPlan s (goes copied.plan) copied.plan.moves.items copied.plan.next
   pub size : length copied.words.items ≡ words_in copied.plan.moves.items
-  pub objects : (k : ℕ) (m : Move) → slice_get copied.plan.moves.items k ≡ Some m → ObjectMoves (goes copied.plan) s (word_in copied.words.items) m
+  pub objects : (k : ℕ) (m : Move) → slice_get copied.plan.moves.items k ≡ Some m → ObjectMoves phase (nat_lt k front) (goes copied.plan) s (word_in copied.words.items) m
   pub globals_count : length copied.globals.items ≡ s.globals
-  pub globals : (g : ℕ) → g < s.globals → WordMoves (goes copied.plan) (s.global g) (slice_index copied.globals.items g)
-  pub front : ℕ
+  pub globals : (g : ℕ) → g < s.globals → WordMoves phase (goes copied.plan) (s.global g) (slice_index copied.globals.items g)
   pub held : AreHeld s copied.plan.moves.items front
   pub held_words : copied.held ≡ words_in (take front copied.plan.moves.items)
   pub numbers : NumbersAre names copied.plan.moves.items copied.numbers.items
 
 -- for each map with which the heap is well formed
-abbrev pub Copies : Heap → List Registers → Copied → Type 0
-Copies heap held copied = (maps : Maps) (end : ℕ) → Formed maps (state_of heap held end) → IsCopied (state_of heap held end) heap.names copied
+abbrev pub Copies : Phase → Heap → List Registers → Copied → Type 0
+Copies phase heap held copied = (maps : Maps) (end : ℕ) → Formed maps (state_of heap held end) → IsCopied phase (state_of heap held end) heap.names copied
 
 -- the names can be given anew
 pub record CanRename (used : ℕ) (names : Names) (moves : List Move) (numbers : List (Option ℕ)) : Type 0 where

@@ -1,6 +1,8 @@
 -- How a copying collection moves objects: which objects go where, and what their words become.
-use Rattle.std.specs.Prelude.{◌≡◌, ◌≢◌, ℕ, ◌+◌, ◌^◌, ◌<◌, ◌≤◌, ◌==◌, if◌then◌else◌, List, [], ◌∷◌, map, sum, take, slice_get, Option, None, Some}
-use Rattle.melt_word.specs.Words.{IsRef, ref_word, cost_of}
+use Rattle.std.specs.Prelude.{◌≡◌, ◌≢◌, ℕ, ◌+◌, ◌^◌, ◌<◌, ◌≤◌, ◌==◌, nat_lt, Bool, true, false, if◌then◌else◌, List, [], ◌∷◌, map, sum, take, slice_get, Option, None, Some}
+use Rattle.melt_model.specs.declared.reports.Phase.{Phase}
+use Rattle.melt_model.specs.declared.reports.Phase.TheVariants.{Inactive, Mark, Move as Moving}
+use Rattle.melt_word.specs.Words.{IsRef, ref_word, header_word, cost_of}
 use Rattle.melt_word.specs.declared.reference.Ref.{Ref}
 use Rattle.melt_word.specs.declared.reference.Ref.TheVariants.{Null, Clean, Stale, Disk}
 use Rattle.melt_word.specs.declared.header.Header.{Header}
@@ -44,12 +46,18 @@ pub record IsPlan (s : State) (f : ℕ → ℕ) (moves : List Move) (free : ℕ)
   pub places : (k : ℕ) (m : Move) → slice_get moves k ≡ Some m → m.to ≡ 1 + words_in (take k moves)
   pub behind : free ≡ 1 + words_in moves
 
+-- a clean reference to the address, as a collection of the phase leaves it
+abbrev pub tagged : Phase → ℕ → Ref
+tagged Inactive address = Clean address
+tagged Mark address = Stale address
+tagged Moving address = Clean address
+
 -- a reference after the move
-abbrev pub moved : (ℕ → ℕ) → Ref → Ref
-moved f Null = Null
-moved f (Clean address) = Clean (f address)
-moved f (Stale address) = Stale (f address)
-moved f (Disk home) = Disk home
+abbrev pub moved : Phase → (ℕ → ℕ) → Ref → Ref
+moved phase f Null = Null
+moved phase f (Clean address) = tagged phase (f address)
+moved phase f (Stale address) = Stale (f address)
+moved phase f (Disk home) = Disk home
 
 -- the object of the reference was found, if it has one in the space
 abbrev pub IsFound : (ℕ → ℕ) → Ref → Type 0
@@ -59,18 +67,30 @@ IsFound f (Stale address) = f address ≢ 0
 IsFound f (Disk home) = Unit {0}
 
 -- the word of a reference becomes that of the moved one
-pub record WordMoves (f : ℕ → ℕ) (old new : ℕ) : Type 0 where
+pub record WordMoves (phase : Phase) (f : ℕ → ℕ) (old new : ℕ) : Type 0 where
   pub reference : Ref
   pub in_range : IsRef reference
   pub was : old ≡ ref_word reference
   pub found : IsFound f reference
-  pub is : new ≡ ref_word (moved f reference)
+  pub is : new ≡ ref_word (moved phase f reference)
 
--- An object stands at its place in these words, with its references moved and all other words as they were.
-pub record ObjectMoves (f : ℕ → ℕ) (s : State) (word : ℕ → ℕ) (m : Move) : Type 0 where
-  pub header : word m.to ≡ s.word m.from
+-- the stale bit of an object after the move, by whether a register holds the object
+abbrev pub stale_after : Phase → Bool → Bool → Bool
+stale_after Inactive held stale = stale
+stale_after Mark true stale = stale
+stale_after Mark false stale = true
+stale_after Moving held stale = stale
+
+-- the header of an object after the move
+abbrev pub header_after : Phase → Bool → Header → Header
+header_after phase held header = record { shape = header.shape; stale = stale_after phase held header.stale }
+
+-- An object stands at its place in these words, with its references moved, its stale bit as the phase leaves it, and
+-- all other words as they were.
+pub record ObjectMoves (phase : Phase) (held : Bool) (f : ℕ → ℕ) (s : State) (word : ℕ → ℕ) (m : Move) : Type 0 where
+  pub header : (header : Header) → HeaderAt s m.from header → word m.to ≡ header_word (header_after phase held header)
   pub home : word (m.to + 1) ≡ s.word (m.from + 1)
-  pub slots : (i : ℕ) → i < m.shape.refs → WordMoves f (s.word (m.from + 2 + i)) (word (m.to + 2 + i))
+  pub slots : (i : ℕ) → i < m.shape.refs → WordMoves phase f (s.word (m.from + 2 + i)) (word (m.to + 2 + i))
   pub numbers : (j : ℕ) → j < m.shape.nums → word (m.to + 2 + m.shape.refs + j) ≡ s.word (m.from + 2 + m.shape.refs + j)
 
 -- The first moves, as many as `front`, are those of the objects in registers.
@@ -78,11 +98,11 @@ pub record AreHeld (s : State) (moves : List Move) (front : ℕ) : Type 0 where
   pub each : (k : ℕ) (m : Move) → slice_get moves k ≡ Some m → k < front → (t : ℕ) × (r : ℕ) × (s.register t r ≡ m.from)
   pub all : (t r : ℕ) → s.register t r ≢ 0 → (k : ℕ) × (m : Move) × (slice_get moves k ≡ Some m) × (k < front) × (m.from ≡ s.register t r)
 
--- The second state is a copy of what can be reached in the first.
-pub record IsCopy (s t : State) (f : ℕ → ℕ) (moves : List Move) (front : ℕ) : Type 0 where
+-- The second state is a copy of what can be reached in the first, with the marks that the phase leaves.
+pub record IsCopy (phase : Phase) (s t : State) (f : ℕ → ℕ) (moves : List Move) (front : ℕ) : Type 0 where
   pub plan : IsPlan s f moves t.free
-  pub objects : (k : ℕ) (m : Move) → slice_get moves k ≡ Some m → ObjectMoves f s t.word m
-  pub global : (g : ℕ) → g < s.globals → WordMoves f (s.global g) (t.global g)
+  pub objects : (k : ℕ) (m : Move) → slice_get moves k ≡ Some m → ObjectMoves phase (nat_lt k front) f s t.word m
+  pub global : (g : ℕ) → g < s.globals → WordMoves phase f (s.global g) (t.global g)
   pub register : (u r : ℕ) → t.register u r ≡ f (s.register u r)
   pub held : AreHeld s moves front
   pub size : t.size ≡ s.size

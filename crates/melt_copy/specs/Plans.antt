@@ -1,5 +1,6 @@
 -- What the parts of a copying collection do, over every state that has the words of the space.
-use Rattle.std.specs.Prelude.{◌≡◌, ◌≢◌, ℕ, zero, suc, ◌+◌, ◌<◌, List, ◌++◌, length, take, slice_get, slice_index, Some, ◌⊎◌}
+use Rattle.std.specs.Prelude.{◌≡◌, ◌≢◌, ℕ, zero, suc, ◌+◌, ◌<◌, nat_lt, List, ◌++◌, length, take, slice_get, slice_index, Some, ◌⊎◌}
+use Rattle.melt_model.specs.declared.reports.Phase.{Phase}
 use Rattle.melt_space.specs.Space.{SpaceWords, word_at}
 use Rattle.melt_scion.specs.State.{State, RefersTo, Reached}
 use Rattle.melt_scion.specs.Heaps.{register_in}
@@ -43,11 +44,11 @@ abbrev pub word_in : List ℕ → ℕ → ℕ
 word_in words zero = 0
 word_in words (suc k) = slice_index words k
 
--- The first objects of the plan, so many of them, were copied.
-pub record HasCopied (space : SpaceWords) (s : State) (plan : Plan) (words : List ℕ) (count : ℕ) : Type 0 where
+-- The first objects of the plan, so many of them, were copied in this phase. Registers hold those before the front.
+pub record HasCopied (phase : Phase) (front : ℕ) (space : SpaceWords) (s : State) (plan : Plan) (words : List ℕ) (count : ℕ) : Type 0 where
   pub plans : Plans space s plan
   pub size : length words ≡ words_in (take count plan.moves.items)
-  pub objects : (k : ℕ) (m : Move) → k < count → slice_get plan.moves.items k ≡ Some m → ObjectMoves (goes plan) s (word_in words) m
+  pub objects : (k : ℕ) (m : Move) → k < count → slice_get plan.moves.items k ≡ Some m → ObjectMoves phase (nat_lt k front) (goes plan) s (word_in words) m
 
 -- words are put behind those that are there
 pub record Extends (old new : List ℕ) (count : ℕ) : Type 0 where

@@ -1,7 +1,7 @@
 //! The copying collection.
 ghost use Rattle.std.specs.Prelude.{◌≡◌, ℕ, ◌<◌, ◌≤◌, length, IfOk, OnErr};
 ghost use Rattle.melt_scion.specs.Heaps.{IsFormed};
-ghost use Rattle.melt_copy.specs.Copying.{Collects};
+ghost use Rattle.melt_copy.specs.Copying.{Collects, IsCopying};
 ghost use Rattle.melt_copy.specs.Copied.{AreRenamed, Copies, IsPutBack, MayRename, NumbersAre};
 ghost use Rattle.melt_copy.specs.Plans.{goes};
 
@@ -46,29 +46,33 @@ fn room_for_copy(alloc: Global, heap: &mut Heap) -> Result<Vec<u64>, NoMemory>
     heap.space.room_for_copy(alloc)
 }
 
-/// Copies everything that can be reached, the words of objects into `room`. The heap and the registers stay.
+/// Copies everything that can be reached, with the marks that the phase leaves, the words of objects into `room`. The
+/// heap and the registers stay.
 fn copy_out<L: Ledger>(
     alloc: Global,
     heap: &Heap,
     room: Vec<u64>,
     held: &[Registers],
+    phase: Phase,
     steps: &mut Steps<L>,
 ) -> Result<Copied, NoMemory>
     requires { IsFormed heap.now held.now }
-    ensures { IfOk result (Copies heap.now held.now) }
+    ensures { IfOk result (Copies phase heap.now held.now) }
 {
     let mut plan = Plan::new(alloc, heap.space.used())?;
     find_all_held(&mut plan, &heap.space, held, steps)?;
     let held_words = plan.next - 1;
+    let front = plan.moves.len();
     let mut globals = Vec::with_capacity(alloc, heap.globals.items.len())?;
     move_words(
         &mut globals,
         &mut plan,
         &heap.space,
+        phase,
         &heap.globals.items,
         steps,
     )?;
-    let words = copy_objects(room, &mut plan, &heap.space, steps)?;
+    let words = copy_objects(room, &mut plan, &heap.space, phase, front, steps)?;
     let numbers = numbers_for(alloc, &heap.names, &plan.moves, steps)?;
     Ok(Copied {
         plan,
@@ -123,7 +127,8 @@ fn put_back<L: Ledger>(
 }
 
 /// Collects a heap: the objects that registers and globals reach stay in use, packed from word 1 on, and all others
-/// are gone. Phase Inactive alone, which keeps all tags and stale bits. Counts one step for each turn of a loop.
+/// are gone. Phase Inactive keeps all tags and stale bits. Phase Mark makes each object stale that no register holds,
+/// and each direct reference in slots and globals. Counts one step for each turn of a loop.
 ///
 /// Takes all its memory before the first change.
 pub fn collect_copy<L: Ledger>(
@@ -134,13 +139,13 @@ pub fn collect_copy<L: Ledger>(
     steps: &mut Steps<L>,
 ) -> Result<Journal, NoMemory>
     requires formed { IsFormed heap.old held.old }
-    requires phase { phase ≡ Phase.Inactive }
+    requires phase { IsCopying phase }
     ensures collected { IfOk result (Collects heap.old held.old heap.new held.new phase) }
     ensures heap_stays { OnErr result (heap.new ≡ heap.old) }
     ensures registers_stay { OnErr result (held.new ≡ held.old) }
 {
     let room = room_for_copy(alloc, heap)?;
-    let copied = copy_out(alloc, heap, room, held, steps)?;
+    let copied = copy_out(alloc, heap, room, held, phase, steps)?;
     let held_words = copied.held;
     put_back(heap, held, copied, steps);
     Ok(Journal {

@@ -1,15 +1,16 @@
 //! Finds what can be reached, and copies it.
 ghost use Rattle.std.specs.Prelude.{◌≡◌, ◌≢◌, ℕ, ◌+◌, ◌<◌, ◌≤◌, length, slice_index, IfOk, OnOk};
-ghost use Rattle.melt_word.specs.Words.{cost_of};
+ghost use Rattle.melt_word.specs.Words.{IsHeader, IsShape, cost_of, header_word};
+ghost use Rattle.melt_word.specs.declared.header.Header.{Header};
 ghost use Rattle.melt_scion.specs.State.{State};
-ghost use Rattle.melt_copy.specs.Moving.{WordMoves, ObjectMoves};
+ghost use Rattle.melt_copy.specs.Moving.{WordMoves, ObjectMoves, header_after};
 ghost use Rattle.melt_copy.specs.Plans.{Extends, FindsHeld, FindsThreads, Grows, HasCopied, Plans, PlansHeld, PlansIn, PlansOf, PlansThreads, goes, word_in};
 
 use crate::plan::{Move, Plan};
-use melt_model::{NoMemory, Steps};
+use melt_model::{NoMemory, Phase, Steps};
 use melt_scion::Registers;
 use melt_space::Space;
-use melt_word::cost;
+use melt_word::{Header, Shape, cost, encode_header};
 use std::sync::ledger::Ledger;
 
 /// Finds the objects in the registers of a thread.
@@ -58,20 +59,32 @@ pub fn move_words<L: Ledger>(
     out: &mut Vec<u64>,
     plan: &mut Plan,
     space: &Space,
+    phase: Phase,
     words: &[u64],
     steps: &mut Steps<L>,
 ) -> Result<(), NoMemory>
     requires { (s : State) × PlansIn space.now s plan.old words.now }
     ensures extends { OnOk result (Extends out.old.items out.new.items (length words.now)) }
-    ensures moves { OnOk result ((i : ℕ) → i < length words.now → WordMoves (goes plan.new) (slice_index words.now i) (slice_index out.new.items (length out.old.items + i))) }
+    ensures moves { OnOk result ((i : ℕ) → i < length words.now → WordMoves phase (goes plan.new) (slice_index words.now i) (slice_index out.new.items (length out.old.items + i))) }
     ensures grows { Grows plan.old plan.new }
     ensures plans { (s : State) → PlansIn space.now s plan.old words.now → Plans space.now s plan.new }
 {
     for word in words {
         steps.tick();
-        out.push(plan.move_word(space, *word)?)?;
+        out.push(plan.move_word(space, phase, *word)?)?;
     }
     Ok(())
+}
+
+/// The word of the header of an object after the move, by the word from before.
+fn move_header(phase: Phase, held: bool, shape: Shape, word: u64) -> u64
+    requires { IsShape shape }
+    ensures { (header : Header) → IsHeader header → header.shape ≡ shape → word ≡ header_word header → result ≡ header_word (header_after phase held header) }
+{
+    match phase {
+        Phase::Mark if !held => encode_header(Header { shape, stale: true }),
+        _ => word,
+    }
 }
 
 /// Puts an object that was found behind the words that are there. Finds the objects to which it refers.
@@ -79,25 +92,28 @@ fn copy_object<L: Ledger>(
     out: &mut Vec<u64>,
     plan: &mut Plan,
     space: &Space,
+    phase: Phase,
     m: Move,
+    held: bool,
     steps: &mut Steps<L>,
 ) -> Result<(), NoMemory>
     requires { (s : State) × PlansOf space.now s plan.old m }
     ensures extends { OnOk result (Extends out.old.items out.new.items (cost_of m.shape)) }
-    ensures object { OnOk result ((s : State) → PlansOf space.now s plan.old m → m.to ≡ length out.old.items + 1 → ObjectMoves (goes plan.new) s (word_in out.new.items) m) }
+    ensures object { OnOk result ((s : State) → PlansOf space.now s plan.old m → m.to ≡ length out.old.items + 1 → ObjectMoves phase held (goes plan.new) s (word_in out.new.items) m) }
     ensures grows { Grows plan.old plan.new }
     ensures plans { (s : State) → PlansOf space.now s plan.old m → Plans space.now s plan.new }
 {
     let object = space.words_at(m.from, cost(m.shape));
     let numbers = 2 + m.shape.refs as usize;
-    out.extend_from_slice(&object[..2])?;
-    move_words(out, plan, space, &object[2..numbers], steps)?;
+    let header = move_header(phase, held, m.shape, object[0]);
+    out.extend_from_slice(&[header, object[1]])?;
+    move_words(out, plan, space, phase, &object[2..numbers], steps)?;
     out.extend_from_slice(&object[numbers..])?;
     Ok(())
 }
 
 /// Copies the objects that were found, and those that are found meanwhile, into `words`, whose items go. The first word
-/// of the copy is that at address 1.
+/// of the copy is that at address 1. Registers hold the first objects, as many as `front`.
 ///
 /// The order is that of C. J. Cheney, "A Nonrecursive List Compacting Algorithm", Communications of the ACM 13 (1970):
 /// the objects that were found and not copied yet are a queue.
@@ -105,10 +121,12 @@ pub fn copy_objects<L: Ledger>(
     mut words: Vec<u64>,
     plan: &mut Plan,
     space: &Space,
+    phase: Phase,
+    front: usize,
     steps: &mut Steps<L>,
 ) -> Result<Vec<u64>, NoMemory>
     requires { (s : State) × Plans space.now s plan.old }
-    ensures copied { IfOk result (λ words. (s : State) → Plans space.now s plan.old → HasCopied space.now s plan.new words.items (length plan.new.moves.items)) }
+    ensures copied { IfOk result (λ words. (s : State) → Plans space.now s plan.old → HasCopied phase front space.now s plan.new words.items (length plan.new.moves.items)) }
     ensures grows { Grows plan.old plan.new }
 {
     words.clear();
@@ -116,7 +134,7 @@ pub fn copy_objects<L: Ledger>(
     while done < plan.moves.len() {
         steps.tick();
         let m = plan.moves[done];
-        copy_object(&mut words, plan, space, m, steps)?;
+        copy_object(&mut words, plan, space, phase, m, done < front, steps)?;
         done += 1;
     }
     Ok(words)

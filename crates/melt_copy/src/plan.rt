@@ -1,11 +1,12 @@
 //! Where each object that a collection finds goes.
 ghost use Rattle.std.specs.Prelude.{◌≡◌, ◌≢◌, ℕ, ◌+◌, ◌^◌, ◌<◌, ◌≤◌, ◌⊎◌, [], slice_get, slice_index, length, replicate, Some, IfOk};
+ghost use Rattle.melt_word.specs.Words.{IsAddress, IsRef};
 ghost use Rattle.melt_scion.specs.State.{State};
 ghost use Rattle.melt_copy.specs.declared.plan.Move.{Move};
-ghost use Rattle.melt_copy.specs.Moving.{WordMoves};
+ghost use Rattle.melt_copy.specs.Moving.{WordMoves, tagged};
 ghost use Rattle.melt_copy.specs.Plans.{Grows, Plans, PlansAt, PlansFor, goes};
 
-use melt_model::NoMemory;
+use melt_model::{NoMemory, Phase};
 use melt_space::Space;
 use melt_word::{Ref, Shape, cost, decode_ref, encode_ref};
 use std::alloc::Global;
@@ -26,6 +27,18 @@ pub struct Plan {
     pub moves: Vec<Move>,
     /// The first place behind the objects that were found.
     pub next: u32,
+}
+
+/// A clean reference to an address, as a collection of the phase leaves it.
+fn tagged(phase: Phase, address: u32) -> Ref
+    requires { IsAddress address }
+    ensures value { result ≡ tagged phase address }
+    ensures in_range { IsRef result }
+{
+    match phase {
+        Phase::Mark => Ref::Stale(address),
+        Phase::Inactive | Phase::Move => Ref::Clean(address),
+    }
 }
 
 impl Plan {
@@ -76,14 +89,14 @@ impl Plan {
     }
 
     /// The word of a reference after the move. Finds the object to which it refers.
-    pub fn move_word(&mut self, space: &Space, word: u64) -> Result<u64, NoMemory>
+    pub fn move_word(&mut self, space: &Space, phase: Phase, word: u64) -> Result<u64, NoMemory>
         requires { (s : State) × PlansFor space.now s self.old word }
-        ensures moves { IfOk result (WordMoves (goes self.new) word) }
+        ensures moves { IfOk result (WordMoves phase (goes self.new) word) }
         ensures grows { Grows self.old self.new }
         ensures plans { (s : State) → PlansFor space.now s self.old word → Plans space.now s self.new }
     {
         match decode_ref(word) {
-            Ok(Ref::Clean(address)) => Ok(encode_ref(Ref::Clean(self.find(space, address)?))),
+            Ok(Ref::Clean(address)) => Ok(encode_ref(tagged(phase, self.find(space, address)?))),
             Ok(Ref::Stale(address)) => Ok(encode_ref(Ref::Stale(self.find(space, address)?))),
             Ok(Ref::Null | Ref::Disk(_)) => Ok(word),
             Err(_) => unreachable!(),

@@ -1,5 +1,7 @@
-ghost use Rattle.std.specs.Prelude.{◌≡◌, ◌<◌};
+ghost use Rattle.std.specs.Prelude.{◌≡◌, ◌<◌, IfOk};
+ghost use Rattle.melt_word.specs.Words.{IsShape};
 ghost use Rattle.melt_scion.specs.Heaps.{IsFormed};
+ghost use Rattle.melt_copy.specs.Copying.{IsCopying};
 
 use super::*;
 use melt_model::{Journal, NoMemory, Phase, Steps};
@@ -16,22 +18,24 @@ fn collect_uncounted<L: Ledger>(
     alloc: Global,
     heap: &mut Heap,
     held: &mut [Registers],
+    phase: Phase,
     blank: Blank,
 ) -> Result<Journal, NoMemory>
     requires name { blank.name ≡ L.name }
     requires parts { blank.parts ≡ L.parts }
     requires some { 0 < blank.parts }
     requires formed { IsFormed heap.old held.old }
+    requires phase { IsCopying phase }
 {
     let mut steps = Steps::<L>::new(blank);
-    collect_copy(alloc, heap, held, Phase::Inactive, &mut steps)
+    collect_copy(alloc, heap, held, phase, &mut steps)
 }
 
 /// The journal of a collection after which so many words are in use, and so many of these are those of objects in
 /// registers.
-fn journal_of(live: u32, held: u32) -> Journal {
+fn journal_of(phase: Phase, live: u32, held: u32) -> Journal {
     Journal {
-        phase: Phase::Inactive,
+        phase,
         held,
         live,
         bodies: 0,
@@ -40,13 +44,51 @@ fn journal_of(live: u32, held: u32) -> Journal {
     }
 }
 
+const PAIR: Shape = Shape { refs: 1, nums: 1 };
+
+const LEAF: Shape = Shape { refs: 0, nums: 0 };
+
+/// A heap of 10 words with three objects. The first is not reached. The second is a pair in register 3 of thread 1,
+/// with a stale reference to the third and the number 9. The third is a leaf, to which a global refers.
+fn three_objects(alloc: Global) -> Result<(Heap, [Registers; 2]), Fail>
+    ensures { IfOk result (λ made. IsFormed made.0 made.1) }
+{
+    let mut space = Space::new(alloc, 10)?;
+    let first = space.make(Shape { refs: 0, nums: 1 })?;
+    let second = space.make(PAIR)?;
+    let third = space.make(LEAF)?;
+    space.set_word(6, encode_ref(Ref::Stale(third)));
+    space.set_word(7, 9);
+    let mut addresses = AddressNames::new(alloc, 10)?;
+    addresses.set(first, 0);
+    addresses.set(second, 1);
+    addresses.set(third, 2);
+    let items = vec![in alloc; encode_ref(Ref::Clean(third)); 1]?;
+    let heap = Heap {
+        space,
+        globals: Globals { items },
+        names: Some(Names { addresses }),
+    };
+    let mut regs = [0; 16];
+    regs[3] = second;
+    Ok((heap, [Registers { regs: [0; 16] }, Registers { regs }]))
+}
+
+/// The word of a header.
+fn header(shape: Shape, stale: bool) -> u64
+    requires { IsShape shape }
+{
+    encode_header(Header { shape, stale })
+}
+
 #[test]
 fn a_heap_without_objects_stays_so(rt: HostRuntime) -> Result<(), Fail> {
     let alloc = rt.alloc();
     let mut heap = Heap::new(alloc, 4, 1, true)?;
     let mut held = [Registers { regs: [0; 16] }];
-    let journal = collect_uncounted::<Brand>(alloc, &mut heap, &mut held, Blank::new(1))?;
-    assert_eq!(rt; journal, journal_of(0, 0));
+    let blank = Blank::new(1);
+    let journal = collect_uncounted::<Brand>(alloc, &mut heap, &mut held, Phase::Inactive, blank)?;
+    assert_eq!(rt; journal, journal_of(Phase::Inactive, 0, 0));
     assert_eq!(rt; heap.space.words(), 4);
     assert_eq!(rt; heap.space.used(), 0);
     assert_eq!(rt; heap.globals.items.as_slice(), [0].as_slice());
@@ -57,40 +99,17 @@ fn a_heap_without_objects_stays_so(rt: HostRuntime) -> Result<(), Fail> {
 #[test]
 fn what_is_reached_moves_to_the_front(rt: HostRuntime) -> Result<(), Fail> {
     let alloc = rt.alloc();
-    let pair = Shape { refs: 1, nums: 1 };
-    let leaf = Shape { refs: 0, nums: 0 };
-    let mut space = Space::new(alloc, 10)?;
-    let first = space.make(Shape { refs: 0, nums: 1 })?;
-    let second = space.make(pair)?;
-    let third = space.make(leaf)?;
-    space.set_word(6, encode_ref(Ref::Stale(third)));
-    space.set_word(7, 9);
-    let mut addresses = AddressNames::new(alloc, 10)?;
-    addresses.set(first, 0);
-    addresses.set(second, 1);
-    addresses.set(third, 2);
-    let items = vec![in alloc; encode_ref(Ref::Clean(third)); 1]?;
-    let mut heap = Heap {
-        space,
-        globals: Globals { items },
-        names: Some(Names { addresses }),
-    };
-    let mut regs = [0; 16];
-    regs[3] = second;
-    let mut held = [Registers { regs: [0; 16] }, Registers { regs }];
-    let journal = collect_uncounted::<Brand>(alloc, &mut heap, &mut held, Blank::new(1))?;
-    assert_eq!(rt; journal, journal_of(6, 4));
+    let (mut heap, mut held) = three_objects(alloc)?;
+    let blank = Blank::new(1);
+    let journal = collect_uncounted::<Brand>(alloc, &mut heap, &mut held, Phase::Inactive, blank)?;
+    assert_eq!(rt; journal, journal_of(Phase::Inactive, 6, 4));
     assert_eq!(rt; heap.space.words(), 10);
     assert_eq!(rt; heap.space.used(), 6);
-    let header = |shape| Header {
-        shape,
-        stale: false,
-    };
-    assert_eq!(rt; heap.space.word(1), encode_header(header(pair)));
+    assert_eq!(rt; heap.space.word(1), header(PAIR, false));
     assert_eq!(rt; heap.space.word(2), 0);
     assert_eq!(rt; heap.space.word(3), encode_ref(Ref::Stale(5)));
     assert_eq!(rt; heap.space.word(4), 9);
-    assert_eq!(rt; heap.space.word(5), encode_header(header(leaf)));
+    assert_eq!(rt; heap.space.word(5), header(LEAF, false));
     assert_eq!(rt; heap.space.word(6), 0);
     assert_eq!(rt;
         heap.globals.items.as_slice(),
@@ -105,5 +124,28 @@ fn what_is_reached_moves_to_the_front(rt: HostRuntime) -> Result<(), Fail> {
             assert_eq!(rt; names.addresses.get(address), want, "at {address}");
         }
     }
+    Ok(())
+}
+
+#[test]
+fn mark_leaves_only_held_objects_without_the_stale_bit(rt: HostRuntime) -> Result<(), Fail> {
+    let alloc = rt.alloc();
+    let (mut heap, mut held) = three_objects(alloc)?;
+    let blank = Blank::new(1);
+    let journal = collect_uncounted::<Brand>(alloc, &mut heap, &mut held, Phase::Mark, blank)?;
+    assert_eq!(rt; journal, journal_of(Phase::Mark, 6, 4));
+    assert_eq!(rt; heap.space.used(), 6);
+    assert_eq!(rt; heap.space.word(1), header(PAIR, false));
+    assert_eq!(rt; heap.space.word(2), 0);
+    assert_eq!(rt; heap.space.word(3), encode_ref(Ref::Stale(5)));
+    assert_eq!(rt; heap.space.word(4), 9);
+    assert_eq!(rt; heap.space.word(5), header(LEAF, true));
+    assert_eq!(rt; heap.space.word(6), 0);
+    assert_eq!(rt;
+        heap.globals.items.as_slice(),
+        [encode_ref(Ref::Stale(5))].as_slice()
+    );
+    assert_eq!(rt; held[0].regs, [0; 16]);
+    assert_eq!(rt; held[1].regs[3], 1);
     Ok(())
 }

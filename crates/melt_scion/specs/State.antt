@@ -28,6 +28,12 @@ pub record ObjectAt (s : State) (address : ℕ) (header : Header) : Type 0 where
   pub within : address + cost_of header.shape ≤ s.size + 1
   pub below : address + cost_of header.shape ≤ s.free
 
+-- a register holds the address
+pub record HoldsAt (s : State) (address : ℕ) : Type 0 where
+  pub thread : ℕ
+  pub register : ℕ
+  pub holds : s.register thread register ≡ address
+
 -- the object at the address has no stale bit
 abbrev pub IsFresh : State → ℕ → Type 0
 IsFresh s address = (header : Header) → HeaderAt s address header → header.stale ≡ false

@@ -29,11 +29,11 @@ put_back-requires-clause-nothing g c =
 pub put_back-requires-clause-names : goal.put_back-requires-clause-names
 put_back-requires-clause-names g c =
     let formed = formed_still g (goal.at.put_back-requires-clause-names g c).After-room_for_copy in
-    may_rename c.room_for_copy.new.heap c.args.held.now c.in_ok-copied.copied formed c.in_ok-copied.ensures
+    may_rename c.args.phase c.room_for_copy.new.heap c.args.held.now c.in_ok-copied.copied formed c.in_ok-copied.ensures
 
 pub returns-clause-collected : goal.returns-clause-collected
 returns-clause-collected g c =
     let copied = c.in_ok-copied.copied in
-    let OfCopy : Heap → Type 0 = λ h. Copies h c.args.held.now copied in
+    let OfCopy : Heap → Type 0 = λ h. Copies c.args.phase h c.args.held.now copied in
     let OfPut : Heap → Type 0 = λ h. IsPutBack h c.put_back.new.heap c.args.held.now c.put_back.new.held copied in
-    put_collects c.args.heap.now _ c.args.held.now c.put_back.new.held copied c.args.phase _ (subst OfCopy c.room_for_copy.ensures c.in_ok-copied.ensures) (subst OfPut c.room_for_copy.ensures c.put_back.ensures) refl refl c.used.ensures.value refl refl refl
+    put_collects c.args.heap.now _ c.args.held.now c.put_back.new.held copied c.args.phase _ c.requires.phase (subst OfCopy c.room_for_copy.ensures c.in_ok-copied.ensures) (subst OfPut c.room_for_copy.ensures c.put_back.ensures) refl refl c.used.ensures.value refl refl refl

@@ -23,4 +23,4 @@ copy_objects-requires g c =
 pub returns : goal.returns
 returns g c =
     let copied : Copied = record { plan = c.copy_objects.new.plan; words = c.in_ok-words.words; globals = c.move_words.new.out; numbers = c.in_ok-numbers.numbers; held = c.find_all_held.new.plan.next - 1 } in
-    copies _ c.args.heap.now c.args.held.now c.in_ok-plan.plan c.find_all_held.new.plan c.move_words.new.plan c.copy_objects.new.plan c.used.result c.deref.result.now c.in_ok-globals.globals.items c.move_words.new.out.items copied c.heap.view_is c.used.ensures.within c.used.ensures.value c.in_ok-plan.ensures.forward c.in_ok-plan.ensures.moves c.in_ok-plan.ensures.next c.find_all_held.ensures.plans c.in_ok-find_all_held.ensures.finds c.deref.ensures.value c.move_words.ensures.plans c.move_words.ensures.grows c.in_ok-globals.ensures.items c.in_ok-move_words.ensures.extends c.in_ok-move_words.ensures.moves c.copy_objects.ensures.grows c.in_ok-words.ensures.copied c.deref-2.result.now c.deref-2.ensures.value c.in_ok-numbers.ensures refl refl refl
+    copies c.args.phase _ c.args.heap.now c.args.held.now c.in_ok-plan.plan c.find_all_held.new.plan c.move_words.new.plan c.copy_objects.new.plan c.used.result c.len-front.result c.deref.result.now c.in_ok-globals.globals.items c.move_words.new.out.items copied (omega (arith, c.len-front.ensures, c.find_all_held.new.plan.moves.ok.0)) c.heap.view_is c.used.ensures.within c.used.ensures.value c.in_ok-plan.ensures.forward c.in_ok-plan.ensures.moves c.in_ok-plan.ensures.next c.find_all_held.ensures.plans c.in_ok-find_all_held.ensures.finds c.deref.ensures.value c.move_words.ensures.plans c.move_words.ensures.grows c.in_ok-globals.ensures.items c.in_ok-move_words.ensures.extends c.in_ok-move_words.ensures.moves c.copy_objects.ensures.grows c.in_ok-words.ensures.copied c.deref-2.result.now c.deref-2.ensures.value c.in_ok-numbers.ensures refl refl refl

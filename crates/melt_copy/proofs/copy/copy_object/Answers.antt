@@ -1,4 +1,4 @@
-use Rattle.std.proofs.Common.{◌++◌, ◌+◌, ap, ◌∙◌, subst}
+use Rattle.std.proofs.Common.{◌++◌, ◌+◌, refl, ap, ◌∙◌, subst}
 use Rattle.std.proofs.lemmas.List.{take_rest}
 use Rattle.melt_space.specs.Space.{AreWords}
 use Rattle.melt_copy.proofs.Copies.{object_slots, object_copied}
@@ -14,7 +14,7 @@ pub returns-in_err-extend_from_slice-2-clause-plans : goal.returns-in_err-extend
 returns-in_err-extend_from_slice-2-clause-plans g c = λ s of. c.move_words.ensures.plans s (object_slots c.args.space.now s c.args.plan.now c.args.m c.words_at-object.result.now (subst (λ n. AreWords c.args.space.now c.args.m.from n c.words_at-object.result.now) c.cost.ensures c.words_at-object.ensures) of)
 
 pub returns-clause-object : goal.returns-clause-object
-returns-clause-object g c = λ s of to. object_copied c.args.space.now s c.args.plan.now _ c.args.m c.words_at-object.result.now c.args.out.now.items _ _ _ (subst (λ n. AreWords c.args.space.now c.args.m.from n c.words_at-object.result.now) c.cost.ensures c.words_at-object.ensures) of to c.in_ok-extend_from_slice.ensures.items c.in_ok-move_words.ensures.extends c.in_ok-move_words.ensures.moves (c.in_ok-extend_from_slice-2.ensures.items ∙ ap (λ l. c.move_words.new.out.items ++ l) (take_rest c.words_at-object.result.now (2 + c.args.m.shape.refs)))
+returns-clause-object g c = λ s of to. object_copied c.args.phase c.args.held c.args.space.now s c.args.plan.now _ c.args.m c.words_at-object.result.now c.args.out.now.items _ _ _ _ _ _ (subst (λ n. AreWords c.args.space.now c.args.m.from n c.words_at-object.result.now) c.cost.ensures c.words_at-object.ensures) of to refl c.move_header-header.ensures refl c.in_ok-extend_from_slice.ensures.items c.in_ok-move_words.ensures.extends c.in_ok-move_words.ensures.moves (c.in_ok-extend_from_slice-2.ensures.items ∙ ap (λ l. c.move_words.new.out.items ++ l) (take_rest c.words_at-object.result.now (2 + c.args.m.shape.refs)))
 
 pub returns-clause-plans : goal.returns-clause-plans
 returns-clause-plans g c = λ s of. c.move_words.ensures.plans s (object_slots c.args.space.now s c.args.plan.now c.args.m c.words_at-object.result.now (subst (λ n. AreWords c.args.space.now c.args.m.from n c.words_at-object.result.now) c.cost.ensures c.words_at-object.ensures) of)

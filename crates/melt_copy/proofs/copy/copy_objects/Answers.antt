@@ -24,10 +24,10 @@ loop-done-preserved g c = record {
   copied = λ s plans.
       let copied = c.loop-done.invariant.copied s plans in
       let of = next_object c.args.space.now s c.loop-done.plan c.loop-done.words.items c.loop-done.done c.index-m.result.now copied (omega (arith, c.loop-done-test.true, c.len.ensures, c.loop-done.plan.moves.ok.0)) c.index-m.ensures in
-      copied_more c.args.space.now s c.loop-done.plan c.copy_object.new.plan c.loop-done.words.items _ c.loop-done.done c.index-m.result.now copied (omega (arith, c.loop-done-test.true, c.len.ensures, c.loop-done.plan.moves.ok.0)) c.index-m.ensures c.copy_object.ensures.grows (c.copy_object.ensures.plans s of) c.in_ok-copy_object.ensures.extends (c.in_ok-copy_object.ensures.object s of);
+      copied_more c.args.phase c.args.front c.args.space.now s c.loop-done.plan c.copy_object.new.plan c.loop-done.words.items _ c.loop-done.done c.index-m.result.now copied (omega (arith, c.loop-done-test.true, c.len.ensures, c.loop-done.plan.moves.ok.0)) c.index-m.ensures c.copy_object.ensures.grows (c.copy_object.ensures.plans s of) c.in_ok-copy_object.ensures.extends (c.in_ok-copy_object.ensures.object s of);
 }
 
 pub returns-clause-copied : goal.returns-clause-copied
 returns-clause-copied g c = λ s plans.
     let all : c.loop-done.done ≡ length c.loop-done.plan.moves.items = omega (arith, c.loop-done.invariant.within, c.loop-done-test.false, c.len.ensures, c.loop-done.plan.moves.ok.0) in
-    subst (HasCopied c.args.space.now s c.loop-done.plan c.loop-done.words.items) all (c.loop-done.invariant.copied s plans)
+    subst (HasCopied c.args.phase c.args.front c.args.space.now s c.loop-done.plan c.loop-done.words.items) all (c.loop-done.invariant.copied s plans)

@@ -7,7 +7,7 @@ abbrev pub invariant-loop-done : goal.invariant-loop-done
 invariant-loop-done g l = record {
   within : l.done ≤ length l.plan.moves.items;
   grows : Grows l.fn.plan l.plan;
-  copied : (s : State) → Plans l.space s l.fn.plan → HasCopied l.space s l.plan l.words.items l.done;
+  copied : (s : State) → Plans l.space s l.fn.plan → HasCopied l.phase l.front l.space s l.plan l.words.items l.done;
 }
 
 abbrev pub decreases-loop-done : goal.decreases-loop-done

@@ -1,10 +1,10 @@
 use Rattle.std.proofs.Common.{◌∙◌, ℕ, refl, subst, ap, replicate}
 use Rattle.melt_space.specs.Space.{SetsWord}
 use Rattle.melt_copy.proofs.Building.{second_holds, three_formed, fourth_held}
-use Rattle.melt_copy.proofs.tests.what_is_reached_moves_to_the_front.Goals as goal
+use Rattle.melt_copy.proofs.tests.three_objects.Goals as goal
 
-pub collect_uncounted-requires-clause-formed : goal.collect_uncounted-requires-clause-formed
-collect_uncounted-requires-clause-formed g c = three_formed _ (second_holds c.in_ok-second.second) c.set-3.new.self c.in_ok-first.first c.in_ok-second.second c.in_ok-third.third (record {
+pub returns : goal.returns
+returns c = three_formed _ (second_holds c.in_ok-second.second) c.set-3.new.self c.in_ok-first.first c.in_ok-second.second c.in_ok-third.third (record {
   start = c.in_ok-space.space;
   one = c.make.new.self;
   two = c.make-2.new.self;
