@@ -1,0 +1,5 @@
+pub mod Answering
+pub mod Calls
+pub mod Views
+pub mod Events
+pub mod Effects
