@@ -63,9 +63,12 @@ held_value names address = unwrap_or (value_at (maps_of names) address) Nil
 abbrev pub registers_in : List Registers → ℕ → List ℕ
 registers_in held t = slice_index_or (map (λ (x : Registers). x.regs) held) t []
 
+abbrev pub held_values : Option heap.Names → List ℕ → List Value
+held_values names regs = map (held_value names) regs
+
 -- the values in the registers of a thread
 abbrev pub values_of : View → ℕ → List Value
-values_of v t = map (held_value v.names) (registers_in v.held t)
+values_of v t = held_values v.names (registers_in v.held t)
 
 abbrev pub value : View → ℕ → ℕ → Value
 value v t r = value_in (values_of v t) r
