@@ -5,3 +5,4 @@ pub mod Flights
 pub mod Standing
 pub mod Counting
 pub mod Evolving
+pub mod Changing

@@ -3,3 +3,4 @@ pub mod Calls
 pub mod Views
 pub mod Events
 pub mod Effects
+pub mod Changed

@@ -3,8 +3,8 @@
 
 pub mod answer;
 pub mod call;
+mod changes;
 pub mod machine;
 
 pub use answer::{Pause, Refusal, StepResult};
 pub use machine::{Core, Rest};
-

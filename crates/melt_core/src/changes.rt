@@ -1,0 +1,1 @@
+//! The small changes of which events are made.
