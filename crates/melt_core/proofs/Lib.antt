@@ -4,3 +4,4 @@ pub mod Publish
 pub mod Flights
 pub mod Standing
 pub mod Counting
+pub mod Answers

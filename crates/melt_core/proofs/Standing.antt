@@ -1,5 +1,5 @@
 -- What an event of one thread has to show, so that the core stands for its history behind it.
-use Rattle.std.proofs.Common.{◌≡◌, ◌≢◌, ℕ, ◌+◌, ◌<◌, ◌≤◌, ◌⊎◌, inl, inr, List, length, get_or, sym, ◌∙◌, ap, subst, arith}
+use Rattle.std.proofs.Common.{◌≡◌, ◌≢◌, ℕ, ◌<◌, ◌⊎◌, inl, inr, List, length, get_or, sym, ◌∙◌, ap, subst, arith}
 use Rattle.std.proofs.Math.ListN.{set, length-set}
 use Rattle.std.proofs.lemmas.Bool.{cases_eq, cases_lt}
 use Rattle.std.proofs.lemmas.List.{get_or-set_same, get_or-set_other, get_or_past}
@@ -40,7 +40,7 @@ abbrev IsUnclaimed : Stage → Type 0
 IsUnclaimed (Claimed a z i) = ⊥
 IsUnclaimed q = Unit {0}
 
--- is apart from each
+-- the region of a call is apart from that of one which owns none
 other_apart : (p q : Stage) → IsUnclaimed q → RegionsApart p q
 other_apart (Claimed a z i) (Claimed b y j) none = absurd none
 other_apart (Claimed a z i) q none = tt
@@ -76,6 +76,7 @@ set_call calls t u call c is =
 call_behind : (v w : View) (t u : ℕ) (call : Option Call) (c : Call) → w.calls ≡ set v.calls t call → call_of w u ≡ Some c → ((u ≡ t) × (call ≡ Some c)) ⊎ ((u ≢ t) × (call_of v u ≡ Some c))
 call_behind v w t u call c sets is = set_call v.calls t u call c (ap (λ (cs : List (Option Call)). get_or cs u None) (sym sets) ∙ is)
 
+-- behind such an event the core stands for its history
 pub Standing_event : (v w : View) (t : ℕ) (call : Option Call) → Standing v → IsEvent v w t call → Standing w
 Standing_event v w t call s e = record {
   legal = e.legal;
