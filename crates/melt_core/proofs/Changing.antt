@@ -1,4 +1,4 @@
--- Each small change leaves a core that stands for its history.
+-- Each small change leaves a core that stands for its history: calls, registers, reads and claims.
 use Rattle.std.proofs.Common.{◌≡◌, ◌≢◌, ℕ, ◌+◌, ◌*◌, ◌<◌, ◌≤◌, List, [], ◌∷◌, ◌++◌, length}
 use Rattle.std.proofs.Math.ListN.{set}
 use Rattle.std.specs.Prelude.{Option, None, Some, IsSome, false, replicate}
@@ -48,33 +48,6 @@ values_set v t r address within = ?
 pub values_other : (v : View) (t u r address : ℕ) → u ≢ t → values_of (with_register v t r address) u ≡ values_of v u
 values_other v t u r address other = ?
 
--- the stale bit of an object is cleared
-pub Standing_clear : (v : View) (space : SpaceWords) (address n : ℕ) (header : Header) → Standing v → (maps v).address address ≡ Some n → HeaderAt (state v) address header → SetsWord v.space space address (header_word (record { shape = header.shape; stale = false })) → Standing (with_space v space)
-Standing_clear v space address n header s named starts sets = ?
-
-pub fresh_cleared : (v : View) (space : SpaceWords) (address : ℕ) (header : Header) → HeaderAt (state v) address header → SetsWord v.space space address (header_word (record { shape = header.shape; stale = false })) → IsFresh (state (with_space v space)) address
-fresh_cleared v space address header starts sets = ?
-
--- a stale address in a slot becomes clean
-pub Standing_untag_field : (v : View) (space : SpaceWords) (object i target : ℕ) (shape : Shape) → Standing v → IsObjectAt (maps v) (state v) object shape → i < shape.refs → (state v).word (object + 2 + i) ≡ ref_word (Stale target) → MayHold (maps v) (state v) target → SetsWord v.space space (object + 2 + i) (ref_word (Clean target)) → Standing (with_space v space)
-Standing_untag_field v space object i target shape s there within was may sets = ?
-
--- a stale address in a global becomes clean
-pub Standing_untag_global : (v : View) (g target : ℕ) → Standing v → g < length v.globals → (state v).global g ≡ ref_word (Stale target) → MayHold (maps v) (state v) target → Standing (with_globals v (set v.globals g (ref_word (Clean target))))
-Standing_untag_global v g target s within was may = ?
-
--- a slot of an object is written
-pub Standing_write_field : (v : View) (space : SpaceWords) (t object n i address : ℕ) (header : Header) → Standing v → (maps v).address object ≡ Some n → HeaderAt (state v) object header → i < header.shape.refs → MayHold (maps v) (state v) address → SetsWord v.space space (object + 2 + i) (4 * address) → Standing (noted (with_space v space) (entry t (Write (Field n i) (held_value v.names address))))
-Standing_write_field v space t object n i address header s named starts within may sets = ?
-
--- a number word of an object is written
-pub Standing_write_number : (v : View) (space : SpaceWords) (t object n j number : ℕ) (header : Header) → Standing v → (maps v).address object ≡ Some n → HeaderAt (state v) object header → j < header.shape.nums → SetsWord v.space space (object + 2 + header.shape.refs + j) number → Standing (noted (with_space v space) (entry t (Write (Cell n j) (Num number))))
-Standing_write_number v space t object n j number header s named starts within sets = ?
-
--- a global is written
-pub Standing_write_global : (v : View) (t g address : ℕ) → Standing v → g < length v.globals → MayHold (maps v) (state v) address → Standing (noted (with_globals v (set v.globals g (4 * address))) (entry t (Write (Global g) (held_value v.names address))))
-Standing_write_global v t g address s within may = ?
-
 -- a region is claimed
 pub Standing_claim : (v : View) (t : ℕ) (op : Op) (shape : Shape) → Standing v → t < length v.held → claimed_in (call_of v t) ≡ 0 → MakesShape op shape → IsShape shape → v.free + cost_of shape ≤ length v.space.list + 1 → Standing (with_call (with_free v (v.free + cost_of shape)) t (Some (record { op = op; stage = Claimed v.free shape 0 })))
 Standing_claim v t op shape s within none makes small fits = ?
@@ -82,11 +55,3 @@ Standing_claim v t op shape s within none makes small fits = ?
 -- a claim ends past the last word
 pub Standing_lack : (v : View) (t free : ℕ) (op : Op) (shape : Shape) → Standing v → t < length v.held → claimed_in (call_of v t) ≡ 0 → MakesShape op shape → v.free ≤ free → length v.space.list + 1 < free → Standing (with_call (with_free v free) t (Some (record { op = op; stage = Lacking (cost_of shape) })))
 Standing_lack v t free op shape s within none makes later above = ?
-
--- a word of a region becomes 0
-pub Standing_store : (v : View) (space : SpaceWords) (t address stored : ℕ) (op : Op) (shape : Shape) → Standing v → t < length v.held → call_of v t ≡ Some (record { op = op; stage = Claimed address shape stored }) → stored + 1 < cost_of shape → SetsWord v.space space (address + 1 + stored) 0 → Standing (with_call (with_space v space) t (Some (record { op = op; stage = Claimed address shape (stored + 1) })))
-Standing_store v space t address stored op shape s within at few sets = ?
-
--- a region becomes an object
-pub Standing_publish : (v : View) (space : SpaceWords) (names : Option heap.Names) (t address stored : ℕ) (op : Op) (shape : Shape) → Standing v → t < length v.held → call_of v t ≡ Some (record { op = op; stage = Claimed address shape stored }) → stored + 1 ≡ cost_of shape → SetsWord v.space space address (header_word (record { shape = shape; stale = false })) → IsSome names → length (numbers_of names) ≡ length (numbers_of v.names) → NameAppears (maps_of v.names) (maps_of names) address v.made → Standing (record (with_call (noted (with_space v space) (entry t (Make shape.refs shape.nums))) t None) { names = names; made = v.made + 1 })
-Standing_publish v space names t address stored op shape s within at all sets named size appears = ?

@@ -5,4 +5,7 @@ pub mod Flights
 pub mod Standing
 pub mod Counting
 pub mod Evolving
+pub mod Answers
 pub mod Changing
+pub mod Writing
+pub mod Making

@@ -18,11 +18,20 @@ pub enum Stage {
     /// The stop word was not set.
     Polled,
     /// The object in the register stands at the address, has this shape, and has the part that the operation is on.
-    Headed { address: u32, shape: Shape },
+    Headed {
+        address: u32,
+        shape: Shape,
+    },
     /// The word at the place was that of the stale address `target`.
-    Looked { place: Place, target: u32 },
+    Looked {
+        place: Place,
+        target: u32,
+    },
     /// And the object at `target` has no stale bit any more.
-    Cleared { place: Place, target: u32 },
+    Cleared {
+        place: Place,
+        target: u32,
+    },
     /// The words from the address on are for a new object of this shape. So many of those behind its header were
     /// stored.
     Claimed {
@@ -31,7 +40,9 @@ pub enum Stage {
         stored: u32,
     },
     /// The `need` words that were claimed end past the last word of the heap.
-    Lacking { need: u32 },
+    Lacking {
+        need: u32,
+    },
 }
 
 /// A call in flight: its operation, and the stage that it has reached.
