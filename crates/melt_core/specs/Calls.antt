@@ -63,6 +63,11 @@ ReadsAt maps s t (op.Load dst src i) (Field object j) = (i ≡ j) × ((shape : S
 ReadsAt maps s t (op.GLoad dst g) (Global k) = (g ≡ k) × (g < s.globals)
 ReadsAt maps s t o place = ⊥
 
+-- the place is a slot of an object, or a global
+abbrev pub IsPlace : Maps → State → Place → Type 0
+IsPlace maps s (Field object i) = (shape : Shape) × IsObjectAt maps s object shape × (i < shape.refs)
+IsPlace maps s (Global g) = g < s.globals
+
 -- A stale address was found at the place. If a tagged word stands there now, it is that of this address.
 pub record HasLooked (maps : Maps) (s : State) (t : ℕ) (o : Op) (place : Place) (target : ℕ) : Type 0 where
   pub reads : ReadsAt maps s t o place

@@ -1,12 +1,29 @@
 -- The small changes of which events are made, as changes of a view.
-use Rattle.std.specs.Prelude.{◌≡◌, ◌≢◌, ℕ, ◌+◌, ◌<◌, ◌≤◌, true, List, [], ◌∷◌, ◌++◌, length, replicate, slice_set, vec_len, vec_capacity, Option, None, Some}
+use Rattle.std.specs.Prelude.{◌≡◌, ℕ, ◌+◌, ◌<◌, ◌≤◌, true, List, [], ◌∷◌, ◌++◌, length, slice_set, vec_len, vec_capacity, Option, None, Some}
 use Rattle.melt_model.specs.declared.history.Entry.{Entry}
+use Rattle.melt_model.specs.declared.history.Act.TheVariants.{Make, Write}
+use Rattle.melt_model.specs.declared.history.Slot.{Slot}
+use Rattle.melt_model.specs.declared.history.Slot.TheVariants.{Field, Cell, Global}
+use Rattle.melt_model.specs.declared.history.Value.TheVariants.{Num}
+use Rattle.melt_word.specs.Words.{IsRef, ref_word, cost_of}
+use Rattle.melt_word.specs.declared.reference.Ref as words
+use Rattle.melt_word.specs.declared.header.Shape.{Shape}
+use Rattle.melt_scion.specs.Changes.{NameAppears}
 use Rattle.melt_space.specs.Space.{SpaceWords}
 use Rattle.melt_scion.specs.declared.registers.Registers.{Registers}
 use Rattle.melt_core.specs.declared.call.Call.{Call}
+use Rattle.melt_core.specs.declared.call.Stage.TheVariants.{Claimed, Lacking}
+use Rattle.melt_model.specs.declared.operations.Op.{Op}
 use Rattle.melt_core.specs.declared.machine.Core.{Core}
-use Rattle.melt_core.specs.declared.machine.Rest.{Rest}
-use Rattle.melt_core.specs.Views.{View, registers_in}
+use Rattle.melt_core.specs.declared.call.Place.{Place}
+use Rattle.melt_core.specs.declared.call.Place.TheVariants as at
+use Rattle.melt_core.specs.Answering.{entry}
+use Rattle.melt_core.specs.Views.{View, registers_in, maps, held_value}
+
+-- the word is that of the reference
+pub record HoldsRef (word : ℕ) (reference : words.Ref) : Type 0 where
+  pub in_range : IsRef reference
+  pub is : word ≡ ref_word reference
 
 -- the call of a thread is this, or is over
 abbrev pub with_call : View → ℕ → Option Call → View
@@ -35,6 +52,33 @@ with_free v free = record v { free = free }
 -- the stop word is set
 abbrev pub stopped : View → View
 stopped v = record v { stop = true }
+
+-- A region was claimed, or one that ends past the last word.
+pub record HasClaimed (v w : View) (t : ℕ) (op : Op) (shape : Shape) : Type 0 where
+  pub fits : v.free + cost_of shape ≤ length v.space.list + 1 → w ≡ with_call (with_free v (v.free + cost_of shape)) t (Some (record { op = op; stage = Claimed v.free shape 0 }))
+  pub lacks : length v.space.list + 1 < v.free + cost_of shape → w ≡ with_call (with_free v w.free) t (Some (record { op = op; stage = Lacking (cost_of shape) }))
+
+-- a slot of an object was written with what an address stands for
+pub record WroteField (v w : View) (t object i address : ℕ) : Type 0 where
+  pub number : ℕ
+  pub named : (maps v).address object ≡ Some number
+  pub is : w ≡ noted (with_space v w.space) (entry t (Write (Field number i) (held_value v.names address)))
+
+-- a number word of an object was written
+pub record WroteNumber (v w : View) (t object j word : ℕ) : Type 0 where
+  pub number : ℕ
+  pub named : (maps v).address object ≡ Some number
+  pub is : w ≡ noted (with_space v w.space) (entry t (Write (Cell number j) (Num word)))
+
+-- a region became an object, whose number is the next
+pub record Published (v w : View) (t address : ℕ) (shape : Shape) : Type 0 where
+  pub is : w ≡ record (with_call (noted (with_space v w.space) (entry t (Make shape.refs shape.nums))) t None) { names = w.names; made = v.made + 1 }
+  pub named : NameAppears (maps v) (maps w) address v.made
+
+-- the slot of the history that a place is
+abbrev pub SlotAt : View → Place → Slot → Type 0
+SlotAt v (at.Field object i) slot = (n : ℕ) × ((maps v).address object ≡ Some n) × (slot ≡ Field n i)
+SlotAt v (at.Global g) slot = slot ≡ Global g
 
 -- the history has room for one entry more
 abbrev pub HasRoomForEntry : Core → Type 0

@@ -5,6 +5,7 @@ pub mod answer;
 pub mod call;
 mod changes;
 pub mod machine;
+mod parts;
 
 pub use answer::{Pause, Refusal, StepResult};
 pub use machine::{Core, Rest};

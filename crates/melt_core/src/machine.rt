@@ -1,6 +1,6 @@
 //! The core: a heap, the registers and calls of threads, and the history.
 ghost use Rattle.melt_core.specs.Views.{view};
-ghost use Rattle.std.specs.Prelude.{◌≡◌, ◌≢◌, ℕ, ◌+◌, ◌-◌, ◌<◌, ◌≤◌, true, length, vec_len, vec_capacity, slice_set, IfOk};
+ghost use Rattle.std.specs.Prelude.{◌≡◌, ◌≢◌, ℕ, ◌+◌, ◌-◌, ◌<◌, ◌≤◌, true, false, length, vec_len, vec_capacity, slice_set, IfOk};
 
 use crate::call::Call;
 use melt_model::{Entries, Entry, NoMemory};
