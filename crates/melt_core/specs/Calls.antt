@@ -10,6 +10,8 @@ use Rattle.melt_scion.specs.State.{State, HeaderAt, IsFresh}
 use Rattle.melt_scion.specs.Placed.{Maps}
 use Rattle.melt_core.specs.declared.call.Place.{Place}
 use Rattle.melt_core.specs.declared.call.Place.TheVariants.{Field, Global}
+use Rattle.melt_core.specs.declared.call.Part.{Part}
+use Rattle.melt_core.specs.declared.call.Part.TheVariants.{Slot, Number}
 use Rattle.melt_core.specs.declared.call.Stage.{Stage}
 use Rattle.melt_core.specs.declared.call.Stage.TheVariants.{Polled, Headed, Looked, Cleared, Claimed, Lacking}
 use Rattle.melt_core.specs.declared.call.Call.{Call}
@@ -48,6 +50,67 @@ IsShared s t (op.Put obj j v) = s.register t obj ≢ 0
 IsShared s t (op.GLoad dst g) = Unit {0}
 IsShared s t (op.GStore g src) = Unit {0}
 IsShared s t o = ⊥
+
+-- a part of an object: reference slot i, or number word j
+abbrev pub HasPart : Part → Shape → Type 0
+HasPart (Slot i) shape = i < shape.refs
+HasPart (Number j) shape = j < shape.nums
+
+-- the operation is on this part of the object in the register
+abbrev pub IsOn : Op → ℕ → Part → Type 0
+IsOn (op.Load dst src i) r (Slot k) = (src ≡ r) × (i ≡ k)
+IsOn (op.Store obj i src) r (Slot k) = (obj ≡ r) × (i ≡ k)
+IsOn (op.Get src j) r (Number k) = (src ≡ r) × (j ≡ k)
+IsOn (op.Put obj j v) r (Number k) = (obj ≡ r) × (j ≡ k)
+IsOn o r part = ⊥
+
+-- the operation is on a part of an object, and its register holds none
+abbrev pub LacksObject : State → ℕ → Op → Type 0
+LacksObject s t (op.Load dst src i) = s.register t src ≡ 0
+LacksObject s t (op.Store obj i src) = s.register t obj ≡ 0
+LacksObject s t (op.Get src j) = s.register t src ≡ 0
+LacksObject s t (op.Put obj j v) = s.register t obj ≡ 0
+LacksObject s t o = ⊥
+
+-- if the operation is on a part of an object, its register holds one
+abbrev pub HasObject : State → ℕ → Op → Type 0
+HasObject s t (op.Load dst src i) = s.register t src ≢ 0
+HasObject s t (op.Store obj i src) = s.register t obj ≢ 0
+HasObject s t (op.Get src j) = s.register t src ≢ 0
+HasObject s t (op.Put obj j v) = s.register t obj ≢ 0
+HasObject s t o = Unit {0}
+
+-- the operation loads a reference into the register
+abbrev pub LoadsInto : Op → ℕ → Type 0
+LoadsInto (op.Load dst src i) r = dst ≡ r
+LoadsInto (op.GLoad dst g) r = dst ≡ r
+LoadsInto o r = ⊥
+
+abbrev pub IsStore : Op → Type 0
+IsStore (op.Store obj i src) = Unit {0}
+IsStore o = ⊥
+
+abbrev pub IsGet : Op → Type 0
+IsGet (op.Get src j) = Unit {0}
+IsGet o = ⊥
+
+abbrev pub IsPut : Op → Type 0
+IsPut (op.Put obj j v) = Unit {0}
+IsPut o = ⊥
+
+-- registers and globals that the operation names are there, and the object that it makes is small enough
+abbrev pub InBounds : ℕ → Op → Type 0
+InBounds globals (op.New dst refs nums) = (dst < 16) × (refs ≤ 62) × (nums ≤ 62)
+InBounds globals (op.Load dst src i) = (dst < 16) × (src < 16)
+InBounds globals (op.Store obj i src) = (obj < 16) × (src < 16)
+InBounds globals (op.Get src j) = src < 16
+InBounds globals (op.Put obj j v) = obj < 16
+InBounds globals (op.GLoad dst g) = (dst < 16) × (g < globals)
+InBounds globals (op.GStore g src) = (g < globals) × (src < 16)
+InBounds globals (op.Same a b) = (a < 16) × (b < 16)
+InBounds globals (op.Copy dst src) = (dst < 16) × (src < 16)
+InBounds globals (op.Drop r) = r < 16
+InBounds globals op.Collect = Unit {0}
 
 -- the operation is on a part of the object of this shape, which stands at the address in its register
 abbrev pub HasHeader : Maps → State → ℕ → Op → ℕ → Shape → Type 0

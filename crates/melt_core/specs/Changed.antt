@@ -1,7 +1,7 @@
 -- The small changes of which events are made, as changes of a view.
-use Rattle.std.specs.Prelude.{◌≡◌, ℕ, ◌+◌, ◌<◌, ◌≤◌, true, List, [], ◌∷◌, ◌++◌, length, slice_set, vec_len, vec_capacity, Option, None, Some}
+use Rattle.std.specs.Prelude.{◌≡◌, ℕ, ◌+◌, ◌<◌, ◌≤◌, true, List, [], ◌∷◌, ◌++◌, length, slice_set, Option, None, Some}
 use Rattle.melt_model.specs.declared.history.Entry.{Entry}
-use Rattle.melt_model.specs.declared.history.Act.TheVariants.{Make, Write}
+use Rattle.melt_model.specs.declared.history.Act.TheVariants.{Make, Read, Write}
 use Rattle.melt_model.specs.declared.history.Slot.{Slot}
 use Rattle.melt_model.specs.declared.history.Slot.TheVariants.{Field, Cell, Global}
 use Rattle.melt_model.specs.declared.history.Value.TheVariants.{Num}
@@ -14,10 +14,12 @@ use Rattle.melt_scion.specs.declared.registers.Registers.{Registers}
 use Rattle.melt_core.specs.declared.call.Call.{Call}
 use Rattle.melt_core.specs.declared.call.Stage.TheVariants.{Claimed, Lacking}
 use Rattle.melt_model.specs.declared.operations.Op.{Op}
-use Rattle.melt_core.specs.declared.machine.Core.{Core}
 use Rattle.melt_core.specs.declared.call.Place.{Place}
 use Rattle.melt_core.specs.declared.call.Place.TheVariants as at
+use Rattle.melt_model.specs.Thread.{found}
+use Rattle.melt_model.specs.declared.operations.Reply.{Reply}
 use Rattle.melt_core.specs.Answering.{entry}
+use Rattle.melt_core.specs.Calls.{LoadsInto}
 use Rattle.melt_core.specs.Views.{View, registers_in, maps, held_value}
 
 -- the word is that of the reference
@@ -80,6 +82,19 @@ abbrev pub SlotAt : View → Place → Slot → Type 0
 SlotAt v (at.Field object i) slot = (n : ℕ) × ((maps v).address object ≡ Some n) × (slot ≡ Field n i)
 SlotAt v (at.Global g) slot = slot ≡ Global g
 
+-- only words of the space and globals differ
+abbrev pub OnlyWords : View → View → Type 0
+OnlyWords v w = w ≡ record v { space = w.space; globals = w.globals }
+
+-- A load was answered: what the address stands for was read at the place into the register that the load is into.
+pub record HasRead (v w : View) (t : ℕ) (o : Op) (place : Place) (address : ℕ) (reply : Reply) : Type 0 where
+  pub slot : Slot
+  pub dst : ℕ
+  pub is_slot : SlotAt v place slot
+  pub into : LoadsInto o dst
+  pub told : found (held_value v.names address) ≡ reply
+  pub is : w ≡ with_register (noted (with_call v t None) (entry t (Read slot (held_value v.names address)))) t dst address
+
 -- the history has room for one entry more
-abbrev pub HasRoomForEntry : Core → Type 0
-HasRoomForEntry core = vec_len core.rest.log < vec_capacity core.rest.log
+abbrev pub HasRoomForEntry : View → Type 0
+HasRoomForEntry v = length v.log < v.capacity

@@ -13,6 +13,7 @@ use Rattle.melt_core.specs.declared.answer.Refusal.{Refusal}
 use Rattle.melt_core.specs.declared.answer.Refusal.TheVariants as refusal
 use Rattle.melt_core.specs.declared.answer.StepResult.{StepResult}
 use Rattle.melt_core.specs.declared.answer.StepResult.TheVariants.{Going, Answered, Refused}
+use Rattle.melt_core.specs.declared.call.Place.{Place}
 use Rattle.melt_core.specs.declared.call.Place.TheVariants.{Field, Global}
 use Rattle.melt_core.specs.declared.call.Stage.{Stage}
 use Rattle.melt_core.specs.declared.call.Stage.TheVariants.{Polled, Headed, Looked, Cleared, Claimed, Lacking}
@@ -39,6 +40,12 @@ GoesOn v t o (Some (Cleared place target)) = ⊥
 GoesOn v t o (Some (Claimed address shape stored)) = stored + 1 < cost_of shape
 GoesOn v t o (Some (Lacking need)) = ⊥
 
+-- the call of a thread may look at the place now
+abbrev pub LooksFrom : Op → Option Stage → Place → Type 0
+LooksFrom (op.Load dst src i) (Some (Headed address shape)) (Field object k) = (address ≡ object) × (i ≡ k)
+LooksFrom (op.GLoad dst g) (Some Polled) (Global k) = g ≡ k
+LooksFrom o stage place = ⊥
+
 -- how many events a call has at most from this stage on
 abbrev pub events_left : Option Stage → ℕ
 events_left None = 136
@@ -54,6 +61,7 @@ pub record KeepsOthers (v w : View) (t : ℕ) : Type 0 where
   pub globals : length w.globals ≡ length v.globals
   pub words : length w.space.list ≡ length v.space.list
   pub threads : length w.held ≡ length v.held
+  pub capacity : w.capacity ≡ v.capacity
   pub calls : (u : ℕ) → u ≢ t → call_of w u ≡ call_of v u
   pub values : (u : ℕ) → u ≢ t → values_of w u ≡ values_of v u
 

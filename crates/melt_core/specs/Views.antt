@@ -1,5 +1,5 @@
 -- What a core shows, and when it stands for its history.
-use Rattle.std.specs.Prelude.{◌≡◌, ◌≢◌, ℕ, ◌+◌, ◌^◌, ◌<◌, ◌≤◌, Bool, false, List, [], length, map, sum, slice_index, slice_index_or, Option, None, Some, IsSome, unwrap_or}
+use Rattle.std.specs.Prelude.{◌≡◌, ◌≢◌, ℕ, ◌+◌, ◌^◌, ◌<◌, ◌≤◌, Bool, false, List, [], length, map, sum, slice_index, slice_index_or, vec_capacity, Option, None, Some, IsSome, unwrap_or}
 use Rattle.melt_model.specs.History.{made as makes, Legal}
 use Rattle.melt_model.specs.Thread.{value_in}
 use Rattle.melt_model.specs.Alive.{words_of, CostsSum}
@@ -22,7 +22,8 @@ use Rattle.melt_core.specs.declared.machine.Core.{Core}
 use Rattle.melt_core.specs.Calls.{InFlight, RegionsApart}
 
 -- The words of the space, the globals, the names of addresses, the registers and the call in flight of each thread,
--- the history and how many objects were made in it, the first free place, and whether the stop word is set.
+-- the history, how many entries it has room for and how many objects were made in it, the first free place, and whether
+-- the stop word is set.
 pub record View : Type 0 where
   pub space : SpaceWords
   pub globals : List ℕ
@@ -30,6 +31,7 @@ pub record View : Type 0 where
   pub held : List Registers
   pub calls : List (Option Call)
   pub log : List Entry
+  pub capacity : ℕ
   pub made : ℕ
   pub free : ℕ
   pub stop : Bool
@@ -42,6 +44,7 @@ view core = record {
   held = core.rest.held.items;
   calls = core.rest.calls.items;
   log = core.rest.log.items;
+  capacity = vec_capacity core.rest.log;
   made = core.rest.made;
   free = core.free;
   stop = core.stop;

@@ -1,4 +1,6 @@
 //! Calls in flight.
+ghost use Rattle.std.specs.Prelude.{◌↔◌, IsTrue};
+ghost use Rattle.melt_core.specs.Calls.{HasPart};
 
 use melt_model::Op;
 use melt_word::Shape;
@@ -10,6 +12,25 @@ pub enum Place {
     Field { object: u32, i: u8 },
     /// In the global of this number.
     Global { g: u8 },
+}
+
+/// A part of an object: a reference slot or a number word, by its index.
+#[derive(Clone, Copy, Debug, PartialEq, Eq)]
+pub enum Part {
+    Slot { i: u8 },
+    Number { j: u8 },
+}
+
+impl Part {
+    /// Whether an object of this shape has the part.
+    pub(crate) fn is_of(self, shape: Shape) -> bool
+        ensures { IsTrue result ↔ HasPart self shape }
+    {
+        match self {
+            Part::Slot { i } => i < shape.refs,
+            Part::Number { j } => j < shape.nums,
+        }
+    }
 }
 
 /// How far a call has come, and what it knows.

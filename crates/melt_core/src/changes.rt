@@ -36,7 +36,7 @@ impl Core {
     pub(crate) fn note_read(&mut self, thread: u32, slot: Slot, value: Value)
         requires stands { Standing (view self.old) }
         requires thread { thread < length (view self.old).held }
-        requires room { HasRoomForEntry self.old }
+        requires room { HasRoomForEntry (view self.old) }
         requires slot { IsSlot (view self.old).log (length (view self.old).globals) slot }
         requires last { value ≡ last (view self.old).log slot }
         ensures stands { Standing (view self.new) }
@@ -105,7 +105,7 @@ impl Core {
     pub(crate) fn write_field(&mut self, thread: u32, object: u32, i: u8, address: u32)
         requires stands { Standing (view self.old) }
         requires thread { thread < length (view self.old).held }
-        requires room { HasRoomForEntry self.old }
+        requires room { HasRoomForEntry (view self.old) }
         requires place { IsPlace (maps (view self.old)) (state (view self.old)) (Place.Field object i) }
         requires may_hold { MayHold (maps (view self.old)) (state (view self.old)) address }
         ensures stands { Standing (view self.new) }
@@ -122,10 +122,17 @@ impl Core {
     }
 
     /// Writes a number word of an object of this shape.
-    pub(crate) fn write_number(&mut self, thread: u32, object: u32, shape: Shape, j: u8, number: u64)
+    pub(crate) fn write_number(
+        &mut self,
+        thread: u32,
+        object: u32,
+        shape: Shape,
+        j: u8,
+        number: u64,
+    )
         requires stands { Standing (view self.old) }
         requires thread { thread < length (view self.old).held }
-        requires room { HasRoomForEntry self.old }
+        requires room { HasRoomForEntry (view self.old) }
         requires object { IsObjectAt (maps (view self.old)) (state (view self.old)) object shape }
         requires cell { j < shape.nums }
         ensures stands { Standing (view self.new) }
@@ -145,7 +152,7 @@ impl Core {
     pub(crate) fn write_global(&mut self, thread: u32, g: u8, address: u32)
         requires stands { Standing (view self.old) }
         requires thread { thread < length (view self.old).held }
-        requires room { HasRoomForEntry self.old }
+        requires room { HasRoomForEntry (view self.old) }
         requires global { g < length (view self.old).globals }
         requires may_hold { MayHold (maps (view self.old)) (state (view self.old)) address }
         ensures stands { Standing (view self.new) }
@@ -207,7 +214,14 @@ impl Core {
     }
 
     /// Stores 0 in the next word of the region of a call.
-    pub(crate) fn store_zero(&mut self, thread: u32, op: Op, address: u32, shape: Shape, stored: u32)
+    pub(crate) fn store_zero(
+        &mut self,
+        thread: u32,
+        op: Op,
+        address: u32,
+        shape: Shape,
+        stored: u32,
+    )
         requires stands { Standing (view self.old) }
         requires thread { thread < length (view self.old).held }
         requires call { call_of (view self.old) thread ≡ Some (record { op = op; stage = Stage.Claimed address shape stored }) }
@@ -228,7 +242,7 @@ impl Core {
     pub(crate) fn publish(&mut self, thread: u32, op: Op, address: u32, shape: Shape, stored: u32)
         requires stands { Standing (view self.old) }
         requires thread { thread < length (view self.old).held }
-        requires room { HasRoomForEntry self.old }
+        requires room { HasRoomForEntry (view self.old) }
         requires few { (view self.old).made + 1 < 2 ^ 32 }
         requires call { call_of (view self.old) thread ≡ Some (record { op = op; stage = Stage.Claimed address shape stored }) }
         requires all { stored + 1 ≡ cost_of shape }

@@ -1,9 +1,11 @@
 //! The machine of events: a heap over which the calls of several threads go on one event at a time.
 #![tactic(auto)]
 
+mod advance;
 pub mod answer;
 pub mod call;
 mod changes;
+mod events;
 pub mod machine;
 mod parts;
 
