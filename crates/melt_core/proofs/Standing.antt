@@ -112,11 +112,12 @@ call_here v w t call s e within =
     ap (λ (cs : List (Option Call)). get_or cs t None) e.calls ∙ get_or-set_same v.calls t call None (let each : length v.calls ≡ length v.held = s.each in omega arith)
 
 -- all others are as they were
-pub others_event : (v w : View) (t : ℕ) (call : Option Call) → Standing v → IsEvent v w t call → ((u : ℕ) → u ≢ t → values_of w u ≡ values_of v u) → KeepsOthers v w t
-others_event v w t call s e values = record {
+pub others_event : (v w : View) (t : ℕ) (call : Option Call) → Standing v → IsEvent v w t call → w.capacity ≡ v.capacity → ((u : ℕ) → u ≢ t → values_of w u ≡ values_of v u) → KeepsOthers v w t
+others_event v w t call s e capacity values = record {
   globals = e.evolves.globals;
   words = e.words;
   threads = e.threads;
+  capacity = capacity;
   calls = λ u differ. ap (λ (cs : List (Option Call)). get_or cs u None) e.calls ∙ get_or-set_other v.calls t u call None differ;
   values = values;
 }
