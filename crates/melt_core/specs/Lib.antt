@@ -4,3 +4,5 @@ pub mod Views
 pub mod Events
 pub mod Effects
 pub mod Changed
+pub mod Epochs
+pub mod Lending
