@@ -1,14 +1,15 @@
 -- The laws of the small changes, as the functions that make them have their facts.
 use Rattle.std.proofs.Common.{◌≡◌, ℕ, ◌+◌, ◌*◌, ◌<◌, ◌≤◌, zero, suc, List, [], ◌∷◌, ◌++◌, length, get_or, refl, sym, ◌∙◌, ap, subst, arith}
 use Rattle.std.proofs.Math.ListN.{set}
-use Rattle.std.specs.Prelude.{Some, IsSome, false}
-use Rattle.melt_model.specs.declared.history.Act.TheVariants.{Write}
+use Rattle.std.specs.Prelude.{Option, None, Some, IsSome, false, min}
+use Rattle.melt_model.specs.declared.history.Act.TheVariants.{Make, Write}
 use Rattle.melt_model.specs.declared.history.Slot.{Slot}
 use Rattle.melt_model.specs.declared.history.Slot.TheVariants.{Field, Cell, Global}
 use Rattle.melt_model.specs.declared.history.Value.{Value}
 use Rattle.melt_model.specs.declared.history.Value.TheVariants.{Num}
 use Rattle.melt_model.specs.declared.history.Entry.{Entry}
-use Rattle.melt_word.specs.Words.{IsAddress, IsRef, IsHeader, cost_of, header_word, ref_word}
+use Rattle.melt_model.specs.declared.operations.Op.{Op}
+use Rattle.melt_word.specs.Words.{IsAddress, IsShape, IsRef, IsHeader, cost_of, header_word, ref_word}
 use Rattle.melt_word.specs.declared.reference.Ref.{Ref}
 use Rattle.melt_word.specs.declared.reference.Ref.TheVariants.{Null, Clean, Stale, Disk}
 use Rattle.melt_word.specs.declared.header.Shape.{Shape}
@@ -16,12 +17,18 @@ use Rattle.melt_word.specs.declared.header.Header.{Header}
 use Rattle.melt_space.specs.Space.{SpaceWords, SetsWord, word_at}
 use Rattle.melt_scion.specs.State.{State, HeaderAt, ObjectAt, IsFresh}
 use Rattle.melt_scion.specs.Placed.{Maps, IsReferenceWord, MayHold}
+use Rattle.melt_scion.specs.Changes.{NameAppears}
+use Rattle.melt_scion.specs.declared.heap.Names as heap
 use Rattle.melt_scion.specs.declared.registers.Registers.{Registers}
 use Rattle.melt_core.specs.declared.call.Place.TheVariants as at
+use Rattle.melt_core.specs.declared.call.Stage.{Stage}
+use Rattle.melt_core.specs.declared.call.Stage.TheVariants.{Claimed, Lacking}
 use Rattle.melt_core.specs.Answering.{entry}
-use Rattle.melt_core.specs.Calls.{IsObjectAt, IsPlace}
-use Rattle.melt_core.specs.Views.{View, maps, state, held_value, registers_in, Standing}
-use Rattle.melt_core.specs.Changed.{with_register, with_space, with_globals, SlotAt, WroteField}
+use Rattle.melt_core.specs.Calls.{IsObjectAt, IsPlace, MakesShape}
+use Rattle.melt_core.specs.Views.{View, maps, maps_of, numbers_of, state, held_value, registers_in, call_of, claimed_in, Standing}
+use Rattle.melt_core.specs.Changed.{with_call, with_free, with_register, with_space, with_globals, HasClaimed, SlotAt, WroteField}
+use Rattle.melt_core.proofs.Changing.{Standing_claim, Standing_lack}
+use Rattle.melt_core.proofs.Making.{Standing_publish}
 use Rattle.melt_core.proofs.Found.{some_number}
 use Rattle.melt_core.proofs.Values.{may_small}
 use Rattle.melt_core.proofs.Writing.{Standing_clear, fresh_cleared, Standing_write_field, Standing_write_number, Standing_write_global}
@@ -110,3 +117,34 @@ pub stale_slot : (v : View) (object i a : ℕ) (shape : Shape) → Standing v �
 stale_slot v object i a shape s there within stale =
     let refs : there.header.shape.refs ≡ shape.refs = ap (λ (x : Shape). x.refs) there.shape_is in
     stale_address (maps v) (state v) _ a (s.placed.formed.slots object there.number i there.header there.named there.starts (omega arith)) stale
+
+-- a call has claimed, and is at this stage now
+abbrev pub Claims : View → ℕ → ℕ → Op → Shape → Stage → Type 0
+Claims v t free op shape stage = Standing (with_call (with_free v free) t (Some (record { op = op; stage = stage }))) × HasClaimed v (with_call (with_free v free) t (Some (record { op = op; stage = stage }))) t op shape
+
+-- a region is claimed
+pub claims : (v : View) (t free need : ℕ) (op : Op) (shape : Shape) (stage : Stage) → Standing v → t < length v.held → claimed_in (call_of v t) ≡ 0 → MakesShape op shape → IsShape shape → need ≡ cost_of shape → free ≡ min (v.free + need) 4294967295 → free ≤ length v.space.list + 1 → stage ≡ Claimed v.free shape 0 → Claims v t free op shape stage
+claims v t free need op shape stage s within none makes small needed sum fits is =
+    let few : length v.space.list < 1073741824 = s.small in
+    let whole : v.free + cost_of shape ≡ free = omega arith in
+    subst (Claims v t free op shape) (sym is)
+    (subst (λ (k : ℕ). Claims v t k op shape (Claimed v.free shape 0)) whole
+    (Standing_claim v t op shape s within none makes small (omega arith), record {
+      fits = λ below. refl;
+      lacks = λ above. absurd (omega arith);
+    }))
+
+-- a region is claimed that ends past the last word
+pub lacks : (v : View) (t free need : ℕ) (op : Op) (shape : Shape) (stage : Stage) → Standing v → t < length v.held → claimed_in (call_of v t) ≡ 0 → MakesShape op shape → v.free < 4294967296 → need ≡ cost_of shape → free ≡ min (v.free + need) 4294967295 → length v.space.list + 1 < free → stage ≡ Lacking need → Claims v t free op shape stage
+lacks v t free need op shape stage s within none makes fits needed sum above is =
+    subst (Claims v t free op shape) (sym (is ∙ ap Lacking needed))
+    (Standing_lack v t free op shape s within none makes (omega arith) above, record {
+      fits = λ below. absurd (omega arith);
+      lacks = λ past. refl;
+    })
+
+-- a region becomes an object
+pub publishes : (v : View) (space : SpaceWords) (names : Option heap.Names) (log : List Entry) (t address stored word : ℕ) (op : Op) (shape : Shape) → Standing v → t < length v.held → call_of v t ≡ Some (record { op = op; stage = Claimed address shape stored }) → stored + 1 ≡ cost_of shape → word ≡ header_word (record { shape = shape; stale = false }) → SetsWord v.space space address word → IsSome names → length (numbers_of names) ≡ length (numbers_of v.names) → NameAppears (maps_of v.names) (maps_of names) address v.made → log ≡ v.log ++ entry t (Make shape.refs shape.nums) ∷ [] → Standing (record (with_call (with_space v space) t None) { names = names; log = log; made = v.made + 1 })
+publishes v space names log t address stored word op shape s within at all is_word sets named size appears is =
+    stands_log (record (with_call (with_space v space) t None) { names = names; made = v.made + 1 }) log _ is
+    (Standing_publish v space names t address stored op shape s within at all (sets_word v.space space address address word _ refl is_word sets) named size appears)
