@@ -123,7 +123,14 @@ impl Core {
     }
 
     /// Writes a number word of an object of this shape.
-    pub(crate) fn write_number(&mut self, thread: u32, object: u32, shape: Shape, j: u8, number: u64)
+    pub(crate) fn write_number(
+        &mut self,
+        thread: u32,
+        object: u32,
+        shape: Shape,
+        j: u8,
+        number: u64,
+    )
         requires stands { Standing (view self.old) }
         requires thread { thread < length (view self.old).held }
         requires room { HasRoomForEntry self.old }
@@ -210,7 +217,14 @@ impl Core {
     }
 
     /// Stores 0 in the next word of the region of a call.
-    pub(crate) fn store_zero(&mut self, thread: u32, op: Op, address: u32, shape: Shape, stored: u32)
+    pub(crate) fn store_zero(
+        &mut self,
+        thread: u32,
+        op: Op,
+        address: u32,
+        shape: Shape,
+        stored: u32,
+    )
         requires stands { Standing (view self.old) }
         requires thread { thread < length (view self.old).held }
         requires call { call_of (view self.old) thread ≡ Some (record { op = op; stage = Stage.Claimed address shape stored }) }

@@ -1,8 +1,8 @@
+use Rattle.std.proofs.Common.{arith}
 use Rattle.melt_core.specs.Views.{view}
 use Rattle.melt_core.proofs.Steps.{Claims, claims, lacks}
 use Rattle.melt_core.proofs.machine.Core.claim.Goals as goal
 use Rattle.melt_core.proofs.machine.Core.claim.Goals.{then-free-words, else-free-words}
-use Rattle.std.proofs.Common.{arith, ap, ◌+◌}
 
 pub returns : goal.returns
 returns c =

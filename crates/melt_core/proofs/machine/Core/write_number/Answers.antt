@@ -1,4 +1,4 @@
-use Rattle.std.proofs.Common.{◌+◌, ◌≡◌, refl, arith}
+use Rattle.std.proofs.Common.{◌+◌, refl, arith}
 use Rattle.melt_core.specs.Views.{view}
 use Rattle.melt_core.proofs.Steps.{sets_word, writes_number}
 use Rattle.melt_core.proofs.machine.Core.write_number.Goals as goal
