@@ -84,6 +84,7 @@ impl Core {
         requires may_hold { MayHold (maps (view self.old)) (state (view self.old)) target }
         ensures stands { Standing (view self.new) }
         ensures only { view self.new ≡ with_space (view self.old) (view self.new).space }
+        ensures clean { (state (view self.new)).word (object + 2 + i) ≡ ref_word (Ref.Clean target) }
     {
         let word = encode_ref(Ref::Clean(target));
         self.heap.space.set_word(object + 2 + u32::from(i), word);
@@ -97,6 +98,8 @@ impl Core {
         requires may_hold { MayHold (maps (view self.old)) (state (view self.old)) target }
         ensures stands { Standing (view self.new) }
         ensures only { view self.new ≡ with_globals (view self.old) (view self.new).globals }
+        ensures size { length (view self.new).globals ≡ length (view self.old).globals }
+        ensures clean { (state (view self.new)).global g ≡ ref_word (Ref.Clean target) }
     {
         let word = encode_ref(Ref::Clean(target));
         set_global_word(&mut self.heap.globals, g, word);
@@ -157,6 +160,7 @@ impl Core {
         requires global { g < length (view self.old).globals }
         requires may_hold { MayHold (maps (view self.old)) (state (view self.old)) address }
         ensures stands { Standing (view self.new) }
+        ensures size { length (view self.new).globals ≡ length (view self.old).globals }
         ensures wrote { view self.new ≡ noted (with_globals (view self.old) (view self.new).globals) (entry thread (Act.Write (Slot.Global g) (held_value (view self.old).names address))) }
     {
         let slot = Slot::Global(g);
