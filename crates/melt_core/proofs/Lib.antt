@@ -10,3 +10,4 @@ pub mod Changing
 pub mod Writing
 pub mod Making
 pub mod Resting
+pub mod Loads

@@ -97,6 +97,7 @@ impl Core {
         requires may_hold { MayHold (maps (view self.old)) (state (view self.old)) target }
         ensures stands { Standing (view self.new) }
         ensures only { view self.new ≡ with_globals (view self.old) (view self.new).globals }
+        ensures count { length (view self.new).globals ≡ length (view self.old).globals }
     {
         self.heap.globals.items[g as usize] = encode_ref(Ref::Clean(target));
     }
