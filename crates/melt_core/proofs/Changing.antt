@@ -151,8 +151,8 @@ Placed_registers h value new maps s t placed bounds word global may stands =
       registers = stands;
     })
 
--- the registers of the thread of which one was set
-registers_set : (held : List Registers) (t : ℕ) (regs : List ℕ) → t < length held → registers_in (set held t (record { regs = regs })) t ≡ regs
+-- the registers of the thread whose registers were set
+pub registers_set : (held : List Registers) (t : ℕ) (regs : List ℕ) → t < length held → registers_in (set held t (record { regs = regs })) t ≡ regs
 registers_set held t regs within =
     let each : List (List ℕ) = map (λ (x : Registers). x.regs) held in
     let size : length each ≡ length held = length-map held (λ (x : Registers). x.regs) in
@@ -160,46 +160,52 @@ registers_set held t regs within =
     ∙ get_or-set_same each t regs [] (omega arith)
 
 -- those of the others stay
-registers_other : (held : List Registers) (t u : ℕ) (regs : List ℕ) → u ≢ t → registers_in (set held t (record { regs = regs })) u ≡ registers_in held u
+pub registers_other : (held : List Registers) (t u : ℕ) (regs : List ℕ) → u ≢ t → registers_in (set held t (record { regs = regs })) u ≡ registers_in held u
 registers_other held t u regs other =
     ap (λ (xs : List (List ℕ)). get_or xs u []) (map-set (λ (x : Registers). x.regs) held t (record { regs = regs }))
     ∙ get_or-set_other (map (λ (x : Registers). x.regs) held) t u regs [] other
 
--- what holds of an address and of all registers holds of all registers after one was set
-registers_keep : (P : ℕ → Type 0) (held : List Registers) (t at address : ℕ) → t < length held → P address → ((u r : ℕ) → P (register_in held u r)) → (u r : ℕ) → P (register_in (set held t (record { regs = set (registers_in held t) at address })) u r)
-registers_keep P held t at address within new old u r = elim (cases_eq u t) [
+-- what holds of all registers, and of those that a thread is given, holds of all registers behind that
+registers_keep : (P : ℕ → Type 0) (held : List Registers) (t : ℕ) (regs : List ℕ) → t < length held → ((r : ℕ) → P (get_or regs r 0)) → ((u r : ℕ) → P (register_in held u r)) → (u r : ℕ) → P (register_in (set held t (record { regs = regs })) u r)
+registers_keep P held t regs within new old u r = elim (cases_eq u t) [
   | inl same ↦
-      let here : register_in (set held t (record { regs = set (registers_in held t) at address })) u r ≡ get_or (set (registers_in held t) at address) r 0 =
-      ap (λ (k : ℕ). register_in (set held t (record { regs = set (registers_in held t) at address })) k r) same
-      ∙ ap (λ (xs : List ℕ). get_or xs r 0) (registers_set held t (set (registers_in held t) at address) within) in
-      subst P (sym here) (get_or_set_keeps P (registers_in held t) at address r 0 new (old t r))
-  | inr other ↦ subst P (sym (ap (λ (xs : List ℕ). get_or xs r 0) (registers_other held t u (set (registers_in held t) at address) other))) (old u r)
+      let here : register_in (set held t (record { regs = regs })) u r ≡ get_or regs r 0 =
+      ap (λ (k : ℕ). register_in (set held t (record { regs = regs })) k r) same
+      ∙ ap (λ (xs : List ℕ). get_or xs r 0) (registers_set held t regs within) in
+      subst P (sym here) (new r)
+  | inr other ↦ subst P (sym (ap (λ (xs : List ℕ). get_or xs r 0) (registers_other held t u regs other))) (old u r)
 ]
 
--- a register of a thread without a call is set
-pub Standing_register : (v : View) (t r address : ℕ) → Standing v → t < length v.held → call_of v t ≡ None → MayHold (maps v) (state v) address → Standing (with_register v t r address)
-Standing_register v t r address s within none may =
-    let w : View = with_register v t r address in
+-- all registers of a thread without a call are set
+pub Standing_registers : (v : View) (t : ℕ) (regs : List ℕ) → Standing v → t < length v.held → call_of v t ≡ None → ((r : ℕ) → MayHold (maps v) (state v) (get_or regs r 0)) → Standing (record v { held = set v.held t (record { regs = regs }) })
+Standing_registers v t regs s within none may =
+    let w : View = record v { held = set v.held t (record { regs = regs }) } in
     let calls : v.calls ≡ set v.calls t None = sym (set-get_or v.calls t None) ∙ ap (set v.calls t) none in
     let bounds : SameBounds (state v) (state w) = record { size = refl; free = refl; globals = refl; end = refl } in
-    let holds : (u k : ℕ) → MayHold (maps v) (state v) ((state w).register u k) = registers_keep (MayHold (maps v) (state v)) v.held t r address within may s.placed.formed.registers in
+    let holds : (u k : ℕ) → MayHold (maps v) (state v) ((state w).register u k) = registers_keep (MayHold (maps v) (state v)) v.held t regs within may s.placed.formed.registers in
     Standing_event v w t None s (record {
       legal = s.legal;
       named = s.named;
       room = refl;
       words = refl;
-      threads = length-set v.held t (record { regs = set (registers_in v.held t) r address });
+      threads = length-set v.held t (record { regs = regs });
       counted = s.counted;
       placed = Placed_registers v.log (value v) (value w) (maps v) (state v) (state w) s.placed bounds (λ k. refl) (λ g. refl) holds
           (λ u k. may_value v.names (state v) ((state w).register u k) (holds u k) ∙ ap Some (sym (value_held v.names (registers_in w.held u) k)));
       calls = calls;
       evolves = Evolves_registers (maps v) (state v) (state w) t bounds (λ k. refl) (λ g. refl)
-          (λ u k other. ap (λ (xs : List ℕ). get_or xs k 0) (registers_other v.held t u (set (registers_in v.held t) r address) other));
+          (λ u k other. ap (λ (xs : List ℕ). get_or xs k 0) (registers_other v.held t u regs other));
       owned = λ u c other at. Owned_same (maps v) (state v) (state w) u c (s.in_flight u c at) (λ k. refl);
       flight = λ c is. absurd (cc);
       apart = λ u c d other is at. absurd (cc);
       counts = Counts_same v w t None s within refl refl refl refl calls (sym (ap claimed_in none));
     })
+
+-- a register of a thread without a call is set
+pub Standing_register : (v : View) (t r address : ℕ) → Standing v → t < length v.held → call_of v t ≡ None → MayHold (maps v) (state v) address → Standing (with_register v t r address)
+Standing_register v t r address s within none may =
+    Standing_registers v t (set (registers_in v.held t) r address) s within none
+    (λ k. get_or_set_keeps (MayHold (maps v) (state v)) (registers_in v.held t) r address k 0 may (s.placed.formed.registers t k))
 
 -- the registers of a thread, and of all others, when one was set
 pub values_set : (v : View) (t r address : ℕ) → t < length v.held → values_of (with_register v t r address) t ≡ set (values_of v t) r (held_value v.names address)
@@ -210,65 +216,87 @@ values_set v t r address within =
 pub values_other : (v : View) (t u r address : ℕ) → u ≢ t → values_of (with_register v t r address) u ≡ values_of v u
 values_other v t u r address other = ap (held_values v.names) (registers_other v.held t u (set (registers_in v.held t) r address) other)
 
+-- Only the first free place differs. Whatever ended before it, and within the words, does so now.
+pub record FreeShifts (s t : State) : Type 0 where
+  pub size : t.size ≡ s.size
+  pub ends : (end : ℕ) → end ≤ s.free → end ≤ s.size + 1 → end ≤ t.free
+  pub globals : t.globals ≡ s.globals
+  pub end : t.end ≡ s.end
+  pub word : (k : ℕ) → t.word k ≡ s.word k
+  pub global : (g : ℕ) → t.global g ≡ s.global g
+  pub register : (u r : ℕ) → t.register u r ≡ s.register u r
+
 -- a reference may stand where it might before the first free place moved
-free_may : (maps : Maps) (s t : State) (free : ℕ) (r : reference.Ref) → FreeMoves s t free → MayStand maps s r → MayStand maps t r
-free_may maps s t free Null moves may = tt
-free_may maps s t free (Clean a) moves may = (may.0, λ header starts. may.1 header (header_moves s t a header (sym (moves.word a)) starts))
-free_may maps s t free (Stale a) moves may = may
-free_may maps s t free (Disk home) moves may = (may.0, (let end : t.end ≡ s.end = moves.end in let below : home < s.end = may.1 in omega arith))
+free_may : (maps : Maps) (s t : State) (r : reference.Ref) → FreeShifts s t → MayStand maps s r → MayStand maps t r
+free_may maps s t Null shifts may = tt
+free_may maps s t (Clean a) shifts may = (may.0, λ header starts. may.1 header (header_moves s t a header (sym (shifts.word a)) starts))
+free_may maps s t (Stale a) shifts may = may
+free_may maps s t (Disk home) shifts may = (may.0, (let end : t.end ≡ s.end = shifts.end in let below : home < s.end = may.1 in omega arith))
 
 -- and so may its word
-free_word : (maps : Maps) (s t : State) (free word after : ℕ) → FreeMoves s t free → after ≡ word → IsReferenceWord maps s word → IsReferenceWord maps t after
-free_word maps s t free word after moves same is = record {
+free_word : (maps : Maps) (s t : State) (word after : ℕ) → FreeShifts s t → after ≡ word → IsReferenceWord maps s word → IsReferenceWord maps t after
+free_word maps s t word after shifts same is = record {
   reference = is.reference;
   in_range = is.in_range;
   is = same ∙ is.is;
-  stands = free_may maps s t free is.reference moves is.stands;
+  stands = free_may maps s t is.reference shifts is.stands;
 }
 
 -- what a register might hold, it may hold now
-free_hold : (maps : Maps) (s t : State) (free address : ℕ) → FreeMoves s t free → MayHold maps s address → MayHold maps t address
-free_hold maps s t free address moves (inl nothing) = inl nothing
-free_hold maps s t free address moves (inr holds) = inr (holds.0, λ header starts. holds.1 header (header_moves s t address header (sym (moves.word address)) starts))
+free_hold : (maps : Maps) (s t : State) (address : ℕ) → FreeShifts s t → MayHold maps s address → MayHold maps t address
+free_hold maps s t address shifts (inl nothing) = inl nothing
+free_hold maps s t address shifts (inr holds) = inr (holds.0, λ header starts. holds.1 header (header_moves s t address header (sym (shifts.word address)) starts))
 
--- a well-formed state stays so when the first free place moves on
-Formed_free : (maps : Maps) (s t : State) (free : ℕ) → FreeMoves s t free → Formed maps s → Formed maps t
-Formed_free maps s t free moves formed =
-    let was : (a : ℕ) (header : Header) → HeaderAt t a header → HeaderAt s a header = λ a header starts. header_moves s t a header (sym (moves.word a)) starts in
+-- a well-formed state stays so when the first free place moves
+Formed_free : (maps : Maps) (s t : State) → FreeShifts s t → Formed maps s → Formed maps t
+Formed_free maps s t shifts formed =
+    let was : (a : ℕ) (header : Header) → HeaderAt t a header → HeaderAt s a header = λ a header starts. header_moves s t a header (sym (shifts.word a)) starts in
     record {
       objects = λ a n named.
           let o = formed.objects a n named in
           let within : a + cost_of o.0.shape ≤ s.size + 1 = o.1.within in
-          let below : a + cost_of o.0.shape ≤ s.free = o.1.below in
-          let size : t.size ≡ s.size = moves.size in
-          let is : t.free ≡ free = moves.free_is in
-          let later : s.free ≤ free = moves.later in
-          (o.0, record { starts = header_moves t s a o.0 (moves.word a) o.1.starts; first = o.1.first; within = omega arith; below = omega arith });
+          let size : t.size ≡ s.size = shifts.size in
+          (o.0, record { starts = header_moves t s a o.0 (shifts.word a) o.1.starts; first = o.1.first; within = omega arith; below = shifts.ends (a + cost_of o.0.shape) o.1.below within });
       apart = λ a b n m header named_a named_b starts less. formed.apart a b n m header named_a named_b (was a header starts) less;
-      slots = λ a n i header named starts below. free_word maps s t free (s.word (a + 2 + i)) (t.word (a + 2 + i)) moves (moves.word (a + 2 + i)) (formed.slots a n i header named (was a header starts) below);
-      home_words = λ a n named. moves.word (a + 1) ∙ formed.home_words a n named;
+      slots = λ a n i header named starts below. free_word maps s t (s.word (a + 2 + i)) (t.word (a + 2 + i)) shifts (shifts.word (a + 2 + i)) (formed.slots a n i header named (was a header starts) below);
+      home_words = λ a n named. shifts.word (a + 1) ∙ formed.home_words a n named;
       globals = λ g below.
-          let count : t.globals ≡ s.globals = moves.globals in
-          free_word maps s t free (s.global g) (t.global g) moves (moves.global g) (formed.globals g (omega arith));
-      registers = λ u r. free_hold maps s t free (t.register u r) moves (subst (MayHold maps s) (sym (moves.register u r)) (formed.registers u r));
+          let count : t.globals ≡ s.globals = shifts.globals in
+          free_word maps s t (s.global g) (t.global g) shifts (shifts.global g) (formed.globals g (omega arith));
+      registers = λ u r. free_hold maps s t (t.register u r) shifts (subst (MayHold maps s) (sym (shifts.register u r)) (formed.registers u r));
     }
 
 -- and it stands for the same history
-Placed_free : (h : List Entry) (value : ℕ → ℕ → Value) (maps : Maps) (s t : State) (free : ℕ) → FreeMoves s t free → Placed h value maps s → Placed h value maps t
-Placed_free h value maps s t free moves placed =
-    let was : (a : ℕ) (header : Header) → HeaderAt t a header → HeaderAt s a header = λ a header starts. header_moves s t a header (sym (moves.word a)) starts in
+pub Placed_shift : (h : List Entry) (value : ℕ → ℕ → Value) (maps : Maps) (s t : State) → FreeShifts s t → Placed h value maps s → Placed h value maps t
+Placed_shift h value maps s t shifts placed =
+    let was : (a : ℕ) (header : Header) → HeaderAt t a header → HeaderAt s a header = λ a header starts. header_moves s t a header (sym (shifts.word a)) starts in
     record {
-      formed = Formed_free maps s t free moves placed.formed;
+      formed = Formed_free maps s t shifts placed.formed;
       one_address = placed.one_address;
       no_homes = placed.no_homes;
       shapes = λ a n header named starts. placed.shapes a n header named (was a header starts);
-      slots = λ a n i header named starts below. subst (λ w. Stands maps w (last h (Field n i))) (sym (moves.word (a + 2 + i))) (placed.slots a n i header named (was a header starts) below);
-      numbers = λ a n j header named starts below. ap Num (moves.word (a + 2 + header.shape.refs + j)) ∙ placed.numbers a n j header named (was a header starts) below;
+      slots = λ a n i header named starts below. subst (λ w. Stands maps w (last h (Field n i))) (sym (shifts.word (a + 2 + i))) (placed.slots a n i header named (was a header starts) below);
+      numbers = λ a n j header named starts below. ap Num (shifts.word (a + 2 + header.shape.refs + j)) ∙ placed.numbers a n j header named (was a header starts) below;
       globals = λ g below.
-          let count : t.globals ≡ s.globals = moves.globals in
-          subst (λ w. Stands maps w (last h (Global g))) (sym (moves.global g)) (placed.globals g (omega arith));
-      registers = λ u r. ap (value_at maps) (moves.register u r) ∙ placed.registers u r;
+          let count : t.globals ≡ s.globals = shifts.globals in
+          subst (λ w. Stands maps w (last h (Global g))) (sym (shifts.global g)) (placed.globals g (omega arith));
+      registers = λ u r. ap (value_at maps) (shifts.register u r) ∙ placed.registers u r;
     }
+
+-- and so where the first free place moves on
+Placed_free : (h : List Entry) (value : ℕ → ℕ → Value) (maps : Maps) (s t : State) (free : ℕ) → FreeMoves s t free → Placed h value maps s → Placed h value maps t
+Placed_free h value maps s t free moves placed =
+    Placed_shift h value maps s t
+    (record {
+      size = moves.size;
+      ends = λ end before within. omega (arith, moves.free_is, moves.later);
+      globals = moves.globals;
+      end = moves.end;
+      word = moves.word;
+      global = moves.global;
+      register = moves.register;
+    })
+    placed
 
 -- what a claim does to the state
 free_moves : (v : View) (free : ℕ) → v.free ≤ free → FreeMoves (state v) (state (with_free v free)) free

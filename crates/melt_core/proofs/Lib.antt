@@ -11,3 +11,4 @@ pub mod Writing
 pub mod Making
 pub mod Resting
 pub mod Loads
+pub mod Steps

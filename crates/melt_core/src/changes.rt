@@ -14,7 +14,7 @@ ghost use Rattle.melt_core.specs.Changed.{HasClaimed, HasRoomForEntry, Published
 
 use crate::call::{Call, Place, Stage};
 use crate::machine::Core;
-use crate::parts::{reference_word, set_name, value_at};
+use crate::parts::{reference_word, set_global_word, set_name, value_at};
 use melt_model::{Act, Entry, Op, Slot, Value};
 use melt_word::{Header, Ref, Shape, cost, encode_header, encode_ref};
 
@@ -99,7 +99,8 @@ impl Core {
         ensures only { view self.new ≡ with_globals (view self.old) (view self.new).globals }
         ensures count { length (view self.new).globals ≡ length (view self.old).globals }
     {
-        self.heap.globals.items[g as usize] = encode_ref(Ref::Clean(target));
+        let word = encode_ref(Ref::Clean(target));
+        set_global_word(&mut self.heap.globals, g, word);
     }
 
     /// Writes an address, or 0, into a slot of an object.
@@ -165,7 +166,7 @@ impl Core {
             thread: thread as u8,
             act: Act::Write { slot, value },
         });
-        self.heap.globals.items[g as usize] = reference_word(address);
+        set_global_word(&mut self.heap.globals, g, reference_word(address));
     }
 
     /// The number of the object at an address.
@@ -201,9 +202,10 @@ impl Core {
         ensures only { HasClaimed (view self.old) (view self.new) thread op shape }
     {
         let address = self.free;
-        self.free = self.free.saturating_add(cost(shape));
-        let stage = if self.free > self.heap.space.words() + 1 {
-            Stage::Lacking { need: cost(shape) }
+        let need = cost(shape);
+        let free = address.saturating_add(need);
+        let stage = if free > self.heap.space.words() + 1 {
+            Stage::Lacking { need }
         } else {
             Stage::Claimed {
                 address,
@@ -211,6 +213,7 @@ impl Core {
                 stored: 0,
             }
         };
+        self.free = free;
         self.rest.calls[thread as usize] = Some(Call { op, stage });
     }
 

@@ -1,5 +1,5 @@
 //! Steps on the parts of a heap.
-ghost use Rattle.std.specs.Prelude.{◌≡◌, ◌*◌, ◌^◌, ◌<◌, ◌≤◌, length, IsSome};
+ghost use Rattle.std.specs.Prelude.{◌≡◌, ◌*◌, ◌^◌, ◌<◌, ◌≤◌, length, slice_set, IsSome};
 ghost use Rattle.melt_model.specs.Thread.{found as found_in};
 ghost use Rattle.melt_word.specs.declared.reference.Ref.{Ref};
 ghost use Rattle.melt_scion.specs.Changes.{NameAppears};
@@ -7,7 +7,7 @@ ghost use Rattle.melt_core.specs.Changed.{HoldsRef};
 ghost use Rattle.melt_core.specs.Views.{held_value, maps_of, numbers_of};
 
 use melt_model::{Reply, Value};
-use melt_scion::Names;
+use melt_scion::{Globals, Names};
 use melt_word::{Ref, decode_ref, encode_ref};
 
 /// The value that an address in a register stands for.
@@ -56,6 +56,14 @@ pub(crate) fn reference_word(address: u32) -> u64
     } else {
         encode_ref(Ref::Clean(address))
     }
+}
+
+/// Replaces the word of a global.
+pub(crate) fn set_global_word(globals: &mut Globals, g: u8, word: u64)
+    requires { g < length globals.old }
+    ensures { globals.new ≡ slice_set globals.old g word }
+{
+    globals.items[g as usize] = word;
 }
 
 /// What a load that found this value replies.
