@@ -10,4 +10,5 @@ pub mod Changing
 pub mod Writing
 pub mod Making
 pub mod Resting
+pub mod Loads
 pub mod Steps

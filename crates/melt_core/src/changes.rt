@@ -98,7 +98,7 @@ impl Core {
         requires may_hold { MayHold (maps (view self.old)) (state (view self.old)) target }
         ensures stands { Standing (view self.new) }
         ensures only { view self.new ≡ with_globals (view self.old) (view self.new).globals }
-        ensures size { length (view self.new).globals ≡ length (view self.old).globals }
+        ensures count { length (view self.new).globals ≡ length (view self.old).globals }
         ensures clean { (state (view self.new)).global g ≡ ref_word (Ref.Clean target) }
     {
         let word = encode_ref(Ref::Clean(target));
@@ -160,7 +160,7 @@ impl Core {
         requires global { g < length (view self.old).globals }
         requires may_hold { MayHold (maps (view self.old)) (state (view self.old)) address }
         ensures stands { Standing (view self.new) }
-        ensures size { length (view self.new).globals ≡ length (view self.old).globals }
+        ensures count { length (view self.new).globals ≡ length (view self.old).globals }
         ensures wrote { view self.new ≡ noted (with_globals (view self.old) (view self.new).globals) (entry thread (Act.Write (Slot.Global g) (held_value (view self.old).names address))) }
     {
         let slot = Slot::Global(g);
