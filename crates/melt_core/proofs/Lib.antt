@@ -9,3 +9,4 @@ pub mod Answers
 pub mod Changing
 pub mod Writing
 pub mod Making
+pub mod Ends

@@ -156,6 +156,7 @@ impl Core {
         requires global { g < length (view self.old).globals }
         requires may_hold { MayHold (maps (view self.old)) (state (view self.old)) address }
         ensures stands { Standing (view self.new) }
+        ensures count { length (view self.new).globals ≡ length (view self.old).globals }
         ensures wrote { view self.new ≡ noted (with_globals (view self.old) (view self.new).globals) (entry thread (Act.Write (Slot.Global g) (held_value (view self.old).names address))) }
     {
         let slot = Slot::Global(g);
@@ -243,10 +244,12 @@ impl Core {
         requires stands { Standing (view self.old) }
         requires thread { thread < length (view self.old).held }
         requires room { HasRoomForEntry (view self.old) }
-        requires few { (view self.old).made + 1 < 2 ^ 32 }
+        requires few { (view self.old).made < 2 ^ 32 }
         requires call { call_of (view self.old) thread ≡ Some (record { op = op; stage = Stage.Claimed address shape stored }) }
         requires all { stored + 1 ≡ cost_of shape }
         ensures stands { Standing (view self.new) }
+        ensures size { length (view self.new).space.list ≡ length (view self.old).space.list }
+        ensures fresh { IsFresh (state (view self.new)) address }
         ensures published { Published (view self.old) (view self.new) thread address shape }
     {
         let header = Header {
@@ -261,7 +264,7 @@ impl Core {
                 nums: shape.nums,
             },
         });
-        set_name(&mut self.heap.names, address, self.rest.made);
+        set_name(&mut self.heap.names, address, self.rest.made as u32);
         self.rest.made += 1;
         self.rest.calls[thread as usize] = None;
     }
