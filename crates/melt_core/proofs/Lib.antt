@@ -12,3 +12,4 @@ pub mod Making
 pub mod Resting
 pub mod Loads
 pub mod Steps
+pub mod Ends

@@ -250,10 +250,12 @@ impl Core {
         requires stands { Standing (view self.old) }
         requires thread { thread < length (view self.old).held }
         requires room { HasRoomForEntry (view self.old) }
-        requires few { (view self.old).made + 1 < 2 ^ 32 }
+        requires few { (view self.old).made < 2 ^ 32 }
         requires call { call_of (view self.old) thread ≡ Some (record { op = op; stage = Stage.Claimed address shape stored }) }
         requires all { stored + 1 ≡ cost_of shape }
         ensures stands { Standing (view self.new) }
+        ensures size { length (view self.new).space.list ≡ length (view self.old).space.list }
+        ensures fresh { IsFresh (state (view self.new)) address }
         ensures published { Published (view self.old) (view self.new) thread address shape }
     {
         let header = Header {
@@ -268,7 +270,7 @@ impl Core {
                 nums: shape.nums,
             },
         });
-        set_name(&mut self.heap.names, address, self.rest.made);
+        set_name(&mut self.heap.names, address, self.rest.made as u32);
         self.rest.made += 1;
         self.rest.calls[thread as usize] = None;
     }
