@@ -23,6 +23,7 @@ use Rattle.melt_scion.specs.Placed.{Maps, MayHold, value_at}
 use Rattle.melt_scion.specs.Changes.{NameAppears}
 use Rattle.melt_scion.specs.declared.heap.Names as heap
 use Rattle.melt_core.specs.declared.answer.StepResult.TheVariants.{Going, Answered}
+use Rattle.melt_core.specs.declared.call.Place.{Place}
 use Rattle.melt_core.specs.declared.call.Place.TheVariants as at
 use Rattle.melt_core.specs.declared.call.Stage.{Stage}
 use Rattle.melt_core.specs.declared.call.Stage.TheVariants.{Headed, Claimed}
@@ -76,8 +77,8 @@ abbrev ended : View → SpaceWords → ℕ → Entry → View
 ended v space t e = with_space (noted (with_call v t None) e) space
 
 -- a call is over that changes no register
-Advances_ended : (v : View) (space : SpaceWords) (t : ℕ) (o : Op) (stage : Stage) (e : Entry) (r : Reply) → Standing v → t < length v.held → Standing (ended v space t e) → call_of v t ≡ Some (record { op = o; stage = stage }) → (GoesOn v t o (Some stage) → ⊥) → Answers t v.log (values_of v t) o r (v.log ++ e ∷ []) (values_of v t) → HasRoomFor v o → Advances v (ended v space t e) t o (Answered r)
-Advances_ended v space t o stage e r s within after here last answers room = record {
+Advances_ended : (v : View) (space : SpaceWords) (t : ℕ) (o : Op) (stage : Stage) (e : Entry) (r : Reply) → Standing v → t < length v.held → Standing (ended v space t e) → call_of v t ≡ Some (record { op = o; stage = stage }) → (GoesOn v t o (Some stage) → ⊥) → Answers t v.log (values_of v t) o r (v.log ++ e ∷ []) (values_of v t) → HasRoomFor v o → ((place : Place) → ReadsAt (maps v) (state v) t o place → ⊥) → Advances v (ended v space t e) t o (Answered r)
+Advances_ended v space t o stage e r s within after here last answers room unread = record {
   stands = after;
   others = record {
     globals = refl;
@@ -94,6 +95,7 @@ Advances_ended v space t o stage e r s within after here last answers room = rec
     stop = refl;
     room = room;
   };
+  clean = λ place reads tagged. unread place reads;
 }
 
 -- the slot that a store is to is a place
@@ -129,7 +131,7 @@ Advances_store v u w t obj i src object address o shape s after within is here h
     (Advances_ended v w.space t p (Headed object shape) e reply.Done s within (subst Standing writes.is after) call (λ no. no)
     (store_answers t v.log (values_of v t) obj i src n shape (held_value v.names address) reply.Done _ _
     (held_number v t obj object n shape has.0 writes.named) (object_shape v object n shape s has.0.object writes.named) has.1 stored refl refl refl)
-    tt))
+    tt (λ place reads. reads)))
 
 -- a put is done
 pub Advances_put : (v u w : View) (t obj j x object : ℕ) (o : Op) (shape : Shape) → Standing v → Standing w → t < length v.held → o ≡ op.Put obj j x → call_of v t ≡ Some (record { op = o; stage = Headed object shape }) → u ≡ with_call v t None → WroteNumber u w t object j x → Advances v w t o (Answered reply.Done)
@@ -144,7 +146,7 @@ Advances_put v u w t obj j x object o shape s after within is here over wrote =
     (Advances_ended v w.space t p (Headed object shape) (entry t (Write (Cell n j) (Num x))) reply.Done s within (subst Standing writes.is after) call (λ no. no)
     (put_answers t v.log (values_of v t) obj j x n shape reply.Done _ _
     (held_number v t obj object n shape has.0 writes.named) (object_shape v object n shape s has.0.object writes.named) has.1 refl refl refl)
-    tt))
+    tt (λ place reads. reads)))
 
 -- a get is done
 pub Advances_get : (v u w : View) (t src j object n number : ℕ) (o : Op) (shape : Shape) → Standing v → Standing w → t < length v.held → o ≡ op.Get src j → call_of v t ≡ Some (record { op = o; stage = Headed object shape }) → (maps v).address object ≡ Some n → u ≡ with_call v t None → w ≡ noted u (entry t (Read (Cell n j) (Num number))) → Advances v w t o (Answered (reply.Num number))
@@ -159,7 +161,7 @@ Advances_get v u w t src j object n number o shape s after within is here named 
     (Advances_ended v v.space t p (Headed object shape) e (reply.Num number) s within (subst Standing all after) call (λ no. no)
     (get_answers t v.log (values_of v t) src j n number shape (reply.Num number) _ _
     (held_number v t src object n shape has.0 named) (object_shape v object n shape s has.0.object named) has.1 refl refl refl)
-    tt))
+    tt (λ place reads. reads)))
 
 -- no object stands where a region begins
 region_unnamed : (v : View) (t address stored n : ℕ) (o : Op) (shape : Shape) → Standing v → call_of v t ≡ Some (record { op = o; stage = Claimed address shape stored }) → (maps v).address address ≡ Some n → ⊥
@@ -221,6 +223,7 @@ Advances_publish v u w t dst refs nums address stored o shape s after within is 
         stop = refl;
         room = subst (λ (z : Shape). HasRoom v (2 + z.refs + z.nums)) made room;
       };
+      clean = λ place reads tagged. reads;
     }))
 
 -- what the region of a call is for
@@ -254,8 +257,11 @@ Advances_store_zero v w t address stored o shape s after within here few is =
         stage = Claimed address shape (stored + 1);
         call = get_or-set_same v.calls t next None (call_within v t s within);
         nearer = subst (λ (c : Option Call). events_left (stage_in next) < events_left (stage_in c)) (sym here) fewer;
+        lacks = λ need no. absurd (cc);
+        free = λ no. absurd (cc);
         history = refl;
         values = refl;
         stop = refl;
       };
+      clean = tt;
     })
