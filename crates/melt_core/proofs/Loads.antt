@@ -2,7 +2,7 @@
 use Rattle.std.proofs.Common.{◌≡◌, ℕ, ◌+◌, ◌*◌, ◌<◌, zero, suc, List, [], ◌∷◌, ◌++◌, length, refl, sym, ◌∙◌, ap, subst, arith, inl, inr}
 use Rattle.std.proofs.Math.ListN.{set, length-set}
 use Rattle.std.proofs.lemmas.List.{get_or-set_same, get_or-set_other}
-use Rattle.std.specs.Prelude.{Option, None, Some}
+use Rattle.std.specs.Prelude.{Option, None, Some, slice_index}
 use Rattle.melt_model.specs.History.{last}
 use Rattle.melt_model.specs.Thread.{value_in}
 use Rattle.melt_model.specs.declared.history.Value.{Value}
@@ -19,7 +19,7 @@ use Rattle.melt_word.specs.declared.header.Shape.{Shape}
 use Rattle.melt_word.specs.declared.reference.Ref.{Ref}
 use Rattle.melt_word.specs.declared.reference.Ref.TheVariants.{Null, Clean, Stale, Disk}
 use Rattle.melt_word.proofs.OneToOne.{same_ref}
-use Rattle.melt_space.specs.Space.{SpaceWords}
+use Rattle.melt_space.specs.Space.{SpaceWords, word_at}
 use Rattle.melt_scion.specs.State.{State, IsFresh}
 use Rattle.melt_scion.specs.Placed.{Maps, Stands, IsReferenceWord, MayHold, value_of}
 use Rattle.melt_scion.specs.declared.heap.Names as heap
@@ -29,11 +29,11 @@ use Rattle.melt_core.specs.declared.call.Call.{Call}
 use Rattle.melt_core.specs.declared.call.Place.{Place}
 use Rattle.melt_core.specs.declared.call.Place.TheVariants.{Field, Global}
 use Rattle.melt_core.specs.declared.call.Stage.{Stage}
-use Rattle.melt_core.specs.declared.call.Stage.TheVariants.{Polled, Headed, Looked, Cleared}
+use Rattle.melt_core.specs.declared.call.Stage.TheVariants.{Polled, Headed, Looked, Cleared, Lacking}
 use Rattle.melt_core.specs.Answering.{entry, Answers}
 use Rattle.melt_core.specs.Calls.{IsTagged, word_in, LoadsInto, ReadsAt, IsPlace, HasLooked}
 use Rattle.melt_core.specs.Views.{View, numbers_of, maps_of, maps, state, held_value, registers_in, values_of, call_of, Standing}
-use Rattle.melt_core.specs.Events.{stage_in, GoesOn, LooksFrom, events_left, Goes, HasRoomFor, Outcome, Advances}
+use Rattle.melt_core.specs.Events.{stage_in, GoesOn, LooksFrom, events_left, Goes, HasRoomFor, Outcome, LeavesClean, Advances}
 use Rattle.melt_core.specs.Changed.{HoldsRef, SlotAt, HasRead, with_call, with_space, noted, OnlyWords}
 use Rattle.melt_core.proofs.Values.{value_held, held_is, named_value}
 use Rattle.melt_core.proofs.Found.{found_null, found_clean, may_clean, named_stale, not_disk}
@@ -124,11 +124,14 @@ null_untagged word holds tagged =
     let odd : word ≡ 4 * tagged.target + 1 = tagged.is in
     omega arith
 
-pub clean_untagged : (word a : ℕ) → HoldsRef word (Clean a) → IsTagged word → ⊥
-clean_untagged word a holds tagged =
-    let even : word ≡ 4 * a = holds.is in
+pub made_clean : (word a : ℕ) → word ≡ ref_word (Clean a) → IsTagged word → ⊥
+made_clean word a is tagged =
+    let even : word ≡ 4 * a = is in
     let odd : word ≡ 4 * tagged.target + 1 = tagged.is in
     omega arith
+
+pub clean_untagged : (word a : ℕ) → HoldsRef word (Clean a) → IsTagged word → ⊥
+clean_untagged word a holds = made_clean word a holds.is
 
 -- whether a load that looks at its place goes on
 look_ends : (v : View) (t : ℕ) (o : Op) (stage : Option Stage) (place : Place) → LooksFrom o stage place → (IsTagged (word_in (state v) place) → ⊥) → GoesOn v t o stage → ⊥
@@ -208,9 +211,25 @@ read_answers v w space globals t (op.GLoad dst g) (Global k) address reply s wit
     ∙ ap (λ (q : Slot). v.log ++ entry t (Read q value) ∷ []) (read.is_slot ∙ ap slots.Global (sym same)))
 read_answers v w space globals t o place address reply s within reads read = absurd reads
 
+-- a load has one place
+one_place : (v : View) (space : SpaceWords) (globals : List ℕ) (t : ℕ) (o : Op) (place other : Place) → ReadsAt (maps v) (state v) t o place → ReadsAt (maps v) (state (over v space globals)) t o other → place ≡ other
+one_place v space globals t (op.Load dst src i) (Field a j) (Field b k) first second =
+    let object : a ≡ b = sym first.1.1.register ∙ second.1.1.register in
+    let part : j ≡ k = sym first.0 ∙ second.0 in
+    ap (λ (x : ℕ). Field x j) object ∙ ap (Field b) part
+one_place v space globals t (op.Load dst src i) (Field a j) (Global k) first second = absurd second
+one_place v space globals t (op.GLoad dst g) (Global j) (Global k) first second = ap Global (sym first.0 ∙ second.0)
+one_place v space globals t (op.GLoad dst g) (Global j) (Field b k) first second = absurd second
+one_place v space globals t o place other first second = absurd first
+
+-- the word at a place is that of the words and globals
+same_word : (v w : View) (place : Place) → w.space ≡ v.space → w.globals ≡ v.globals → word_in (state w) place ≡ word_in (state v) place
+same_word v w (Field object i) space globals = ap (λ (x : SpaceWords). word_at x (object + 2 + i)) space
+same_word v w (Global g) space globals = ap (λ (x : List ℕ). slice_index x g) globals
+
 -- a load was answered
-read_over : (v w : View) (space : SpaceWords) (globals : List ℕ) (t : ℕ) (o : Op) (place : Place) (address : ℕ) (reply : Reply) → Standing v → Standing (over v space globals) → Standing w → length globals ≡ length v.globals → t < length v.held → ReadsAt (maps v) (state (over v space globals)) t o place → (GoesOn v t o (stage_in (call_of v t)) → ⊥) → HasRead (over v space globals) w t o place address reply → Advances v w t o (Answered reply)
-read_over v w space globals t o place address reply s between stands same within reads ends read =
+read_over : (v w : View) (space : SpaceWords) (globals : List ℕ) (t : ℕ) (o : Op) (place : Place) (address : ℕ) (reply : Reply) → Standing v → Standing (over v space globals) → Standing w → length globals ≡ length v.globals → t < length v.held → ReadsAt (maps v) (state (over v space globals)) t o place → (GoesOn v t o (stage_in (call_of v t)) → ⊥) → (IsTagged (word_in (state (over v space globals)) place) → ⊥) → HasRead (over v space globals) w t o place address reply → Advances v w t o (Answered reply)
+read_over v w space globals t o place address reply s between stands same within reads ends clean read =
     let m : View = over v space globals in
     let e : Entry = entry t (Read read.slot (held_value v.names address)) in
     let words : length space.list ≡ length v.space.list = sym between.room ∙ s.room in
@@ -233,16 +252,19 @@ read_over v w space globals t o place address reply s between stands same within
         stop = ap (λ (x : View). x.stop) read.is;
         room = read_room v (maps v) (state m) t o place reads;
       };
+      clean = λ at found tagged.
+          clean (subst IsTagged (same_word m w place (ap (λ (x : View). x.space) read.is) (ap (λ (x : View). x.globals) read.is))
+          (subst (λ (p : Place). IsTagged (word_in (state w) p)) (one_place v space globals t o at place found reads) tagged));
     }
 
 -- a load that looked found no tag
 pub look_answers : (v w : View) (t : ℕ) (o : Op) (place : Place) (address : ℕ) (reply : Reply) → Standing v → Standing w → t < length v.held → ReadsAt (maps v) (state v) t o place → LooksFrom o (stage_in (call_of v t)) place → (IsTagged (word_in (state v) place) → ⊥) → HasRead v w t o place address reply → Advances v w t o (Answered reply)
 look_answers v w t o place address reply s stands within reads looks clean read =
-    read_over v w v.space v.globals t o place address reply s s stands refl within reads (look_ends v t o (stage_in (call_of v t)) place looks clean) read
+    read_over v w v.space v.globals t o place address reply s s stands refl within reads (look_ends v t o (stage_in (call_of v t)) place looks clean) clean read
 
 -- a call goes on, and only words of the space change
-goes_on : (v w : View) (space : SpaceWords) (t : ℕ) (o : Op) (stage : Stage) (result : StepResult) → Standing v → Standing w → t < length v.held → GoesOn v t o (stage_in (call_of v t)) → events_left (Some stage) < events_left (stage_in (call_of v t)) → w ≡ with_call (with_space v space) t (Some (record { op = o; stage = stage })) → result ≡ Going → Advances v w t o result
-goes_on v w space t o stage result s stands within further nearer is going =
+goes_on : (v w : View) (space : SpaceWords) (t : ℕ) (o : Op) (stage : Stage) (result : StepResult) → Standing v → Standing w → t < length v.held → GoesOn v t o (stage_in (call_of v t)) → events_left (Some stage) < events_left (stage_in (call_of v t)) → ((need : ℕ) → stage ≡ Lacking need → ⊥) → (stage ≡ Polled → ⊥) → w ≡ with_call (with_space v space) t (Some (record { op = o; stage = stage })) → result ≡ Going → Advances v w t o result
+goes_on v w space t o stage result s stands within further nearer no_lack no_poll is going =
     let call : Option Call = Some (record { op = o; stage = stage }) in
     let goes : Goes v w t o = record {
       further = further;
@@ -251,6 +273,8 @@ goes_on v w space t o stage result s stands within further nearer is going =
           ap (λ (x : View). call_of x t) is
           ∙ get_or-set_same v.calls t call None (let each : length v.calls ≡ length v.held = s.each in omega arith);
       nearer = nearer;
+      lacks = λ need lacking. absurd (no_lack need lacking);
+      free = λ polled. absurd (no_poll polled);
       history = ap (λ (x : View). x.log) is;
       values = ap (λ (x : View). values_of x t) is;
       stop = ap (λ (x : View). x.stop) is;
@@ -266,6 +290,7 @@ goes_on v w space t o stage result s stands within further nearer is going =
         values = λ u other. ap (λ (x : View). values_of x u) is;
       };
       outcome = subst (Outcome v w t o) (sym going) goes;
+      clean = subst (LeavesClean v w t o) (sym going) tt;
     }
 
 -- a load that looked found a tag
@@ -273,7 +298,8 @@ pub look_advances : (v w : View) (t : ℕ) (o : Op) (place : Place) (target : �
 look_advances v w t o place target result s stands within looks holds is going =
     goes_on v w v.space t o (Looked place target) result s stands within
     (look_goes v t o (stage_in (call_of v t)) place looks (record { target = target; is = holds.is }))
-    (look_nearer o (stage_in (call_of v t)) place looks) is going
+    (look_nearer o (stage_in (call_of v t)) place looks)
+    (λ need lacking. cc) (λ polled. cc) is going
 
 -- a load that looked knows its place and the name of its target
 looked_at : (v : View) (t : ℕ) (o : Op) (place : Place) (target : ℕ) → Standing v → call_of v t ≡ Some (record { op = o; stage = Looked place target }) → HasLooked (maps v) (state v) t o place target
@@ -286,6 +312,7 @@ clear_advances v m w t o place target result s stands within call only is going 
     goes_on v w m.space t o (Cleared place target) result s stands within
     (subst (GoesOn v t o) (sym stage) (looked_goes v (maps v) (state v) t o place place target (looked_at v t o place target s call).reads))
     (subst (λ (x : Option Stage). 2 < events_left x) (sym stage) (omega arith))
+    (λ need lacking. cc) (λ polled. cc)
     (is ∙ ap (λ (x : View). with_call x t (Some (record { op = o; stage = Cleared place target }))) only) going
 
 -- a load that has cleared its target
@@ -333,11 +360,12 @@ pub cleared_reads : (v : View) (t : ℕ) (o : Op) (place : Place) (target : ℕ)
 cleared_reads v t o place target s call = (cleared_at v t o place target s call).looked.reads
 
 -- a load that has cleared was answered
-pub cleared_answers : (v m w : View) (t : ℕ) (o : Op) (place : Place) (target address : ℕ) (reply : Reply) → Standing v → Standing m → Standing w → length m.globals ≡ length v.globals → t < length v.held → call_of v t ≡ Some (record { op = o; stage = Cleared place target }) → OnlyWords v m → HasRead m w t o place address reply → Advances v w t o (Answered reply)
-cleared_answers v m w t o place target address reply s between stands same within call only read =
+pub cleared_answers : (v m w : View) (t : ℕ) (o : Op) (place : Place) (target address : ℕ) (reply : Reply) → Standing v → Standing m → Standing w → length m.globals ≡ length v.globals → t < length v.held → call_of v t ≡ Some (record { op = o; stage = Cleared place target }) → OnlyWords v m → (IsTagged (word_in (state m) place) → ⊥) → HasRead m w t o place address reply → Advances v w t o (Answered reply)
+cleared_answers v m w t o place target address reply s between stands same within call only clean read =
     let stage : stage_in (call_of v t) ≡ Some (Cleared place target) = ap stage_in call in
     let over_stands : Standing (over v m.space m.globals) = subst Standing only between in
     read_over v w m.space m.globals t o place address reply s over_stands stands same within
     (cleared_reads (over v m.space m.globals) t o place target over_stands call)
     (λ goes. cleared_ends v (maps v) (state v) t o place place target (cleared_reads v t o place target s call) (subst (GoesOn v t o) stage goes))
+    (subst (λ (x : View). IsTagged (word_in (state x) place) → ⊥) only clean)
     (subst (λ (x : View). HasRead x w t o place address reply) only read)

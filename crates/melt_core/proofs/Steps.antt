@@ -36,9 +36,11 @@ use Rattle.melt_core.proofs.Writing.{Standing_clear, fresh_cleared, Standing_wri
 pub sets_word : (old new : SpaceWords) (at place word other : ℕ) → at ≡ place → word ≡ other → SetsWord old new at word → SetsWord old new place other
 sets_word old new at place word other there is sets = subst (λ (k : ℕ). SetsWord old new k other) there (subst (SetsWord old new at) is sets)
 
--- a core stands for its history, by any name of that
-pub stands_log : (v : View) (log other : List Entry) → log ≡ other → Standing (record v { log = other }) → Standing (record v { log = log })
-stands_log v log other same s = subst (λ (h : List Entry). Standing (record v { log = h })) (sym same) s
+-- a core stands for its history, by any name of that and of its room
+pub stands_log : (v : View) (log other : List Entry) (capacity : ℕ) → log ≡ other → capacity ≡ v.capacity → Standing (record v { log = other }) → Standing (record v { log = log; capacity = capacity })
+stands_log v log other capacity same room s =
+    subst (λ (k : ℕ). Standing (record v { log = log; capacity = k })) (sym room)
+    (subst (λ (h : List Entry). Standing (record v { log = h })) (sym same) s)
 
 -- the globals are these, by any name of them
 pub stands_globals : (v : View) (globals : List ℕ) (log : List Entry) (g word other : ℕ) → globals ≡ set v.globals g word → word ≡ other → Standing (record v { globals = set v.globals g other; log = log }) → Standing (record v { globals = globals; log = log })
@@ -85,33 +87,35 @@ sets_register v t r address x d within is s =
     subst (λ (regs : List ℕ). Standing (record v { held = set v.held t (record { regs = set regs r address }) })) (sym (registers_at v.held t x d within is)) s
 
 -- a slot of an object is written
-pub writes_field : (v : View) (space : SpaceWords) (log : List Entry) (t object i address : ℕ) (slot : Slot) (value : Value) → Standing v → IsPlace (maps v) (state v) (at.Field object i) → MayHold (maps v) (state v) address → SlotAt v (at.Field object i) slot → value ≡ held_value v.names address → log ≡ v.log ++ entry t (Write slot value) ∷ [] → SetsWord v.space space (object + 2 + i) (4 * address) → Standing (record v { space = space; log = log }) × WroteField v (record v { space = space; log = log }) t object i address
-writes_field v space log t object i address slot value s place may is_slot is_value is sets =
+pub writes_field : (v : View) (space : SpaceWords) (log : List Entry) (capacity t object i address : ℕ) (slot : Slot) (value : Value) → Standing v → IsPlace (maps v) (state v) (at.Field object i) → MayHold (maps v) (state v) address → SlotAt v (at.Field object i) slot → value ≡ held_value v.names address → log ≡ v.log ++ entry t (Write slot value) ∷ [] → capacity ≡ v.capacity → SetsWord v.space space (object + 2 + i) (4 * address) → Standing (record v { space = space; log = log; capacity = capacity }) × WroteField v (record v { space = space; log = log; capacity = capacity }) t object i address
+writes_field v space log capacity t object i address slot value s place may is_slot is_value is room sets =
     let there : IsObjectAt (maps v) (state v) object place.0 = place.1 in
     let refs : there.header.shape.refs ≡ place.0.refs = ap (λ (x : Shape). x.refs) there.shape_is in
     let same : slot ≡ Field is_slot.0 i = is_slot.2 in
     let grown : log ≡ v.log ++ entry t (Write (Field is_slot.0 i) (held_value v.names address)) ∷ [] = cc in (
-      stands_log (with_space v space) log _ grown (Standing_write_field v space t object is_slot.0 i address there.header s is_slot.1 there.starts (omega (arith, place.2)) may sets),
+      stands_log (with_space v space) log _ capacity grown room (Standing_write_field v space t object is_slot.0 i address there.header s is_slot.1 there.starts (omega (arith, place.2)) may sets),
       record {
         number = is_slot.0;
         named = is_slot.1;
-        is = ap (λ (h : List Entry). record v { space = space; log = h }) grown;
+        is =
+            ap (λ (h : List Entry). record v { space = space; log = h; capacity = capacity }) grown
+            ∙ ap (λ (k : ℕ). record v { space = space; log = v.log ++ entry t (Write (Field is_slot.0 i) (held_value v.names address)) ∷ []; capacity = k }) room;
       },
     )
 
 -- a number word of an object is written
-pub writes_number : (v : View) (space : SpaceWords) (log : List Entry) (t object n j number : ℕ) (shape : Shape) → Standing v → IsObjectAt (maps v) (state v) object shape → j < shape.nums → (maps v).address object ≡ Some n → log ≡ v.log ++ entry t (Write (Cell n j) (Num number)) ∷ [] → SetsWord v.space space (object + 2 + shape.refs + j) number → Standing (record v { space = space; log = log })
-writes_number v space log t object n j number shape s there within named is sets =
+pub writes_number : (v : View) (space : SpaceWords) (log : List Entry) (capacity t object n j number : ℕ) (shape : Shape) → Standing v → IsObjectAt (maps v) (state v) object shape → j < shape.nums → (maps v).address object ≡ Some n → log ≡ v.log ++ entry t (Write (Cell n j) (Num number)) ∷ [] → capacity ≡ v.capacity → SetsWord v.space space (object + 2 + shape.refs + j) number → Standing (record v { space = space; log = log; capacity = capacity })
+writes_number v space log capacity t object n j number shape s there within named is room sets =
     let z : Shape = there.header.shape in
     let nums : z.nums ≡ shape.nums = ap (λ (x : Shape). x.nums) there.shape_is in
     let at : SetsWord v.space space (object + 2 + z.refs + j) number = subst (λ (x : Shape). SetsWord v.space space (object + 2 + x.refs + j) number) (sym there.shape_is) sets in
-    stands_log (with_space v space) log _ is (Standing_write_number v space t object n j number there.header s named there.starts (omega arith) at)
+    stands_log (with_space v space) log _ capacity is room (Standing_write_number v space t object n j number there.header s named there.starts (omega arith) at)
 
 -- a global is written
-pub writes_global : (v : View) (globals : List ℕ) (log : List Entry) (t g address word : ℕ) (value : Value) → Standing v → g < length v.globals → MayHold (maps v) (state v) address → value ≡ held_value v.names address → log ≡ v.log ++ entry t (Write (Global g) value) ∷ [] → word ≡ 4 * address → globals ≡ set v.globals g word → Standing (record v { globals = globals; log = log })
-writes_global v globals log t g address word value s within may is_value is is_word sets =
+pub writes_global : (v : View) (globals : List ℕ) (log : List Entry) (capacity t g address word : ℕ) (value : Value) → Standing v → g < length v.globals → MayHold (maps v) (state v) address → value ≡ held_value v.names address → log ≡ v.log ++ entry t (Write (Global g) value) ∷ [] → capacity ≡ v.capacity → word ≡ 4 * address → globals ≡ set v.globals g word → Standing (record v { globals = globals; log = log; capacity = capacity })
+writes_global v globals log capacity t g address word value s within may is_value is room is_word sets =
     let grown : log ≡ v.log ++ entry t (Write (Global g) (held_value v.names address)) ∷ [] = cc in
-    stands_log (with_globals v globals) log _ grown (stands_globals v globals _ g word (4 * address) sets is_word (Standing_write_global v t g address s within may))
+    stands_log (with_globals v globals) log _ capacity grown room (stands_globals v globals _ g word (4 * address) sets is_word (Standing_write_global v t g address s within may))
 
 -- a call has claimed, and is at this stage now
 abbrev pub Claims : View → ℕ → ℕ → Op → Shape → Stage → Type 0
@@ -143,7 +147,7 @@ lacks v t free need op shape stage s within none makes fits needed sum above is 
     )
 
 -- a region becomes an object
-pub publishes : (v : View) (space : SpaceWords) (names : Option heap.Names) (log : List Entry) (t address stored word : ℕ) (op : Op) (shape : Shape) → Standing v → t < length v.held → call_of v t ≡ Some (record { op = op; stage = Claimed address shape stored }) → stored + 1 ≡ cost_of shape → word ≡ header_word (record { shape = shape; stale = false }) → SetsWord v.space space address word → IsSome names → length (numbers_of names) ≡ length (numbers_of v.names) → NameAppears (maps_of v.names) (maps_of names) address v.made → log ≡ v.log ++ entry t (Make shape.refs shape.nums) ∷ [] → Standing (record (with_call (with_space v space) t None) { names = names; log = log; made = v.made + 1 })
-publishes v space names log t address stored word op shape s within at all is_word sets named size appears is =
-    stands_log (record (with_call (with_space v space) t None) { names = names; made = v.made + 1 }) log _ is
+pub publishes : (v : View) (space : SpaceWords) (names : Option heap.Names) (log : List Entry) (capacity t address stored word : ℕ) (op : Op) (shape : Shape) → Standing v → t < length v.held → call_of v t ≡ Some (record { op = op; stage = Claimed address shape stored }) → stored + 1 ≡ cost_of shape → word ≡ header_word (record { shape = shape; stale = false }) → SetsWord v.space space address word → IsSome names → length (numbers_of names) ≡ length (numbers_of v.names) → NameAppears (maps_of v.names) (maps_of names) address v.made → log ≡ v.log ++ entry t (Make shape.refs shape.nums) ∷ [] → capacity ≡ v.capacity → Standing (record (with_call (with_space v space) t None) { names = names; log = log; capacity = capacity; made = v.made + 1 })
+publishes v space names log capacity t address stored word op shape s within at all is_word sets named size appears is room =
+    stands_log (record (with_call (with_space v space) t None) { names = names; made = v.made + 1 }) log _ capacity is room
     (Standing_publish v space names t address stored op shape s within at all (sets_word v.space space address address word _ refl is_word sets) named size appears)
