@@ -11,3 +11,4 @@ pub mod Writing
 pub mod Making
 pub mod Resting
 pub mod Steps
+pub mod Beginning
