@@ -26,7 +26,7 @@ use Rattle.melt_core.specs.declared.call.Stage.{Stage}
 use Rattle.melt_core.specs.declared.call.Stage.TheVariants.{Polled, Headed, Claimed, Lacking}
 use Rattle.melt_core.specs.declared.call.Call.{Call}
 use Rattle.melt_core.specs.Answering.{Answers}
-use Rattle.melt_core.specs.Calls.{Holds, HasPart, IsOn, IsPlace, IsShared, HasHeader, MakesShape, word_in}
+use Rattle.melt_core.specs.Calls.{Holds, HasPart, IsOn, IsPlace, IsShared, HasHeader, ReadsAt, MakesShape, word_in}
 use Rattle.melt_core.specs.Views.{View, maps, state, values_of, registers_in, call_of, held_value, Standing}
 use Rattle.melt_core.specs.Changed.{HasClaimed, HoldsRef, with_call, with_free, with_register}
 use Rattle.melt_core.specs.Events.{Advances, GoesOn, Goes, IsAnswered, KeepsOthers, HasRoomFor, events_left, stage_in}
@@ -64,8 +64,8 @@ call_set : (v : View) (t : ℕ) (call : Option Call) → Standing v → t < leng
 call_set v t call s within = get_or-set_same v.calls t call None (let each : length v.calls ≡ length v.held = s.each in omega arith)
 
 -- the call goes on
-call_goes : (v w : View) (t free : ℕ) (o : Op) (from : Option Stage) (stage : Stage) → Standing v → Standing w → t < length v.held → w ≡ with_call (with_free v free) t (Some (record { op = o; stage = stage })) → stage_in (call_of v t) ≡ from → GoesOn v t o from → events_left (Some stage) < events_left from → Advances v w t o Going
-call_goes v w t free o from stage s after within is at further nearer = record {
+call_goes : (v w : View) (t free : ℕ) (o : Op) (from : Option Stage) (stage : Stage) → Standing v → Standing w → t < length v.held → w ≡ with_call (with_free v free) t (Some (record { op = o; stage = stage })) → stage_in (call_of v t) ≡ from → GoesOn v t o from → events_left (Some stage) < events_left from → ((need : ℕ) → stage ≡ Lacking need → length v.space.list + 1 < v.free + need) → (stage ≡ Polled → free ≡ v.free) → Advances v w t o Going
+call_goes v w t free o from stage s after within is at further nearer lacks stays = record {
   stands = after;
   others = others_call v w t free (Some (record { op = o; stage = stage })) is;
   outcome = subst (λ (x : View). Goes v x t o) (sym is) (record {
@@ -73,10 +73,13 @@ call_goes v w t free o from stage s after within is at further nearer = record {
     stage = stage;
     call = call_set v t (Some (record { op = o; stage = stage })) s within;
     nearer = subst (λ (x : Option Stage). events_left (Some stage) < events_left x) (sym at) nearer;
+    lacks = lacks;
+    free = stays;
     history = refl;
     values = refl;
     stop = refl;
   });
+  clean = tt;
 }
 
 -- an operation that no thread shares is answered at once
@@ -94,8 +97,8 @@ others_register v t r address = record {
   values = λ u differ. values_other v t u r address differ;
 }
 
-register_answered : (v w : View) (t r address : ℕ) (o : Op) → Standing w → w ≡ with_register v t r address → call_of v t ≡ None → (IsShared (state v) t o → ⊥) → HasRoomFor v o → Answers t v.log (values_of v t) o reply.Done v.log (values_of (with_register v t r address) t) → Advances v w t o (Answered reply.Done)
-register_answered v w t r address o after is none alone room answers = record {
+register_answered : (v w : View) (t r address : ℕ) (o : Op) → Standing w → w ≡ with_register v t r address → call_of v t ≡ None → (IsShared (state v) t o → ⊥) → HasRoomFor v o → ((place : Place) → ReadsAt (maps v) (state v) t o place → ⊥) → Answers t v.log (values_of v t) o reply.Done v.log (values_of (with_register v t r address) t) → Advances v w t o (Answered reply.Done)
+register_answered v w t r address o after is none alone room reads_none answers = record {
   stands = after;
   others = subst (λ (x : View). KeepsOthers v x t) (sym is) (others_register v t r address);
   outcome = subst (λ (x : View). IsAnswered v x t o reply.Done) (sym is) (record {
@@ -105,17 +108,18 @@ register_answered v w t r address o after is none alone room answers = record {
     stop = refl;
     room = room;
   });
+  clean = λ place reads tagged. reads_none place reads;
 }
 
 pub copied : (v w : View) (t dst src address : ℕ) → Standing w → t < length v.held → call_of v t ≡ None → address ≡ (state v).register t src → w ≡ with_register v t dst address → Advances v w t (op.Copy dst src) (Answered reply.Done)
 copied v w t dst src address after within none reads is =
-    register_answered v w t dst address (op.Copy dst src) after is none (λ shared. absurd shared) tt
+    register_answered v w t dst address (op.Copy dst src) after is none (λ shared. absurd shared) tt (λ place reads. absurd reads)
     (copy_answers t v.log (values_of v t) dst src (held_value v.names address) reply.Done v.log (values_of (with_register v t dst address) t)
     (value_held v.names (registers_in v.held t) src ∙ ap (held_value v.names) (sym reads)) refl (values_set v t dst address within) refl)
 
 pub dropped : (v w : View) (t r : ℕ) → Standing w → t < length v.held → call_of v t ≡ None → w ≡ with_register v t r 0 → Advances v w t (op.Drop r) (Answered reply.Done)
 dropped v w t r after within none is =
-    register_answered v w t r 0 (op.Drop r) after is none (λ shared. absurd shared) tt
+    register_answered v w t r 0 (op.Drop r) after is none (λ shared. absurd shared) tt (λ place reads. absurd reads)
     (drop_answers t v.log (values_of v t) r reply.Done v.log (values_of (with_register v t r 0) t) refl (values_set v t r 0 within) refl)
 
 -- an operation that makes an object goes on
@@ -126,11 +130,11 @@ makes_further v t o shape makes = absurd makes
 -- a region was claimed, or is lacking
 pub claims : (v w : View) (t : ℕ) (o : Op) (shape : Shape) → Standing v → Standing w → t < length v.held → call_of v t ≡ Some (record { op = o; stage = Polled }) → MakesShape o shape → IsShape shape → HasClaimed v w t o shape → Advances v w t o Going
 claims v w t o shape s after within at makes small claimed = elim (cases_lt (length v.space.list + 1) (v.free + cost_of shape)) [
-  | inl above ↦ call_goes v w t w.free o (Some Polled) (Lacking (cost_of shape)) s after within (claimed.lacks above) (ap stage_in at) (makes_further v t o shape makes) (omega arith)
+  | inl above ↦ call_goes v w t w.free o (Some Polled) (Lacking (cost_of shape)) s after within (claimed.lacks above) (ap stage_in at) (makes_further v t o shape makes) (omega arith) (λ need is. let same : cost_of shape ≡ need = cc in omega arith) (λ is. absurd (cc))
   | inr fits ↦
       let refs : shape.refs ≤ 62 = small.refs in
       let nums : shape.nums ≤ 62 = small.nums in
-      call_goes v w t (v.free + cost_of shape) o (Some Polled) (Claimed v.free shape 0) s after within (claimed.fits fits) (ap stage_in at) (makes_further v t o shape makes) (omega arith)
+      call_goes v w t (v.free + cost_of shape) o (Some Polled) (Claimed v.free shape 0) s after within (claimed.fits fits) (ap stage_in at) (makes_further v t o shape makes) (omega arith) (λ need is. absurd (cc)) (λ is. absurd (cc))
 ]
 
 -- an object stands at the address
@@ -213,7 +217,7 @@ part_flight v t r address o part shape on found reads same has =
 pub headed : (v w : View) (t r address : ℕ) (o : Op) (part : Part) (shape : Shape) → Standing v → Standing w → t < length v.held → call_of v t ≡ Some (record { op = o; stage = Polled }) → IsOn o r part → (found : StandsAt (maps v) (state v) address) → address ≡ (state v).register t r → shape ≡ found.header.shape → HasPart part shape → w ≡ with_call v t (Some (record { op = o; stage = Headed address shape })) → Advances v w t o Going
 headed v w t r address o part shape s after within at on found reads same has is =
     call_goes v w t v.free o (Some Polled) (Headed address shape) s after within is (ap stage_in at)
-    (further_header v t r address o part shape on (part_flight v t r address o part shape on found reads same has)) (omega arith)
+    (further_header v t r address o part shape on (part_flight v t r address o part shape on found reads same has)) (omega arith) (λ need is. absurd (cc)) (λ is. refl)
 
 -- the object lacks the part: no header has it
 not_further : (v : View) (t r address : ℕ) (o : Op) (part : Part) (shape : Shape) → IsOn o r part → (found : StandsAt (maps v) (state v) address) → address ≡ (state v).register t r → shape ≡ found.header.shape → (HasPart part shape → ⊥) → GoesOn v t o (Some Polled) → ⊥
@@ -244,6 +248,14 @@ needs_no_room v r (op.Get src j) (Number k) on = tt
 needs_no_room v r (op.Put obj j x) (Number k) on = tt
 needs_no_room v r o part on = absurd on
 
+-- where an operation on a part of an object reads a reference, there is one that has the part
+reads_further : (v : View) (t r : ℕ) (o : Op) (part : Part) (place : Place) → IsOn o r part → ReadsAt (maps v) (state v) t o place → GoesOn v t o (Some Polled)
+reads_further v t r (op.Load dst src i) (Slot k) (Field object j) on reads = (object, reads.1.0, (reads.1.1, reads.1.2))
+reads_further v t r (op.Load dst src i) (Slot k) (Global g) on reads = absurd reads
+reads_further v t r (op.Load dst src i) (Number k) place on reads = absurd on
+reads_further v t r (op.GLoad dst g) part place on reads = absurd on
+reads_further v t r o part place on reads = absurd reads
+
 pub out_of_range : (v w : View) (t r address : ℕ) (o : Op) (part : Part) (shape : Shape) → Standing v → Standing w → t < length v.held → call_of v t ≡ Some (record { op = o; stage = Polled }) → IsOn o r part → (found : StandsAt (maps v) (state v) address) → address ≡ (state v).register t r → shape ≡ found.header.shape → (HasPart part shape → ⊥) → w ≡ with_call v t None → Advances v w t o (Answered reply.Range)
 out_of_range v w t r address o part shape s after within at on found reads same lacks is =
     let n : ℕ = found.number in
@@ -262,4 +274,5 @@ out_of_range v w t r address o part shape s after within at on found reads same 
         stop = refl;
         room = needs_no_room v r o part on;
       });
+      clean = λ place holds tagged. not_further v t r address o part shape on found reads same lacks (reads_further v t r o part place on holds);
     }

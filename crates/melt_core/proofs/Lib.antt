@@ -10,5 +10,7 @@ pub mod Changing
 pub mod Writing
 pub mod Making
 pub mod Resting
+pub mod Loads
 pub mod Steps
 pub mod Beginning
+pub mod Ends

@@ -1,5 +1,5 @@
 -- How a core begins and ends.
-use Rattle.std.specs.Prelude.{◌≡◌, ◌≢◌, ℕ, ◌+◌, ◌≤◌, false, List, [], replicate, slice_set, vec_capacity, None}
+use Rattle.std.specs.Prelude.{◌≡◌, ◌≢◌, ℕ, ◌+◌, ◌-◌, ◌≤◌, min, length, false, List, [], replicate, slice_set, vec_capacity, None}
 use Rattle.melt_model.specs.declared.history.Value.TheVariants.{Nil}
 use Rattle.melt_scion.specs.declared.registers.Registers.{Registers}
 use Rattle.melt_scion.specs.declared.heap.Heap.{Heap}
@@ -28,9 +28,11 @@ pub record AtRest (heap : Heap) (rest : Rest) : Type 0 where
   pub stands : Standing (view (core_of heap rest))
   pub quiet : IsQuiet (view (core_of heap rest))
 
--- A core became a heap and a rest: the history stays and the registers do, and so do the words.
+-- A core became a heap and a rest: the history stays and the registers do, and so do the words. Those before the first
+-- free place are in use, or all of them where a claim ended past the last one.
 pub record HasFinished (v w : View) : Type 0 where
   pub words : w.space.list ≡ v.space.list
+  pub used : w.space.used ≡ min (v.free - 1) (length v.space.list)
   pub globals : w.globals ≡ v.globals
   pub names : w.names ≡ v.names
   pub held : w.held ≡ v.held

@@ -19,7 +19,7 @@ use Rattle.melt_core.specs.declared.call.Stage.{Stage}
 use Rattle.melt_core.specs.declared.call.Stage.TheVariants.{Polled, Headed, Looked, Cleared, Claimed, Lacking}
 use Rattle.melt_core.specs.declared.call.Call.{Call}
 use Rattle.melt_core.specs.Answering.{Answers}
-use Rattle.melt_core.specs.Calls.{IsShared, HasHeader, IsTagged, word_in}
+use Rattle.melt_core.specs.Calls.{IsShared, HasHeader, ReadsAt, IsTagged, word_in}
 use Rattle.melt_core.specs.Views.{View, maps, state, values_of, value, call_of, Standing}
 
 -- the stage that the call of a thread has reached, if it has made an event
@@ -71,6 +71,8 @@ pub record Goes (v w : View) (t : ℕ) (o : Op) : Type 0 where
   pub stage : Stage
   pub call : call_of w t ≡ Some (record { op = o; stage = stage })
   pub nearer : events_left (Some stage) < events_left (stage_in (call_of v t))
+  pub lacks : (need : ℕ) → stage ≡ Lacking need → length v.space.list + 1 < v.free + need
+  pub free : stage ≡ Polled → w.free ≡ v.free
   pub history : w.log ≡ v.log
   pub values : values_of w t ≡ values_of v t
   pub stop : w.stop ≡ v.stop
@@ -122,11 +124,18 @@ Outcome v w t o Going = Goes v w t o
 Outcome v w t o (Answered reply) = IsAnswered v w t o reply
 Outcome v w t o (Refused refusal) = Refuses v w t o refusal
 
+-- where a load was answered, the reference that it read has no tag
+abbrev pub LeavesClean : View → View → ℕ → Op → StepResult → Type 0
+LeavesClean v w t o (Answered reply) = (place : Place) → ReadsAt (maps v) (state v) t o place → IsTagged (word_in (state w) place) → ⊥
+LeavesClean v w t o Going = Unit {0}
+LeavesClean v w t o (Refused refusal) = Unit {0}
+
 -- one event of a thread was made
 pub record Advances (v w : View) (t : ℕ) (o : Op) (result : StepResult) : Type 0 where
   pub stands : Standing w
   pub others : KeepsOthers v w t
   pub outcome : Outcome v w t o result
+  pub clean : LeavesClean v w t o result
 
 -- the operation is the one whose call is in flight, if one is
 abbrev pub Continues : Option Call → Op → Type 0

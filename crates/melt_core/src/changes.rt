@@ -84,6 +84,7 @@ impl Core {
         requires may_hold { MayHold (maps (view self.old)) (state (view self.old)) target }
         ensures stands { Standing (view self.new) }
         ensures only { view self.new ≡ with_space (view self.old) (view self.new).space }
+        ensures clean { (state (view self.new)).word (object + 2 + i) ≡ ref_word (Ref.Clean target) }
     {
         let word = encode_ref(Ref::Clean(target));
         self.heap.space.set_word(object + 2 + u32::from(i), word);
@@ -97,6 +98,8 @@ impl Core {
         requires may_hold { MayHold (maps (view self.old)) (state (view self.old)) target }
         ensures stands { Standing (view self.new) }
         ensures only { view self.new ≡ with_globals (view self.old) (view self.new).globals }
+        ensures count { length (view self.new).globals ≡ length (view self.old).globals }
+        ensures clean { (state (view self.new)).global g ≡ ref_word (Ref.Clean target) }
     {
         let word = encode_ref(Ref::Clean(target));
         set_global_word(&mut self.heap.globals, g, word);
@@ -157,6 +160,7 @@ impl Core {
         requires global { g < length (view self.old).globals }
         requires may_hold { MayHold (maps (view self.old)) (state (view self.old)) address }
         ensures stands { Standing (view self.new) }
+        ensures count { length (view self.new).globals ≡ length (view self.old).globals }
         ensures wrote { view self.new ≡ noted (with_globals (view self.old) (view self.new).globals) (entry thread (Act.Write (Slot.Global g) (held_value (view self.old).names address))) }
     {
         let slot = Slot::Global(g);
@@ -246,10 +250,12 @@ impl Core {
         requires stands { Standing (view self.old) }
         requires thread { thread < length (view self.old).held }
         requires room { HasRoomForEntry (view self.old) }
-        requires few { (view self.old).made + 1 < 2 ^ 32 }
+        requires few { (view self.old).made < 2 ^ 32 }
         requires call { call_of (view self.old) thread ≡ Some (record { op = op; stage = Stage.Claimed address shape stored }) }
         requires all { stored + 1 ≡ cost_of shape }
         ensures stands { Standing (view self.new) }
+        ensures size { length (view self.new).space.list ≡ length (view self.old).space.list }
+        ensures fresh { IsFresh (state (view self.new)) address }
         ensures published { Published (view self.old) (view self.new) thread address shape }
     {
         let header = Header {
@@ -264,7 +270,7 @@ impl Core {
                 nums: shape.nums,
             },
         });
-        set_name(&mut self.heap.names, address, self.rest.made);
+        set_name(&mut self.heap.names, address, self.rest.made as u32);
         self.rest.made += 1;
         self.rest.calls[thread as usize] = None;
     }

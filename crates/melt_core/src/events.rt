@@ -259,16 +259,15 @@ impl Core {
         requires call { call_of (view self.old) thread ≡ Some (record { op = op; stage = Stage.Cleared place target }) }
         ensures { Advances (view self.old) (view self.new) thread op result }
     {
-        let address = match self.reference_in(place) {
-            Ref::Null => 0,
-            Ref::Clean(address) => address,
+        match self.reference_in(place) {
+            Ref::Null => StepResult::Answered(self.read(thread, op, place, 0)),
+            Ref::Clean(address) => StepResult::Answered(self.read(thread, op, place, address)),
             Ref::Stale(_) => {
                 self.untag_word(place, target);
-                target
+                StepResult::Answered(self.read(thread, op, place, target))
             }
             Ref::Disk(_) => unreachable!(),
-        };
-        StepResult::Answered(self.read(thread, op, place, address))
+        }
     }
 
     /// Makes the stale address at a place clean.
@@ -279,6 +278,8 @@ impl Core {
         requires may_hold { MayHold (maps (view self.old)) (state (view self.old)) target }
         ensures stands { Standing (view self.new) }
         ensures only { OnlyWords (view self.old) (view self.new) }
+        ensures clean { word_in (state (view self.new)) place ≡ ref_word (Ref.Clean target) }
+        ensures count { length (view self.new).globals ≡ length (view self.old).globals }
     {
         match place {
             Place::Field { object, i } => self.untag_field(object, i, target),

@@ -17,7 +17,7 @@ pub struct Rest {
     pub(crate) held: Vec<Registers>,
     pub(crate) calls: Vec<Option<Call>>,
     pub(crate) log: Vec<Entry>,
-    pub(crate) made: u32,
+    pub(crate) made: u64,
 }
 
 impl Rest {
