@@ -12,4 +12,5 @@ pub mod Making
 pub mod Resting
 pub mod Loads
 pub mod Steps
+pub mod Beginning
 pub mod Ends

@@ -261,7 +261,7 @@ impl Core {
     {
         match self.reference_in(place) {
             Ref::Null => StepResult::Answered(self.read(thread, op, place, 0)),
-            Ref::Clean(address) => StepResult::Answered(self.read(thread, op, place, address)),
+            Ref::Clean(current) => StepResult::Answered(self.read(thread, op, place, current)),
             Ref::Stale(_) => {
                 self.untag_word(place, target);
                 StepResult::Answered(self.read(thread, op, place, target))

@@ -13,13 +13,13 @@ pub read-requires-in-Clean-clause-may_hold : goal.read-requires-in-Clean-clause-
 read-requires-in-Clean-clause-may_hold c =
     let v = view c.args.self.now in
     let reads = cleared_reads v c.args.thread c.args.op c.args.place c.args.target c.requires.stands c.requires.call in
-    (clean_found v c.args.thread c.args.op c.args.place c.in-Clean.address c.requires.stands reads c.in-Clean.ensures).may_hold
+    (clean_found v c.args.thread c.args.op c.args.place c.in-Clean.current c.requires.stands reads c.in-Clean.ensures).may_hold
 
 pub read-requires-in-Clean-clause-value : goal.read-requires-in-Clean-clause-value
 read-requires-in-Clean-clause-value c =
     let v = view c.args.self.now in
     let reads = cleared_reads v c.args.thread c.args.op c.args.place c.args.target c.requires.stands c.requires.call in
-    (clean_found v c.args.thread c.args.op c.args.place c.in-Clean.address c.requires.stands reads c.in-Clean.ensures).value
+    (clean_found v c.args.thread c.args.op c.args.place c.in-Clean.current c.requires.stands reads c.in-Clean.ensures).value
 
 pub read-requires-in-Stale-clause-may_hold : goal.read-requires-in-Stale-clause-may_hold
 read-requires-in-Stale-clause-may_hold c =
@@ -44,8 +44,8 @@ returns-in-Null c =
 pub returns-in-Clean : goal.returns-in-Clean
 returns-in-Clean c =
     let v = view c.args.self.now in
-    cleared_answers v v (view c.read-in-Clean.new.self) c.args.thread c.args.op c.args.place c.args.target c.in-Clean.address c.read-in-Clean.result c.requires.stands c.requires.stands c.read-in-Clean.ensures.stands refl c.requires.thread c.requires.call refl
-    (clean_untagged _ c.in-Clean.address c.in-Clean.ensures) c.read-in-Clean.ensures.read
+    cleared_answers v v (view c.read-in-Clean.new.self) c.args.thread c.args.op c.args.place c.args.target c.in-Clean.current c.read-in-Clean.result c.requires.stands c.requires.stands c.read-in-Clean.ensures.stands refl c.requires.thread c.requires.call refl
+    (clean_untagged _ c.in-Clean.current c.in-Clean.ensures) c.read-in-Clean.ensures.read
 
 pub returns-in-Stale : goal.returns-in-Stale
 returns-in-Stale c =
