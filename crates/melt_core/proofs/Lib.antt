@@ -1,0 +1,16 @@
+pub mod Values
+pub mod Found
+pub mod Publish
+pub mod Flights
+pub mod Standing
+pub mod Counting
+pub mod Evolving
+pub mod Answers
+pub mod Changing
+pub mod Writing
+pub mod Making
+pub mod Resting
+pub mod Loads
+pub mod Steps
+pub mod Beginning
+pub mod Ends

@@ -1,0 +1,49 @@
+-- How a core begins and ends.
+use Rattle.std.specs.Prelude.{◌≡◌, ◌≢◌, ℕ, ◌+◌, ◌-◌, ◌≤◌, min, length, false, List, [], replicate, slice_set, vec_capacity, None}
+use Rattle.melt_model.specs.declared.history.Value.TheVariants.{Nil}
+use Rattle.melt_scion.specs.declared.registers.Registers.{Registers}
+use Rattle.melt_scion.specs.declared.heap.Heap.{Heap}
+use Rattle.melt_core.specs.declared.machine.Core.{Core}
+use Rattle.melt_core.specs.declared.machine.Rest.{Rest}
+use Rattle.melt_core.specs.Views.{View, view, values_of, Standing, IsQuiet}
+
+-- registers that hold nothing
+abbrev pub no_registers : Registers
+no_registers = record { regs = replicate 16 0 }
+
+-- Threads whose registers hold nothing and that have no call in flight, and an empty history.
+pub record IsNewRest (threads entries : ℕ) (rest : Rest) : Type 0 where
+  pub held : rest.held.items ≡ replicate threads no_registers
+  pub calls : rest.calls.items ≡ replicate threads None
+  pub history : rest.log.items ≡ []
+  pub room : entries ≤ vec_capacity rest.log
+  pub made : rest.made ≡ 0
+
+-- the core that begins with a heap and a rest
+abbrev pub core_of : Heap → Rest → Core
+core_of heap rest = record { heap = heap; rest = rest; free = heap.space.used + 1; stop = false }
+
+-- A heap and a rest between two epochs: the core that begins with them stands for its history, and no call is in flight.
+pub record AtRest (heap : Heap) (rest : Rest) : Type 0 where
+  pub stands : Standing (view (core_of heap rest))
+  pub quiet : IsQuiet (view (core_of heap rest))
+
+-- A core became a heap and a rest: the history stays and the registers do, and so do the words. Those before the first
+-- free place are in use, or all of them where a claim ended past the last one.
+pub record HasFinished (v w : View) : Type 0 where
+  pub words : w.space.list ≡ v.space.list
+  pub used : w.space.used ≡ min (v.free - 1) (length v.space.list)
+  pub globals : w.globals ≡ v.globals
+  pub names : w.names ≡ v.names
+  pub held : w.held ≡ v.held
+  pub calls : w.calls ≡ v.calls
+  pub log : w.log ≡ v.log
+  pub capacity : w.capacity ≡ v.capacity
+  pub made : w.made ≡ v.made
+
+-- the registers of a thread hold nothing now
+pub record HasDropped (v w : View) (t : ℕ) : Type 0 where
+  pub stands : Standing w
+  pub only : w ≡ record v { held = slice_set v.held t no_registers }
+  pub here : values_of w t ≡ replicate 16 Nil
+  pub others : (u : ℕ) → u ≢ t → values_of w u ≡ values_of v u
