@@ -1,5 +1,5 @@
 //! The core: a heap, the registers and calls of threads, and the history.
-ghost use Rattle.std.specs.Prelude.{◌≡◌, ◌<◌, ◌≤◌, true, length, None, IfOk};
+ghost use Rattle.std.specs.Prelude.{◌≡◌, ◌+◌, ◌<◌, ◌≤◌, true, length, None, IfOk};
 ghost use Rattle.std.specs.Borrow.{sem};
 ghost use Rattle.melt_core.specs.Views.{IsQuiet, Standing, call_of, view};
 ghost use Rattle.melt_core.specs.Epochs.{AtRest, HasDropped, HasFinished, IsNewRest, core_of};
@@ -74,6 +74,14 @@ impl Core {
             free,
             stop: false,
         }
+    }
+
+    /// How many words stand before the first free place.
+    pub fn used(&self) -> u32
+        requires { Standing (view self.now) }
+        ensures { (view self.now).free ≡ result + 1 }
+    {
+        self.free - 1
     }
 
     /// Whether the stop word is set.
