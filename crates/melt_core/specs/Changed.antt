@@ -10,7 +10,6 @@ use Rattle.melt_word.specs.declared.reference.Ref as words
 use Rattle.melt_word.specs.declared.header.Shape.{Shape}
 use Rattle.melt_scion.specs.Changes.{NameAppears}
 use Rattle.melt_space.specs.Space.{SpaceWords}
-use Rattle.melt_scion.specs.declared.registers.Registers.{Registers}
 use Rattle.melt_core.specs.declared.call.Call.{Call}
 use Rattle.melt_core.specs.declared.call.Stage.TheVariants.{Claimed, Lacking}
 use Rattle.melt_model.specs.declared.operations.Op.{Op}

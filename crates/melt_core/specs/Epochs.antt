@@ -1,5 +1,5 @@
 -- How a core begins and ends.
-use Rattle.std.specs.Prelude.{◌≡◌, ◌≢◌, ℕ, ◌+◌, ◌-◌, ◌≤◌, min, length, false, List, [], replicate, slice_set, vec_capacity, None}
+use Rattle.std.specs.Prelude.{◌≡◌, ◌≢◌, ℕ, ◌+◌, ◌-◌, ◌≤◌, min, length, false, [], replicate, slice_set, vec_capacity, None}
 use Rattle.melt_model.specs.declared.history.Value.TheVariants.{Nil}
 use Rattle.melt_scion.specs.declared.registers.Registers.{Registers}
 use Rattle.melt_scion.specs.declared.heap.Heap.{Heap}

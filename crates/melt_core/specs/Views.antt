@@ -1,5 +1,5 @@
 -- What a core shows, and when it stands for its history.
-use Rattle.std.specs.Prelude.{◌≡◌, ◌≢◌, ℕ, ◌+◌, ◌^◌, ◌<◌, ◌≤◌, Bool, false, List, [], length, map, sum, slice_index, slice_index_or, vec_capacity, Option, None, Some, IsSome, unwrap_or}
+use Rattle.std.specs.Prelude.{◌≡◌, ◌≢◌, ℕ, ◌+◌, ◌^◌, ◌<◌, ◌≤◌, Bool, List, [], length, map, sum, slice_index, slice_index_or, vec_capacity, Option, None, Some, IsSome, unwrap_or}
 use Rattle.melt_model.specs.History.{made as makes, Legal}
 use Rattle.melt_model.specs.Thread.{value_in}
 use Rattle.melt_model.specs.Alive.{words_of, CostsSum}
