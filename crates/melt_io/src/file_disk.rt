@@ -1,6 +1,5 @@
 //! A disk in a file.
-ghost use Rattle.std.specs.Prelude.{◌≡◌, ◌+◌, ◌*◌, ◌<◌, ◌≤◌, ◌^◌, ◌↔◌, true, [], None, Some, length, take, drop, vec_len, IsTrue, IsNone, IsSome, IsErrOf, IfOk, IfSome, OnOk, OnErr};
-ghost use Rattle.std.specs.Option.{option_map_or};
+ghost use Rattle.std.specs.Prelude.{◌≡◌, ◌+◌, ◌*◌, ◌<◌, ◌≤◌, ◌^◌, ◌↔◌, true, None, length, take, drop, vec_len, IsNone, IsSome, IsErr, IsErrOf, IfOk, IfSome, OnOk, OnErr};
 ghost use Rattle.melt_io.specs.Outside.{KeepsOthers, Rose, Writes, counted};
 ghost use Rattle.melt_io.specs.Words.{word_bytes, words_of};
 
@@ -31,10 +30,11 @@ pub struct FileDisk<F> {
 
 /// Reads the words that stand in a file, and zeros past its end. Up to 4,096 words are read by one read of
 /// the file, and by one more after each that was short; more words by as many for each 4,096. Where a read
-/// of the file fails, the answer is `Failed`. It tells no words: its clauses speak of the bytes of the file.
+/// of the file fails, the answer is `Failed`. Without a file, as where nothing was written before the lend,
+/// each read fails. It tells no words: its clauses speak of the bytes of the file.
 #[derive(Debug, Drop)]
 pub struct FileReader<F> {
-    pub file: F,
+    pub file: Option<F>,
     pub piece: Vec<u8>,
     pub reads: u64,
     pub faults: u64,
@@ -76,20 +76,6 @@ impl<F: Drop> FileDisk<F> {
     }
 }
 
-/// The reader of a file that may not have been made: one that was not made has no bytes.
-impl<F: PositionedReader> PositionedReader for Option<F> {
-    ghost bytes = { λ file. option_map_or F.bytes file (Some []) };
-
-    ghost faults = { λ file. option_map_or F.faults file 0 };
-
-    fn read_at(&mut self, buf: &mut [u8], at: u64) -> Result<usize, Failed> {
-        match self {
-            Some(file) => file.read_at(buf, at),
-            None => Ok(0),
-        }
-    }
-}
-
 impl<F: PositionedReader> RecordReader for FileReader<F> {
     ghost image = { λ _. None };
 
@@ -100,10 +86,12 @@ impl<F: PositionedReader> RecordReader for FileReader<F> {
     fn read_at(&mut self, at: u32, words: &mut [u64]) -> Result<(), Failed>
         requires some { 0 < length words.old }
         requires in_range { at + length words.old ≤ 2 ^ 32 }
-        ensures words { OnOk result (IfSome (F.bytes self.old.file) (λ bytes. words.new ≡ words_of (length words.old) (drop (8 * at) bytes))) }
-        ensures kept { F.bytes self.new.file ≡ F.bytes self.old.file }
-        ensures no_file_fault { OnOk result (F.faults self.new.file ≡ F.faults self.old.file) }
-        ensures file_failed { OnErr result (Rose (F.faults self.old.file) (F.faults self.new.file)) }
+        ensures no_file { IsNone self.old.file → IsErr result }
+        ensures words { OnOk result (IfSome self.old.file (λ old. IfSome (F.bytes old) (λ bytes. words.new ≡ words_of (length words.old) (drop (8 * at) bytes)))) }
+        ensures stays_open { IsSome self.new.file ↔ IsSome self.old.file }
+        ensures kept { IfSome self.old.file (λ old. IfSome self.new.file (λ new. F.bytes new ≡ F.bytes old)) }
+        ensures no_file_fault { OnOk result (IfSome self.old.file (λ old. IfSome self.new.file (λ new. F.faults new ≡ F.faults old))) }
+        ensures file_failed { OnErr result (IfSome self.old.file (λ old. IfSome self.new.file (λ new. Rose (F.faults old) (F.faults new)))) }
         ensures no_fault { OnOk result (self.new.faults ≡ self.old.faults) }
         ensures failed { OnErr result (Rose self.old.faults self.new.faults) }
         ensures count { self.old.faults ≤ self.new.faults }
@@ -112,7 +100,7 @@ impl<F: PositionedReader> RecordReader for FileReader<F> {
     {
         self.reads = self.reads.saturating_add(1);
         let piece = &mut self.piece;
-        if read_words(&mut self.file, piece, at, words).is_err() {
+        if read_file(&mut self.file, piece, at, words).is_err() {
             self.faults = self.faults.saturating_add(1);
             return Err(Failed);
         }
@@ -124,7 +112,7 @@ impl<F: PositionedFile> StaleDisk for FileDisk<F>
 where
     F::Reader: Send,
 {
-    type Reader = FileReader<Option<F::Reader>>;
+    type Reader = FileReader<F::Reader>;
 
     ghost image = { λ _. None };
 
@@ -157,10 +145,10 @@ where
         Ok(())
     }
 
-    fn lend(&mut self, alloc: Global) -> Result<FileReader<Option<F::Reader>>, LendRefusal>
-        ensures lent { IfOk result (λ reader. IfSome (F.bytes self.old.file) (λ bytes. option_map_or F.Reader.bytes reader.file (Some []) ≡ Some bytes)) }
+    fn lend(&mut self, alloc: Global) -> Result<FileReader<F::Reader>, LendRefusal>
+        ensures lent { IfOk result (λ reader. IfSome reader.file (λ file. F.Reader.bytes file ≡ F.bytes self.old.file)) }
         ensures open { IfOk result (λ reader. IsSome reader.file ↔ (F.made self.old.file ≡ true)) }
-        ensures no_file_fault_yet { IfOk result (λ reader. option_map_or F.Reader.faults reader.file 0 ≡ 0) }
+        ensures no_file_fault_yet { IfOk result (λ reader. IfSome reader.file (λ file. F.Reader.faults file ≡ 0)) }
         ensures no_fault_yet { IfOk result (λ reader. reader.faults ≡ 0) }
         ensures no_read_yet { IfOk result (λ reader. reader.reads ≡ 0) }
         ensures kept { F.bytes self.new.file ≡ F.bytes self.old.file }
@@ -189,7 +177,7 @@ where
         }
     }
 
-    fn give_back(&mut self, reader: FileReader<Option<F::Reader>>)
+    fn give_back(&mut self, reader: FileReader<F::Reader>)
         ensures file { self.new.file ≡ self.old.file }
         ensures count { self.new.faults ≡ self.old.faults }
         ensures read_faults { self.new.read_faults ≡ counted self.old.read_faults reader.faults }
@@ -201,9 +189,9 @@ where
 
 /// Opens a reader of the file, if it was made.
 fn open_file<F: PositionedFile>(file: &mut F) -> Result<Option<F::Reader>, Failed>
-    ensures opened { IfOk result (λ reader. IfSome (F.bytes file.old) (λ bytes. option_map_or F.Reader.bytes reader (Some []) ≡ Some bytes)) }
+    ensures opened { IfOk result (λ reader. IfSome reader (λ lent. F.Reader.bytes lent ≡ F.bytes file.old)) }
     ensures open { IfOk result (λ reader. IsSome reader ↔ (F.made file.old ≡ true)) }
-    ensures no_fault_yet { IfOk result (λ reader. option_map_or F.Reader.faults reader 0 ≡ 0) }
+    ensures no_fault_yet { IfOk result (λ reader. IfSome reader (λ lent. F.Reader.faults lent ≡ 0)) }
     ensures kept { F.bytes file.new ≡ F.bytes file.old }
     ensures made { F.made file.new ≡ F.made file.old }
     ensures no_fault { OnOk result (F.faults file.new ≡ F.faults file.old) }
@@ -285,6 +273,28 @@ fn write_run<F: PositionedFile>(
     let bytes = &mut piece[..8 * words.len()];
     put_words(words, bytes);
     file.write_all_at(bytes, 8 * at)
+}
+
+/// Reads the words from word `at` on, where there is a file.
+fn read_file<F: PositionedReader>(
+    file: &mut Option<F>,
+    piece: &mut [u8],
+    at: u32,
+    words: &mut [u64],
+) -> Result<(), Failed>
+    requires room { 8 ≤ length piece.old }
+    requires in_range { at + length words.old ≤ 2 ^ 32 }
+    ensures no_file { IsNone file.old → IsErr result }
+    ensures words { OnOk result (IfSome file.old (λ old. IfSome (F.bytes old) (λ bytes. words.new ≡ words_of (length words.old) (drop (8 * at) bytes)))) }
+    ensures stays_open { IsSome file.new ↔ IsSome file.old }
+    ensures kept { IfSome file.old (λ old. IfSome file.new (λ new. F.bytes new ≡ F.bytes old)) }
+    ensures no_fault { OnOk result (IfSome file.old (λ old. IfSome file.new (λ new. F.faults new ≡ F.faults old))) }
+    ensures failed { OnErr result (IfSome file.old (λ old. IfSome file.new (λ new. Rose (F.faults old) (F.faults new)))) }
+{
+    match file {
+        Some(file) => read_words(file, piece, at, words),
+        None => Err(Failed),
+    }
 }
 
 /// Reads the words from word `at` on, each run of them through `piece`, and zeros past the end of the

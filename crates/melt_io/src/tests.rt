@@ -223,13 +223,22 @@ fn long_runs_go_by_4096_words(rt: HostRuntime) -> Result<(), Fail> {
 }
 
 #[test]
-fn a_disk_of_which_nothing_was_written_has_zeros(rt: HostRuntime) -> Result<(), Fail> {
-    let mut disk = FileDisk::new(rt.alloc(), rt)?;
+fn a_reader_lent_before_the_first_write_fails_each_read(rt: HostRuntime) -> Result<(), Fail> {
+    let mut disk = disk_in_memory(rt.alloc(), &[], &[])?;
     let mut reader = disk.lend(rt.alloc()).ok().ok_or("no reader")?;
+    disk.write_at(7, &[5])?;
     let mut words = [9; 2];
-    reader.read_at(7, &mut words)?;
-    assert_eq!(rt; words, [0, 0]);
+    assert_eq!(rt; reader.read_at(7, &mut words), Err(Failed));
+    assert_eq!(rt; reader.read_at(0, &mut words), Err(Failed));
+    assert_eq!(rt; (reader.reads, reader.faults), (2, 2));
     disk.give_back(reader);
+    assert_eq!(rt; (disk.faults, disk.read_faults), (0, 2));
+
+    let mut real = FileDisk::new(rt.alloc(), rt)?;
+    let mut unread = real.lend(rt.alloc()).ok().ok_or("no reader")?;
+    assert_eq!(rt; unread.read_at(7, &mut words), Err(Failed));
+    real.give_back(unread);
+    assert_eq!(rt; (real.faults, real.read_faults), (0, 1));
     Ok(())
 }
 
