@@ -1,10 +1,11 @@
 -- A disk's words, with zeros past their end.
-use Rattle.std.proofs.Common.{◌≡◌, ℕ, ◌+◌, ◌-◌, ◌≤◌, List, ◌++◌, length, min, take, drop, replicate, arith, inl, inr, sym, ◌∙◌, ap, length-drop, length-append}
-use Rattle.std.proofs.lemmas.List.{drop_all, take_all, take-append-le, take-replicate, drop-replicate, length-replicate, append-nil}
+use Rattle.std.proofs.Common.{◌≡◌, ℕ, ◌+◌, ◌-◌, ◌<◌, ◌≤◌, List, ◌++◌, length, min, take, drop, replicate, get_or, arith, inl, inr, sym, ◌∙◌, ap, length-drop, length-append}
+use Rattle.std.proofs.lemmas.List.{drop_all, take_all, take-append-le, take-replicate, drop-replicate, length-replicate, length-take, append-nil, get_or-append_right, get_or-drop, get_or-take, get_or_append_left}
 use Rattle.std.proofs.lemmas.Bool.{cases_lt}
 use Rattle.std.proofs.Math.Seq.{take-append-add, take-append_seam}
 use Rattle.melt_io.proofs.Fronts.{drop-min, take-rest}
-use Rattle.melt_io.specs.Outside.{words_at, with_words}
+use Rattle.melt_io.proofs.WordBytes.{get_or-padded}
+use Rattle.melt_io.specs.Outside.{SameOutside, words_at, with_words}
 
 -- the first words, where zeros enough stand behind
 pub take-padded : (at k : ℕ) (xs : List ℕ) → at ≤ length xs + k → take at (xs ++ replicate k 0) ≡ take at xs ++ replicate (at - length xs) 0
@@ -73,3 +74,25 @@ overwritten image long new at words reached e =
 pub written_back : (n : ℕ) (new old : List ℕ) → length new ≡ n → take n (new ++ drop (length new) old) ≡ new
 written_back n new old e =
     ap (λ m. take m (new ++ drop (length new) old)) (sym e) ∙ take-append_seam new (drop (length new) old)
+
+pub length-front : (image : List ℕ) (at : ℕ) → length (take at (image ++ replicate at 0)) ≡ at
+length-front image at = length-take at (image ++ replicate at 0) ∙ omega (arith, length-append image (replicate at 0), length-replicate {A = ℕ} at 0)
+
+-- what is written changes nothing before it and behind it
+pub with_words-outside : (image : List ℕ) (at : ℕ) (words : List ℕ) → SameOutside image at (length words) (with_words image at words)
+with_words-outside image at words =
+    let front : List ℕ = take at (image ++ replicate at 0) in
+    let rest : List ℕ = drop (at + length words) image in
+    let len : length (front ++ words) ≡ at + length words = length-append front words ∙ ap (λ n. n + length words) (length-front image at) in
+    record {
+      before = λ k h.
+          let in_front : k < length front = omega (arith, length-front image at) in
+          let in_both : k < length (front ++ words) = omega (arith, len) in
+          get_or_append_left (front ++ words) rest 0 k in_both ∙ get_or_append_left front words 0 k in_front
+          ∙ get_or-take at (image ++ replicate at 0) k 0 h ∙ get_or-padded image at k;
+      behind = λ k h.
+          let place : at + length words + (k - (at + length words)) ≡ k = omega arith in
+          get_or-append_right (front ++ words) rest (at + length words) k 0 len h
+          ∙ get_or-drop (at + length words) image (k - (at + length words)) 0
+          ∙ ap (λ n. get_or image n 0) place;
+    }

@@ -1,111 +1,175 @@
 -- Runs of words that are written and read one after another, where the bytes are known.
-use Rattle.std.proofs.Common.{◌≡◌, ℕ, ◌+◌, ◌-◌, ◌*◌, ◌<◌, ◌≤◌, List, [], ◌++◌, length, take, drop, replicate, Option, None, Some, append_assoc, length-append, length-drop, arith, inl, inr, refl, sym, ◌∙◌, ap, subst}
+use Rattle.std.proofs.Common.{◌≡◌, ℕ, ◌+◌, ◌-◌, ◌*◌, ◌<◌, ◌≤◌, List, [], ◌∷◌, ◌++◌, length, take, drop, replicate, Option, None, Some, IfSome, append_assoc, length-append, length-drop, length-take, arith, inl, inr, refl, sym, ◌∙◌, ap, subst}
 use Rattle.std.proofs.lemmas.Bool.{cases_lt}
 use Rattle.std.proofs.lemmas.Grind.{flat_map-append}
-use Rattle.std.proofs.lemmas.List.{append-nil, drop-drop, drop_all, drop_at, length-take, length-take-le, take-append-le, take_at}
-use Rattle.std.proofs.Math.Seq.{take-add, take-append-add}
-use Rattle.std.specs.Io.KnownBytes.{Appends, Consumes, IsAtEnd}
+use Rattle.std.proofs.lemmas.List.{append-nil, take-append-drop, drop-drop, drop_all, length-take-le, take-append-le, take_all, take_at}
+use Rattle.std.proofs.Math.Seq.{drop-append-add, take-add, take-append-add}
 use Rattle.byteorder.specs.Endian.{little_bytes}
-use Rattle.melt_io.specs.Words.{word_bytes, words_of, ReadsWords}
+use Rattle.byteorder.specs.Numbers.{length-bytes_low_first}
+use Rattle.melt_io.specs.Outside.{KeepsOthers, SameOutside, Writes, with_words}
+use Rattle.melt_io.specs.Words.{word_bytes, words_of}
+use Rattle.melt_io.proofs.Images.{length-front, with_words-outside}
 use Rattle.melt_io.proofs.WordBytes.{words_of-append, words_of-front, words_of-padded}
 
-appends-twice : (old mid new : Option (List ℕ)) (first second : List ℕ) → Appends old mid first → Appends mid new second → Appends old new (first ++ second)
-appends-twice None mid new first second one two = tt
-appends-twice (Some old) None new first second one two = elim one [ ]
-appends-twice (Some old) (Some mid) None first second one two = elim two [ ]
-appends-twice (Some old) (Some mid) (Some new) first second one two =
-    two ∙ ap (λ bytes. bytes ++ second) one ∙ append_assoc old first second
+pub length-word_bytes : (words : List ℕ) → length (word_bytes words) ≡ 8 * length words
+length-word_bytes [] = refl
+length-word_bytes (word ∷ words) =
+    let here : length (little_bytes 8 word) ≡ 8 = length-bytes_low_first 0 8 word in
+    omega (arith, length-append (little_bytes 8 word) (word_bytes words), here, length-word_bytes words)
+
+-- a piece, and then the one behind it
+with_words-append : (image : List ℕ) (at : ℕ) (first second : List ℕ) → with_words (with_words image at first) (at + length first) second ≡ with_words image at (first ++ second)
+with_words-append image at first second =
+    let front : List ℕ = take at (image ++ replicate at 0) in
+    let end : ℕ = at + length first in
+    let rest : List ℕ = drop end image in
+    let mid : List ℕ = front ++ first ++ rest in
+    let len : length (front ++ first) ≡ end = length-append front first ∙ ap (λ n. n + length first) (length-front image at) in
+    let before : take end (mid ++ replicate end 0) ≡ front ++ first
+    = ap (λ bytes. take end bytes) (append_assoc (front ++ first) rest (replicate end 0)) ∙ take_at (front ++ first) (rest ++ replicate end 0) end len in
+    let past : drop (end + length second) mid ≡ drop (end + length second) image
+    = ap (λ n. drop (n + length second) mid) (sym len) ∙ drop-append-add (front ++ first) rest (length second)
+    ∙ drop-drop (length second) end image in
+    let whole : end + length second ≡ at + length (first ++ second) = omega (arith, length-append first second) in
+    ap (λ bytes. bytes ++ second ++ drop (end + length second) mid) before
+    ∙ ap (λ bytes. front ++ first ++ second ++ bytes) past
+    ∙ ap (λ bytes. bytes ++ drop (end + length second) image) (append_assoc front first second)
+    ∙ ap (λ n. front ++ (first ++ second) ++ drop n image) whole
+
+-- The bytes that are written so far. Before the first run nothing has changed.
+abbrev pub WritesSoFar : Option (List ℕ) → ℕ → List ℕ → Option (List ℕ) → Type 0
+WritesSoFar old at [] new = new ≡ old
+WritesSoFar old at (byte ∷ bytes) new = Writes old at (byte ∷ bytes) new
+
+pub writes-so_far : (old new : Option (List ℕ)) (at : ℕ) (bytes : List ℕ) → 0 < length bytes → Writes old at bytes new → WritesSoFar old at bytes new
+writes-so_far old new at [] some told = absurd (omega arith)
+writes-so_far old new at (byte ∷ bytes) some told = told
+
+pub so_far-writes : (old new : Option (List ℕ)) (at : ℕ) (bytes : List ℕ) → 0 < length bytes → WritesSoFar old at bytes new → Writes old at bytes new
+so_far-writes old new at [] some told = absurd (omega arith)
+so_far-writes old new at (byte ∷ bytes) some told = told
+
+Writes-append : (old mid new : Option (List ℕ)) (at : ℕ) (first second : List ℕ) → Writes old at first mid → Writes mid (at + length first) second new → Writes old at (first ++ second) new
+Writes-append None None None at first second one two = tt
+Writes-append None None (Some new) at first second one two = elim two [ ]
+Writes-append None (Some mid) new at first second one two = elim one [ ]
+Writes-append (Some old) None new at first second one two = elim one [ ]
+Writes-append (Some old) (Some mid) None at first second one two = elim two [ ]
+Writes-append (Some old) (Some mid) (Some new) at first second one two =
+    two ∙ ap (λ bytes. with_words bytes (at + length first) second) one ∙ with_words-append old at first second
+
+writes-behind : (old mid new : Option (List ℕ)) (at : ℕ) (first second : List ℕ) → WritesSoFar old at first mid → Writes mid (at + length first) second new → Writes old at (first ++ second) new
+writes-behind old mid new at [] second one two =
+    let start : at + 0 ≡ at = omega arith in
+    let P : ℕ → Type 0 = λ n. Writes mid n second new in
+    let there : Writes mid at second new = subst P start two in
+    let Q : Option (List ℕ) → Type 0 = λ told. Writes told at second new in
+    subst Q one there
+writes-behind old mid new at (byte ∷ bytes) second one two = Writes-append old mid new at (byte ∷ bytes) second one two
 
 -- the words up to `end`, behind those up to `done`
-pub appends-run : (old mid new : Option (List ℕ)) (words : List ℕ) (done end : ℕ) → done ≤ end → Appends old mid (word_bytes (take done words)) → Appends mid new (word_bytes (take (end - done) (drop done words))) → Appends old new (word_bytes (take end words))
-appends-run old mid new words done end h one two =
-    let P : List ℕ → Type 0 = λ bytes. Appends old new bytes in
-    let at : done + (end - done) ≡ end = omega arith in
-    let whole : word_bytes (take done words) ++ word_bytes (take (end - done) (drop done words)) ≡ word_bytes (take end words)
+pub writes-run : (old mid new : Option (List ℕ)) (at : ℕ) (words : List ℕ) (done end : ℕ) → done < end → end ≤ length words → WritesSoFar old (8 * at) (word_bytes (take done words)) mid → Writes mid (8 * (at + done)) (word_bytes (take (end - done) (drop done words))) new → WritesSoFar old (8 * at) (word_bytes (take end words)) new
+writes-run old mid new at words done end more fits one two =
+    let first : List ℕ = word_bytes (take done words) in
+    let second : List ℕ = word_bytes (take (end - done) (drop done words)) in
+    let len : length first ≡ 8 * done = length-word_bytes (take done words) ∙ ap (λ n. 8 * n) (length-take-le done words (omega arith)) in
+    let place : 8 * (at + done) ≡ 8 * at + length first = omega arith in
+    let there : Writes mid (8 * at + length first) second new = let P : ℕ → Type 0 = λ n. Writes mid n second new in subst P place two in
+    let behind : done + (end - done) ≡ end = omega arith in
+    let whole : first ++ second ≡ word_bytes (take end words)
     = sym (flat_map-append (little_bytes 8) (take done words) (take (end - done) (drop done words)))
-    ∙ ap word_bytes (sym (take-add done (end - done) words) ∙ ap (λ n. take n words) at) in
-    subst P whole (appends-twice old mid new _ _ one two)
+    ∙ ap word_bytes (sym (take-add done (end - done) words) ∙ ap (λ n. take n words) behind) in
+    let count : length (word_bytes (take end words)) ≡ 8 * end = length-word_bytes (take end words) ∙ ap (λ n. 8 * n) (length-take-le end words fits) in
+    let P : List ℕ → Type 0 = λ bytes. Writes old (8 * at) bytes new in
+    writes-so_far old new (8 * at) (word_bytes (take end words)) (omega arith) (subst P whole (writes-behind old mid new (8 * at) first second one there))
 
-consumes-twice : (old mid new : Option (List ℕ)) (first second : List ℕ) → Consumes old mid first → Consumes mid new second → Consumes old new (first ++ second)
-consumes-twice None mid new first second one two = tt
-consumes-twice (Some old) None new first second one two = elim one [ ]
-consumes-twice (Some old) (Some mid) None first second one two = elim two [ ]
-consumes-twice (Some old) (Some mid) (Some new) first second one two =
-    one ∙ ap (λ bytes. first ++ bytes) two ∙ sym (append_assoc first second new)
+SameOutside-append : (old mid new : List ℕ) (at m n all : ℕ) → m + n ≤ all → SameOutside old at m mid → SameOutside mid (at + m) n new → SameOutside old at all new
+SameOutside-append old mid new at m n all fits one two = record {
+  before = λ k h. two.before k (omega arith) ∙ one.before k h;
+  behind = λ k h. two.behind k (omega arith) ∙ one.behind k (omega arith);
+}
 
--- n bytes more, behind the first `at`
-pub consumes-more : (old mid new : Option (List ℕ)) (bytes buf behind : List ℕ) (at n : ℕ) → at ≤ length bytes → n ≤ length buf → Consumes old mid (take at bytes) → Consumes mid new (take n buf) → Consumes old new (take (at + n) (take at bytes ++ (buf ++ behind)))
-consumes-more old mid new bytes buf behind at n h fits one two =
-    let P : List ℕ → Type 0 = λ front. Consumes old new front in
-    let len : length (take at bytes) ≡ at = length-take-le at bytes h in
-    let whole : take at bytes ++ take n buf ≡ take (at + n) (take at bytes ++ (buf ++ behind))
-    = ap (λ read. take at bytes ++ read) (sym (take-append-le n buf behind fits))
-    ∙ sym (take-append-add (take at bytes) (buf ++ behind) n) ∙ ap (λ m. take (m + n) (take at bytes ++ (buf ++ behind))) len in
-    subst P whole (consumes-twice old mid new _ _ one two)
+SameOutside-nothing : (old : List ℕ) (at : ℕ) → SameOutside old at 0 old
+SameOutside-nothing old at = record { before = λ k h. refl; behind = λ k h. refl }
+
+-- a piece that was written, and one behind it of which the writing failed
+keeps-behind : (old mid new : Option (List ℕ)) (at : ℕ) (first : List ℕ) (n all : ℕ) → length first + n ≤ all → WritesSoFar old at first mid → KeepsOthers mid (at + length first) n new → KeepsOthers old at all new
+keeps-behind None None None at first n all fits one two = tt
+keeps-behind None None (Some new) at first n all fits one two = elim two [ ]
+keeps-behind None (Some mid) new at [] n all fits one two = cc
+keeps-behind None (Some mid) new at (byte ∷ first) n all fits one two = elim one [ ]
+keeps-behind (Some old) None new at [] n all fits one two = cc
+keeps-behind (Some old) None new at (byte ∷ first) n all fits one two = elim one [ ]
+keeps-behind (Some old) (Some mid) None at first n all fits one two = elim two [ ]
+keeps-behind (Some old) (Some mid) (Some new) at [] n all fits one two =
+    let same : mid ≡ old = cc in
+    SameOutside-append old mid new at 0 n all fits (rw same (SameOutside-nothing old at)) two
+keeps-behind (Some old) (Some mid) (Some new) at (byte ∷ first) n all fits one two =
+    let written : SameOutside old at (length (byte ∷ first)) mid = rw one (with_words-outside old at (byte ∷ first)) in
+    SameOutside-append old mid new at (length (byte ∷ first)) n all fits written two
+
+-- a run that failed behind the words up to `done`
+pub keeps-run : (old mid new : Option (List ℕ)) (at : ℕ) (words : List ℕ) (done n : ℕ) → done + n ≤ length words → WritesSoFar old (8 * at) (word_bytes (take done words)) mid → KeepsOthers mid (8 * (at + done)) (8 * n) new → KeepsOthers old (8 * at) (8 * length words) new
+keeps-run old mid new at words done n fits one two =
+    let first : List ℕ = word_bytes (take done words) in
+    let len : length first ≡ 8 * done = length-word_bytes (take done words) ∙ ap (λ n. 8 * n) (length-take-le done words (omega arith)) in
+    let place : 8 * (at + done) ≡ 8 * at + length first = omega arith in
+    let P : ℕ → Type 0 = λ at. KeepsOthers mid at (8 * n) new in
+    keeps-behind old mid new (8 * at) first (8 * n) (8 * length words) (omega arith) one (subst P place two)
+
+-- n bytes more, behind the first `filled`
+pub reads-on : (told : Option (List ℕ)) (bytes buf behind : List ℕ) (at filled n : ℕ) → filled ≤ length bytes → n ≤ length buf → IfSome told (λ all. take filled bytes ≡ take filled (drop at all)) → IfSome told (λ all. take n buf ≡ take n (drop (at + filled) all)) → IfSome told (λ all. take (filled + n) (take filled bytes ++ (buf ++ behind)) ≡ take (filled + n) (drop at all))
+reads-on None bytes buf behind at filled n within fits one two = tt
+reads-on (Some all) bytes buf behind at filled n within fits one two =
+    let len : length (take filled bytes) ≡ filled = length-take-le filled bytes within in
+    let next : drop (at + filled) all ≡ drop filled (drop at all) = sym (drop-drop filled at all) in
+    ap (λ m. take (m + n) (take filled bytes ++ (buf ++ behind))) (sym len)
+    ∙ take-append-add (take filled bytes) (buf ++ behind) n
+    ∙ ap (λ read. take filled bytes ++ read) (take-append-le n buf behind fits ∙ two ∙ ap (λ left. take n left) next)
+    ∙ ap (λ front. front ++ take n (drop filled (drop at all))) one
+    ∙ sym (take-add filled n (drop at all))
 
 -- what is written over a part keeps the length
 pub length-overwritten : (bytes part : List ℕ) (at n : ℕ) → at + n ≤ length bytes → length part ≡ n → length (take at bytes ++ (part ++ drop (at + n) bytes)) ≡ length bytes
 length-overwritten bytes part at n h len =
     simp (length-append, length-take, length-drop) (omega arith)
 
-pub consumes-nothing : (old : Option (List ℕ)) → Consumes old old []
-consumes-nothing None = tt
-consumes-nothing (Some bytes) = refl
-
--- what a run gives: a front of what was left, and zeros where that ended
-pub reads-run : (old new : Option (List ℕ)) (front words : List ℕ) (z : ℕ) → length front ≤ 8 * length words → Consumes old new front → (length front < 8 * length words → IsAtEnd new) → words ≡ words_of (length words) (front ++ replicate z 0) → ReadsWords old words new
-reads-run None new front words z fits taken ended e = tt
-reads-run (Some left) None front words z fits taken ended e = elim taken [ ]
-reads-run (Some left) (Some rest) front words z fits taken ended e =
-    let n : ℕ = length words in
-    let plain : words ≡ words_of n front = e ∙ words_of-padded n z front in
-    elim (cases_lt (length front) (8 * n)) [
-      | inl short ↦
-          let all : left ≡ front = taken ∙ ap (λ bytes. front ++ bytes) (ended short) ∙ append-nil front in
-          let past : length left ≤ 8 * n = omega (arith, ap length all) in
-          (plain ∙ ap (λ bytes. words_of n bytes) (sym all), ended short ∙ sym (drop_all (8 * n) left past))
+-- what a run gives: a front of what is there, and zeros where that ends
+words_of-filled : (there : List ℕ) (k n z : ℕ) → n ≤ 8 * k → length (take n there) ≡ n → (n < 8 * k → length there ≤ n) → words_of k (take n there ++ replicate z 0) ≡ words_of k there
+words_of-filled there k n z fits len ended =
+    words_of-padded k z (take n there)
+    ∙ elim (cases_lt n (8 * k)) [
+      | inl short ↦ ap (λ bytes. words_of k bytes) (take_all n there (ended short))
       | inr full ↦
-          let len : length front ≡ 8 * n = omega arith in (
-            plain ∙ sym (words_of-front n front rest len) ∙ ap (λ bytes. words_of n bytes) (sym taken),
-            sym (ap (λ bytes. drop (8 * n) bytes) taken ∙ drop_at front rest (8 * n) len),
-          )
+          let whole : take n there ++ drop n there ≡ there = take-append-drop n there in
+          sym (words_of-front k (take n there) (drop n there) (omega arith)) ∙ ap (λ bytes. words_of k bytes) whole
     ]
 
--- the same, where the zeros are written behind the front
-pub reads-filled : (old new : Option (List ℕ)) (bytes zeros words : List ℕ) (n z k : ℕ) → n ≤ length bytes → length bytes ≡ 8 * k → length words ≡ k → Consumes old new (take n bytes) → (n < length bytes → IsAtEnd new) → zeros ≡ replicate z 0 → words ≡ words_of k (take n bytes ++ (zeros ++ drop (length bytes - n) (drop n bytes))) → ReadsWords old words new
-reads-filled old new bytes zeros words n z k fits len count taken ended zero e =
-    let front : length (take n bytes) ≡ n = length-take-le n bytes fits in
+pub reads-filled : (told : Option (List ℕ)) (at : ℕ) (bytes zeros words : List ℕ) (n z k : ℕ) → n ≤ length bytes → length bytes ≡ 8 * k → IfSome told (λ all. take n bytes ≡ take n (drop at all)) → (n < length bytes → IfSome told (λ all. length all ≤ at + n)) → zeros ≡ replicate z 0 → words ≡ words_of k (take n bytes ++ (zeros ++ drop (length bytes - n) (drop n bytes))) → IfSome told (λ all. words ≡ words_of k (drop at all))
+reads-filled None at bytes zeros words n z k fits len taken ended zero e = tt
+reads-filled (Some all) at bytes zeros words n z k fits len taken ended zero e =
+    let there : List ℕ = drop at all in
     let behind : List ℕ = drop (length bytes - n) (drop n bytes) in
     let nothing : behind ≡ [] = drop_all (length bytes - n) (drop n bytes) (omega (arith, length-drop n bytes)) in
     let padded : zeros ++ behind ≡ replicate z 0 = ap (λ rest. zeros ++ rest) nothing ∙ append-nil zeros ∙ zero in
-    reads-run old new (take n bytes) words z (omega arith) taken (λ h. ended (omega arith))
-    (e ∙ ap (λ m. words_of m (take n bytes ++ (zeros ++ behind))) (sym count) ∙ ap (λ rest. words_of (length words) (take n bytes ++ rest)) padded)
-
-reads-twice : (old mid new : Option (List ℕ)) (first second : List ℕ) → ReadsWords old first mid → ReadsWords mid second new → ReadsWords old (first ++ second) new
-reads-twice None mid new first second one two = tt
-reads-twice (Some old) None new first second one two = elim one [ ]
-reads-twice (Some old) (Some mid) None first second one two = elim two [ ]
-reads-twice (Some old) (Some mid) (Some new) first second one two =
-    let m : ℕ = length first in
-    let n : ℕ = length second in
-    let len : length (first ++ second) ≡ m + n = length-append first second in
-    let behind : second ≡ words_of n (drop (8 * m) old) = two.0 ∙ ap (λ bytes. words_of n bytes) one.1 in
-    let on : 8 * m + 8 * n ≡ 8 * length (first ++ second) = omega arith in (
-      ap (λ words. words ++ second) one.0 ∙ ap (λ words. words_of m old ++ words) behind
-          ∙ sym (words_of-append m n old) ∙ ap (λ k. words_of k old) (sym len),
-      two.1 ∙ ap (λ bytes. drop (8 * n) bytes) one.1 ∙ drop-drop (8 * n) (8 * m) old ∙ ap (λ k. drop k old) on,
-    )
+    let front : length (take n there) ≡ n = ap length (sym taken) ∙ length-take-le n bytes fits in
+    e ∙ ap (λ rest. words_of k (take n bytes ++ rest)) padded
+    ∙ ap (λ front. words_of k (front ++ replicate z 0)) taken
+    ∙ words_of-filled there k n z (omega arith) front (λ h. let past : length all ≤ at + n = ended (omega arith) in omega (arith, length-drop at all))
 
 -- the words up to `end`, behind those up to `done`
-pub reads-more : (old mid new : Option (List ℕ)) (words run behind : List ℕ) (done end : ℕ) → done ≤ end → done ≤ length words → length run ≡ end - done → ReadsWords old (take done words) mid → ReadsWords mid run new → ReadsWords old (take end (take done words ++ (run ++ behind))) new
-reads-more old mid new words run behind done end h within len one two =
-    let P : List ℕ → Type 0 = λ read. ReadsWords old read new in
+pub reads-more : (told : Option (List ℕ)) (at : ℕ) (words run behind : List ℕ) (done end : ℕ) → done ≤ end → done ≤ length words → length run ≡ end - done → IfSome told (λ all. take done words ≡ words_of done (drop (8 * at) all)) → IfSome told (λ all. run ≡ words_of (length run) (drop (8 * (at + done)) all)) → IfSome told (λ all. take end (take done words ++ (run ++ behind)) ≡ words_of end (drop (8 * at) all))
+reads-more None at words run behind done end h within len one two = tt
+reads-more (Some all) at words run behind done end h within len one two =
+    let there : List ℕ = drop (8 * at) all in
     let front : length (take done words) ≡ done = length-take-le done words within in
-    let at : length (take done words ++ run) ≡ end = length-append (take done words) run ∙ omega arith in
-    let whole : take done words ++ run ≡ take end (take done words ++ (run ++ behind))
-    = sym (ap (λ read. take end read) (sym (append_assoc (take done words) run behind)) ∙ take_at (take done words ++ run) behind end at) in
-    subst P whole (reads-twice old mid new _ _ one two)
-
-pub reads-nothing : (old : Option (List ℕ)) → ReadsWords old [] old
-reads-nothing None = tt
-reads-nothing (Some bytes) = (refl, refl)
+    let count : done + length run ≡ end = omega arith in
+    let both : length (take done words ++ run) ≡ end = length-append (take done words) run ∙ omega arith in
+    let place : 8 * at + 8 * done ≡ 8 * (at + done) = omega arith in
+    let next : drop (8 * done) there ≡ drop (8 * (at + done)) all = drop-drop (8 * done) (8 * at) all ∙ ap (λ n. drop n all) place in
+    ap (λ read. take end read) (sym (append_assoc (take done words) run behind))
+    ∙ take_at (take done words ++ run) behind end both
+    ∙ ap (λ words. words ++ run) one
+    ∙ ap (λ words. words_of done there ++ words) (two ∙ ap (λ bytes. words_of (length run) bytes) (sym next))
+    ∙ sym (words_of-append done (length run) there)
+    ∙ ap (λ n. words_of n there) count

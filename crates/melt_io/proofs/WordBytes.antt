@@ -58,7 +58,7 @@ get_or-zeros z i = elim (cases_lt i z) [
 ]
 
 -- Zeros past the end are as good as nothing.
-get_or-padded : (xs : List ℕ) (z i : ℕ) → get_or (xs ++ replicate z 0) i 0 ≡ get_or xs i 0
+pub get_or-padded : (xs : List ℕ) (z i : ℕ) → get_or (xs ++ replicate z 0) i 0 ≡ get_or xs i 0
 get_or-padded xs z i = elim (cases_lt i (length xs)) [
   | inl within ↦ get_or_append_left xs (replicate z 0) 0 i within
   | inr past ↦

@@ -1,5 +1,5 @@
-pub mod Files
 pub mod Lies
+pub mod MemFile
 pub mod Outside
 pub mod Whole
 pub mod Words

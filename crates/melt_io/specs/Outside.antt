@@ -27,7 +27,8 @@ Appends (Some old) piece None = ⊥
 abbrev pub words_at : List ℕ → ℕ → ℕ → List ℕ
 words_at image at n = take n (drop at image ++ replicate n 0)
 
--- the image with these words from word `at` on, with zeros between where it was shorter
+-- the image with these words from word `at` on, with zeros between where it was shorter; of a file's bytes
+-- it is said too, as is what follows
 abbrev pub with_words : List ℕ → ℕ → List ℕ → List ℕ
 with_words image at words = take at (image ++ replicate at 0) ++ words ++ drop (at + length words) image
 

@@ -1,5 +1,5 @@
 -- Words as bytes.
-use Rattle.std.specs.Prelude.{◌≡◌, ℕ, zero, suc, ◌*◌, List, [], ◌∷◌, length, drop, Option, None, Some}
+use Rattle.std.specs.Prelude.{ℕ, zero, suc, List, [], ◌∷◌, drop}
 use Rattle.std.specs.List.{flat_map}
 use Rattle.byteorder.specs.Endian.{little_bytes, little_number}
 
@@ -11,9 +11,3 @@ word_bytes words = flat_map (little_bytes 8) words
 abbrev pub words_of : ℕ → List ℕ → List ℕ
 words_of zero bytes = []
 words_of (suc n) bytes = little_number 8 bytes ∷ words_of n (drop 8 bytes)
-
--- These words were read from the bytes that were left, where they are known.
-abbrev pub ReadsWords : Option (List ℕ) → List ℕ → Option (List ℕ) → Type 0
-ReadsWords None words new = Unit {0}
-ReadsWords (Some left) words None = ⊥
-ReadsWords (Some left) words (Some new) = (words ≡ words_of (length words) left) × (new ≡ drop (8 * length words) left)

@@ -1,10 +1,17 @@
-//! The real outside: standard input and output, and a gate that lets each operation through.
-ghost use Rattle.std.specs.Prelude.{◌≡◌, ◌<◌, ◌≤◌, None, length, IfOk, OnOk, OnErr};
+//! The real outside: standard input and output, a file, and a gate that lets each operation through.
+ghost use Rattle.std.specs.Prelude.{◌≡◌, ◌+◌, ◌^◌, ◌<◌, ◌≤◌, true, false, is_some, None, length, IfOk, IsNone, OnOk, OnErr};
 ghost use Rattle.std.specs.Io.KnownBytes.{ReadConsumes, WriteAppends};
 ghost use Rattle.melt_io.specs.Outside.{Rose};
 
-use crate::outside::{Failed, Gate, Sink, Source};
+use crate::outside::{Failed, Gate, PositionedFile, PositionedReader, Sink, Source};
+use std::fmt::Debug;
+use std::fs;
 use std::io::{Read, Write};
+use std::os::unix::fs::FileExt;
+use std::rt::Files;
+
+/// The name of the file of a `StdFile`.
+const PATH: &str = "melt.stale";
 
 /// Reads from a reader, as `StdSource::new(rt.stdin())`. Each call makes one read of the size asked for,
 /// with no buffer between, and an error of the reader is `Failed`. It tells no content.
@@ -20,6 +27,24 @@ pub struct StdSource<R> {
 #[derive(Debug, Drop)]
 pub struct StdSink<W> {
     pub writer: W,
+    pub faults: u64,
+}
+
+/// The file `melt.stale` of the current folder, which is not touched before `create`. Each call makes one
+/// call of the same name of std, and an error of that is `Failed`. It tells no content.
+#[derive(Drop)]
+#[derive_where(Debug; R, R::File: Debug)]
+pub struct StdFile<R: Files> {
+    pub runtime: R,
+    pub file: Option<R::File>,
+    pub faults: u64,
+}
+
+/// Reads from the same file, by one read of std for each call. It tells no content: what is written after
+/// it was opened is read too.
+#[derive(Debug, Drop)]
+pub struct StdFileReader<F> {
+    pub file: F,
     pub faults: u64,
 }
 
@@ -85,6 +110,89 @@ impl<W: Write> Sink for StdSink<W> {
         match self.writer.write(piece) {
             Ok(n) if n > 0 || piece.is_empty() => Ok(n),
             _ => {
+                self.faults = self.faults.saturating_add(1);
+                Err(Failed)
+            }
+        }
+    }
+}
+
+impl<R: Files> StdFile<R> {
+    /// The file of the current folder, of which no call has failed.
+    pub fn new(runtime: R) -> StdFile<R>
+        ensures runtime { result.runtime ≡ runtime }
+        ensures no_file { IsNone result.file }
+        ensures no_faults { result.faults ≡ 0 }
+    {
+        StdFile {
+            runtime,
+            file: None,
+            faults: 0,
+        }
+    }
+}
+
+impl<F: FileExt> PositionedReader for StdFileReader<F> {
+    ghost bytes = { λ _. None };
+
+    ghost faults = { λ r. r.faults };
+
+    fn read_at(&mut self, buf: &mut [u8], at: u64) -> Result<usize, Failed> {
+        match self.file.read_at(buf, at) {
+            Ok(n) => Ok(n),
+            Err(_) => {
+                self.faults = self.faults.saturating_add(1);
+                Err(Failed)
+            }
+        }
+    }
+}
+
+impl<R: Files> PositionedFile for StdFile<R>
+where
+    R::File: FileExt,
+{
+    type Reader = StdFileReader<R::File>;
+
+    ghost made = { λ f. is_some f.file };
+
+    ghost bytes = { λ _. None };
+
+    ghost faults = { λ f. f.faults };
+
+    ghost none_before = { λ _ _. tt };
+
+    fn is_made(&self) -> bool {
+        self.file.is_some()
+    }
+
+    fn create(&mut self) -> Result<(), Failed> {
+        match fs::create(&self.runtime, PATH) {
+            Ok(file) => {
+                self.file = Some(file);
+                Ok(())
+            }
+            Err(_) => {
+                self.faults = self.faults.saturating_add(1);
+                Err(Failed)
+            }
+        }
+    }
+
+    fn write_all_at(&mut self, piece: &[u8], at: u64) -> Result<(), Failed> {
+        match &self.file {
+            Some(file) if file.write_all_at(piece, at).is_ok() => Ok(()),
+            _ => {
+                self.faults = self.faults.saturating_add(1);
+                Err(Failed)
+            }
+        }
+    }
+
+    fn open(&mut self) -> Result<StdFileReader<R::File>, Failed> {
+        match fs::open(&self.runtime, PATH) {
+            Ok(file) => Ok(StdFileReader { file, faults: 0 }),
+            Err(_) => {
                 self.faults = self.faults.saturating_add(1);
                 Err(Failed)
             }

@@ -1,33 +1,26 @@
-//! A disk in a file of the current folder.
-ghost use Rattle.std.specs.Prelude.{◌≡◌, ◌+◌, ◌*◌, ◌<◌, ◌≤◌, ◌^◌, ◌↔◌, None, length, take, vec_len, IsNone, IsSome, IsErr, IsErrOf, IfOk, IfSome, OnOk, OnErr};
-ghost use Rattle.std.specs.Io.KnownBytes.{Appends, Consumes, IsAtEnd};
-ghost use Rattle.std.specs.Io.Seek.{MovesTo};
-ghost use Rattle.melt_io.specs.Files.{ReadsWordsAt, WritesWordsAt};
-ghost use Rattle.melt_io.specs.Outside.{Rose, counted};
-ghost use Rattle.melt_io.specs.Words.{word_bytes, ReadsWords};
+//! A disk in a file.
+ghost use Rattle.std.specs.Prelude.{◌≡◌, ◌+◌, ◌*◌, ◌<◌, ◌≤◌, ◌^◌, ◌↔◌, true, None, length, take, drop, vec_len, IsNone, IsSome, IsErr, IsErrOf, IfOk, IfSome, OnOk, OnErr};
+ghost use Rattle.melt_io.specs.Outside.{KeepsOthers, Rose, Writes, counted};
+ghost use Rattle.melt_io.specs.Words.{word_bytes, words_of};
 
-use crate::outside::{Failed, LendRefusal, RecordReader, StaleDisk};
+use crate::adapters::StdFile;
+use crate::outside::{
+    Failed, LendRefusal, PositionedFile, PositionedReader, RecordReader, StaleDisk,
+};
 use crate::words::{get_words, put_words};
 use std::alloc::{AllocError, Global};
-use std::fmt::Debug;
-use std::io::{Read, Seek, SeekFrom, Write};
 use std::rt::Files;
-use std::{fs, io};
-
-/// Where the words stand: word w in the 8 bytes from byte 8 * w on, its lowest byte first.
-const PATH: &str = "melt.stale";
 
 /// How many words are moved at once.
 const PIECE: usize = 4096;
 
-/// Keeps the words in the file `melt.stale` of the current folder, which is made, or emptied, at the
-/// first write. Up to 4,096 words go to the file by one seek and one write; more go by a write for
-/// each 4,096. An error of the file is `Failed`. It tells no content.
-#[derive(Drop)]
-#[derive_where(Debug; R, R::File: Debug)]
-pub struct FileDisk<R: Files> {
-    pub runtime: R,
-    pub file: Option<R::File>,
+/// Keeps the words in a file, word w in the 8 bytes from byte 8 * w on, its lowest byte first. The file is
+/// made, or emptied, at the first write. Up to 4,096 words go to the file by one write, and more by one for
+/// each 4,096. Where a call of the file fails, the answer is `Failed`. It tells no words: its clauses speak of
+/// the bytes of the file.
+#[derive(Debug, Drop)]
+pub struct FileDisk<F> {
+    pub file: F,
     pub piece: Vec<u8>,
     pub lends: u64,
     pub faults: u64,
@@ -35,8 +28,10 @@ pub struct FileDisk<R: Files> {
     ghost roomy: { 8 ≤ vec_len piece },
 }
 
-/// Reads the words that stand in the file, and zeros past its end. Without a file, as where nothing
-/// was written before the lend, each read fails. It tells no content.
+/// Reads the words that stand in a file, and zeros past its end. Up to 4,096 words are read by one read of
+/// the file, and by one more after each that was short; more words by as many for each 4,096. Where a read
+/// of the file fails, the answer is `Failed`. Without a file, as where nothing was written before the lend,
+/// each read fails. It tells no words: its clauses speak of the bytes of the file.
 #[derive(Debug, Drop)]
 pub struct FileReader<F> {
     pub file: Option<F>,
@@ -46,19 +41,33 @@ pub struct FileReader<F> {
     ghost roomy: { 8 ≤ vec_len piece },
 }
 
-impl<R: Files + Drop> FileDisk<R> {
-    /// A disk of which nothing was written. The file is not touched yet.
-    pub fn new(alloc: Global, runtime: R) -> Result<FileDisk<R>, AllocError>
-        ensures runtime { IfOk result (λ disk. disk.runtime ≡ runtime) }
-        ensures no_file { IfOk result (λ disk. IsNone disk.file) }
+impl<R: Files + Drop> FileDisk<StdFile<R>> {
+    /// A disk in the file `melt.stale` of the current folder, of which nothing was written. The file is not
+    /// touched yet.
+    pub fn new(alloc: Global, runtime: R) -> Result<FileDisk<StdFile<R>>, AllocError>
+        ensures runtime { IfOk result (λ disk. disk.file.runtime ≡ runtime) }
+        ensures no_file { IfOk result (λ disk. IsNone disk.file.file) }
+        ensures no_file_faults { IfOk result (λ disk. disk.file.faults ≡ 0) }
+        ensures piece { IfOk result (λ disk. vec_len disk.piece ≡ 32768) }
+        ensures no_lends { IfOk result (λ disk. disk.lends ≡ 0) }
+        ensures no_faults { IfOk result (λ disk. disk.faults ≡ 0) }
+        ensures no_read_faults { IfOk result (λ disk. disk.read_faults ≡ 0) }
+    {
+        FileDisk::over(alloc, StdFile::new(runtime))
+    }
+}
+
+impl<F: Drop> FileDisk<F> {
+    /// A disk in this file, of which nothing was written. The file is not touched yet.
+    pub fn over(alloc: Global, file: F) -> Result<FileDisk<F>, AllocError>
+        ensures file { IfOk result (λ disk. disk.file ≡ file) }
         ensures piece { IfOk result (λ disk. vec_len disk.piece ≡ 32768) }
         ensures no_lends { IfOk result (λ disk. disk.lends ≡ 0) }
         ensures no_faults { IfOk result (λ disk. disk.faults ≡ 0) }
         ensures no_read_faults { IfOk result (λ disk. disk.read_faults ≡ 0) }
     {
         Ok(FileDisk {
-            runtime,
-            file: None,
+            file,
             piece: vec![in alloc; 0; 8 * PIECE]?,
             lends: 0,
             faults: 0,
@@ -67,7 +76,7 @@ impl<R: Files + Drop> FileDisk<R> {
     }
 }
 
-impl<F: Read + Seek> RecordReader for FileReader<F> {
+impl<F: PositionedReader> RecordReader for FileReader<F> {
     ghost image = { λ _. None };
 
     ghost faults = { λ r. r.faults };
@@ -78,9 +87,11 @@ impl<F: Read + Seek> RecordReader for FileReader<F> {
         requires some { 0 < length words.old }
         requires in_range { at + length words.old ≤ 2 ^ 32 }
         ensures no_file { IsNone self.old.file → IsErr result }
-        ensures words { OnOk result (IfSome self.old.file (λ old. IfSome self.new.file (λ new.
-            ReadsWordsAt F.stream_position F.remaining old at words.new new))) }
+        ensures words { OnOk result (IfSome self.old.file (λ old. IfSome (F.bytes old) (λ bytes. words.new ≡ words_of (length words.old) (drop (8 * at) bytes)))) }
         ensures stays_open { IsSome self.new.file ↔ IsSome self.old.file }
+        ensures kept { IfSome self.old.file (λ old. IfSome self.new.file (λ new. F.bytes new ≡ F.bytes old)) }
+        ensures no_file_fault { OnOk result (IfSome self.old.file (λ old. IfSome self.new.file (λ new. F.faults new ≡ F.faults old))) }
+        ensures file_failed { OnErr result (IfSome self.old.file (λ old. IfSome self.new.file (λ new. Rose (F.faults old) (F.faults new)))) }
         ensures no_fault { OnOk result (self.new.faults ≡ self.old.faults) }
         ensures failed { OnErr result (Rose self.old.faults self.new.faults) }
         ensures count { self.old.faults ≤ self.new.faults }
@@ -88,11 +99,8 @@ impl<F: Read + Seek> RecordReader for FileReader<F> {
         ensures reads_rise { self.old.reads ≤ self.new.reads }
     {
         self.reads = self.reads.saturating_add(1);
-        let is_read = match &mut self.file {
-            Some(file) => read_words_at(file, &mut self.piece, at, words).is_ok(),
-            None => false,
-        };
-        if !is_read {
+        let piece = &mut self.piece;
+        if read_file(&mut self.file, piece, at, words).is_err() {
             self.faults = self.faults.saturating_add(1);
             return Err(Failed);
         }
@@ -100,11 +108,11 @@ impl<F: Read + Seek> RecordReader for FileReader<F> {
     }
 }
 
-impl<R: Files> StaleDisk for FileDisk<R>
+impl<F: PositionedFile> StaleDisk for FileDisk<F>
 where
-    R::File: Send,
+    F::Reader: Send,
 {
-    type Reader = FileReader<R::File>;
+    type Reader = FileReader<F::Reader>;
 
     ghost image = { λ _. None };
 
@@ -117,184 +125,242 @@ where
     fn write_at(&mut self, at: u32, words: &[u64]) -> Result<(), Failed>
         requires some { 0 < length words.now }
         requires in_range { at + length words.now ≤ 2 ^ 32 }
-        ensures written { OnOk result (IfSome self.new.file (λ new. (old : R.File) ×
-            WritesWordsAt R.File.stream_position R.File.contents old at words.now new)) }
+        ensures written { OnOk result (Writes (F.bytes self.old.file) (8 * at) (word_bytes words.now) (F.bytes self.new.file)) }
+        ensures others { OnErr result (KeepsOthers (F.bytes self.old.file) (8 * at) (8 * length words.now) (F.bytes self.new.file)) }
+        ensures made { OnOk result (F.made self.new.file ≡ true) }
+        ensures stays_made { F.made self.old.file ≡ true → F.made self.new.file ≡ true }
+        ensures no_file_fault { OnOk result (F.faults self.new.file ≡ F.faults self.old.file) }
+        ensures file_failed { OnErr result (Rose (F.faults self.old.file) (F.faults self.new.file)) }
         ensures no_fault { OnOk result (self.new.faults ≡ self.old.faults) }
         ensures failed { OnErr result (Rose self.old.faults self.new.faults) }
         ensures count { self.old.faults ≤ self.new.faults }
         ensures read_faults { self.new.read_faults ≡ self.old.read_faults }
         ensures lends { self.new.lends ≡ self.old.lends }
-        ensures opened { OnOk result (IsSome self.new.file) }
-        ensures stays_open { IsSome self.old.file → IsSome self.new.file }
-        ensures runtime { self.new.runtime ≡ self.old.runtime }
     {
         let piece = &mut self.piece;
-        if write_file(&self.runtime, &mut self.file, piece, at, words).is_err() {
+        if write_file(&mut self.file, piece, at, words).is_err() {
             self.faults = self.faults.saturating_add(1);
             return Err(Failed);
         }
         Ok(())
     }
 
-    fn lend(&mut self, alloc: Global) -> Result<FileReader<R::File>, LendRefusal>
+    fn lend(&mut self, alloc: Global) -> Result<FileReader<F::Reader>, LendRefusal>
+        ensures lent { IfOk result (λ reader. IfSome reader.file (λ file. F.Reader.bytes file ≡ F.bytes self.old.file)) }
+        ensures open { IfOk result (λ reader. IsSome reader.file ↔ (F.made self.old.file ≡ true)) }
+        ensures no_file_fault_yet { IfOk result (λ reader. IfSome reader.file (λ file. F.Reader.faults file ≡ 0)) }
         ensures no_fault_yet { IfOk result (λ reader. reader.faults ≡ 0) }
         ensures no_read_yet { IfOk result (λ reader. reader.reads ≡ 0) }
+        ensures kept { F.bytes self.new.file ≡ F.bytes self.old.file }
+        ensures made { F.made self.new.file ≡ F.made self.old.file }
+        ensures no_file_fault { OnOk result (F.faults self.new.file ≡ F.faults self.old.file) }
+        ensures file_failed { IsErrOf result LendRefusal.Failed → Rose (F.faults self.old.file) (F.faults self.new.file) }
         ensures no_fault { OnOk result (self.new.faults ≡ self.old.faults) }
         ensures failed { IsErrOf result LendRefusal.Failed → Rose self.old.faults self.new.faults }
         ensures count { self.old.faults ≤ self.new.faults }
         ensures read_faults { self.new.read_faults ≡ self.old.read_faults }
         ensures lends { self.new.lends ≡ counted self.old.lends 1 }
-        ensures open { IfOk result (λ reader. IsSome reader.file ↔ IsSome self.old.file) }
-        ensures same { (self.new.file ≡ self.old.file) × (self.new.runtime ≡ self.old.runtime) }
     {
         self.lends = self.lends.saturating_add(1);
         let piece = vec![in alloc; 0; 8 * PIECE].map_err(|_| LendRefusal::NoMemory)?;
-        let file = match &self.file {
-            None => None,
-            Some(_) => match fs::open(&self.runtime, PATH) {
-                Ok(file) => Some(file),
-                Err(_) => {
-                    self.faults = self.faults.saturating_add(1);
-                    return Err(LendRefusal::Failed);
-                }
-            },
-        };
-        Ok(FileReader {
-            file,
-            piece,
-            reads: 0,
-            faults: 0,
-        })
+        match open_file(&mut self.file) {
+            Ok(file) => Ok(FileReader {
+                file,
+                piece,
+                reads: 0,
+                faults: 0,
+            }),
+            Err(_) => {
+                self.faults = self.faults.saturating_add(1);
+                Err(LendRefusal::Failed)
+            }
+        }
     }
 
-    fn give_back(&mut self, reader: FileReader<R::File>)
+    fn give_back(&mut self, reader: FileReader<F::Reader>)
+        ensures file { self.new.file ≡ self.old.file }
         ensures count { self.new.faults ≡ self.old.faults }
         ensures read_faults { self.new.read_faults ≡ counted self.old.read_faults reader.faults }
         ensures lends { self.new.lends ≡ self.old.lends }
-        ensures same { (self.new.file ≡ self.old.file) × (self.new.runtime ≡ self.old.runtime) }
     {
         self.read_faults = self.read_faults.saturating_add(reader.faults);
     }
 }
 
-/// Writes the words from word `at` on, to a file that is made, or emptied, where none is open yet.
-fn write_file<R: Files>(
-    runtime: &R,
-    file: &mut Option<R::File>,
-    piece: &mut [u8],
-    at: u32,
-    words: &[u64],
-) -> io::Result<()>
-    requires { 8 ≤ length piece.old }
-    ensures written { OnOk result (IfSome file.new (λ new. (old : R.File) ×
-        WritesWordsAt R.File.stream_position R.File.contents old at words.now new)) }
-    ensures opened { OnOk result (IsSome file.new) }
-    ensures stays_open { IsSome file.old → IsSome file.new }
+/// Opens a reader of the file, if it was made.
+fn open_file<F: PositionedFile>(file: &mut F) -> Result<Option<F::Reader>, Failed>
+    ensures opened { IfOk result (λ reader. IfSome reader (λ lent. F.Reader.bytes lent ≡ F.bytes file.old)) }
+    ensures open { IfOk result (λ reader. IsSome reader ↔ (F.made file.old ≡ true)) }
+    ensures no_fault_yet { IfOk result (λ reader. IfSome reader (λ lent. F.Reader.faults lent ≡ 0)) }
+    ensures kept { F.bytes file.new ≡ F.bytes file.old }
+    ensures made { F.made file.new ≡ F.made file.old }
+    ensures no_fault { OnOk result (F.faults file.new ≡ F.faults file.old) }
+    ensures failed { OnErr result (Rose (F.faults file.old) (F.faults file.new)) }
 {
-    match file {
-        Some(open) => write_words_at(open, piece, at, words),
-        None => write_words_at(file.insert(fs::create(runtime, PATH)?), piece, at, words),
+    if !file.is_made() {
+        return Ok(None);
     }
+    let reader = file.open()?;
+    Ok(Some(reader))
 }
 
-/// Writes the words from word `at` on.
-fn write_words_at<F: Write + Seek>(
+/// Writes the words from word `at` on, to a file that is made first where it was not.
+fn write_file<F: PositionedFile>(
     file: &mut F,
     piece: &mut [u8],
     at: u32,
     words: &[u64],
-) -> io::Result<()>
-    requires { 8 ≤ length piece.old }
-    ensures { OnOk result
-        (WritesWordsAt F.stream_position F.contents file.old at words.now file.new) }
+) -> Result<(), Failed>
+    requires room { 8 ≤ length piece.old }
+    requires some { 0 < length words.now }
+    requires in_range { at + length words.now ≤ 2 ^ 32 }
+    ensures written { OnOk result (Writes (F.bytes file.old) (8 * at) (word_bytes words.now) (F.bytes file.new)) }
+    ensures others { OnErr result (KeepsOthers (F.bytes file.old) (8 * at) (8 * length words.now) (F.bytes file.new)) }
+    ensures made { OnOk result (F.made file.new ≡ true) }
+    ensures stays_made { F.made file.old ≡ true → F.made file.new ≡ true }
+    ensures no_fault { OnOk result (F.faults file.new ≡ F.faults file.old) }
+    ensures failed { OnErr result (Rose (F.faults file.old) (F.faults file.new)) }
 {
-    seek_to(file, at)?;
-    write_words(file, piece, words)
+    if !file.is_made() {
+        file.create()?;
+    }
+    write_words(file, piece, at, words)
 }
 
-/// Reads the words from word `at` on, and zeros past the end of the file.
-fn read_words_at<F: Read + Seek>(
+/// Writes the words from word `at` on, each run of them through `piece`.
+fn write_words<F: PositionedFile>(
     file: &mut F,
     piece: &mut [u8],
     at: u32,
-    words: &mut [u64],
-) -> io::Result<()>
-    requires { 8 ≤ length piece.old }
-    ensures { OnOk result
-        (ReadsWordsAt F.stream_position F.remaining file.old at words.new file.new) }
-{
-    seek_to(file, at)?;
-    read_words(file, piece, words)
-}
-
-/// Moves to the first byte of word `at`.
-fn seek_to<F: Seek>(file: &mut F, at: u32) -> io::Result<()>
-    ensures { MovesTo (F.stream_position file.old) (F.stream_position file.new) (8 * at) result }
-{
-    file.seek(SeekFrom::Start(8 * u64::from(at)))?;
-    Ok(())
-}
-
-/// Writes the words where the file stands, each run of them through `piece`.
-fn write_words<F: Write>(file: &mut F, piece: &mut [u8], words: &[u64]) -> io::Result<()>
-    requires { 8 ≤ length piece.old }
-    ensures { OnOk result (Appends (F.contents file.old) (F.contents file.new) (word_bytes words.now)) }
+    words: &[u64],
+) -> Result<(), Failed>
+    requires made { F.made file.old ≡ true }
+    requires room { 8 ≤ length piece.old }
+    requires some { 0 < length words.now }
+    requires in_range { at + length words.now ≤ 2 ^ 32 }
+    ensures written { OnOk result (Writes (F.bytes file.old) (8 * at) (word_bytes words.now) (F.bytes file.new)) }
+    ensures others { OnErr result (KeepsOthers (F.bytes file.old) (8 * at) (8 * length words.now) (F.bytes file.new)) }
+    ensures made { F.made file.new ≡ true }
+    ensures no_fault { OnOk result (F.faults file.new ≡ F.faults file.old) }
+    ensures failed { OnErr result (Rose (F.faults file.old) (F.faults file.new)) }
 {
     let mut done = 0;
     while done < words.len() {
         let end = words.len().min(done + piece.len() / 8);
-        write_run(file, piece, &words[done..end])?;
+        write_run(file, piece, u64::from(at) + done as u64, &words[done..end])?;
         done = end;
     }
     Ok(())
 }
 
-/// Writes words that fit `piece`.
-fn write_run<F: Write>(file: &mut F, piece: &mut [u8], words: &[u64]) -> io::Result<()>
-    requires { 8 * length words.now ≤ length piece.old }
-    ensures { OnOk result (Appends (F.contents file.old) (F.contents file.new) (word_bytes words.now)) }
+/// Writes words that fit `piece`, by one write.
+fn write_run<F: PositionedFile>(
+    file: &mut F,
+    piece: &mut [u8],
+    at: u64,
+    words: &[u64],
+) -> Result<(), Failed>
+    requires made { F.made file.old ≡ true }
+    requires room { 8 * length words.now ≤ length piece.old }
+    requires some { 0 < length words.now }
+    requires in_range { at + length words.now ≤ 2 ^ 32 }
+    ensures written { OnOk result (Writes (F.bytes file.old) (8 * at) (word_bytes words.now) (F.bytes file.new)) }
+    ensures others { OnErr result (KeepsOthers (F.bytes file.old) (8 * at) (8 * length words.now) (F.bytes file.new)) }
+    ensures made { F.made file.new ≡ true }
+    ensures no_fault { OnOk result (F.faults file.new ≡ F.faults file.old) }
+    ensures failed { OnErr result (Rose (F.faults file.old) (F.faults file.new)) }
 {
     let bytes = &mut piece[..8 * words.len()];
     put_words(words, bytes);
-    file.write_all(bytes)
+    file.write_all_at(bytes, 8 * at)
 }
 
-/// Reads the words that stand where the file stands, each run of them through `piece`, and zeros past
-/// the end of the file.
-fn read_words<F: Read>(file: &mut F, piece: &mut [u8], words: &mut [u64]) -> io::Result<()>
-    requires { 8 ≤ length piece.old }
-    ensures { OnOk result (ReadsWords (F.remaining file.old) words.new (F.remaining file.new)) }
+/// Reads the words from word `at` on, where there is a file.
+fn read_file<F: PositionedReader>(
+    file: &mut Option<F>,
+    piece: &mut [u8],
+    at: u32,
+    words: &mut [u64],
+) -> Result<(), Failed>
+    requires room { 8 ≤ length piece.old }
+    requires in_range { at + length words.old ≤ 2 ^ 32 }
+    ensures no_file { IsNone file.old → IsErr result }
+    ensures words { OnOk result (IfSome file.old (λ old. IfSome (F.bytes old) (λ bytes. words.new ≡ words_of (length words.old) (drop (8 * at) bytes)))) }
+    ensures stays_open { IsSome file.new ↔ IsSome file.old }
+    ensures kept { IfSome file.old (λ old. IfSome file.new (λ new. F.bytes new ≡ F.bytes old)) }
+    ensures no_fault { OnOk result (IfSome file.old (λ old. IfSome file.new (λ new. F.faults new ≡ F.faults old))) }
+    ensures failed { OnErr result (IfSome file.old (λ old. IfSome file.new (λ new. Rose (F.faults old) (F.faults new)))) }
+{
+    match file {
+        Some(file) => read_words(file, piece, at, words),
+        None => Err(Failed),
+    }
+}
+
+/// Reads the words from word `at` on, each run of them through `piece`, and zeros past the end of the
+/// file.
+fn read_words<F: PositionedReader>(
+    file: &mut F,
+    piece: &mut [u8],
+    at: u32,
+    words: &mut [u64],
+) -> Result<(), Failed>
+    requires room { 8 ≤ length piece.old }
+    requires in_range { at + length words.old ≤ 2 ^ 32 }
+    ensures words { OnOk result (IfSome (F.bytes file.old) (λ bytes. words.new ≡ words_of (length words.old) (drop (8 * at) bytes))) }
+    ensures kept { F.bytes file.new ≡ F.bytes file.old }
+    ensures no_fault { OnOk result (F.faults file.new ≡ F.faults file.old) }
+    ensures failed { OnErr result (Rose (F.faults file.old) (F.faults file.new)) }
 {
     let mut done = 0;
     while done < words.len() {
         let end = words.len().min(done + piece.len() / 8);
-        read_run(file, piece, &mut words[done..end])?;
+        read_run(
+            file,
+            piece,
+            u64::from(at) + done as u64,
+            &mut words[done..end],
+        )?;
         done = end;
     }
     Ok(())
 }
 
 /// Reads words that fit `piece`.
-fn read_run<F: Read>(file: &mut F, piece: &mut [u8], words: &mut [u64]) -> io::Result<()>
-    requires { 8 * length words.old ≤ length piece.old }
-    ensures { OnOk result (ReadsWords (F.remaining file.old) words.new (F.remaining file.new)) }
+fn read_run<F: PositionedReader>(
+    file: &mut F,
+    piece: &mut [u8],
+    at: u64,
+    words: &mut [u64],
+) -> Result<(), Failed>
+    requires room { 8 * length words.old ≤ length piece.old }
+    requires in_range { at + length words.old ≤ 2 ^ 32 }
+    ensures words { OnOk result (IfSome (F.bytes file.old) (λ bytes. words.new ≡ words_of (length words.old) (drop (8 * at) bytes))) }
+    ensures kept { F.bytes file.new ≡ F.bytes file.old }
+    ensures no_fault { OnOk result (F.faults file.new ≡ F.faults file.old) }
+    ensures failed { OnErr result (Rose (F.faults file.old) (F.faults file.new)) }
 {
     let bytes = &mut piece[..8 * words.len()];
-    let filled = read_front(file, bytes)?;
+    let filled = read_front(file, 8 * at, bytes)?;
     bytes[filled..].fill(0);
     get_words(bytes, words);
     Ok(())
 }
 
-/// Reads until the buffer is full or the file ends, and answers how many bytes were read.
-fn read_front<F: Read>(file: &mut F, bytes: &mut [u8]) -> io::Result<usize>
+/// Reads from byte `at` on until the buffer is full or the file ends, and answers how many bytes were
+/// read.
+fn read_front<F: PositionedReader>(file: &mut F, at: u64, bytes: &mut [u8]) -> Result<usize, Failed>
+    requires in_range { at + length bytes.old < 2 ^ 63 }
     ensures within { IfOk result (λ n. n ≤ length bytes.old) }
-    ensures front { IfOk result (λ n. Consumes (F.remaining file.old) (F.remaining file.new) (take n bytes.new)) }
-    ensures end { IfOk result (λ n. n < length bytes.old → IsAtEnd (F.remaining file.new)) }
+    ensures front { IfOk result (λ n. IfSome (F.bytes file.old) (λ all. take n bytes.new ≡ take n (drop at all))) }
+    ensures end { IfOk result (λ n. n < length bytes.old → IfSome (F.bytes file.old) (λ all. length all ≤ at + n)) }
+    ensures kept { F.bytes file.new ≡ F.bytes file.old }
+    ensures no_fault { OnOk result (F.faults file.new ≡ F.faults file.old) }
+    ensures failed { OnErr result (Rose (F.faults file.old) (F.faults file.new)) }
 {
     let mut filled = 0;
     while filled < bytes.len() {
-        let taken = file.read(&mut bytes[filled..])?;
+        let taken = file.read_at(&mut bytes[filled..], at + filled as u64)?;
         if taken == 0 {
             return Ok(filled);
         }

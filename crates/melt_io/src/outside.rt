@@ -1,5 +1,5 @@
 //! The traits of the outside.
-ghost use Rattle.std.specs.Prelude.{◌≡◌, ℕ, ◌+◌, ◌-◌, ◌^◌, ◌<◌, ◌≤◌, List, [], Option, Some, codes, take, length, min, is_some, IfOk, IfSome, OnOk, OnErr, IsErrOf};
+ghost use Rattle.std.specs.Prelude.{◌≡◌, ℕ, ◌+◌, ◌-◌, ◌^◌, ◌<◌, ◌≤◌, Bool, true, false, List, [], Option, Some, codes, take, drop, length, min, is_some, IfOk, IfSome, OnOk, OnErr, IsErrOf};
 ghost use Rattle.melt_io.specs.Outside.{Rose, counted, TakesFront, Appends, words_at, Writes, KeepsOthers};
 
 use std::alloc::Global;
@@ -133,6 +133,83 @@ pub trait StaleDisk {
         ensures count { faults self.new ≡ faults self.old }
         ensures read_faults { read_faults self.new ≡ counted (read_faults self.old) (Self.Reader.faults reader) }
         ensures lends { lends self.new ≡ lends self.old };
+}
+
+/// Reads the bytes of a file at any place.
+pub trait PositionedReader {
+    /// The bytes of the file, from byte 0 on, where the reader tells them.
+    ghost bytes: { Self → Option (List ℕ) };
+
+    /// How many reads have failed.
+    ghost faults: { Self → ℕ };
+
+    /// Reads bytes from byte `at` on into the front of `buf`, and answers how many. Into a buffer that is
+    /// not empty, 0 means that the file ends at byte `at` or before it. The rest of the buffer may hold
+    /// anything, and after an `Err` all of it.
+    fn read_at(&mut self, buf: &mut [u8], at: u64) -> Result<usize, Failed>
+        requires in_range { at + length buf.old < 2 ^ 63 }
+        ensures within { IfOk result (λ n. n ≤ length buf.old) }
+        ensures read { IfOk result (λ n. IfSome (bytes self.old) (λ bytes. take n buf.new ≡ take n (drop at bytes))) }
+        ensures end { IfOk result (λ n. n ≡ 0 → 0 < length buf.old → IfSome (bytes self.old) (λ bytes. length bytes ≤ at)) }
+        ensures kept { bytes self.new ≡ bytes self.old }
+        ensures no_fault { OnOk result (faults self.new ≡ faults self.old) }
+        ensures failed { OnErr result (Rose (faults self.old) (faults self.new)) }
+        ensures count { faults self.old ≤ faults self.new };
+}
+
+/// A file of bytes that are written at any place, and read only by readers that it opens.
+pub trait PositionedFile {
+    type Reader: PositionedReader + Drop;
+
+    /// Whether the file was made.
+    ghost made: { Self → Bool };
+
+    /// The bytes, from byte 0 on, where the file tells them. There are none before it is made.
+    ghost bytes: { Self → Option (List ℕ) };
+
+    /// How many calls have failed.
+    ghost faults: { Self → ℕ };
+
+    /// Whether the file was made.
+    fn is_made(&self) -> bool
+        ensures { result ≡ made self.now };
+
+    /// Makes the file. One that is there from before is emptied.
+    fn create(&mut self) -> Result<(), Failed>
+        requires { made self.old ≡ false }
+        ensures made { OnOk result (made self.new ≡ true) }
+        ensures not_made { OnErr result (made self.new ≡ false) }
+        ensures kept { bytes self.new ≡ bytes self.old }
+        ensures no_fault { OnOk result (faults self.new ≡ faults self.old) }
+        ensures failed { OnErr result (Rose (faults self.old) (faults self.new)) }
+        ensures count { faults self.old ≤ faults self.new };
+
+    /// Writes the bytes from byte `at` on, with zeros before them where the file is shorter. After an
+    /// `Err` the bytes in that range may be anything.
+    fn write_all_at(&mut self, piece: &[u8], at: u64) -> Result<(), Failed>
+        requires made { made self.old ≡ true }
+        requires some { 0 < length piece.now }
+        requires in_range { at + length piece.now < 2 ^ 63 }
+        ensures written { OnOk result (Writes (bytes self.old) at piece.now (bytes self.new)) }
+        ensures others { OnErr result (KeepsOthers (bytes self.old) at (length piece.now) (bytes self.new)) }
+        ensures made { made self.new ≡ true }
+        ensures no_fault { OnOk result (faults self.new ≡ faults self.old) }
+        ensures failed { OnErr result (Rose (faults self.old) (faults self.new)) }
+        ensures count { faults self.old ≤ faults self.new };
+
+    /// Opens a reader of the bytes as they are now.
+    fn open(&mut self) -> Result<Self::Reader, Failed>
+        requires { made self.old ≡ true }
+        ensures opened { IfOk result (λ reader. Self.Reader.bytes reader ≡ bytes self.old) }
+        ensures no_fault_yet { IfOk result (λ reader. Self.Reader.faults reader ≡ 0) }
+        ensures kept { bytes self.new ≡ bytes self.old }
+        ensures made { made self.new ≡ true }
+        ensures no_fault { OnOk result (faults self.new ≡ faults self.old) }
+        ensures failed { OnErr result (Rose (faults self.old) (faults self.new)) }
+        ensures count { faults self.old ≤ faults self.new };
+
+    /// Before the file is made it tells no bytes, or that there are none.
+    ghost none_before: { (file : Self) → made file ≡ false → IfSome (bytes file) (λ bytes. bytes ≡ []) };
 }
 
 /// Is told of each operation before running threads make it.

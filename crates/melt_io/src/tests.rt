@@ -133,6 +133,112 @@ fn the_file_has_the_lowest_byte_of_each_word_first(rt: HostRuntime) -> Result<()
     disk.give_back(reader);
     assert_eq!(rt; (disk.lends, disk.faults, disk.read_faults), (1, 0, 0));
     fs::remove_file(&rt, "melt.stale")?;
+    assert_eq!(rt; disk.lend(rt.alloc()).err(), Some(LendRefusal::Failed));
+    assert_eq!(rt; (disk.faults, disk.file.faults), (1, 1));
+    Ok(())
+}
+
+/// A disk over a file in memory, of which these calls and, on each reader, these reads fail.
+fn disk_in_memory(
+    alloc: Global,
+    fail: &[u64],
+    fail_reads: &[u64],
+) -> Result<FileDisk<MemFile>, Fail> {
+    let mut file = MemFile::new(alloc);
+    file.fail.extend_from_slice(fail)?;
+    file.fail_reads.extend_from_slice(fail_reads)?;
+    Ok(FileDisk::over(alloc, file)?)
+}
+
+#[test]
+fn a_record_goes_to_its_place_byte_for_byte(rt: HostRuntime) -> Result<(), Fail> {
+    let mut disk = disk_in_memory(rt.alloc(), &[], &[])?;
+    assert_eq!(rt; disk.file.calls, 0);
+    disk.write_at(2, &[258, 3])?;
+    assert_eq!(rt; disk.file.calls, 2);
+    disk.write_at(1, &[72623859790382856])?;
+    assert_eq!(rt; disk.file.calls, 3);
+    let bytes = disk.file.bytes.as_ref().ok_or("no file")?;
+    assert_eq!(rt;
+        bytes.as_slice(),
+        [
+            0, 0, 0, 0, 0, 0, 0, 0, 8, 7, 6, 5, 4, 3, 2, 1, 2, 1, 0, 0, 0, 0, 0, 0, 3, 0, 0, 0, 0,
+            0, 0, 0,
+        ]
+        .as_slice()
+    );
+    Ok(())
+}
+
+#[test]
+fn a_call_of_the_file_that_fails_is_a_fault(rt: HostRuntime) -> Result<(), Fail> {
+    let mut disk = disk_in_memory(rt.alloc(), &[1, 4, 6], &[2])?;
+    assert_eq!(rt; disk.write_at(1, &[5]), Err(Failed));
+    assert_eq!(rt; disk.file.bytes.is_none(), true);
+    disk.write_at(1, &[5])?;
+    assert_eq!(rt; disk.write_at(0, &[6]), Err(Failed));
+    let mut reader = disk.lend(rt.alloc()).ok().ok_or("no reader")?;
+    assert_eq!(rt; disk.lend(rt.alloc()).err(), Some(LendRefusal::Failed));
+    assert_eq!(rt; (disk.faults, disk.file.faults, disk.file.calls), (3, 3, 6));
+
+    let mut words = [9; 2];
+    reader.read_at(0, &mut words)?;
+    assert_eq!(rt; words, [0, 5]);
+    assert_eq!(rt; reader.read_at(0, &mut words), Err(Failed));
+    disk.give_back(reader);
+    assert_eq!(rt; (disk.lends, disk.read_faults), (2, 1));
+    Ok(())
+}
+
+#[test]
+fn a_short_read_is_continued_and_zeros_are_past_the_end(rt: HostRuntime) -> Result<(), Fail> {
+    let mut disk = disk_in_memory(rt.alloc(), &[], &[])?;
+    disk.file.most = 7;
+    disk.write_at(1, &[1, 2])?;
+    let mut reader = disk.lend(rt.alloc()).ok().ok_or("no reader")?;
+    let mut words = [9; 4];
+    reader.read_at(1, &mut words)?;
+    assert_eq!(rt; words, [1, 2, 0, 0]);
+    let calls = reader.file.as_ref().map(|file| file.calls);
+    assert_eq!(rt; (reader.reads, calls), (1, Some(4)));
+    Ok(())
+}
+
+#[test]
+fn long_runs_go_by_4096_words(rt: HostRuntime) -> Result<(), Fail> {
+    let mut words = vec![in rt.alloc(); 0; 4097]?;
+    for (number, word) in words.iter_mut().enumerate() {
+        *word = number as u64;
+    }
+    let mut disk = disk_in_memory(rt.alloc(), &[], &[])?;
+    disk.write_at(3, &words)?;
+    assert_eq!(rt; disk.file.calls, 3);
+    let mut reader = disk.lend(rt.alloc()).ok().ok_or("no reader")?;
+    let mut read = vec![in rt.alloc(); 9; 4097]?;
+    reader.read_at(3, &mut read)?;
+    assert_eq!(rt; read.as_slice(), words.as_slice());
+    let calls = reader.file.as_ref().map(|file| file.calls);
+    assert_eq!(rt; calls, Some(2));
+    Ok(())
+}
+
+#[test]
+fn a_reader_lent_before_the_first_write_fails_each_read(rt: HostRuntime) -> Result<(), Fail> {
+    let mut disk = disk_in_memory(rt.alloc(), &[], &[])?;
+    let mut reader = disk.lend(rt.alloc()).ok().ok_or("no reader")?;
+    disk.write_at(7, &[5])?;
+    let mut words = [9; 2];
+    assert_eq!(rt; reader.read_at(7, &mut words), Err(Failed));
+    assert_eq!(rt; reader.read_at(0, &mut words), Err(Failed));
+    assert_eq!(rt; (reader.reads, reader.faults), (2, 2));
+    disk.give_back(reader);
+    assert_eq!(rt; (disk.faults, disk.read_faults), (0, 2));
+
+    let mut real = FileDisk::new(rt.alloc(), rt)?;
+    let mut unread = real.lend(rt.alloc()).ok().ok_or("no reader")?;
+    assert_eq!(rt; unread.read_at(7, &mut words), Err(Failed));
+    real.give_back(unread);
+    assert_eq!(rt; (real.faults, real.read_faults), (0, 1));
     Ok(())
 }
 

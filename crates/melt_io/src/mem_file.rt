@@ -1,0 +1,238 @@
+//! A file in memory, of which calls can be made to fail, and whose reads can be made short.
+ghost use Rattle.std.specs.Prelude.{◌≡◌, ◌+◌, ◌-◌, ◌^◌, ◌<◌, ◌≤◌, ◌↔◌, [], ◌++◌, length, take, drop, min, max, replicate, true, false, is_some, Some, vec_len, IsErr, IsNone, IfOk, IfSome, OnOk, OnErr, Contains};
+ghost use Rattle.std.specs.Vec.{vec_capacity};
+ghost use Rattle.melt_io.specs.Outside.{Rose, counted, with_words};
+ghost use Rattle.melt_io.specs.MemFile.{bytes_of};
+ghost use Rattle.std.proofs.Common.{rules};
+
+use crate::memory::is_due;
+use crate::outside::{Failed, PositionedFile, PositionedReader};
+use std::alloc::{AllocError, Global};
+
+/// A file in memory: `bytes` is `None` before it is made. A write past the end fills it with zeros up to
+/// there.
+///
+/// The calls of `create`, `write_all_at` and `open` whose numbers, from 1, stand in `fail` answer `Failed`,
+/// and change no byte; so does one that finds no memory. Of each reader the reads whose numbers, from 1,
+/// stand in `fail_reads` answer `Failed`, and no read gives more than `most` bytes, or than one where `most`
+/// is 0.
+#[derive(Debug, Drop)]
+pub struct MemFile {
+    pub bytes: Option<Vec<u8>>,
+    pub calls: u64,
+    pub fail: Vec<u64>,
+    pub fail_reads: Vec<u64>,
+    pub most: usize,
+    pub faults: u64,
+}
+
+/// Reads a copy of a file's bytes. The fields are as in `MemFile`; the calls are its own reads.
+#[derive(Debug, Drop)]
+pub struct MemFileReader {
+    pub bytes: Vec<u8>,
+    pub calls: u64,
+    pub fail: Vec<u64>,
+    pub most: usize,
+    pub faults: u64,
+}
+
+impl MemFile {
+    /// A file that was not made, of which no call fails but for want of memory, and no read is short.
+    pub fn new(alloc: Global) -> MemFile
+        ensures not_made { IsNone result.bytes }
+        ensures uncalled { result.calls ≡ 0 }
+        ensures sound { (result.fail.items ≡ []) × (result.fail_reads.items ≡ []) }
+        ensures whole { result.most ≡ usize.MAX }
+        ensures no_faults { result.faults ≡ 0 }
+    {
+        MemFile {
+            bytes: None,
+            calls: 0,
+            fail: Vec::new(alloc),
+            fail_reads: Vec::new(alloc),
+            most: usize::MAX,
+            faults: 0,
+        }
+    }
+}
+
+impl PositionedReader for MemFileReader {
+    ghost bytes = { λ r. Some r.bytes.items };
+
+    ghost faults = { λ r. r.faults };
+
+    fn read_at(&mut self, buf: &mut [u8], at: u64) -> Result<usize, Failed>
+        ensures within { IfOk result (λ n. n ≡ min (min (length buf.old) (max self.old.most 1)) (length (drop at self.old.bytes.items))) }
+        ensures read { IfOk result (λ n. take n buf.new ≡ take n (drop at self.old.bytes.items)) }
+        ensures kept { self.new.bytes.items ≡ self.old.bytes.items }
+        ensures no_fault { OnOk result (self.new.faults ≡ self.old.faults) }
+        ensures failed { OnErr result (Rose self.old.faults self.new.faults) }
+        ensures count { self.old.faults ≤ self.new.faults }
+
+        ensures due { IsErr result ↔ Contains self.old.fail.items (counted self.old.calls 1) }
+        ensures calls { self.new.calls ≡ counted self.old.calls 1 }
+        ensures lists { (self.new.fail.items ≡ self.old.fail.items) × (self.new.most ≡ self.old.most) }
+    {
+        if is_due(&mut self.calls, &self.fail) {
+            self.faults = self.faults.saturating_add(1);
+            return Err(Failed);
+        }
+        let end = buf.len().min(self.most.max(1));
+        Ok(copy_bytes(&self.bytes, at as usize, &mut buf[..end]))
+    }
+}
+
+impl PositionedFile for MemFile {
+    type Reader = MemFileReader;
+
+    ghost made = { λ f. is_some f.bytes };
+
+    ghost bytes = { λ f. Some (bytes_of f) };
+
+    ghost faults = { λ f. f.faults };
+
+    ghost none_before = { Prim.search rules };
+
+    fn is_made(&self) -> bool {
+        self.bytes.is_some()
+    }
+
+    fn create(&mut self) -> Result<(), Failed>
+        requires { is_some self.old.bytes ≡ false }
+        ensures made { OnOk result (is_some self.new.bytes ≡ true) }
+        ensures not_made { OnErr result (is_some self.new.bytes ≡ false) }
+        ensures empty { IfSome self.new.bytes (λ bytes. bytes.items ≡ []) }
+        ensures no_fault { OnOk result (self.new.faults ≡ self.old.faults) }
+        ensures failed { OnErr result (Rose self.old.faults self.new.faults) }
+        ensures count { self.old.faults ≤ self.new.faults }
+
+        ensures due { IsErr result ↔ Contains self.old.fail.items (counted self.old.calls 1) }
+        ensures calls { self.new.calls ≡ counted self.old.calls 1 }
+        ensures lists { (self.new.fail.items ≡ self.old.fail.items) × (self.new.fail_reads.items ≡ self.old.fail_reads.items) × (self.new.most ≡ self.old.most) }
+    {
+        if is_due(&mut self.calls, &self.fail) {
+            self.faults = self.faults.saturating_add(1);
+            return Err(Failed);
+        }
+        let alloc = *self.fail.allocator();
+        self.bytes = Some(Vec::new(alloc));
+        Ok(())
+    }
+
+    fn write_all_at(&mut self, piece: &[u8], at: u64) -> Result<(), Failed>
+        requires made { is_some self.old.bytes ≡ true }
+        requires some { 0 < length piece.now }
+        requires in_range { at + length piece.now < 2 ^ 63 }
+        ensures written { OnOk result (bytes_of self.new ≡ with_words (bytes_of self.old) at piece.now) }
+        ensures others { OnErr result (bytes_of self.new ≡ bytes_of self.old) }
+        ensures made { is_some self.new.bytes ≡ true }
+        ensures no_fault { OnOk result (self.new.faults ≡ self.old.faults) }
+        ensures failed { OnErr result (Rose self.old.faults self.new.faults) }
+        ensures count { self.old.faults ≤ self.new.faults }
+
+        ensures due { Contains self.old.fail.items (counted self.old.calls 1) → IsErr result }
+        ensures full { IsErr result → ¬ Contains self.old.fail.items (counted self.old.calls 1) → IfSome self.old.bytes (λ bytes. vec_capacity bytes < at + length piece.now) }
+        ensures calls { self.new.calls ≡ counted self.old.calls 1 }
+        ensures lists { (self.new.fail.items ≡ self.old.fail.items) × (self.new.fail_reads.items ≡ self.old.fail_reads.items) × (self.new.most ≡ self.old.most) }
+    {
+        let is_refused = is_due(&mut self.calls, &self.fail);
+        let Some(bytes) = &mut self.bytes else {
+            unreachable!()
+        };
+        if is_refused || write_bytes(bytes, at as usize, piece).is_err() {
+            self.faults = self.faults.saturating_add(1);
+            return Err(Failed);
+        }
+        Ok(())
+    }
+
+    fn open(&mut self) -> Result<MemFileReader, Failed>
+        requires { is_some self.old.bytes ≡ true }
+        ensures opened { IfOk result (λ reader. reader.bytes.items ≡ bytes_of self.old) }
+        ensures no_fault_yet { IfOk result (λ reader. reader.faults ≡ 0) }
+        ensures no_read_yet { IfOk result (λ reader. reader.calls ≡ 0) }
+        ensures reads { IfOk result (λ reader. (reader.fail.items ≡ self.old.fail_reads.items) × (reader.most ≡ self.old.most)) }
+        ensures kept { self.new.bytes ≡ self.old.bytes }
+        ensures no_fault { OnOk result (self.new.faults ≡ self.old.faults) }
+        ensures failed { OnErr result (Rose self.old.faults self.new.faults) }
+        ensures count { self.old.faults ≤ self.new.faults }
+
+        ensures due { Contains self.old.fail.items (counted self.old.calls 1) → IsErr result }
+        ensures calls { self.new.calls ≡ counted self.old.calls 1 }
+        ensures lists { (self.new.fail.items ≡ self.old.fail.items) × (self.new.fail_reads.items ≡ self.old.fail_reads.items) × (self.new.most ≡ self.old.most) }
+    {
+        let is_refused = is_due(&mut self.calls, &self.fail);
+        match reader_of(self) {
+            Ok(reader) if !is_refused => Ok(reader),
+            _ => {
+                self.faults = self.faults.saturating_add(1);
+                Err(Failed)
+            }
+        }
+    }
+}
+
+/// A reader of the bytes as they are now.
+fn reader_of(file: &MemFile) -> Result<MemFileReader, AllocError>
+    requires { is_some file.now.bytes ≡ true }
+    ensures bytes { IfOk result (λ reader. reader.bytes.items ≡ bytes_of file.now) }
+    ensures uncalled { IfOk result (λ reader. reader.calls ≡ 0) }
+    ensures reads { IfOk result (λ reader. (reader.fail.items ≡ file.now.fail_reads.items) × (reader.most ≡ file.now.most)) }
+    ensures no_faults { IfOk result (λ reader. reader.faults ≡ 0) }
+{
+    let Some(bytes) = &file.bytes else {
+        unreachable!()
+    };
+    let alloc = *bytes.allocator();
+    Ok(MemFileReader {
+        bytes: Vec::from_slice(alloc, bytes)?,
+        calls: 0,
+        fail: Vec::from_slice(alloc, &file.fail_reads)?,
+        most: file.most,
+        faults: 0,
+    })
+}
+
+/// Copies the bytes from byte `at` on into the front of `buf`, as many as there are and as fit, and answers
+/// how many.
+fn copy_bytes(bytes: &[u8], at: usize, buf: &mut [u8]) -> usize
+    ensures whole { result ≡ min (length buf.old) (length (drop at bytes.now)) }
+    ensures copied { take result buf.new ≡ take result (drop at bytes.now) }
+{
+    let left = &bytes[bytes.len().min(at)..];
+    let n = buf.len().min(left.len());
+    buf[..n].copy_from_slice(&left[..n]);
+    n
+}
+
+/// Writes the bytes from byte `start` on, with zeros before them where there are fewer.
+fn write_bytes(bytes: &mut Vec<u8>, start: usize, piece: &[u8]) -> Result<(), AllocError>
+    requires { start + length piece.now < 2 ^ 63 }
+    ensures written { OnOk result (bytes.new.items ≡ with_words bytes.old.items start piece.now) }
+    ensures err { OnErr result (bytes.new.items ≡ bytes.old.items) }
+    ensures full { OnErr result (vec_capacity bytes.old < start + length piece.now) }
+{
+    reach(bytes, start + piece.len())?;
+    overwrite(bytes, start, piece);
+    Ok(())
+}
+
+/// Fills up with zeros to the length `end`, where there are fewer bytes.
+fn reach(bytes: &mut Vec<u8>, end: usize) -> Result<(), AllocError>
+    ensures reached { OnOk result (bytes.new.items ≡ bytes.old.items ++ replicate (end - vec_len bytes.old) 0) }
+    ensures err { OnErr result (bytes.new.items ≡ bytes.old.items) }
+    ensures full { OnErr result (vec_capacity bytes.old < end) }
+{
+    if end > bytes.len() {
+        bytes.resize(end, 0)?;
+    }
+    Ok(())
+}
+
+/// Writes the bytes from byte `start` on.
+fn overwrite(bytes: &mut [u8], start: usize, piece: &[u8])
+    requires { start + length piece.now ≤ length bytes.old }
+    ensures { bytes.new ≡ take start bytes.old ++ piece.now ++ drop (start + length piece.now) bytes.old }
+{
+    bytes[start..start + piece.len()].copy_from_slice(piece);
+}
