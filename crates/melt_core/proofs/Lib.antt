@@ -14,3 +14,4 @@ pub mod Loads
 pub mod Steps
 pub mod Beginning
 pub mod Ends
+pub mod Onward

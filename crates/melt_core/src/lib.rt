@@ -11,3 +11,6 @@ mod parts;
 
 pub use answer::{Pause, Refusal, StepResult};
 pub use machine::{Core, Rest};
+
+#[cfg(test)]
+mod tests;
