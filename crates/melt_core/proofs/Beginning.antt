@@ -64,8 +64,8 @@ call_set : (v : View) (t : ℕ) (call : Option Call) → Standing v → t < leng
 call_set v t call s within = get_or-set_same v.calls t call None (let each : length v.calls ≡ length v.held = s.each in omega arith)
 
 -- the call goes on
-call_goes : (v w : View) (t free : ℕ) (o : Op) (from : Option Stage) (stage : Stage) → Standing v → Standing w → t < length v.held → w ≡ with_call (with_free v free) t (Some (record { op = o; stage = stage })) → stage_in (call_of v t) ≡ from → GoesOn v t o from → events_left (Some stage) < events_left from → ((need : ℕ) → stage ≡ Lacking need → length v.space.list + 1 < v.free + need) → (stage ≡ Polled → free ≡ v.free) → Advances v w t o Going
-call_goes v w t free o from stage s after within is at further nearer lacks stays = record {
+call_goes : (v w : View) (t free : ℕ) (o : Op) (from : Option Stage) (stage : Stage) → Standing v → Standing w → t < length v.held → w ≡ with_call (with_free v free) t (Some (record { op = o; stage = stage })) → stage_in (call_of v t) ≡ from → GoesOn v t o from → events_left (Some stage) < events_left from → ((need : ℕ) → stage ≡ Lacking need → from ≡ Some Polled) → ((need : ℕ) → stage ≡ Lacking need → length v.space.list + 1 < v.free + need) → (stage ≡ Polled → free ≡ v.free) → Advances v w t o Going
+call_goes v w t free o from stage s after within is at further nearer claims lacks stays = record {
   stands = after;
   others = others_call v w t free (Some (record { op = o; stage = stage })) is;
   outcome = subst (λ (x : View). Goes v x t o) (sym is) (record {
@@ -73,6 +73,7 @@ call_goes v w t free o from stage s after within is at further nearer lacks stay
     stage = stage;
     call = call_set v t (Some (record { op = o; stage = stage })) s within;
     nearer = subst (λ (x : Option Stage). events_left (Some stage) < events_left x) (sym at) nearer;
+    claims = λ need is. at ∙ claims need is;
     lacks = lacks;
     free = stays;
     history = refl;
@@ -130,11 +131,11 @@ makes_further v t o shape makes = absurd makes
 -- a region was claimed, or is lacking
 pub claims : (v w : View) (t : ℕ) (o : Op) (shape : Shape) → Standing v → Standing w → t < length v.held → call_of v t ≡ Some (record { op = o; stage = Polled }) → MakesShape o shape → IsShape shape → HasClaimed v w t o shape → Advances v w t o Going
 claims v w t o shape s after within at makes small claimed = elim (cases_lt (length v.space.list + 1) (v.free + cost_of shape)) [
-  | inl above ↦ call_goes v w t w.free o (Some Polled) (Lacking (cost_of shape)) s after within (claimed.lacks above) (ap stage_in at) (makes_further v t o shape makes) (omega arith) (λ need is. let same : cost_of shape ≡ need = cc in omega arith) (λ is. absurd (cc))
+  | inl above ↦ call_goes v w t w.free o (Some Polled) (Lacking (cost_of shape)) s after within (claimed.lacks above) (ap stage_in at) (makes_further v t o shape makes) (omega arith) (λ need is. refl) (λ need is. let same : cost_of shape ≡ need = cc in omega arith) (λ is. absurd (cc))
   | inr fits ↦
       let refs : shape.refs ≤ 62 = small.refs in
       let nums : shape.nums ≤ 62 = small.nums in
-      call_goes v w t (v.free + cost_of shape) o (Some Polled) (Claimed v.free shape 0) s after within (claimed.fits fits) (ap stage_in at) (makes_further v t o shape makes) (omega arith) (λ need is. absurd (cc)) (λ is. absurd (cc))
+      call_goes v w t (v.free + cost_of shape) o (Some Polled) (Claimed v.free shape 0) s after within (claimed.fits fits) (ap stage_in at) (makes_further v t o shape makes) (omega arith) (λ need is. refl) (λ need is. absurd (cc)) (λ is. absurd (cc))
 ]
 
 -- an object stands at the address
@@ -217,7 +218,7 @@ part_flight v t r address o part shape on found reads same has =
 pub headed : (v w : View) (t r address : ℕ) (o : Op) (part : Part) (shape : Shape) → Standing v → Standing w → t < length v.held → call_of v t ≡ Some (record { op = o; stage = Polled }) → IsOn o r part → (found : StandsAt (maps v) (state v) address) → address ≡ (state v).register t r → shape ≡ found.header.shape → HasPart part shape → w ≡ with_call v t (Some (record { op = o; stage = Headed address shape })) → Advances v w t o Going
 headed v w t r address o part shape s after within at on found reads same has is =
     call_goes v w t v.free o (Some Polled) (Headed address shape) s after within is (ap stage_in at)
-    (further_header v t r address o part shape on (part_flight v t r address o part shape on found reads same has)) (omega arith) (λ need is. absurd (cc)) (λ is. refl)
+    (further_header v t r address o part shape on (part_flight v t r address o part shape on found reads same has)) (omega arith) (λ need is. refl) (λ need is. absurd (cc)) (λ is. refl)
 
 -- the object lacks the part: no header has it
 not_further : (v : View) (t r address : ℕ) (o : Op) (part : Part) (shape : Shape) → IsOn o r part → (found : StandsAt (maps v) (state v) address) → address ≡ (state v).register t r → shape ≡ found.header.shape → (HasPart part shape → ⊥) → GoesOn v t o (Some Polled) → ⊥

@@ -257,6 +257,7 @@ Advances_store_zero v w t address stored o shape s after within here few is =
         stage = Claimed address shape (stored + 1);
         call = get_or-set_same v.calls t next None (call_within v t s within);
         nearer = subst (λ (c : Option Call). events_left (stage_in next) < events_left (stage_in c)) (sym here) fewer;
+        claims = λ need no. absurd (cc);
         lacks = λ need no. absurd (cc);
         free = λ no. absurd (cc);
         history = refl;

@@ -273,6 +273,7 @@ goes_on v w space t o stage result s stands within further nearer no_lack no_pol
           ap (λ (x : View). call_of x t) is
           ∙ get_or-set_same v.calls t call None (let each : length v.calls ≡ length v.held = s.each in omega arith);
       nearer = nearer;
+      claims = λ need lacking. absurd (no_lack need lacking);
       lacks = λ need lacking. absurd (no_lack need lacking);
       free = λ polled. absurd (no_poll polled);
       history = ap (λ (x : View). x.log) is;

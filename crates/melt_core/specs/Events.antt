@@ -71,6 +71,7 @@ pub record Goes (v w : View) (t : ℕ) (o : Op) : Type 0 where
   pub stage : Stage
   pub call : call_of w t ≡ Some (record { op = o; stage = stage })
   pub nearer : events_left (Some stage) < events_left (stage_in (call_of v t))
+  pub claims : (need : ℕ) → stage ≡ Lacking need → stage_in (call_of v t) ≡ Some Polled
   pub lacks : (need : ℕ) → stage ≡ Lacking need → length v.space.list + 1 < v.free + need
   pub free : stage ≡ Polled → w.free ≡ v.free
   pub history : w.log ≡ v.log

@@ -388,10 +388,11 @@ fn objects_that_are_made_at_once_stand_apart(rt: HostRuntime) -> Result<(), Fail
     Ok(())
 }
 
-#[test]
-fn the_history_has_the_entries_of_calls_in_order(rt: HostRuntime) -> Result<(), Fail> {
-    let mut core = new_core(rt.alloc(), 9)?;
-    let calls = [
+/// Calls of two threads, of which all but the copy and the one out of range have an entry.
+fn calls_with_entries() -> [Wanted; 10]
+    ensures { length result ≡ 10 }
+{
+    [
         answered(
             0,
             Op::New {
@@ -438,17 +439,18 @@ fn the_history_has_the_entries_of_calls_in_order(rt: HostRuntime) -> Result<(), 
         answered(1, Op::Copy { dst: 7, src: 6 }, 1, Reply::Done),
         answered(1, Op::Get { src: 7, j: 1 }, 2, Reply::Range),
         answered(1, Op::Get { src: 7, j: 0 }, 3, Reply::Num(7)),
-    ];
-    expect(&rt, &mut core, &calls);
-    let (heap, rest) = core.finish();
-    assert_eq!(rt; heap.space.used(), 6);
+    ]
+}
+
+/// The entries of these calls.
+fn entries_of_calls() -> [Entry; 8] {
     let number = Value::Num(7);
     let object = Value::Ref(0);
     let global = Slot::Global(0);
     let cell = Slot::Cell(0, 0);
     let field = Slot::Field(1, 0);
     let entry = |thread, act| Entry { thread, act };
-    let entries = [
+    [
         entry(0, Act::Make { refs: 0, nums: 1 }),
         entry(1, Act::Make { refs: 1, nums: 0 }),
         entry(
@@ -493,7 +495,18 @@ fn the_history_has_the_entries_of_calls_in_order(rt: HostRuntime) -> Result<(), 
                 value: number,
             },
         ),
-    ];
-    assert_eq!(rt; rest.into_history().items.as_slice(), entries.as_slice());
+    ]
+}
+
+#[test]
+fn the_history_has_the_entries_of_calls_in_order(rt: HostRuntime) -> Result<(), Fail> {
+    let mut core = new_core(rt.alloc(), 9)?;
+    expect(&rt, &mut core, &calls_with_entries());
+    let (heap, rest) = core.finish();
+    assert_eq!(rt; heap.space.used(), 6);
+    assert_eq!(rt;
+        rest.into_history().items.as_slice(),
+        entries_of_calls().as_slice()
+    );
     Ok(())
 }
