@@ -1,135 +1,215 @@
--- A collection of a machine's heap, and a new object in it.
-use Rattle.std.proofs.Common.{◌≡◌, ℕ, ◌+◌, ◌<◌, ◌≤◌, List, [], ◌∷◌, ◌++◌, length, get_or, refl, sym, ◌∙◌, ap, subst, arith, length-append}
-use Rattle.std.specs.Prelude.{◌-◌, ◌^◌, All, None, Some, IsSome, replicate, true}
-use Rattle.std.proofs.lemmas.List.{length-replicate}
-use Rattle.melt_model.specs.declared.operations.Op.TheVariants as op
-use Rattle.melt_model.specs.declared.operations.Reply.TheVariants as reply
-use Rattle.melt_model.specs.declared.history.Value.{Value}
-use Rattle.melt_model.specs.declared.history.Value.TheVariants.{Ref}
-use Rattle.melt_model.specs.declared.history.Act.TheVariants.{Make}
-use Rattle.melt_model.specs.History.{made}
-use Rattle.melt_step.specs.Answering.{entry}
-use Rattle.std.proofs.Math.ListN.{set}
-use Rattle.melt_space.specs.declared.space.NoRoom.{NoRoom}
-use Rattle.melt_scion.specs.Heaps.{IsNewHeap}
+-- A collection between two epochs.
+use Rattle.std.proofs.Common.{◌≡◌, ℕ, ◌^◌, ◌<◌, ◌≤◌, suc, List, [], ◌∷◌, ◌++◌, length, get_or, ◌⊎◌, inl, inr, refl, sym, ◌∙◌, ap, subst, arith, length-append}
+use Rattle.std.proofs.Math.Path.{fun_ext}
+use Rattle.std.proofs.Math.ListN.{get_or-map}
+use Rattle.std.proofs.lemmas.Bool.{cases_lt}
+use Rattle.std.proofs.lemmas.List.{get_or_past}
+use Rattle.std.specs.Prelude.{◌↔◌, ◌≢◌, All, Option, None, Some, IsSome}
+use Rattle.std.proofs.lemmas.List.Sums.{sum-map, sum_by-cons}
 use Rattle.std.proofs.lemmas.List.Elements.{All-append, All-from_recursion}
+use Rattle.melt_model.specs.History.{Legal}
+use Rattle.melt_model.specs.Thread.{value_in}
 use Rattle.melt_model.specs.Alive.{Alive, words_of, CostsSum}
 use Rattle.melt_model.specs.declared.history.Entry.{Entry}
-use Rattle.melt_model.specs.declared.reports.Phase.TheVariants.{Inactive}
+use Rattle.melt_model.specs.declared.history.Value.{Value}
+use Rattle.melt_model.specs.declared.reports.Phase.{Phase}
+use Rattle.melt_model.specs.declared.reports.Phase.TheVariants.{Inactive, Mark, Move}
 use Rattle.melt_model.specs.declared.reports.Journal.{Journal}
+use Rattle.melt_model.proofs.Sums.{CostsSum-same, CostsSum-part}
+use Rattle.melt_scion.specs.State.{State}
+use Rattle.melt_scion.specs.Placed.{Maps, Placed}
+use Rattle.melt_scion.specs.Collected.{InUse, InReach}
+use Rattle.melt_scion.specs.Names.{name_at}
+use Rattle.melt_scion.specs.Heaps.{HasNames, KeepsNames, NamesMade, IsFormed}
+use Rattle.melt_scion.specs.declared.heap.Names as heap
+use Rattle.melt_scion.specs.declared.heap.Heap.{Heap}
 use Rattle.melt_scion.specs.declared.registers.Registers.{Registers}
-use Rattle.melt_copy.specs.Copying.{Collects}
-use Rattle.melt_step.specs.Machine.{IsStanding, IsFresh, HasCollected, HasMade, HasRefused, HasReplied, HasStopped, StandsFor, UsesAlive, held_values, maps_of, numbers_of, of_thread, values_of}
-use Rattle.melt_step.specs.declared.machine.Machine.{Machine}
-use Rattle.melt_step.proofs.Standing.{StandsFor_collected, StandsFor_start, names_are}
+use Rattle.melt_scion.proofs.Reaching.{reached_alive, alive_reached}
+use Rattle.melt_copy.specs.Copying.{IsCopying, Collects, HasCollected}
+use Rattle.melt_core.specs.declared.call.Call.{Call}
+use Rattle.melt_core.specs.declared.machine.Rest.{Rest}
+use Rattle.melt_core.specs.Views.{View, view, maps, maps_of, state, value, values_of, numbers_of, registers_in, held_values, call_of, claimed, claimed_in, Standing}
+use Rattle.melt_core.specs.Epochs.{AtRest, core_of, HasFinished}
+use Rattle.melt_core.proofs.Values.{same_values}
+use Rattle.melt_step.specs.Seats.{Collected, IsPlanning, Notes}
+use Rattle.melt_step.specs.declared.collector.Collector.{Collector}
 
--- a list of one
-only : {A : Type 0} (xs : List A) (d : A) → length xs ≡ 1 → xs ≡ get_or xs 0 d ∷ []
-only [] d one = absurd (omega arith)
-only (x ∷ []) d one = refl
-only (x ∷ y ∷ xs) d one = absurd (omega arith)
+-- the names of a heap are those of its map
+pub names_are : (names : Option heap.Names) → HasNames names (maps_of names)
+names_are None = tt
+names_are (Some names) = λ address. refl
 
--- a collection of the heap of a machine
-pub machine_collected : (m new : Machine) (held_after : List Registers) (none : Registers) (journal : Journal) → IsStanding m → Collects m.heap (m.held ∷ []) new.heap held_after Inactive journal → length held_after ≡ 1 → new.held.regs ≡ (get_or held_after 0 none).regs → length new.held.regs ≡ 16 → new.log.items ≡ m.log.items → new.made ≡ m.made → new.journal.items ≡ m.journal.items ++ journal ∷ [] → HasCollected m new
-machine_collected m new held_after none journal st collects one regs sixteen log made journals =
-    let first : Registers = get_or held_after 0 none in
-    let same : first ≡ new.held = ap (λ (rs : List ℕ). let x : Registers = record { regs = rs } in x) (sym regs) in
-    let alone : held_after ≡ new.held ∷ [] = only held_after none one ∙ ap (λ (x : Registers). x ∷ []) same in
-    let by_list : Collects m.heap (m.held ∷ []) new.heap (new.held ∷ []) Inactive journal =
-    subst (λ (xs : List Registers). Collects m.heap (m.held ∷ []) new.heap xs Inactive journal) alone collects in
-    let inactive : journal.phase ≡ Inactive = (by_list (maps_of m.heap.names) 1 (names_are m.heap.names) st.stands.placed.formed).told.of_phase in
-    let after = StandsFor_collected m.heap new.heap m.held new.held Inactive journal m.log.items m.made st.stands by_list sixteen in
+-- names that are there are for all words
+names_made : (names : Option heap.Names) (words : ℕ) → length (numbers_of names) ≡ words → NamesMade words names
+names_made None words room = tt
+names_made (Some names) words room = room
+
+-- heap and registers may be collected
+pub rest_formed : (heap : Heap) (rest : Rest) → AtRest heap rest → IsFormed heap rest.held.items
+rest_formed heap rest at_rest = record {
+  maps = maps_of heap.names;
+  end = 1;
+  names = names_are heap.names;
+  made = names_made heap.names (length heap.space.list) at_rest.stands.room;
+  formed = at_rest.stands.placed.formed;
+}
+
+-- maps that agree with the names, and have no homes
+same_maps : (old new : Option heap.Names) (after : Maps) → IsSome old → KeepsNames old new → HasNames new after → ((home : ℕ) → after.home home ≡ None) → after ≡ maps_of new
+same_maps None new after is_some keeps has none = absurd (cc)
+same_maps (Some old) None after is_some keeps has none = absurd keeps
+same_maps (Some old) (Some new) after is_some keeps has none =
+    ap (λ (f : ℕ → Option ℕ). let m : Maps = record { address = f; home = after.home } in m) (fun_ext has)
+    ∙ ap (λ (g : ℕ → Option ℕ). let m : Maps = record { address = name_at new.addresses; home = g } in m) (fun_ext none)
+
+-- names stay where they are
+keeps_some : (old new : Option heap.Names) → IsSome old → KeepsNames old new → IsSome new
+keeps_some None new is_some keeps = absurd (cc)
+keeps_some (Some old) None is_some keeps = absurd keeps
+keeps_some (Some old) (Some new) is_some keeps = refl
+
+-- names stay for as many addresses
+keeps_room : (old new : Option heap.Names) → KeepsNames old new → length (numbers_of new) ≡ length (numbers_of old)
+keeps_room None None keeps = refl
+keeps_room None (Some new) keeps = absurd keeps
+keeps_room (Some old) None keeps = absurd keeps
+keeps_room (Some old) (Some new) keeps = keeps
+
+-- the objects that a collection reaches are those that are alive
+alive_in_use : (h : List Entry) (value : ℕ → ℕ → Value) (maps new : Maps) (s : State) (n : ℕ) → Legal h s.globals → Placed h value maps s → (InUse new n ↔ InReach maps s n) → InUse new n ↔ Alive h value n
+alive_in_use h value maps new s n legal placed in_use = (
+  λ is. let reached : InReach maps s n = in_use.0 is in reached_alive h value maps s reached.0 n placed reached.2 reached.1,
+  λ is. in_use.1 (alive_reached h value maps s n legal placed is),
+)
+
+-- where no call is in flight, no region is owned
+unclaimed : (calls : List (Option Call)) → ((t : ℕ) → get_or calls t None ≡ None) → claimed calls ≡ 0
+unclaimed [] quiet = refl
+unclaimed (c ∷ calls) quiet =
+    let here : claimed_in c ≡ 0 = ap claimed_in (quiet 0) in
+    let others : claimed calls ≡ 0 = unclaimed calls (λ t. quiet (suc t)) in
+    omega (arith, sum-map claimed_in calls, sum-map claimed_in (c ∷ calls), sum_by-cons claimed_in c calls)
+
+-- the view of a rest behind a collection, with the calls and the history from before
+collected_view : Heap → Rest → List Registers → View
+collected_view new rest held = record (view (core_of new rest)) { held = held }
+
+-- the collected heap and registers stand for the history of the rest
+collected_stands : (heap new : Heap) (rest : Rest) (held : List Registers) (phase : Phase) (journal : Journal) → AtRest heap rest → Collects heap rest.held.items new held phase journal → length held ≡ length rest.held.items → ((t : ℕ) → length (registers_in held t) ≡ length (registers_in rest.held.items t)) → Collected (view (core_of heap rest)) (collected_view new rest held)
+unfolding collected_view
+collected_stands heap new rest held phase journal at_rest collects threads sizes =
+    let v : View = view (core_of heap rest) in
+    let w : View = collected_view new rest held in
+    let s : Standing v = at_rest.stands in
+    let has : HasCollected (maps v) 1 heap new rest.held.items held phase journal = collects (maps v) 1 (names_are heap.names) s.placed.formed in
+    let same : has.after ≡ maps w = same_maps heap.names new.names has.after s.named has.names_stay has.names (λ home. has.collected.homes home) in
+    let placed_at : Placed v.log (value v) has.after (state w) = has.collected.placed v.log (value v) s.placed in
+    let placed : Placed v.log (value v) (maps w) (state w) = subst (λ (m : Maps). Placed v.log (value v) m (state w)) same placed_at in
+    let values : (t : ℕ) → values_of w t ≡ values_of v t = λ t.
+    same_values heap.names new.names (registers_in rest.held.items t) (registers_in held t) (sizes t) (placed.registers t) in
+    let value_is : value v ≡ value w = fun_ext (λ t. fun_ext (λ r. ap (λ (vs : List Value). value_in vs r) (sym (values t)))) in
+    let size : length new.space.list ≡ length heap.space.list = has.collected.size in
+    let globals : length new.globals ≡ length heap.globals = has.collected.globals in
+    let none : claimed v.calls ≡ 0 = unclaimed v.calls at_rest.quiet in
+    let live : CostsSum (words_of v.log) (InUse has.after) new.space.used =
+    subst (CostsSum (words_of v.log) (InUse has.after)) has.told.live_words (has.counts.live_words v.log (value v) s.placed) in
+    let fewer : new.space.used ≤ s.counts.in_use =
+    CostsSum-part (words_of v.log) (InUse has.after) (InUse (maps v)) new.space.used s.counts.in_use (λ n is. let reached = (has.collected.in_use n).0 is in (reached.0, reached.1)) live s.counts.adds_up in
+    let alive : CostsSum (words_of v.log) (Alive v.log (value w)) new.space.used =
+    subst (λ (f : ℕ → ℕ → Value). CostsSum (words_of v.log) (Alive v.log f) new.space.used) value_is
+    (CostsSum-same (words_of v.log) (InUse has.after) (Alive v.log (value v)) new.space.used (λ n. alive_in_use v.log (value v) (maps v) has.after (state v) n s.legal s.placed (has.collected.in_use n)) live) in
     record {
       stands = record {
-        stands = subst (λ (h : List Entry). StandsFor new.heap.space new.heap.globals new.heap.names new.held.regs h new.made) (sym log)
-            (subst (λ (n : ℕ). StandsFor new.heap.space new.heap.globals new.heap.names new.held.regs m.log.items n) (sym made) after.0);
-        inactive = subst (All (λ (j : Journal). j.phase ≡ Inactive)) (sym journals)
-            (All-append (λ (j : Journal). j.phase ≡ Inactive) m.journal.items (journal ∷ []) st.inactive (All-from_recursion (λ (j : Journal). j.phase ≡ Inactive) (journal ∷ []) (inactive, tt)));
+        legal = subst (Legal v.log) (sym globals) s.legal;
+        named = keeps_some heap.names new.names s.named has.names_stay;
+        room = keeps_room heap.names new.names has.names_stay ∙ (s.room ∙ sym size);
+        small = subst (λ (n : ℕ). n < 2 ^ 30) (sym size) s.small;
+        few = subst (λ (n : ℕ). n ≤ 8) (sym threads) s.few;
+        each = s.each ∙ sym threads;
+        counted = s.counted;
+        placed = subst (λ (f : ℕ → ℕ → Value). Placed v.log f (maps w) (state w)) value_is placed;
+        in_flight = λ t c is. let quiet : call_of v t ≡ None = at_rest.quiet t in absurd (cc);
+        apart = λ t u c d other is at. let quiet : call_of v t ≡ None = at_rest.quiet t in absurd (cc);
+        counts = record {
+          in_use = new.space.used;
+          adds_up = subst (λ (m : Maps). CostsSum (words_of v.log) (InUse m) new.space.used) same live;
+          below = omega (arith, none);
+          within = omega (arith, none, size, fewer, s.counts.within);
+        };
       };
-      sizes = record { globals = after.4; words = after.3 };
-      made = made;
-      registers = after.1;
-      history = log;
-      alive = subst (λ (h : List Entry). CostsSum (words_of h) (Alive h (of_thread (values_of new))) new.heap.space.used) (sym log) after.2;
-      journal = ap length journals ∙ length-append m.journal.items (journal ∷ []);
+      quiet = at_rest.quiet;
+      globals = globals;
+      words = size;
+      threads = threads;
+      capacity = refl;
+      history = refl;
+      values = values;
+      stop = refl;
+      alive = λ used is. subst (CostsSum (words_of v.log) (Alive v.log (value w))) (omega (arith, is)) alive;
     }
 
--- an operation that makes an object stopped, since there was no room before and behind a collection
-pub stopped : (m first collected new : Machine) (dst refs nums used : ℕ) (early late : NoRoom) → HasRefused m first (record { refs = refs; nums = nums }) early → HasCollected first collected → HasRefused collected new (record { refs = refs; nums = nums }) late → used ≡ new.heap.space.used → HasStopped m new (op.New dst refs nums) used late.need
-stopped m first collected new dst refs nums used early late refused by_collection refused_again is_used =
-    let done : HasCollected m collected = subst (λ (x : Machine). HasCollected x collected) refused.stays by_collection in
-    let after : HasCollected m new = subst (HasCollected m) (sym refused_again.stays) done in
-    let size : length new.heap.space.list ≡ length collected.heap.space.list = ap (λ (x : Machine). length x.heap.space.list) refused_again.stays in
-    let held : new.heap.space.used ≡ collected.heap.space.used = ap (λ (x : Machine). x.heap.space.used) refused_again.stays in
-    let free : late.free ≡ length collected.heap.space.list - collected.heap.space.used = refused_again.lacks.free in
-    let need : late.need ≡ 2 + refs + nums = refused_again.lacks.need in
-    let fewer : late.free < late.need = refused_again.lacks.fewer in
-    record {
-      stands = after.stands;
-      sizes = after.sizes;
-      registers = after.registers;
-      history = after.history;
-      full = record {
-        dst = dst;
-        refs = refs;
-        nums = nums;
-        next = refl;
-        needed = need;
-        reach = subst (UsesAlive new) (sym is_used) after.alive;
-        above = omega arith;
-      };
-      journal = omega (arith, after.journal);
-    }
+-- a thread that is there has its registers in the list, and one that is not has none
+registers_at : (held : List Registers) (t : ℕ) → registers_in held t ≡ (get_or held t (record { regs = [] })).regs
+registers_at held t = get_or-map (λ (x : Registers). x.regs) held t (record { regs = [] })
 
--- what is alive in a machine is alive after a collection
-alive_later : (m new : Machine) (held : ℕ) → HasCollected m new → UsesAlive m held → UsesAlive new held
-alive_later m new held done alive =
-    subst (λ (h : List Entry). CostsSum (words_of h) (Alive h (of_thread (values_of new))) held) (sym done.history)
-    (subst (λ (vs : List Value). CostsSum (words_of m.log.items) (Alive m.log.items (of_thread vs)) held) (sym done.registers) alive)
+-- a thread has as many registers as before, whether it is there or not
+sizes_at : (old new : List Registers) (t : ℕ) → length new ≡ length old → All (λ (x : Registers). length x.regs ≡ 16) old → All (λ (x : Registers). length x.regs ≡ 16) new → (t < length old) ⊎ (length old ≤ t) → length (registers_in new t) ≡ length (registers_in old t)
+sizes_at old new t threads before after (inl below) =
+    let none : Registers = record { regs = [] } in
+    let was : length (registers_in old t) ≡ 16 = ap length (registers_at old t) ∙ before t none below in
+    let is : length (registers_in new t) ≡ 16 = ap length (registers_at new t) ∙ after t none (omega (arith, threads, below)) in
+    is ∙ sym was
+sizes_at old new t threads before after (inr past) =
+    let none : Registers = record { regs = [] } in
+    let was : registers_in old t ≡ [] = registers_at old t ∙ ap (λ (x : Registers). x.regs) (get_or_past old t none past) in
+    let is : registers_in new t ≡ [] = registers_at new t ∙ ap (λ (x : Registers). x.regs) (get_or_past new t none (omega (arith, threads, past))) in
+    ap length (is ∙ sym was)
 
--- an operation that makes an object was replied to behind a collection
-pub made_later : (m first collected new : Machine) (dst refs nums : ℕ) (early : NoRoom) → HasRefused m first (record { refs = refs; nums = nums }) early → HasCollected first collected → HasMade collected new dst (record { refs = refs; nums = nums }) → HasReplied m new (op.New dst refs nums) reply.Done
-made_later m first collected new dst refs nums early refused by_collection makes =
-    let done : HasCollected m collected = subst (λ (x : Machine). HasCollected x collected) refused.stays by_collection in
-    let log : collected.log.items ≡ m.log.items = done.history in
-    let size : length collected.heap.space.list ≡ length m.heap.space.list = done.sizes.words in
-    record {
-      stands = makes.stands;
-      sizes = record { globals = makes.sizes.globals ∙ done.sizes.globals; words = makes.sizes.words ∙ size };
-      few = omega (arith, makes.made, done.made);
-      journal = omega (arith, ap length makes.journal, done.journal);
-      answers = record {
-        value = Ref (made m.log.items);
-        given = refl;
-        told = refl;
-        registers = makes.registers
-            ∙ (ap (λ (vs : List Value). set vs dst (Ref (made collected.log.items))) done.registers
-            ∙ ap (λ (h : List Entry). set (values_of m) dst (Ref (made h))) log);
-        history = makes.history ∙ ap (λ (h : List Entry). h ++ entry (Make refs nums) ∷ []) log;
-      };
-      room = λ held alive.
-          let fits : held + (2 + refs + nums) ≤ length collected.heap.space.list = makes.room held (alive_later m collected held done alive) in
-          omega arith;
-    }
+-- each thread has as many registers as before, if each of as many threads has 16
+pub same_sizes : (old new : List Registers) → length new ≡ length old → All (λ (x : Registers). length x.regs ≡ 16) old → All (λ (x : Registers). length x.regs ≡ 16) new → (t : ℕ) → length (registers_in new t) ≡ length (registers_in old t)
+same_sizes old new threads before after t = sizes_at old new t threads before after (cases_lt t (length old))
 
--- a new machine
-pub machine_fresh : (m : Machine) (size count : ℕ) → size < 2 ^ 30 → IsNewHeap size count true m.heap → m.held.regs ≡ replicate 16 0 → m.log.items ≡ [] → m.made ≡ 0 → m.journal.items ≡ [] → IsFresh size count m
-machine_fresh m size count small new regs log made journal =
-    let names : m.heap.names ≡ Some (record { addresses = replicate size None }) = new.names in
-    let is_named : IsSome m.heap.names = subst IsSome (sym names) refl in
-    let none : numbers_of m.heap.names ≡ replicate size None = ap numbers_of names in
-    let start : StandsFor m.heap.space (replicate count 0) m.heap.names (replicate 16 0) [] 0 = StandsFor_start m.heap.space count m.heap.names size new.space.used new.space.size small is_named none in
+-- they were collected, and nothing else of the rest changed
+pub rest_collected : (heap new : Heap) (rest after : Rest) (phase : Phase) (journal : Journal) → AtRest heap rest → IsCopying phase → Collects heap rest.held.items new after.held.items phase journal → length after.held.items ≡ length rest.held.items → ((t : ℕ) → length (registers_in after.held.items t) ≡ length (registers_in rest.held.items t)) → after.calls.items ≡ rest.calls.items → after.log ≡ rest.log → after.made ≡ rest.made → Collected (view (core_of heap rest)) (view (core_of new after))
+unfolding collected_view
+rest_collected heap new rest after phase journal at_rest copying collects threads sizes calls log made =
+    let same : collected_view new rest after.held.items ≡ view (core_of new after) = cc in
+    subst (Collected (view (core_of heap rest))) same (collected_stands heap new rest after.held.items phase journal at_rest collects threads sizes)
+
+-- a collection of what an epoch left is one of the epoch's core
+pub finished_collected : (v x w : View) → HasFinished v x → Collected x w → Collected v w
+finished_collected v x w finished collected = record {
+  stands = collected.stands;
+  quiet = collected.quiet;
+  globals = collected.globals ∙ ap length finished.globals;
+  words = collected.words ∙ ap length finished.words;
+  threads = collected.threads ∙ ap length finished.held;
+  capacity = collected.capacity ∙ finished.capacity;
+  history = collected.history ∙ finished.log;
+  values = λ t.
+      collected.values t
+      ∙ (ap (λ (names : Option heap.Names). held_values names (registers_in x.held t)) finished.names
+      ∙ ap (λ (held : List Registers). held_values v.names (registers_in held t)) finished.held);
+  stop = collected.stop;
+  alive = collected.alive;
+}
+
+-- a phase in which objects stay is not the one that moves them
+no_move : (phase : Phase) → IsCopying phase → phase ≢ Move
+no_move Inactive copying is = absurd (cc)
+no_move Mark copying is = absurd (cc)
+no_move Move copying is = absurd copying
+
+-- a collection of the phase was written down, and the next one is planned
+pub noted : (old planned new : Collector) (phase : Phase) (journal : Journal) → IsPlanning old → IsPlanning planned → planned.journal ≡ old.journal → IsCopying phase → journal.phase ≡ phase → new.journal.items ≡ planned.journal.items ++ journal ∷ [] → new.planned ≡ planned.planned → Notes old new
+noted old planned new phase journal before plans same copying of_phase pushed keeps =
+    let stays : journal.phase ≢ Move = λ is. no_move phase copying (sym of_phase ∙ is) in
+    let items : new.journal.items ≡ old.journal.items ++ journal ∷ [] = cc in
     record {
-      stands = record {
-        stands = subst (λ (gs : List ℕ). StandsFor m.heap.space gs m.heap.names m.held.regs m.log.items m.made) (sym new.globals_hold_nothing)
-            (subst (λ (rs : List ℕ). StandsFor m.heap.space (replicate count 0) m.heap.names rs m.log.items m.made) (sym regs)
-            (subst (λ (h : List Entry). StandsFor m.heap.space (replicate count 0) m.heap.names (replicate 16 0) h m.made) (sym log)
-            (subst (StandsFor m.heap.space (replicate count 0) m.heap.names (replicate 16 0) []) (sym made) start)));
-        inactive = subst (All (λ (j : Journal). j.phase ≡ Inactive)) (sym journal) (All-from_recursion (λ (j : Journal). j.phase ≡ Inactive) [] tt);
+      planning = record {
+        moves = subst (All (λ (j : Journal). j.phase ≢ Move)) (sym items)
+            (All-append (λ (j : Journal). j.phase ≢ Move) old.journal.items (journal ∷ []) before.moves (All-from_recursion (λ (j : Journal). j.phase ≢ Move) (journal ∷ []) (stays, tt)));
+        planned = subst IsCopying (sym keeps) plans.planned;
       };
-      words = new.space.size;
-      globals = ap length new.globals_hold_nothing ∙ length-replicate count 0;
-      history = log;
-      registers = ap (held_values m.heap.names) regs;
-      made = made;
+      count = ap length items ∙ length-append old.journal.items (journal ∷ []);
     }

@@ -1,3 +1,3 @@
 pub mod Run
-pub mod Answering
-pub mod Machine
+pub mod Seats
+pub mod Choices

@@ -1,16 +1,18 @@
 -- What a report of a run by the written order says of a trace.
-use Rattle.std.specs.Prelude.{◌≡◌, ℕ, ◌+◌, ◌-◌, ◌<◌, ◌≤◌, List, [], length, All, take, fold, slice_get, Option, None, Some, IfSome, IsSome}
+use Rattle.std.specs.Prelude.{◌≡◌, ◌≢◌, ℕ, zero, suc, ◌+◌, ◌<◌, ◌≤◌, Bool, true, false, if◌then◌else◌, List, [], length, All, take, slice_get, Option, None, Some, IfSome, IsSome}
 use Rattle.std.specs.List.{count_by}
 use Rattle.std.specs.Option.{option_map_or}
 use Rattle.melt_model.specs.Alive.{Alive, words_of, CostsSum}
 use Rattle.melt_model.specs.History.{Legal}
-use Rattle.melt_model.specs.Thread.{Transcript, beginning, thread_after, registers_after, value_in}
+use Rattle.melt_model.specs.Thread.{Transcript, registers_after, value_in}
 use Rattle.melt_model.specs.declared.config.Config.{Config}
 use Rattle.melt_model.specs.declared.history.Entry.{Entry}
 use Rattle.melt_model.specs.declared.history.Value.{Value}
 use Rattle.melt_model.specs.declared.history.Value.TheVariants.{Nil}
-use Rattle.melt_model.specs.declared.operations.Op.TheVariants.{New}
-use Rattle.melt_model.specs.declared.reports.Phase.TheVariants.{Inactive}
+use Rattle.melt_model.specs.declared.operations.Op.{Op}
+use Rattle.melt_model.specs.declared.operations.Op.TheVariants.{New, Collect}
+use Rattle.melt_model.specs.declared.operations.Reply.{Reply}
+use Rattle.melt_model.specs.declared.reports.Phase.TheVariants.{Move}
 use Rattle.melt_model.specs.declared.reports.ThreadEnd.{ThreadEnd}
 use Rattle.melt_model.specs.declared.reports.ThreadEnd.TheVariants as end
 use Rattle.melt_model.specs.declared.reports.ThreadReport.{ThreadReport}
@@ -19,7 +21,11 @@ use Rattle.melt_trace.specs.Script.{Script, operations}
 use Rattle.melt_scion.specs.Placed.{Maps, Placed}
 use Rattle.melt_scion.specs.Heaps.{state_of, HasNames}
 use Rattle.melt_scion.specs.declared.heap.Heap.{Heap}
-use Rattle.melt_step.specs.Answering.{is_collect}
+
+-- whether an operation asks for a collection
+abbrev pub is_collect : Op → Bool
+is_collect Collect = true
+is_collect o = false
 
 -- The threads' replies are those of one legal history of a heap that never collects, which holds the calls
 -- of each thread once and in order, and no others.
@@ -29,60 +35,99 @@ pub record HasHistory (script : Script) (history : List Entry) (report : Report)
   pub transcripts : (t : ℕ) (r : ThreadReport) → slice_get report.threads t ≡ Some r → Transcript history t (operations script t) r.replies
   pub own_threads : All (λ e. e.thread < length script.programs) history
 
+-- the replies of a thread
+abbrev pub replies_in : Report → ℕ → List Reply
+replies_in report t = option_map_or (λ (r : ThreadReport). r.replies) (slice_get report.threads t) []
+
 -- how many replies a thread got
 abbrev pub answered : Report → ℕ → ℕ
-answered report t = option_map_or (λ (r : ThreadReport). length r.replies) (slice_get report.threads t) 0
+answered report t = length (replies_in report t)
 
--- the registers of a thread after its first k operations
-abbrev pub registers_at : Script → Report → ℕ → ℕ → ℕ → Value
-registers_at script report k t r = value_in (registers_after report.log t (operations script t) k) r
+-- A moment of a run: how many entries the history had then, how many replies each thread had got, and which threads
+-- had ended.
+pub record Cut : Type 0 where
+  pub entries : ℕ
+  pub replies : ℕ → ℕ
+  pub ended : ℕ → Bool
 
--- the registers of all threads after the operations that were answered
-abbrev pub registers_at_end : Script → Report → ℕ → ℕ → Value
-registers_at_end script report t r = registers_at script report (answered report t) t r
+-- the history at the moment
+abbrev pub history_at : List Entry → Cut → List Entry
+history_at log cut = take cut.entries log
 
--- The next operation of the thread makes an object that needs more words than the heap has beside those of the
--- objects that registers and globals reach.
-pub record IsOutOfHeap (script : Script) (config : Config) (report : Report) (t : ℕ) (held need : ℕ) : Type 0 where
+-- the registers of a thread at the moment; one that had ended holds nothing
+abbrev pub registers_at : Script → List Entry → Cut → ℕ → ℕ → Value
+registers_at script log cut t r =
+    if cut.ended t then Nil else value_in (registers_after (history_at log cut) t (operations script t) (cut.replies t)) r
+
+-- The replies that the threads had at the moment take exactly the entries that the history had, and a thread that had
+-- ended got no further one.
+pub record IsCut (script : Script) (log : List Entry) (replies : ℕ → List Reply) (cut : Cut) : Type 0 where
+  pub within : cut.entries ≤ length log
+  pub few : (t : ℕ) → cut.replies t ≤ length (replies t)
+  pub told : (t : ℕ) → Transcript (history_at log cut) t (operations script t) (take (cut.replies t) (replies t))
+  pub last : (t : ℕ) → cut.ended t ≡ true → cut.replies t ≡ length (replies t)
+
+-- the moment at which a thread that had not ended had got so many replies
+pub record IsCutAt (script : Script) (log : List Entry) (replies : ℕ → List Reply) (t k : ℕ) (cut : Cut) : Type 0 where
+  pub is : IsCut script log replies cut
+  pub count : cut.replies t ≡ k
+  pub alive : cut.ended t ≡ false
+
+-- the words of the objects that registers and globals reach at the moment
+abbrev pub ReachesWords : Script → List Entry → Cut → ℕ → Type 0
+ReachesWords script log cut words =
+    CostsSum (words_of (history_at log cut)) (Alive (history_at log cut) (registers_at script log cut)) words
+
+-- At some moment the next operation of the thread makes an object that needs more words than the heap has beside those
+-- of the objects that registers and globals reach.
+pub record LacksRoom (script : Script) (log : List Entry) (replies : ℕ → List Reply) (heap t held need : ℕ) : Type 0 where
+  pub cut : Cut
+  pub is_cut : IsCutAt script log replies t (length (replies t)) cut
   pub dst : ℕ
   pub refs : ℕ
   pub nums : ℕ
-  pub next : slice_get (operations script t) (answered report t) ≡ Some (New dst refs nums)
+  pub next : slice_get (operations script t) (length (replies t)) ≡ Some (New dst refs nums)
   pub needed : need ≡ 2 + refs + nums
-  pub reach : CostsSum (words_of report.log) (Alive report.log (registers_at_end script report)) held
-  pub above : config.heap < held + need
+  pub reach : ReachesWords script log cut held
+  pub above : heap < held + need
 
--- The history when the first k operations of the one thread had been answered: all entries but those of the
--- operations behind them.
-abbrev pub history_at : Script → Report → ℕ → List Entry
-history_at script report k = let h = report.log in
-    take (length h - length (fold (thread_after h) (beginning h 0) (take k (operations script 0))).places) h
+-- At some moment at which the thread had got k replies, the heap had so many words beside those of the objects that
+-- registers and globals reach.
+pub record HadRoom (script : Script) (log : List Entry) (replies : ℕ → List Reply) (heap t k need : ℕ) : Type 0 where
+  pub cut : Cut
+  pub is_cut : IsCutAt script log replies t k cut
+  pub fits : (held : ℕ) → ReachesWords script log cut held → held + need ≤ heap
 
--- If operation k of the one thread makes an object, the heap has the words for it beside those of the objects that
--- registers and globals reach before it.
-pub record HasRoom (script : Script) (config : Config) (report : Report) (k : ℕ) : Type 0 where
-  pub fits : (dst refs nums held : ℕ)
-      → slice_get (operations script 0) k ≡ Some (New dst refs nums)
-      → CostsSum (words_of (history_at script report k)) (Alive (history_at script report k) (registers_at script report k)) held
-      → held + (2 + refs + nums) ≤ config.heap
+-- If operation k of the thread makes an object, there was room for it.
+abbrev pub HasRoom : Script → List Entry → (ℕ → List Reply) → ℕ → ℕ → ℕ → Type 0
+HasRoom script log replies heap t k =
+    (dst refs nums : ℕ) → slice_get (operations script t) k ≡ Some (New dst refs nums) → HadRoom script log replies heap t k (2 + refs + nums)
 
 -- why a thread may end so
 abbrev pub MayEnd : Script → Config → Report → ℕ → ThreadEnd → Type 0
 MayEnd script config report t end.Done = answered report t ≡ length (operations script t)
-MayEnd script config report t (end.OutOfHeap held need) = IsOutOfHeap script config report t held need
+MayEnd script config report t (end.OutOfHeap held need) = LacksRoom script report.log (replies_in report) config.heap t held need
 MayEnd script config report t end.DiskFault = ⊥
 MayEnd script config report t (end.Damaged home at word) = ⊥
 MayEnd script config report t end.Halted = ⊥
 
+-- how many of its replies a thread got for collections, and the first n threads together
+abbrev pub collections_of : Script → (ℕ → List Reply) → ℕ → ℕ
+collections_of script replies t = count_by is_collect (take (length (replies t)) (operations script t))
+
+abbrev pub collections : Script → (ℕ → List Reply) → ℕ → ℕ
+collections script replies zero = 0
+collections script replies (suc n) = collections script replies n + collections_of script replies n
+
 -- What a run reports of a trace. Its history is the one that it stored. An object was made only where there was room,
--- and each collection that the thread asked for is in the journal.
+-- and each collection that a thread asked for is in the journal. Nothing is moved to disk yet.
 pub record IsStepReport (script : Script) (config : Config) (report : Report) : Type 0 where
   pub history : HasHistory script report.log report
   pub ends : (t : ℕ) (r : ThreadReport) → slice_get report.threads t ≡ Some r → MayEnd script config report t r.end
-  pub room : (k : ℕ) → k < answered report 0 → HasRoom script config report k
+  pub room : (t k : ℕ) → k < answered report t → HasRoom script report.log (replies_in report) config.heap t k
   pub no_halt : report.halt ≡ None
-  pub inactive : All (λ j. j.phase ≡ Inactive) report.journal
-  pub collections : count_by is_collect (take (answered report 0) (operations script 0)) ≤ length report.journal
+  pub no_moves : All (λ j. j.phase ≢ Move) report.journal
+  pub collected : collections script (replies_in report) (length report.threads) ≤ length report.journal
 
 -- the heap stands for the history when all threads have ended
 pub record IsLeft (report : Report) (heap : Heap) : Type 0 where

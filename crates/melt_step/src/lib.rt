@@ -1,10 +1,15 @@
-//! Runs a trace by its written order.
+//! Runs a trace by its written order, over a heap of fixed size.
 #![tactic(auto)]
 
-mod machine;
-mod parts;
-pub mod run;
+mod choices;
+mod collector;
+mod events;
+mod run;
+mod safepoint;
+pub mod seat;
+mod turns;
 
+pub use choices::any_choices;
 pub use run::run_schedule;
 
 #[cfg(test)]

@@ -100,10 +100,7 @@ step_due : (config : Config) (input : Change) (due : Status) (output : List ℕ)
 step_due config input due output (inl failed) = subst MayBeDue (sym failed.status) tt
 step_due config input due output (inr read) = elim read.trace [
   | inl refused ↦ subst MayBeDue (sym refused.status) tt
-  | inr other ↦ elim other [
-    | inl form ↦ subst MayBeDue (sym form.status) tt
-    | inr ran ↦ subst MayBeDue (sym ran.ran.status) (ran_status ran.script config ran.ran.report ran.ran.run.reported)
-  ]
+  | inr ran ↦ subst MayBeDue (sym ran.ran.status) (ran_status ran.script config ran.ran.report ran.ran.run.reported)
 ]
 
 is_due : (command : Option Command) (input : Change) (due : Status) (output : List ℕ) → Due command input due output → MayBeDue due

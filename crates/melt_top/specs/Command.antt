@@ -32,7 +32,13 @@ once (Some before) value = None
 abbrev pub with_option : Given → List ℕ → List ℕ → Option Given
 with_option given name value =
     if bytes_eq name (codes "--heap")
-    then option_map (λ n. record { heap = Some n }) (once given.heap (between 16 4194304 (number_spelled value)))
+    then option_map (λ n. record given { heap = Some n }) (once given.heap (between 16 4194304 (number_spelled value)))
+    else if bytes_eq name (codes "--mark")
+    then option_map (λ n. record given { mark = Some n }) (once given.mark (between 0 100 (number_spelled value)))
+    else if bytes_eq name (codes "--move")
+    then option_map (λ n. record given { move_ = Some n }) (once given.move_ (between 0 100 (number_spelled value)))
+    else if bytes_eq name (codes "--every")
+    then option_map (λ n. record given { every = Some n }) (once given.every (between 1 1048576 (number_spelled value)))
     else None
 
 -- Options stand in any order, each at most once, and each is two words: its name and its value.
@@ -41,19 +47,41 @@ options given [] = Some given
 options given (name ∷ []) = None
 options given (name ∷ value ∷ words) = option_and_then (λ g. options g words) (with_option given name value)
 
+-- no option was given
+abbrev pub nothing_given : Given
+nothing_given = record { heap = None; mark = None; move_ = None; every = None }
+
 -- what a run is given where no option says otherwise
-abbrev pub configured : Given → Config
-configured given = record { heap = unwrap_or given.heap 65536; forward = 1024; disk = 16777216; mark = 50; move_ = 80; every = 0 }
+abbrev pub chosen : Given → Config
+chosen given =
+    record {
+      heap = unwrap_or given.heap 65536;
+      forward = 1024;
+      disk = 16777216;
+      mark = unwrap_or given.mark 50;
+      move_ = unwrap_or given.move_ 80;
+      every = unwrap_or given.every 0;
+    }
+
+-- These numbers go together: the part from which objects are marked is not above that from which they are moved.
+abbrev pub configured : Config → Option Config
+configured config = if nat_le config.mark config.move_ then Some config else None
 
 -- the command that the words mean, or none
 abbrev pub meant : List (List ℕ) → Option Command
 meant [] = None
 meant (word ∷ words) =
-    if bytes_eq word (codes "step") then option_map (λ given. Step (configured given)) (options (record { heap = None }) words) else None
+    if bytes_eq word (codes "step")
+    then option_map Step (option_and_then (λ given. configured (chosen given)) (options nothing_given words))
+    else None
 
 -- the numbers that options gave are in their ranges
 abbrev pub IsGiven : Given → Type 0
-IsGiven given = IfSome given.heap (λ n. (16 ≤ n) × (n ≤ 4194304))
+IsGiven given =
+    IfSome given.heap (λ n. (16 ≤ n) × (n ≤ 4194304))
+    × IfSome given.mark (λ n. n ≤ 100)
+    × IfSome given.move_ (λ n. n ≤ 100)
+    × IfSome given.every (λ n. n ≤ 1048576)
 
 -- the numbers of a command are in their ranges
 abbrev pub HasRanges : Command → Type 0

@@ -5,7 +5,7 @@ use Rattle.melt_model.specs.declared.config.Config.{Config}
 use Rattle.melt_model.specs.declared.reports.Report.{Report}
 use Rattle.melt_scion.specs.declared.heap.Heap.{Heap}
 use Rattle.melt_trace.specs.Script.{Script}
-use Rattle.melt_trace.specs.Language.{script_of, IsOneThread}
+use Rattle.melt_trace.specs.Language.{script_of}
 use Rattle.melt_top.specs.Text.{text, usage_text, read_fault_text, refused_text}
 use Rattle.melt_top.specs.Command.{status_of}
 use Rattle.melt_step.specs.Run.{HasRun}
@@ -40,14 +40,6 @@ pub record TraceRefused (bytes : List ℕ) (due : Status) (output : List ℕ) : 
   pub status : due ≡ status.Trace
   pub told : output ≡ refused_text line reason
 
--- The bytes are a trace of a form that cannot be run yet, and the output says so, of the whole input.
-pub record TraceNotBuilt (bytes : List ℕ) (due : Status) (output : List ℕ) : Type 0 where
-  pub script : Script
-  pub says : script_of bytes ≡ Ok script
-  pub other : IsOneThread script → ⊥
-  pub status : due ≡ status.Trace
-  pub told : output ≡ refused_text 0 15
-
 -- The output is the text of a report of a run of the script, whose replies are those of one legal history. The run
 -- left a heap that stands for this history.
 pub record RunDue (script : Script) (config : Config) (due : Status) (output : List ℕ) : Type 0 where
@@ -61,12 +53,11 @@ pub record RunDue (script : Script) (config : Config) (due : Status) (output : L
 pub record TraceRan (config : Config) (bytes : List ℕ) (due : Status) (output : List ℕ) : Type 0 where
   pub script : Script
   pub says : script_of bytes ≡ Ok script
-  pub one_thread : IsOneThread script
   pub ran : RunDue script config due output
 
 -- what is due for the bytes of a trace, with these numbers of a run
 abbrev pub TraceDue : Config → List ℕ → Status → List ℕ → Type 0
-TraceDue config bytes due output = TraceRefused bytes due output ⊎ (TraceNotBuilt bytes due output ⊎ TraceRan config bytes due output)
+TraceDue config bytes due output = TraceRefused bytes due output ⊎ TraceRan config bytes due output
 
 -- the reading failed, behind these bytes
 pub record CouldNotRead (input : Change) (due : Status) (output : List ℕ) : Type 0 where

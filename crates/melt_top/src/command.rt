@@ -2,15 +2,24 @@
 ghost use Rattle.std.specs.Prelude.{◌≡◌, ◌≤◌, map, string_bytes, IfSome, option_and_then};
 ghost use Rattle.melt_model.specs.Config.{InRanges};
 ghost use Rattle.melt_trace.specs.Language.{number_of};
-ghost use Rattle.melt_top.specs.Command.{HasRanges, IsGiven, between, configured, meant, once, options, with_option};
+ghost use Rattle.melt_top.specs.Command.{HasRanges, IsGiven, between, chosen, configured, meant, once, options, with_option};
 
 use melt_model::Config;
 use melt_trace::read_number;
 
-/// The least and the greatest number of words of a heap.
+/// The numbers of words that a heap may have.
 const HEAP: Limits = Limits {
     low: 16,
     high: 4_194_304,
+};
+
+/// Parts of a hundred.
+const PART: Limits = Limits { low: 0, high: 100 };
+
+/// How many operations may lie from one silent collection to the next.
+const EVERY: Limits = Limits {
+    low: 1,
+    high: 1_048_576,
 };
 
 /// A command of the program.
@@ -24,7 +33,17 @@ pub enum Command {
 #[derive(Clone, Copy)]
 struct Given {
     heap: Option<u32>,
+    mark: Option<u32>,
+    move_: Option<u32>,
+    every: Option<u32>,
 }
+
+const NOTHING_GIVEN: Given = Given {
+    heap: None,
+    mark: None,
+    move_: None,
+    every: None,
+};
 
 /// The bounds of a number, both of them allowed.
 #[derive(Clone, Copy)]
@@ -47,12 +66,26 @@ impl Limits {
 impl Given {
     /// What is given with one option more.
     fn with(self, name: &str, value: &str) -> Option<Given>
+        requires { IsGiven self }
         ensures value { result ≡ with_option self name.now value.now }
         ensures given { IfSome result IsGiven }
     {
         match name {
             "--heap" if self.heap.is_none() => Some(Given {
                 heap: Some(HEAP.read(value)?),
+                ..self
+            }),
+            "--mark" if self.mark.is_none() => Some(Given {
+                mark: Some(PART.read(value)?),
+                ..self
+            }),
+            "--move" if self.move_.is_none() => Some(Given {
+                move_: Some(PART.read(value)?),
+                ..self
+            }),
+            "--every" if self.every.is_none() => Some(Given {
+                every: Some(EVERY.read(value)?),
+                ..self
             }),
             _ => None,
         }
@@ -71,20 +104,21 @@ impl Given {
         }
     }
 
-    /// What a run is given where no option says otherwise.
-    fn config(self) -> Config
+    /// What a run is given where no option says otherwise, or none, where its numbers do not go together.
+    fn config(self) -> Option<Config>
         requires { IsGiven self }
-        ensures value { result ≡ configured self }
-        ensures ranges { InRanges result }
+        ensures value { result ≡ configured (chosen self) }
+        ensures ranges { IfSome result InRanges }
     {
-        Config {
+        let config = Config {
             heap: self.heap.unwrap_or(65_536),
             forward: 1024,
             disk: 16_777_216,
-            mark: 50,
-            move_: 80,
-            every: 0,
-        }
+            mark: self.mark.unwrap_or(50),
+            move_: self.move_.unwrap_or(80),
+            every: self.every.unwrap_or(0),
+        };
+        (config.mark <= config.move_).then_some(config)
     }
 }
 
@@ -95,8 +129,8 @@ pub fn command_of(words: &[String]) -> Option<Command>
 {
     match words {
         [word, rest @ ..] if word.as_str() == "step" => {
-            let given = Given { heap: None }.with_all(rest)?;
-            Some(Command::Step(given.config()))
+            let given = NOTHING_GIVEN.with_all(rest)?;
+            Some(Command::Step(given.config()?))
         }
         _ => None,
     }

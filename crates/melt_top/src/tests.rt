@@ -70,8 +70,8 @@ fn step_writes_each_reply(rt: HostRuntime) -> Result<(), Fail> {
             b"thread 0\nend done\n",
         ),
         (
-            b"melt 1\nthreads 2\nglobals 0\nthread 0\ndone\nthread 1\ndone\n",
-            b"error trace 0 15\n",
+            b"melt 1\nthreads 2\nglobals 1\norder 1 6\nthread 0\ngload 0 0\ndone\nthread 1\nnew 0 0 0\ngstore 0 0\ndone\n",
+            b"thread 0\nref\nend done\nthread 1\nok\nok\nend done\n",
         ),
     ];
     for (trace, text) in cases {
@@ -79,8 +79,7 @@ fn step_writes_each_reply(rt: HostRuntime) -> Result<(), Fail> {
         let mut sink = SteadySink::new(rt.alloc());
         let status = call(&rt, &["step"], &mut source, &mut sink)?;
         assert_eq!(rt; sink.bytes.as_slice(), text);
-        let refused = text.starts_with(b"error");
-        assert_eq!(rt; status, if refused { Status::Trace } else { Status::Done });
+        assert_eq!(rt; status, Status::Done);
     }
     Ok(())
 }
@@ -117,7 +116,12 @@ fn a_source_that_fails_is_told(rt: HostRuntime) -> Result<(), Fail> {
 
 #[test]
 fn words_that_mean_nothing_read_nothing(rt: HostRuntime) -> Result<(), Fail> {
-    let cases = [[].as_slice(), &["run"], &["step", "x"]];
+    let cases = [
+        [].as_slice(),
+        &["run"],
+        &["step", "x"],
+        &["step", "--mark", "90"],
+    ];
     for words in cases {
         let mut source = MemSource::new(TRACE.to_vec(rt.alloc())?);
         let mut sink = MemSink::new(rt.alloc());

@@ -3,7 +3,6 @@ ghost use Rattle.std.specs.Prelude.{◌≡◌, map, string_bytes, IfOk, IfNone, 
 ghost use Rattle.melt_io.specs.Outside.{Rose};
 ghost use Rattle.melt_model.specs.Config.{InRanges};
 ghost use Rattle.melt_trace.specs.Grammar.{line};
-ghost use Rattle.melt_trace.specs.Language.{IsOneThread};
 ghost use Rattle.melt_top.specs.Command.{meant};
 ghost use Rattle.melt_top.specs.Text.{refused_text};
 ghost use Rattle.melt_top.specs.Headline.{IsUntouched, RunDue, TraceDue, StepDue, Due, Outcome, IsBuilt};
@@ -20,12 +19,6 @@ use std::thread::Threads;
 
 /// The longest input of a trace, in bytes.
 const MAX_INPUT: usize = 16_777_216;
-
-/// What is told of a trace of a form that cannot be run yet.
-const NOT_BUILT: TraceError = TraceError {
-    line: 0,
-    reason: 15,
-};
 
 /// A status, and the text that is to be written with it.
 #[derive(Debug, Drop)]
@@ -54,8 +47,7 @@ impl Answer {
 
 /// What is due for a run of a trace.
 fn run_answer(alloc: Global, config: Config, trace: &Trace) -> Result<Answer, NoMemory>
-    requires one_thread { IsOneThread trace.now }
-    requires ranges { InRanges config }
+    requires { InRanges config }
     ensures { IfOk result (λ answer. RunDue trace.now config answer.status answer.text.items) }
 {
     let (report, _heap) = run_schedule(alloc, trace, config)?;
@@ -72,9 +64,6 @@ fn trace_answer(alloc: Global, config: Config, bytes: &[u8]) -> Result<Answer, N
     ensures { IfOk result (λ answer. TraceDue config bytes.now answer.status answer.text.items) }
 {
     match parse(alloc, bytes) {
-        Ok(trace) if trace.threads() > 1 || trace.orders() > 0 => {
-            Answer::refused(alloc, NOT_BUILT)
-        }
         Ok(trace) => run_answer(alloc, config, &trace),
         Err(ParseRefusal::Bad(error)) => Answer::refused(alloc, error),
         Err(ParseRefusal::NoMemory) => Err(NoMemory),

@@ -340,8 +340,3 @@ pub record IsScript (script : Script) : Type 0 where
   pub orders : AllByRecursion (IsOrder (length script.programs)) script.orders
   pub programs : AllByRecursion (AreItems script.globals []) script.programs
   pub count : operation_count script.programs ≤ 1048576
-
--- the traces that can be run today: one thread, and no turns ordered first
-pub record IsOneThread (script : Script) : Type 0 where
-  pub one : length script.programs ≡ 1
-  pub no_orders : script.orders ≡ []

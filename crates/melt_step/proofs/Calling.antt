@@ -1,0 +1,168 @@
+-- What an event or a reply makes of a thread.
+use Rattle.std.proofs.Common.{◌≡◌, ◌≢◌, ℕ, ◌+◌, ◌≤◌, List, length, refl, sym, ◌∙◌, ap, subst, arith, inl, inr}
+use Rattle.std.specs.Prelude.{Some, ◌⊎◌}
+use Rattle.std.proofs.Math.ListN.{length-set}
+use Rattle.melt_model.specs.Alive.{Alive, words_of, CostsSum}
+use Rattle.melt_model.specs.declared.history.Entry.{Entry}
+use Rattle.melt_model.specs.declared.history.Value.{Value}
+use Rattle.melt_model.specs.declared.operations.Op.{Op}
+use Rattle.melt_model.specs.declared.operations.Op.TheVariants as op
+use Rattle.melt_model.specs.declared.operations.Op.TheVariants.{Collect}
+use Rattle.melt_model.specs.declared.operations.Reply.{Reply}
+use Rattle.melt_model.specs.declared.reports.ThreadEnd.TheVariants as end
+use Rattle.melt_model.specs.Thread.{value_in}
+use Rattle.melt_model.proofs.Sums.{CostsSum-same}
+use Rattle.melt_core.specs.Answering.{Answers}
+use Rattle.melt_core.specs.Views.{View, value, values_of, call_of, Standing}
+use Rattle.melt_core.specs.Events.{KeepsOthers, HasRoom, HasRoomFor, IsAnswered}
+use Rattle.melt_core.specs.Changed.{stopped}
+use Rattle.melt_core.specs.Epochs.{HasDropped, no_registers}
+use Rattle.melt_core.proofs.Changing.{Standing_stopped}
+use Rattle.melt_step.specs.declared.seat.Seat.{Seat}
+use Rattle.melt_step.specs.declared.seat.Mode.{Mode}
+use Rattle.melt_step.specs.declared.seat.Mode.TheVariants.{Running, Due, Silent, Collecting, Asked, Lacking, Ended}
+use Rattle.melt_step.specs.Seats.{IsEnded, TakesReply, DropsIfEnded, SeatTold, SeatStep, SetsStop}
+
+-- a thread waits for a collection
+pub waits_step : (v w : View) (t : ℕ) (s : Seat) (mode : Mode) → Standing v → w ≡ stopped v → ((s.mode ≡ Running) × (s.op ≡ Some Collect) × (mode ≡ Collecting)) ⊎ ((s.mode ≡ Due) × (mode ≡ Silent)) → SeatStep v w t s (record s { mode = mode })
+waits_step v w t s mode stands is before =
+    let others : KeepsOthers v (stopped v) t = record { globals = refl; words = refl; threads = refl; capacity = refl; calls = λ u other. refl; values = λ u other. refl } in
+    record {
+      stands = subst Standing (sym is) (Standing_stopped v stands);
+      others = subst (λ (x : View). KeepsOthers v x t) (sym is) others;
+      what = inl (mode, record { only = refl; stop = is; before = before });
+    }
+
+-- objects that are alive, where registers hold the same
+alive_same : (h : List Entry) (a b : ℕ → ℕ → Value) (n : ℕ) → ((t r : ℕ) → a t r ≡ b t r) → Alive h a n → Alive h b n
+alive_same h a b n same (Alive.in_register m held) =
+    Alive.in_register m (record { thread = held.thread; register = held.register; holds = sym (same held.thread held.register) ∙ held.holds })
+alive_same h a b n same (Alive.in_global g m at) = Alive.in_global g m at
+alive_same h a b n same (Alive.in_slot from i m found at) = Alive.in_slot from i m (alive_same h a b from same found) at
+
+-- the same words have room, where history and registers are the same
+room_same : (v u : View) (need : ℕ) → u.log ≡ v.log → ((x : ℕ) → values_of u x ≡ values_of v x) → length u.space.list ≡ length v.space.list → HasRoom u need → HasRoom v need
+room_same v u need log values words room alive sum =
+    let same : (t r : ℕ) → value v t r ≡ value u t r = λ t r. ap (λ (vs : List Value). value_in vs r) (sym (values t)) in
+    let there : CostsSum (words_of v.log) (Alive v.log (value u)) alive =
+    CostsSum-same (words_of v.log) (Alive v.log (value v)) (Alive v.log (value u)) alive (λ n. (alive_same v.log (value v) (value u) n same, alive_same v.log (value u) (value v) n (λ t r. sym (same t r)))) sum in
+    let here : CostsSum (words_of u.log) (Alive u.log (value u)) alive = subst (λ (h : List Entry). CostsSum (words_of h) (Alive h (value u)) alive) (sym log) there in
+    let fits : alive + need ≤ length u.space.list = room alive here in
+    omega (arith, fits, words)
+
+-- so has the object that an operation makes
+pub room_for_same : (v u : View) (o : Op) → u.log ≡ v.log → ((x : ℕ) → values_of u x ≡ values_of v x) → length u.space.list ≡ length v.space.list → HasRoomFor u o → HasRoomFor v o
+room_for_same v u (op.New dst refs nums) log values words room = room_same v u (2 + refs + nums) log values words room
+room_for_same v u o log values words room = tt
+
+-- a thread that dropped its registers, or none
+abbrev pub Dropped : View → View → ℕ → Mode → Type 0
+Dropped w x t mode = (IsEnded mode × HasDropped w x t) ⊎ ((IsEnded mode → ⊥) × (x ≡ w))
+
+drop_cases : (w x : View) (t : ℕ) (mode : Mode) → DropsIfEnded w x t mode → Dropped w x t mode
+drop_cases w x t Running is = inr (λ over. over, is)
+drop_cases w x t Due is = inr (λ over. over, is)
+drop_cases w x t Silent is = inr (λ over. over, is)
+drop_cases w x t Collecting is = inr (λ over. over, is)
+drop_cases w x t Asked is = inr (λ over. over, is)
+drop_cases w x t Lacking is = inr (λ over. over, is)
+drop_cases w x t (Ended e) is = inl (tt, is)
+
+-- what others have of two events, one after the other
+pub KeepsOthers_both : (v u w : View) (t : ℕ) → KeepsOthers v u t → KeepsOthers u w t → KeepsOthers v w t
+KeepsOthers_both v u w t first then = record {
+  globals = then.globals ∙ first.globals;
+  words = then.words ∙ first.words;
+  threads = then.threads ∙ first.threads;
+  capacity = then.capacity ∙ first.capacity;
+  calls = λ u other. then.calls u other ∙ first.calls u other;
+  values = λ u other. then.values u other ∙ first.values u other;
+}
+
+-- a thread that drops its registers leaves the others as they are
+dropped_others : (w x : View) (t : ℕ) → HasDropped w x t → KeepsOthers w x t
+dropped_others w x t dropped = record {
+  globals = ap (λ (y : View). length y.globals) dropped.only;
+  words = ap (λ (y : View). length y.space.list) dropped.only;
+  threads = ap (λ (y : View). length y.held) dropped.only ∙ length-set w.held t no_registers;
+  capacity = ap (λ (y : View). y.capacity) dropped.only;
+  calls = λ u other. ap (λ (y : View). call_of y u) dropped.only;
+  values = λ u other. dropped.others u other;
+}
+
+-- a thread got its reply, by the last event of a call that the others saw nothing of
+pub told_seat : (v u w x : View) (t : ℕ) (o : Op) (reply : Reply) (s after : Seat) → s.op ≡ Some o → o ≢ Collect → u.log ≡ v.log → ((y : ℕ) → values_of u y ≡ values_of v y) → length u.space.list ≡ length v.space.list → IsAnswered u w t o reply → TakesReply s after reply → DropsIfEnded w x t after.mode → SeatTold v x t s after
+told_seat v u w x t o reply s after next no_collect log values words answered takes drops =
+    let here : Answers t u.log (values_of u t) o reply w.log (values_of w t) = answered.answers in
+    let answers : Answers t v.log (values_of v t) o reply w.log (values_of w t) =
+    subst (λ (h : List Entry). Answers t h (values_of v t) o reply w.log (values_of w t)) log
+    (subst (λ (vs : List Value). Answers t u.log vs o reply w.log (values_of w t)) (values t) here) in
+    let room : HasRoomFor v o = room_for_same v u o log values words answered.room in
+    elim (drop_cases w x t after.mode drops) [
+      | inl ended ↦
+          let dropped : HasDropped w x t = ended.1 in
+          let history : x.log ≡ w.log = ap (λ (y : View). y.log) dropped.only in
+          record {
+            op = o;
+            reply = reply;
+            next = next;
+            takes = takes;
+            registers = values_of w t;
+            answers = subst (λ (h : List Entry). Answers t v.log (values_of v t) o reply h (values_of w t)) (sym history) answers;
+            held = inl ended.0;
+            dropped = λ over. dropped.here;
+            call = ap (λ (y : View). call_of y t) dropped.only ∙ answered.call;
+            room = room;
+            no_collect = λ goes. no_collect;
+          }
+      | inr goes ↦ record {
+        op = o;
+        reply = reply;
+        next = next;
+        takes = takes;
+        registers = values_of w t;
+        answers = subst (λ (y : View). Answers t v.log (values_of v t) o reply y.log (values_of w t)) (sym goes.1) answers;
+        held = inr (ap (λ (y : View). values_of y t) (sym goes.1));
+        dropped = λ over. absurd (goes.0 over);
+        call = ap (λ (y : View). call_of y t) goes.1 ∙ answered.call;
+        room = room;
+        no_collect = λ can. no_collect;
+      }
+    ]
+
+-- all is well behind the reply, and the others saw nothing of it
+pub told_stands : (w x : View) (t : ℕ) (mode : Mode) → Standing w → DropsIfEnded w x t mode → Standing x × KeepsOthers w x t × (x.stop ≡ w.stop)
+told_stands w x t mode stands drops =
+    elim (drop_cases w x t mode drops) [
+      | inl ended ↦ (ended.1.stands, dropped_others w x t ended.1, ap (λ (y : View). y.stop) ended.1.only)
+      | inr goes ↦
+          let others : KeepsOthers w w t = record { globals = refl; words = refl; threads = refl; capacity = refl; calls = λ u other. refl; values = λ u other. refl } in
+          (subst Standing (sym goes.1) stands, subst (λ (y : View). KeepsOthers w y t) (sym goes.1) others, ap (λ (y : View). y.stop) goes.1)
+    ]
+
+-- a thread that got a reply does not wait for the stop word
+told_runs : (s after : Seat) (reply : Reply) → TakesReply s after reply → after.mode ≡ Asked → ⊥
+told_runs s after reply takes asked = elim takes.fits [
+  | inl runs ↦ let is : after.mode ≡ Running = runs.0 in cc
+  | inr rest ↦ elim rest [
+    | inl due ↦ let is : after.mode ≡ Due = due in cc
+    | inr ended ↦ let is : after.mode ≡ Ended end.Done = ended.0 in cc
+  ]
+]
+
+-- an event by which a thread got its reply
+pub told_step : (v w x : View) (t : ℕ) (o : Op) (reply : Reply) (s after : Seat) → s.op ≡ Some o → o ≢ Collect → Standing w → KeepsOthers v w t → IsAnswered v w t o reply → TakesReply s after reply → DropsIfEnded w x t after.mode → SeatStep v x t s after × SetsStop v x after
+told_step v w x t o reply s after next no_collect stands others answered takes drops =
+    let behind = told_stands w x t after.mode stands drops in
+    let stop : x.stop ≡ v.stop = behind.2 ∙ answered.stop in
+    let step : SeatStep v x t s after = record {
+      stands = behind.0;
+      others = KeepsOthers_both v w x t others behind.1;
+      what = inr (inr (inr (told_seat v v w x t o reply s after next no_collect refl (λ y. refl) refl answered takes drops)));
+    } in
+    let sets : SetsStop v x after = record {
+      stop = λ is. inl (sym stop ∙ is);
+      stays = λ is. stop ∙ is;
+      asked = λ asked. absurd (told_runs s after reply takes asked);
+    } in
+    (step, sets)

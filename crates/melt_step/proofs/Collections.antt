@@ -1,0 +1,218 @@
+-- The collections that a run makes, and those that its threads wait for.
+use Rattle.std.proofs.Common.{◌≡◌, ℕ, ◌+◌, ◌<◌, ◌≤◌, suc, List, length, replicate, refl, sym, ◌∙◌, ap, subst, arith, ◌⊎◌, inl, inr}
+use Rattle.std.proofs.Math.ListN.{set}
+use Rattle.std.specs.Prelude.{Option, None, Some, IsSome, slice_get, vec_capacity}
+use Rattle.melt_model.specs.declared.history.Value.TheVariants.{Nil}
+use Rattle.melt_model.specs.declared.operations.Op.{Op}
+use Rattle.melt_model.specs.declared.operations.Op.TheVariants.{Collect}
+use Rattle.melt_model.specs.declared.operations.Reply.TheVariants as reply
+use Rattle.melt_model.specs.declared.reports.ThreadEnd.TheVariants as end
+use Rattle.melt_trace.specs.Script.{Script}
+use Rattle.melt_core.specs.Views.{View, view, values_of, call_of, Standing}
+use Rattle.melt_core.specs.Epochs.{HasDropped}
+use Rattle.melt_core.specs.declared.machine.Core.{Core}
+use Rattle.melt_step.specs.declared.collector.Collector.{Collector}
+use Rattle.melt_step.specs.declared.run.Run.{Run}
+use Rattle.melt_step.specs.declared.seat.Seat.{Seat}
+use Rattle.melt_step.specs.declared.seat.Mode.{Mode}
+use Rattle.melt_step.specs.declared.seat.Mode.TheVariants.{Running, Due, Silent, Collecting, Asked, Lacking, Ended}
+use Rattle.melt_step.specs.Run.{collections}
+use Rattle.melt_step.specs.Seats.{with_first, left, MayGo, IsEnded, FitsMode, IsPlanning, replies_of, TableStands, TakesReply, DropsIfEnded, SeatTold, SeatStep, Collected, Notes, RunStands, ForCollection, jobs, jobs_of, CollectedFor}
+use Rattle.melt_step.proofs.Tables.{Table_collected, Table_step, table_ready, collections_grow}
+use Rattle.melt_step.proofs.Modes.{nothing_keeps, dropped_keeps, Table_runs, ends_done, Table_gone, collections_mode}
+
+-- a collection was made, and written down
+pub Run_collected : (script : Script) (heap : ℕ) (old new : Run) → RunStands script heap old → Collected (view old.core) (view new.core) → Notes old.collector new.collector → new.seats.items ≡ old.seats.items → RunStands script heap new
+Run_collected script heap old new stands collected notes same = record {
+  table = subst (TableStands script heap (view new.core)) (sym same) (Table_collected script heap (view old.core) (view new.core) old.seats.items stands.table collected);
+  planning = notes.planning;
+  collected = omega (arith, notes.count, stands.collected, ap (λ (seats : List Seat). collections script (replies_of seats) (length script.programs)) same);
+}
+
+-- the next operation of a thread that waits for its own collection is that
+pub collecting_op : (script : Script) (heap : ℕ) (run : Run) (t : ℕ) (s : Seat) → RunStands script heap run → slice_get run.seats.items t ≡ Some s → s.mode ≡ Collecting → s.op ≡ Some Collect
+collecting_op script heap run t s stands at is = subst (λ (m : Mode). FitsMode m s.op) is (stands.table.each t s at).fits
+
+-- it has room for the reply
+pub collecting_room : (script : Script) (heap : ℕ) (run : Run) (t : ℕ) (s : Seat) → RunStands script heap run → slice_get run.seats.items t ≡ Some s → s.mode ≡ Collecting → length s.replies.items < vec_capacity s.replies
+collecting_room script heap run t s stands at is =
+    (table_ready script heap (view run.core) run.seats.items t s stands.table at).room (subst IsSome (sym (collecting_op script heap run t s stands at is)) refl)
+
+-- a thread that has ended has dropped its registers, and else nothing has changed
+drops_cases : (v w : View) (t : ℕ) (mode : Mode) → DropsIfEnded v w t mode → (IsEnded mode × HasDropped v w t) ⊎ ((IsEnded mode → ⊥) × (w ≡ v))
+drops_cases v w t Running drops = inr (λ is. is, drops)
+drops_cases v w t Due drops = inr (λ is. is, drops)
+drops_cases v w t Silent drops = inr (λ is. is, drops)
+drops_cases v w t Collecting drops = inr (λ is. is, drops)
+drops_cases v w t Asked drops = inr (λ is. is, drops)
+drops_cases v w t Lacking drops = inr (λ is. is, drops)
+drops_cases v w t (Ended e) drops = inl (tt, drops)
+
+-- the reply to a collection, where the thread has ended with it or has not
+collect_told : (v w : View) (t : ℕ) (s after : Seat) → s.mode ≡ Collecting → s.op ≡ Some Collect → TakesReply s after reply.Done → w.log ≡ v.log → IsEnded after.mode ⊎ (values_of v t ≡ values_of w t) → (IsEnded after.mode → values_of w t ≡ replicate 16 Nil) → call_of w t ≡ None → SeatTold v w t s after
+collect_told v w t s after mode next takes history held dropped call = record {
+  op = Collect;
+  reply = reply.Done;
+  next = next;
+  takes = takes;
+  registers = values_of v t;
+  answers = record { value = Nil; given = refl; told = refl; registers = refl; history = history };
+  held = held;
+  dropped = dropped;
+  call = call;
+  room = tt;
+  no_collect = λ goes. absurd (subst MayGo mode goes);
+}
+
+-- the same as an event of the thread
+collect_step : (v w : View) (t : ℕ) (s after : Seat) → Standing v → call_of v t ≡ None → s.mode ≡ Collecting → s.op ≡ Some Collect → TakesReply s after reply.Done → DropsIfEnded v w t after.mode → SeatStep v w t s after
+collect_step v w t s after stands no_call mode next takes drops = elim (drops_cases v w t after.mode drops) [
+  | inl gone ↦ record {
+    stands = gone.1.stands;
+    others = dropped_keeps v w t gone.1;
+    what = inr (inr (inr (collect_told v w t s after mode next takes (ap (λ (x : View). x.log) gone.1.only) (inl gone.0) (λ over. gone.1.here) (ap (λ (x : View). call_of x t) gone.1.only ∙ no_call))));
+  }
+  | inr goes ↦ subst (λ (x : View). SeatStep v x t s after) (sym goes.1) (record {
+    stands = stands;
+    others = nothing_keeps v t;
+    what = inr (inr (inr (collect_told v v t s after mode next takes refl (inr refl) (λ over. absurd (goes.0 over)) no_call)));
+  })
+]
+
+-- the collection that is the next operation of a thread was made, and the thread got its reply
+pub Run_answered : (script : Script) (heap : ℕ) (old new : Run) (core : Core) (t : ℕ) (s after : Seat) → RunStands script heap old → slice_get old.seats.items t ≡ Some s → s.mode ≡ Collecting → Collected (view old.core) (view core) → Notes old.collector new.collector → TakesReply s after reply.Done → DropsIfEnded (view core) (view new.core) t after.mode → new.seats.items ≡ set old.seats.items t after → RunStands script heap new
+Run_answered script heap old new core t s after stands at mode collected notes takes drops same =
+    let seats : List Seat = old.seats.items in
+    let table : TableStands script heap (view core) seats = Table_collected script heap (view old.core) (view core) seats stands.table collected in
+    let step : SeatStep (view core) (view new.core) t s after =
+    collect_step (view core) (view new.core) t s after collected.stands (collected.quiet t) mode (collecting_op script heap old t s stands at mode) takes drops in
+    let grown : collections script (replies_of (set seats t after)) (length script.programs) ≤ collections script (replies_of seats) (length script.programs) + 1 =
+    collections_grow script heap (view core) (view new.core) seats t s after table at step in
+    record {
+      table = subst (TableStands script heap (view new.core)) (sym same)
+          (Table_step script heap (view core) (view new.core) seats t s after table at (λ over. subst IsEnded mode over) step);
+      planning = notes.planning;
+      collected = omega (arith, grown, notes.count, stands.collected, ap (λ (xs : List Seat). collections script (replies_of xs) (length script.programs)) same);
+    }
+
+-- A thread goes on with its next operation, or has ended without one.
+abbrev pub GoesOn : Seat → Seat → Type 0
+GoesOn s after = (IsSome s.op × (after ≡ record s { mode = Running })) ⊎ ((s.op ≡ None) × (after ≡ record s { mode = Ended end.Done }))
+
+-- a value is there or not
+some_or_none : {A : Type 0} (o : Option A) → IsSome o ⊎ (o ≡ None)
+some_or_none None = inr refl
+some_or_none (Some x) = inl refl
+
+-- of this kind is a thread that runs where it has an operation, and else has ended
+pub goes_on_by : (s after : Seat) → after ≡ record s { mode = after.mode } → (IsSome s.op → after.mode ≡ Running) → (s.op ≡ None → after.mode ≡ Ended end.Done) → GoesOn s after
+goes_on_by s after only runs ended =
+    let other : (m : Mode) → after.mode ≡ m → after ≡ record s { mode = m } = λ m is. only ∙ ap {B = Seat} (λ (x : Mode). record s { mode = x }) is in
+    elim (some_or_none s.op) [
+      | inl some ↦ inl (some, other Running (runs some))
+      | inr none ↦ inr (none, other (Ended end.Done) (ended none))
+    ]
+
+-- a thread that has ended drops its registers
+pub drops_ended : (v w : View) (t : ℕ) (mode : Mode) → IsEnded mode → HasDropped v w t → DropsIfEnded v w t mode
+drops_ended v w t Running over dropped = absurd over
+drops_ended v w t Due over dropped = absurd over
+drops_ended v w t Silent over dropped = absurd over
+drops_ended v w t Collecting over dropped = absurd over
+drops_ended v w t Asked over dropped = absurd over
+drops_ended v w t Lacking over dropped = absurd over
+drops_ended v w t (Ended e) over dropped = dropped
+
+-- where one has not ended, nothing changes
+pub drops_nothing : (v : View) (t : ℕ) (mode : Mode) → (IsEnded mode → ⊥) → DropsIfEnded v v t mode
+drops_nothing v t Running goes = refl
+drops_nothing v t Due goes = refl
+drops_nothing v t Silent goes = refl
+drops_nothing v t Collecting goes = refl
+drops_nothing v t Asked goes = refl
+drops_nothing v t Lacking goes = refl
+drops_nothing v t (Ended e) goes = absurd (goes tt)
+
+-- all threads stand where one goes on
+Table_goes_on : (script : Script) (heap : ℕ) (v w : View) (seats : List Seat) (t : ℕ) (s after : Seat) → TableStands script heap v seats → slice_get seats t ≡ Some s → (IsEnded s.mode → ⊥) → call_of v t ≡ None → GoesOn s after → DropsIfEnded v w t after.mode → TableStands script heap w (set seats t after)
+Table_goes_on script heap v w seats t s after table at goes no_call on drops = elim on [
+  | inl runs ↦
+      let same : w ≡ v = subst (λ (x : Seat). DropsIfEnded v w t x.mode) runs.1 drops in
+      subst (λ (x : Seat). TableStands script heap w (set seats t x)) (sym runs.1)
+      (subst (λ (x : View). TableStands script heap x (set seats t (record s { mode = Running }))) (sym same) (Table_runs script heap v seats t s table at goes runs.0 no_call))
+  | inr ended ↦
+      let dropped : HasDropped v w t = subst (λ (x : Seat). DropsIfEnded v w t x.mode) ended.1 drops in
+      subst (λ (x : Seat). TableStands script heap w (set seats t x)) (sym ended.1)
+      (Table_gone script heap v w seats t s end.Done table at goes dropped no_call (ends_done script heap v seats t s table at ended.0))
+]
+
+-- it got no reply
+goes_on_collections : (script : Script) (seats : List Seat) (t n : ℕ) (s after : Seat) → slice_get seats t ≡ Some s → GoesOn s after → collections script (replies_of (set seats t after)) n ≡ collections script (replies_of seats) n
+goes_on_collections script seats t n s after at on =
+    let by_mode : (mode : Mode) → after ≡ record s { mode = mode } → collections script (replies_of (set seats t after)) n ≡ collections script (replies_of seats) n =
+    λ mode is. subst (λ (x : Seat). collections script (replies_of (set seats t x)) n ≡ collections script (replies_of seats) n) (sym is) (collections_mode script seats t n s mode at) in
+    elim on [ inl runs ↦ by_mode Running runs.1 | inr ended ↦ by_mode (Ended end.Done) ended.1 ]
+
+-- the silent collection for which a thread waits was made, and the thread goes on
+pub Run_goes_on : (script : Script) (heap : ℕ) (old new : Run) (core : Core) (t : ℕ) (s after : Seat) → RunStands script heap old → slice_get old.seats.items t ≡ Some s → s.mode ≡ Silent → Collected (view old.core) (view core) → Notes old.collector new.collector → GoesOn s after → DropsIfEnded (view core) (view new.core) t after.mode → new.seats.items ≡ set old.seats.items t after → RunStands script heap new
+Run_goes_on script heap old new core t s after stands at mode collected notes on drops same =
+    let seats : List Seat = old.seats.items in
+    let table : TableStands script heap (view core) seats = Table_collected script heap (view old.core) (view core) seats stands.table collected in
+    record {
+      table = subst (TableStands script heap (view new.core)) (sym same)
+          (Table_goes_on script heap (view core) (view new.core) seats t s after table at (λ over. subst IsEnded mode over) (collected.quiet t) on drops);
+      planning = notes.planning;
+      collected = omega (arith, goes_on_collections script seats t (length script.programs) s after at on, notes.count, stands.collected, ap (λ (xs : List Seat). collections script (replies_of xs) (length script.programs)) same);
+    }
+
+-- a run of the same core, collector and threads
+pub Run_same : (script : Script) (heap : ℕ) (old new : Run) → RunStands script heap old → new.core ≡ old.core → new.collector ≡ old.collector → new.seats.items ≡ old.seats.items → RunStands script heap new
+Run_same script heap old new stands core collector same = record {
+  table = subst (λ (x : Core). TableStands script heap (view x) new.seats.items) (sym core) (subst (TableStands script heap (view old.core)) (sym same) stands.table);
+  planning = subst IsPlanning (sym collector) stands.planning;
+  collected = omega (arith, stands.collected, ap (λ (x : Collector). length x.journal.items) collector, ap (λ (xs : List Seat). collections script (replies_of xs) (length script.programs)) same);
+}
+
+-- what a thread has to do, told by its mode and its operations
+jobs_by : (s : Seat) (mode : Mode) (n : ℕ) → s.mode ≡ mode → length (left s) ≡ n → jobs_of s ≡ jobs mode n
+jobs_by s mode n is to_come = rw (is, to_come) refl
+
+-- a thread that got the reply to its collection has less to do
+pub answered_fewer : (s after : Seat) → s.mode ≡ Collecting → s.op ≡ Some Collect → TakesReply s after reply.Done → CollectedFor s after
+answered_fewer s after mode next takes =
+    let n : ℕ = length s.rest.operations in
+    let had : jobs_of s ≡ jobs Collecting (suc n) = jobs_by s Collecting (suc n) mode (ap (λ (o : Option Op). length (with_first o s.rest.operations)) next) in
+    let to_come : length (left after) ≡ n = ap length takes.to_come in
+    let less : jobs_of after < jobs_of s = elim takes.fits [
+      | inl runs ↦ omega (arith, had, jobs_by after Running n runs.0 to_come)
+      | inr rest ↦ elim rest [
+        | inl due ↦ omega (arith, had, jobs_by after Due n due to_come)
+        | inr ended ↦ omega (arith, had, jobs_by after (Ended end.Done) n ended.0 to_come)
+      ]
+    ] in
+    record { fewer = λ waits. less; same = λ never. absurd (never (subst ForCollection (sym mode) tt)) }
+
+-- and so has one that goes on
+pub goes_on_fewer : (s after : Seat) → s.mode ≡ Silent → GoesOn s after → CollectedFor s after
+goes_on_fewer s after mode on =
+    let n : ℕ = length (left s) in
+    let had : jobs_of s ≡ jobs Silent n = jobs_by s Silent n mode refl in
+    let less : jobs_of after < jobs_of s = elim on [
+      | inl runs ↦ omega (arith, had, ap jobs_of runs.1)
+      | inr ended ↦ omega (arith, had, ap jobs_of ended.1)
+    ] in
+    record { fewer = λ waits. less; same = λ never. absurd (never (subst ForCollection (sym mode) tt)) }
+
+-- a thread that waits for a collection waits for its own or for a silent one
+waits_for : (mode : Mode) → (mode ≡ Silent → ⊥) → (mode ≡ Collecting → ⊥) → ForCollection mode → ⊥
+waits_for Running silent own waits = waits
+waits_for Due silent own waits = waits
+waits_for Silent silent own waits = silent refl
+waits_for Collecting silent own waits = own refl
+waits_for Asked silent own waits = waits
+waits_for Lacking silent own waits = waits
+waits_for (Ended e) silent own waits = waits
+
+-- a thread that waits for no collection stays as it is
+pub other_stays : (s : Seat) (mode : Mode) → s.mode ≡ mode → (mode ≡ Silent → ⊥) → (mode ≡ Collecting → ⊥) → CollectedFor s s
+other_stays s mode is silent own = record { fewer = λ waits. absurd (waits_for mode silent own (subst ForCollection is waits)); same = λ never. refl }

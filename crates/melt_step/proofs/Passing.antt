@@ -1,0 +1,315 @@
+-- What a safepoint does to all threads.
+use Rattle.std.proofs.Common.{◌≡◌, ℕ, ◌+◌, ◌<◌, ◌≤◌, true, false, List, length, refl, sym, ◌∙◌, ap, subst, arith, inl, inr}
+use Rattle.std.proofs.Math.ListN.{set, length-set}
+use Rattle.std.proofs.lemmas.Bool.{cases_eq}
+use Rattle.std.proofs.lemmas.List.{set-get_or}
+use Rattle.std.proofs.lemmas.Option.{same_Some, slice_get_within, slice_get_cases, get_or_from_slice_get}
+use Rattle.std.specs.Prelude.{Option, Some, IsSome, slice_get, slice_set, ◌⊎◌}
+use Rattle.melt_model.specs.declared.operations.Op.{Op}
+use Rattle.melt_trace.specs.Script.{Script}
+use Rattle.melt_scion.specs.declared.heap.Heap.{Heap}
+use Rattle.melt_scion.specs.declared.heap.Names as names_of
+use Rattle.melt_scion.specs.declared.registers.Registers.{Registers}
+use Rattle.melt_core.specs.declared.machine.Rest.{Rest}
+use Rattle.melt_core.specs.Views.{View, view, IsQuiet, registers_in, held_values}
+use Rattle.melt_core.specs.Epochs.{AtRest, HasFinished, core_of}
+use Rattle.melt_step.specs.declared.seat.Seat.{Seat}
+use Rattle.melt_step.specs.declared.seat.Mode.{Mode}
+use Rattle.melt_step.specs.declared.seat.Mode.TheVariants.{Running, Due, Silent, Collecting, Asked, Lacking, Ended}
+use Rattle.melt_step.specs.Run.{collections}
+use Rattle.melt_step.specs.Seats.{IsEnded, FitsMode, replies_of, TableStands, CallsAgain, ForCollection, Waits, KnowsStop, jobs, jobs_of, left, CollectedFor, CollectedAt, CollectedAll, CalledAt, Resumed, Passed, Renewed}
+use Rattle.melt_step.proofs.Modes.{Table_runs, collections_mode}
+use Rattle.melt_step.proofs.Tables.{Table_renewed}
+use Rattle.melt_step.proofs.Tables.{get_set_same, get_set_other}
+
+-- a call was refused or was not
+calls_again : (mode : Mode) → CallsAgain mode ⊎ (CallsAgain mode → ⊥)
+calls_again Running = inr (λ is. is)
+calls_again Due = inr (λ is. is)
+calls_again Silent = inr (λ is. is)
+calls_again Collecting = inr (λ is. is)
+calls_again Asked = inl tt
+calls_again Lacking = inl tt
+calls_again (Ended e) = inr (λ is. is)
+
+-- a thread whose call was refused has not ended
+again_open : (mode : Mode) → CallsAgain mode → IsEnded mode → ⊥
+again_open Running again ended = ended
+again_open Due again ended = ended
+again_open Silent again ended = ended
+again_open Collecting again ended = ended
+again_open Asked again ended = ended
+again_open Lacking again ended = ended
+again_open (Ended e) again ended = again
+
+-- it has an operation
+again_some : (mode : Mode) (op : Option Op) → CallsAgain mode → FitsMode mode op → IsSome op
+again_some Running op again fits = absurd again
+again_some Due op again fits = absurd again
+again_some Silent op again fits = absurd again
+again_some Collecting op again fits = absurd again
+again_some Asked op again fits = fits.0
+again_some Lacking op again fits = fits.0
+again_some (Ended e) op again fits = absurd again
+
+-- and has as much to do as when it runs
+again_jobs : (mode : Mode) (count : ℕ) → CallsAgain mode → jobs Running count ≡ jobs mode count
+again_jobs Running count again = absurd again
+again_jobs Due count again = absurd again
+again_jobs Silent count again = absurd again
+again_jobs Collecting count again = absurd again
+again_jobs Asked count again = refl
+again_jobs Lacking count again = refl
+again_jobs (Ended e) count again = absurd again
+
+-- an element that is set where it stands
+set_got : (seats : List Seat) (t : ℕ) (s : Seat) → slice_get seats t ≡ Some s → set seats t s ≡ seats
+set_got seats t s at = subst (λ (y : Seat). set seats t y ≡ seats) (get_or_from_slice_get seats t s s at) (set-get_or seats t s)
+
+-- the call of a thread is made again, if it was refused
+pub record MadeAgain (s after : Seat) : Type 0 where
+  pub again : CallsAgain s.mode → after ≡ record s { mode = Running }
+  pub same : (CallsAgain s.mode → ⊥) → after ≡ s
+
+-- So many threads make their calls again, and the others are as they were.
+pub record AgainBelow (seats after : List Seat) (n : ℕ) : Type 0 where
+  pub count : length after ≡ length seats
+  pub done : (t : ℕ) (s : Seat) → t < n → slice_get seats t ≡ Some s → (x : Seat) × (slice_get after t ≡ Some x) × MadeAgain s x
+  pub rest : (t : ℕ) → n ≤ t → slice_get after t ≡ slice_get seats t
+  pub table : (script : Script) (heap : ℕ) (v : View) → TableStands script heap v seats → IsQuiet v → TableStands script heap v after
+  pub collected : (script : Script) (k : ℕ) → collections script (replies_of after) k ≡ collections script (replies_of seats) k
+
+-- none of them does so yet
+pub again_none : (seats : List Seat) → AgainBelow seats seats 0
+again_none seats = record {
+  count = refl;
+  done = λ t s below at. absurd (omega (arith, below));
+  rest = λ t above. refl;
+  table = λ script heap v table quiet. table;
+  collected = λ script k. refl;
+}
+
+-- one thread more makes its call again
+pub again_more : (seats after : List Seat) (n : ℕ) (s x : Seat) → AgainBelow seats after n → slice_get after n ≡ Some s → MadeAgain s x → AgainBelow seats (set after n x) (n + 1)
+again_more seats after n s x so_far at made = record {
+  count = length-set after n x ∙ so_far.count;
+  done = λ t y below there. elim (cases_eq t n) [
+    | inl same ↦
+        let here : slice_get seats t ≡ Some s = ap (slice_get seats) same ∙ (sym (so_far.rest n (omega arith)) ∙ at) in
+        (x, ap (slice_get (set after n x)) same ∙ get_set_same after n s x at, subst (λ (z : Seat). MadeAgain z x) (same_Some s y (sym here ∙ there)) made)
+    | inr other ↦
+        let w : (z : Seat) × (slice_get after t ≡ Some z) × MadeAgain y z = so_far.done t y (omega (arith, other, below)) there in
+        (w.0, get_set_other after n t x other ∙ w.1, w.2)
+  ];
+  rest = λ t above. get_set_other after n t x (λ same. omega (arith, same, above)) ∙ so_far.rest t (omega (arith, above));
+  table = λ script heap v table quiet.
+      let before : TableStands script heap v after = so_far.table script heap v table quiet in
+      elim (calls_again s.mode) [
+        | inl again ↦
+            subst (λ (z : Seat). TableStands script heap v (set after n z)) (sym (made.again again))
+            (Table_runs script heap v after n s before at (again_open s.mode again) (again_some s.mode s.op again (before.each n s at).fits) (quiet n))
+        | inr not ↦ subst (TableStands script heap v) (sym (ap (set after n) (made.same not) ∙ set_got after n s at)) before
+      ];
+  collected = λ script k.
+      elim (calls_again s.mode) [
+        | inl again ↦
+            ap (λ (z : Seat). collections script (replies_of (set after n z)) k) (made.again again)
+            ∙ (collections_mode script after n k s Running at ∙ so_far.collected script k)
+        | inr not ↦
+            ap (λ (ss : List Seat). collections script (replies_of ss) k) (ap (set after n) (made.same not) ∙ set_got after n s at)
+            ∙ so_far.collected script k
+      ];
+}
+
+-- a thread whose call is made again has as much to do as before
+made_again_jobs : (s x : Seat) → MadeAgain s x → jobs_of x ≡ jobs_of s
+made_again_jobs s x made = elim (calls_again s.mode) [
+  | inl again ↦ ap jobs_of (made.again again) ∙ again_jobs s.mode (length (left s)) again
+  | inr not ↦ ap jobs_of (made.same not)
+]
+
+-- so all threads have as much to do as before
+pub again_resumed : (seats after : List Seat) (n : ℕ) → AgainBelow seats after n → length seats ≤ n → Resumed seats after
+again_resumed seats after n again all = record {
+  count = again.count;
+  each = λ t s at.
+      let below : t < length seats = slice_get_within seats t s at in
+      let w : (x : Seat) × (slice_get after t ≡ Some x) × MadeAgain s x = again.done t s (omega (arith, all, below)) at in
+      (w.0, w.1, made_again_jobs s w.0 w.2);
+}
+
+-- its call is not refused any more
+made_again_asked : (s x : Seat) → MadeAgain s x → x.mode ≡ Asked → ⊥
+made_again_asked s x made asked = elim (calls_again s.mode) [
+  | inl again ↦
+      let runs : Running ≡ Asked = sym (ap (λ (z : Seat). z.mode) (made.again again)) ∙ asked in cc
+  | inr not ↦ not (subst CallsAgain (sym asked ∙ ap (λ (z : Seat). z.mode) (made.same not)) tt)
+]
+
+-- what is known of a stop word that is not set, once all threads made their calls again
+pub again_knows : (seats after : List Seat) (n : ℕ) (v : View) → AgainBelow seats after n → length seats ≤ n → v.stop ≡ false → KnowsStop v after
+again_knows seats after n v again all none = record {
+  stop = λ is. absurd (let wrong : true ≡ false = sym is ∙ none in cc);
+  asked = λ t x at is.
+      let below : t < length after = slice_get_within after t x at in
+      elim (slice_get_cases seats t).1 [
+        | inl w ↦
+            let z : (z : Seat) × (slice_get after t ≡ Some z) × MadeAgain w.0 z = again.done t w.0 (omega (arith, all, w.1)) w.2 in
+            absurd (made_again_asked w.0 x (subst (MadeAgain w.0) (same_Some z.0 x (sym z.1 ∙ at)) z.2) is)
+        | inr w ↦ absurd (omega (arith, below, again.count, w.0))
+      ];
+}
+
+-- what an epoch left begins a new one, in which all stands as before
+pub finished_renewed : (v : View) (heap : Heap) (rest : Rest) → AtRest heap rest → HasFinished v (view (core_of heap rest)) → Renewed v (view (core_of heap rest))
+finished_renewed v heap rest at_rest finished = record {
+  stands = at_rest.stands;
+  quiet = at_rest.quiet;
+  globals = ap length finished.globals;
+  words = ap length finished.words;
+  threads = ap length finished.held;
+  capacity = finished.capacity;
+  history = finished.log;
+  values = λ t.
+      ap (λ (names : Option names_of.Names). held_values names (registers_in rest.held.items t)) finished.names
+      ∙ ap (λ (held : List Registers). held_values v.names (registers_in held t)) finished.held;
+}
+
+-- So many threads have their collections, and the others are as they were.
+pub record CollectedBelow (seats after : List Seat) (n : ℕ) : Type 0 where
+  pub count : length after ≡ length seats
+  pub done : (t : ℕ) (s : Seat) → t < n → slice_get seats t ≡ Some s → (x : Seat) × (slice_get after t ≡ Some x) × CollectedFor s x
+  pub rest : (t : ℕ) → n ≤ t → slice_get after t ≡ slice_get seats t
+
+-- none of them has it yet
+pub collected_none : (seats : List Seat) → CollectedBelow seats seats 0
+collected_none seats = record {
+  count = refl;
+  done = λ t s below at. absurd (omega (arith, below));
+  rest = λ t above. refl;
+}
+
+-- one thread more has its collection
+pub collected_more : (seats after next : List Seat) (n : ℕ) → CollectedBelow seats after n → n < length after → CollectedAt after next n → CollectedBelow seats next (n + 1)
+collected_more seats after next n so_far within at_n =
+    elim (slice_get_cases after n).1 [
+      | inl w ↦
+          let s : Seat = w.0 in
+          let one : (x : Seat) × (next ≡ slice_set after n x) × CollectedFor s x = at_n s w.2 in
+          let x : Seat = one.0 in
+          subst (λ (ss : List Seat). CollectedBelow seats ss (n + 1)) (sym one.1)
+          (record {
+            count = length-set after n x ∙ so_far.count;
+            done = λ t y below there. elim (cases_eq t n) [
+              | inl same ↦
+                  let here : slice_get seats t ≡ Some s = ap (slice_get seats) same ∙ (sym (so_far.rest n (omega arith)) ∙ w.2) in
+                  (x, ap (slice_get (set after n x)) same ∙ get_set_same after n s x w.2, subst (λ (z : Seat). CollectedFor z x) (same_Some s y (sym here ∙ there)) one.2)
+              | inr other ↦
+                  let z : (z : Seat) × (slice_get after t ≡ Some z) × CollectedFor y z = so_far.done t y (omega (arith, other, below)) there in
+                  (z.0, get_set_other after n t x other ∙ z.1, z.2)
+            ];
+            rest = λ t above. get_set_other after n t x (λ same. omega (arith, same, above)) ∙ so_far.rest t (omega (arith, above));
+          })
+      | inr w ↦ absurd (omega (arith, within, w.0))
+    ]
+
+-- all of them have it
+pub collected_all : (seats after : List Seat) (n : ℕ) → CollectedBelow seats after n → length seats ≤ n → CollectedAll seats after
+collected_all seats after n below all = record {
+  count = below.count;
+  each = λ t s at. let within : t < length seats = slice_get_within seats t s at in below.done t s (omega (arith, all, within)) at;
+}
+
+-- a thread waits for a collection or does not
+for_collection : (mode : Mode) → ForCollection mode ⊎ (ForCollection mode → ⊥)
+for_collection Running = inr (λ is. is)
+for_collection Due = inr (λ is. is)
+for_collection Silent = inl tt
+for_collection Collecting = inl tt
+for_collection Asked = inr (λ is. is)
+for_collection Lacking = inr (λ is. is)
+for_collection (Ended e) = inr (λ is. is)
+
+-- one that waits does so for a collection or for room
+waits_for : (mode : Mode) → Waits mode → ForCollection mode ⊎ ((mode ≡ Lacking) × (ForCollection mode → ⊥))
+waits_for Running waits = absurd waits
+waits_for Due waits = absurd waits
+waits_for Silent waits = inl tt
+waits_for Collecting waits = inl tt
+waits_for Asked waits = absurd waits
+waits_for Lacking waits = inr (refl, λ is. is)
+waits_for (Ended e) waits = absurd waits
+
+-- collections give no thread more to do
+collected_jobs : (s x : Seat) → CollectedFor s x → jobs_of x ≤ jobs_of s
+collected_jobs s x collected = elim (for_collection s.mode) [
+  | inl for ↦ omega (arith, collected.fewer for)
+  | inr not ↦ omega (arith, ap jobs_of (collected.same not))
+]
+
+-- a safepoint at which no thread lacks room behind the collections
+pub passed_collected : (seats mid after : List Seat) → CollectedAll seats mid → ((t : ℕ) (s : Seat) → slice_get mid t ≡ Some s → s.mode ≡ Lacking → ⊥) → Resumed mid after
+    → ((t : ℕ) × ((s : Seat) × (slice_get seats t ≡ Some s) × Waits s.mode)) → Passed seats after
+passed_collected seats mid after all none resumed waits = record {
+  count = resumed.count ∙ all.count;
+  each = λ t s at.
+      let x : (x : Seat) × (slice_get mid t ≡ Some x) × CollectedFor s x = all.each t s at in
+      let y : (y : Seat) × (slice_get after t ≡ Some y) × (jobs_of y ≡ jobs_of x.0) = resumed.each t x.0 x.1 in
+      (y.0, y.1, omega (arith, y.2, collected_jobs s x.0 x.2));
+  one =
+      let t : ℕ = waits.0 in
+      let s : Seat = waits.1.0 in
+      let at : slice_get seats t ≡ Some s = waits.1.1 in
+      let x : (x : Seat) × (slice_get mid t ≡ Some x) × CollectedFor s x = all.each t s at in
+      let y : (y : Seat) × (slice_get after t ≡ Some y) × (jobs_of y ≡ jobs_of x.0) = resumed.each t x.0 x.1 in
+      elim (waits_for s.mode waits.1.2) [
+        | inl for ↦ (t, (s, (y.0, at, y.1, omega (arith, y.2, x.2.fewer for))))
+        | inr lacks ↦ absurd (none t x.0 x.1 (ap (λ (z : Seat). z.mode) (x.2.same lacks.1) ∙ lacks.0))
+      ];
+}
+
+-- a safepoint at which the call of a thread was made behind the collections
+pub passed_called : (seats mid called after : List Seat) (t : ℕ) (s : Seat) → CollectedAll seats mid → slice_get mid t ≡ Some s → CalledAt mid called t → Resumed called after → Passed seats after
+passed_called seats mid called after t s all at calls resumed =
+    let one : (x : Seat) × (called ≡ slice_set mid t x) × (jobs_of x < jobs_of s) = calls s at in
+    let here : slice_get called t ≡ Some one.0 = ap (λ (ss : List Seat). slice_get ss t) one.1 ∙ get_set_same mid t s one.0 at in
+    let last : (y : Seat) × (slice_get after t ≡ Some y) × (jobs_of y ≡ jobs_of one.0) = resumed.each t one.0 here in
+    let below : t < length mid = slice_get_within mid t s at in
+    record {
+      count = resumed.count ∙ (ap length one.1 ∙ (length-set mid t one.0 ∙ all.count));
+      each = λ u r there.
+          let x : (x : Seat) × (slice_get mid u ≡ Some x) × CollectedFor r x = all.each u r there in
+          let fewer : jobs_of x.0 ≤ jobs_of r = collected_jobs r x.0 x.2 in
+          elim (cases_eq u t) [
+            | inl same ↦
+                let is : s ≡ x.0 = same_Some s x.0 (sym at ∙ (ap (slice_get mid) (sym same) ∙ x.1)) in
+                (last.0, ap (slice_get after) same ∙ last.1, omega (arith, last.2, one.2, ap jobs_of is, fewer))
+            | inr other ↦
+                let still : slice_get called u ≡ Some x.0 = ap (λ (ss : List Seat). slice_get ss u) one.1 ∙ (get_set_other mid t u one.0 other ∙ x.1) in
+                let y : (y : Seat) × (slice_get after u ≡ Some y) × (jobs_of y ≡ jobs_of x.0) = resumed.each u x.0 still in
+                (y.0, y.1, omega (arith, y.2, fewer))
+          ];
+      one = elim (slice_get_cases seats t).1 [
+        | inl w ↦
+            let x : (x : Seat) × (slice_get mid t ≡ Some x) × CollectedFor w.0 x = all.each t w.0 w.2 in
+            let is : s ≡ x.0 = same_Some s x.0 (sym at ∙ x.1) in
+            (t, (w.0, (last.0, w.2, last.1, omega (arith, last.2, one.2, ap jobs_of is, collected_jobs w.0 x.0 x.2))))
+        | inr w ↦ absurd (omega (arith, below, all.count, w.0))
+      ];
+    }
+
+-- The run goes on with the stop word not set, in the same epoch or in a new one, and all threads stand there as before.
+pub record Begun (v w : View) : Type 0 where
+  pub no_stop : w.stop ≡ false
+  pub table : (script : Script) (heap : ℕ) (seats : List Seat) → TableStands script heap v seats → TableStands script heap w seats
+
+-- in the same epoch
+pub begun_same : (v : View) → v.stop ≡ false → Begun v v
+begun_same v none = record { no_stop = none; table = λ script heap seats table. table }
+
+-- in a new epoch
+pub begun_new : (v : View) (heap : Heap) (rest : Rest) → AtRest heap rest → HasFinished v (view (core_of heap rest)) → Begun v (view (core_of heap rest))
+begun_new v heap rest at_rest finished = record {
+  no_stop = refl;
+  table = λ script words seats table. Table_renewed script words v (view (core_of heap rest)) seats table (finished_renewed v heap rest at_rest finished);
+}

@@ -1,0 +1,182 @@
+-- A run gets nearer to its end with each event and with each safepoint.
+use Rattle.std.proofs.Common.{◌≡◌, ◌≢◌, ℕ, zero, suc, ◌+◌, ◌*◌, ◌<◌, ◌≤◌, ◌⊎◌, inl, inr, List, [], ◌∷◌, length, drop, get_or, refl, sym, ◌∙◌, ap, subst, arith}
+use Rattle.std.proofs.Math.ListN.{set}
+use Rattle.std.proofs.lemmas.Option.{same_Some}
+use Rattle.std.specs.Prelude.{Option, None, Some, IsSome, slice_get}
+use Rattle.melt_model.specs.declared.operations.Op.{Op}
+use Rattle.melt_model.specs.declared.reports.ThreadEnd.TheVariants as end
+use Rattle.melt_trace.specs.Script.{Script}
+use Rattle.melt_core.specs.declared.call.Call.{Call}
+use Rattle.melt_core.specs.Views.{View, call_of}
+use Rattle.melt_step.specs.declared.seat.Mode.{Mode}
+use Rattle.melt_step.specs.declared.seat.Mode.TheVariants.{Running, Due, Silent, Collecting, Asked, Lacking, Ended}
+use Rattle.melt_step.specs.declared.seat.Seat.{Seat}
+use Rattle.melt_step.specs.Seats.{Passed, jobs_of, MayGo, SeatWaits, SeatGoes, SeatRefused, SeatTold, SeatStep, TableStands, left, with_first, jobs, turn_left, potential}
+
+-- what a thread in this mode with so many operations to come has still to do
+abbrev amount : Mode → ℕ → Option Call → ℕ
+amount mode count call = 2000 * jobs mode count + turn_left mode call
+
+-- the same of a thread
+abbrev part : Seat → Option Call → ℕ
+part s call = amount s.mode (length (left s)) call
+
+-- the first thread, and then the others
+potential-first : (s : Seat) (seats : List Seat) (calls : List (Option Call)) → potential (s ∷ seats) calls ≡ part s (get_or calls 0 None) + potential seats (drop 1 calls)
+potential-first s seats [] = refl
+potential-first s seats (c ∷ calls) = refl
+
+-- the calls behind the first
+get_or-drop_first : (calls : List (Option Call)) (u : ℕ) → get_or (drop 1 calls) u None ≡ get_or calls (suc u) None
+get_or-drop_first [] u = refl
+get_or-drop_first (c ∷ calls) u = refl
+
+-- the same calls give the same
+potential-same : (seats : List Seat) (a b : List (Option Call)) → ((u : ℕ) → get_or b u None ≡ get_or a u None) → potential seats b ≡ potential seats a
+potential-same [] a b same = refl
+potential-same (s ∷ seats) a b same =
+    let behind : potential seats (drop 1 b) ≡ potential seats (drop 1 a) = potential-same seats (drop 1 a) (drop 1 b) (λ u. get_or-drop_first b u ∙ (same (suc u) ∙ sym (get_or-drop_first a u))) in
+    let here : part s (get_or b 0 None) ≡ part s (get_or a 0 None) = ap (part s) (same 0) in
+    omega (arith, potential-first s seats a, potential-first s seats b, behind, here)
+
+-- one thread has less to do, and the others have as much as before
+potential-less : (seats : List Seat) (a b : List (Option Call)) (t : ℕ) (s after : Seat) → slice_get seats t ≡ Some s → ((u : ℕ) → u ≢ t → get_or b u None ≡ get_or a u None) → part after (get_or b t None) < part s (get_or a t None) → potential (set seats t after) b < potential seats a
+potential-less [] a b t s after at same less = absurd (let none : slice_get [] t ≡ Some s = at in cc)
+potential-less (x ∷ seats) a b zero s after at same less =
+    let here : x ≡ s = same_Some x s at in
+    let behind : potential seats (drop 1 b) ≡ potential seats (drop 1 a) = potential-same seats (drop 1 a) (drop 1 b) (λ u. get_or-drop_first b u ∙ (same (suc u) (omega arith) ∙ sym (get_or-drop_first a u))) in
+    let part_is : part x (get_or a 0 None) ≡ part s (get_or a 0 None) = ap (λ (y : Seat). part y (get_or a 0 None)) here in
+    omega (arith, potential-first x seats a, potential-first after seats b, behind, part_is, less)
+potential-less (x ∷ seats) a b (suc t) s after at same less =
+    let here : part x (get_or b 0 None) ≡ part x (get_or a 0 None) = ap (part x) (same 0 (omega arith)) in
+    let lower : part after (get_or (drop 1 b) t None) < part s (get_or (drop 1 a) t None) = rw (get_or-drop_first b t, get_or-drop_first a t) less in
+    let behind : potential (set seats t after) (drop 1 b) < potential seats (drop 1 a) = potential-less seats (drop 1 a) (drop 1 b) t s after at (λ u differ. get_or-drop_first b u ∙ (same (suc u) (omega (arith, differ)) ∙ sym (get_or-drop_first a u))) lower in
+    omega (arith, potential-first x seats a, potential-first x (set seats t after) b, behind, here)
+
+-- a thread that can go on runs, or a silent collection is due
+running_or_due : (mode : Mode) → MayGo mode → (mode ≡ Running) ⊎ (mode ≡ Due)
+running_or_due Running goes = inl refl
+running_or_due Due goes = inr refl
+running_or_due Silent goes = absurd goes
+running_or_due Collecting goes = absurd goes
+running_or_due Asked goes = absurd goes
+running_or_due Lacking goes = absurd goes
+running_or_due (Ended e) goes = absurd goes
+
+-- what a thread has to do, told by what its mode and its operations are
+part_less : (s after : Seat) (c d : Option Call) (m k : Mode) (n p : ℕ) → s.mode ≡ m → length (left s) ≡ n → after.mode ≡ k → length (left after) ≡ p → amount k p d < amount m n c → part after d < part s c
+part_less s after c d m k n p e f g h less = rw (e, f, g, h) less
+
+-- a thread that waits from now on
+waits_less : (v w : View) (t : ℕ) (s after : Seat) (mode : Mode) → SeatWaits v w t s after mode → part after (call_of w t) < part s (call_of v t)
+waits_less v w t s after mode x =
+    let to_come : length (left after) ≡ length (left s) = ap (λ (y : Seat). length (left y)) x.only in
+    let now : after.mode ≡ mode = ap (λ (y : Seat). y.mode) x.only in
+    elim x.before [
+      | inl own ↦ part_less s after (call_of v t) (call_of w t) Running Collecting (length (left s)) (length (left s)) own.0 refl (now ∙ own.2) to_come (omega arith)
+      | inr silent ↦ part_less s after (call_of v t) (call_of w t) Due Silent (length (left s)) (length (left s)) silent.0 refl (now ∙ silent.1) to_come (omega arith)
+    ]
+
+-- a call that goes on
+goes_less : (v w : View) (t : ℕ) (s after : Seat) → SeatGoes v w t s after → part after (call_of w t) < part s (call_of v t)
+goes_less v w t s after x =
+    part_less s after (call_of v t) (call_of w t) Running Running (length (left s)) (length (left s)) x.running refl (ap (λ (y : Seat). y.mode) x.same ∙ x.running) (ap (λ (y : Seat). length (left y)) x.same) (omega (arith, x.nearer))
+
+-- a call that was refused
+refused_less : (v w : View) (t : ℕ) (s after : Seat) (mode : Mode) → MayGo s.mode → SeatRefused v w t s after mode → part after (call_of w t) < part s (call_of v t)
+refused_less v w t s after mode goes x =
+    let to_come : length (left after) ≡ length (left s) = ap (λ (y : Seat). length (left y)) x.only in
+    let now : after.mode ≡ mode = ap (λ (y : Seat). y.mode) x.only in
+    elim (running_or_due s.mode goes) [
+      | inl runs ↦ elim x.waits [
+        | inl asked ↦ part_less s after (call_of v t) (call_of w t) Running Asked (length (left s)) (length (left s)) runs refl (now ∙ asked) to_come (omega arith)
+        | inr lacks ↦ part_less s after (call_of v t) (call_of w t) Running Lacking (length (left s)) (length (left s)) runs refl (now ∙ lacks) to_come (omega arith)
+      ]
+      | inr due ↦ elim x.waits [
+        | inl asked ↦ part_less s after (call_of v t) (call_of w t) Due Asked (length (left s)) (length (left s)) due refl (now ∙ asked) to_come (omega arith)
+        | inr lacks ↦ part_less s after (call_of v t) (call_of w t) Due Lacking (length (left s)) (length (left s)) due refl (now ∙ lacks) to_come (omega arith)
+      ]
+    ]
+
+-- One operation less. The next one takes at most 136 events.
+reply_less : (s after : Seat) (c d : Option Call) (m : Mode) (n : ℕ) → s.mode ≡ m → length (left s) ≡ suc n → length (left after) ≡ n → 2000 * (3 + 2 * n) ≤ amount m (suc n) c → d ≡ None → (after.mode ≡ Running) × IsSome after.op ⊎ ((after.mode ≡ Due) ⊎ ((after.mode ≡ Ended end.Done) × (left after ≡ []))) → part after d < part s c
+reply_less s after c d m n is had to_come least over fits = elim fits [
+  | inl runs ↦ part_less s after c d m Running (suc n) n is had runs.0 to_come (rw over (omega (arith, least)))
+  | inr other ↦ elim other [
+    | inl due ↦ part_less s after c d m Due (suc n) n is had due to_come (omega (arith, least))
+    | inr ended ↦ part_less s after c d m (Ended end.Done) (suc n) n is had ended.0 to_come (omega (arith, least))
+  ]
+]
+
+-- a reply
+told_less : (v w : View) (t : ℕ) (s after : Seat) → MayGo s.mode → SeatTold v w t s after → part after (call_of w t) < part s (call_of v t)
+told_less v w t s after goes x =
+    let had : length (left s) ≡ suc (length s.rest.operations) = ap (λ (o : Option Op). length (with_first o s.rest.operations)) x.next in
+    let to_come : length (left after) ≡ length s.rest.operations = ap (λ (ops : List Op). length ops) x.takes.to_come in
+    elim (running_or_due s.mode goes) [
+      | inl runs ↦ reply_less s after (call_of v t) (call_of w t) Running (length s.rest.operations) runs had to_come (omega arith) x.call x.takes.fits
+      | inr due ↦ reply_less s after (call_of v t) (call_of w t) Due (length s.rest.operations) due had to_come (omega arith) x.call x.takes.fits
+    ]
+
+-- an event of a thread that can go on
+pub step_nearer : (script : Script) (heap : ℕ) (v w : View) (seats : List Seat) (t : ℕ) (s after : Seat) → TableStands script heap v seats → slice_get seats t ≡ Some s → MayGo s.mode → SeatStep v w t s after → length w.calls ≡ length v.calls → potential (set seats t after) w.calls < potential seats v.calls
+step_nearer script heap v w seats t s after table at goes step same = potential-less seats v.calls w.calls t s after at step.others.calls (elim step.what [
+  | inl waits ↦ waits_less v w t s after waits.0 waits.1
+  | inr a ↦ elim a [
+    | inl going ↦ goes_less v w t s after going
+    | inr b ↦ elim b [
+      | inl refused ↦ refused_less v w t s after refused.0 goes refused.1
+      | inr told ↦ told_less v w t s after goes told
+    ]
+  ]
+])
+
+-- a thread without a call in flight has few events left before it waits
+turn_few : (mode : Mode) (c : Option Call) → c ≡ None → turn_left mode c ≤ 200
+turn_few Running c none = let few : turn_left Running None ≤ 200 = omega arith in subst (λ (o : Option Call). turn_left Running o ≤ 200) (sym none) few
+turn_few Due c none = omega arith
+turn_few Silent c none = omega arith
+turn_few Collecting c none = omega arith
+turn_few Asked c none = omega arith
+turn_few Lacking c none = omega arith
+turn_few (Ended e) c none = omega arith
+
+-- no thread has more jobs than before
+abbrev NotMore : List Seat → List Seat → Type 0
+NotMore seats after = (t : ℕ) (s : Seat) → slice_get seats t ≡ Some s → (x : Seat) × (slice_get after t ≡ Some x) × (jobs_of x ≤ jobs_of s)
+
+-- Threads without calls in flight, none of which has more jobs: only the events before each waits are added.
+potential_within : (seats after : List Seat) (a b : List (Option Call)) → length after ≡ length seats → ((u : ℕ) → get_or b u None ≡ None) → NotMore seats after → potential after b ≤ potential seats a + 200 * length seats
+potential_within [] [] a b count quiet each = omega arith
+potential_within [] (x ∷ after) a b count quiet each = absurd (omega (arith, count))
+potential_within (s ∷ seats) [] a b count quiet each = absurd (omega (arith, count))
+potential_within (s ∷ seats) (x ∷ after) a b count quiet each =
+    let first : (y : Seat) × (Some x ≡ Some y) × (jobs_of y ≤ jobs_of s) = each 0 s refl in
+    let fewer : jobs_of x ≤ jobs_of s = subst (λ (y : Seat). jobs_of y ≤ jobs_of s) (sym (same_Some x first.0 first.1)) first.2 in
+    let behind : potential after (drop 1 b) ≤ potential seats (drop 1 a) + 200 * length seats =
+    potential_within seats after (drop 1 a) (drop 1 b) (omega (arith, count)) (λ u. get_or-drop_first b u ∙ quiet (suc u)) (λ t y at. each (suc t) y at) in
+    omega (arith, potential-first s seats a, potential-first x after b, turn_few x.mode (get_or b 0 None) (quiet 0), fewer, behind)
+
+-- and where one thread has less
+potential_under : (seats after : List Seat) (a b : List (Option Call)) (t : ℕ) (s x : Seat) → length after ≡ length seats → ((u : ℕ) → get_or b u None ≡ None) → NotMore seats after → slice_get seats t ≡ Some s → slice_get after t ≡ Some x → jobs_of x < jobs_of s → potential after b + 2000 ≤ potential seats a + 200 * length seats
+potential_under [] after a b t s x count quiet each at now less = absurd (let none : slice_get [] t ≡ Some s = at in cc)
+potential_under (y ∷ seats) [] a b t s x count quiet each at now less = absurd (omega (arith, count))
+potential_under (y ∷ seats) (z ∷ after) a b zero s x count quiet each at now less =
+    let was : y ≡ s = same_Some y s at in
+    let is : z ≡ x = same_Some z x now in
+    let fewer : jobs_of z < jobs_of y = omega (arith, ap jobs_of was, ap jobs_of is, less) in
+    let behind : potential after (drop 1 b) ≤ potential seats (drop 1 a) + 200 * length seats =
+    potential_within seats after (drop 1 a) (drop 1 b) (omega (arith, count)) (λ u. get_or-drop_first b u ∙ quiet (suc u)) (λ t q there. each (suc t) q there) in
+    omega (arith, potential-first y seats a, potential-first z after b, turn_few z.mode (get_or b 0 None) (quiet 0), fewer, behind)
+potential_under (y ∷ seats) (z ∷ after) a b (suc t) s x count quiet each at now less =
+    let first : (q : Seat) × (Some z ≡ Some q) × (jobs_of q ≤ jobs_of y) = each 0 y refl in
+    let fewer : jobs_of z ≤ jobs_of y = subst (λ (q : Seat). jobs_of q ≤ jobs_of y) (sym (same_Some z first.0 first.1)) first.2 in
+    let behind : potential after (drop 1 b) + 2000 ≤ potential seats (drop 1 a) + 200 * length seats =
+    potential_under seats after (drop 1 a) (drop 1 b) t s x (omega (arith, count)) (λ u. get_or-drop_first b u ∙ quiet (suc u)) (λ t q there. each (suc t) q there) at now less in
+    omega (arith, potential-first y seats a, potential-first z after b, turn_few z.mode (get_or b 0 None) (quiet 0), fewer, behind)
+
+-- A safepoint brings a run nearer to its end: one job less outweighs the events that eight threads may have at most
+-- before they wait again.
+pub safepoint_nearer : (seats after : List Seat) (calls calls' : List (Option Call)) → length seats ≤ 8 → ((u : ℕ) → get_or calls' u None ≡ None) → Passed seats after → potential after calls' < potential seats calls
+safepoint_nearer seats after calls calls' few quiet passed =
+    omega (arith, few, potential_under seats after calls calls' passed.one.0 passed.one.1.0 passed.one.1.1.0 passed.count quiet passed.each passed.one.1.1.1 passed.one.1.1.2 passed.one.1.1.3)

@@ -1,0 +1,124 @@
+-- A run begins.
+use Rattle.std.proofs.Common.{◌≡◌, ℕ, ◌^◌, ◌<◌, ◌≤◌, zero, suc, true, false, List, [], length, take, drop, refl, sym, ◌∙◌, ap, subst, arith, inl, inr}
+use Rattle.std.proofs.lemmas.List.{length-replicate}
+use Rattle.std.proofs.lemmas.List.Elements.{All-nil}
+use Rattle.std.proofs.lemmas.Option.{slice_get_cases, slice_get_within}
+use Rattle.std.specs.Prelude.{None, Some, All, slice_get, replicate}
+use Rattle.std.specs.List.{count_by}
+use Rattle.melt_model.specs.History.{IsReference}
+use Rattle.melt_model.specs.Standing.{Stands}
+use Rattle.melt_model.specs.declared.history.Entry.{Entry}
+use Rattle.melt_model.specs.declared.history.Value.TheVariants.{Nil}
+use Rattle.melt_model.specs.declared.operations.Op.{Op}
+use Rattle.melt_model.specs.declared.operations.Reply.{Reply}
+use Rattle.melt_model.specs.declared.reports.ThreadEnd.TheVariants as end
+use Rattle.melt_trace.specs.Script.{Script, operations}
+use Rattle.melt_scion.specs.Heaps.{IsNewHeap}
+use Rattle.melt_scion.specs.declared.heap.Heap.{Heap}
+use Rattle.melt_scion.specs.declared.registers.Registers.{Registers}
+use Rattle.melt_core.specs.declared.machine.Rest.{Rest}
+use Rattle.melt_core.specs.Views.{View, view, values_of, registers_in, held_values, call_of}
+use Rattle.melt_core.specs.Epochs.{no_registers, IsNewRest, AtRest, core_of}
+use Rattle.melt_core.proofs.Resting.{start_at_rest}
+use Rattle.melt_core.proofs.Values.{get_or_replicate}
+use Rattle.melt_step.specs.declared.seat.Seat.{Seat}
+use Rattle.melt_step.specs.declared.seat.Mode.{Mode}
+use Rattle.melt_step.specs.declared.seat.Mode.TheVariants.{Running, Asked, Ended}
+use Rattle.melt_step.specs.Run.{is_collect, collections, collections_of}
+use Rattle.melt_step.specs.Seats.{AreNewSeats, IsNewSeat, FitsMode, KnowsStop, SeatStands, EndsSo, TableStands, replies_of}
+use Rattle.melt_step.proofs.Cuts.{replies_here, replies_past}
+
+-- no thread has a reply
+no_replies : (script : Script) (entries t : ℕ) (seats : List Seat) → AreNewSeats script seats entries → replies_of seats t ≡ []
+no_replies script entries t seats new_seats = elim (slice_get_cases seats t).1 [
+  | inl w ↦ replies_here seats t w.0 w.2 ∙ (new_seats.each t w.0 w.2).replies
+  | inr w ↦ replies_past seats t w.0
+]
+
+-- the registers of a new thread
+registers_new : (threads t : ℕ) → t < threads → registers_in (replicate threads no_registers) t ≡ replicate 16 0
+registers_new zero t below = absurd (omega arith)
+registers_new (suc threads) zero below = refl
+registers_new (suc threads) (suc t) below = registers_new threads t (omega arith)
+
+-- they hold nothing
+values_new : (script : Script) (entries t : ℕ) (heap : Heap) (rest : Rest) → IsNewRest (length script.programs) entries rest → t < length script.programs → values_of (view (core_of heap rest)) t ≡ replicate 16 Nil
+values_new script entries t heap rest new_rest below =
+    ap (held_values heap.names) (ap (λ (held : List Registers). registers_in held t) new_rest.held ∙ registers_new (length script.programs) t below)
+
+-- a thread that was told nothing
+Stands_new : (t : ℕ) (ops : List Op) → Stands [] t (take 0 ops) [] (replicate 16 Nil)
+Stands_new t ops = record {
+  reached = refl;
+  references = λ r. let nothing : IsReference [] Nil = tt in subst (IsReference []) (sym (get_or_replicate 16 r Nil)) nothing;
+}
+
+-- a thread stands before its first event
+Seat_new : (script : Script) (entries t : ℕ) (heap : Heap) (rest : Rest) (s : Seat) → AtRest heap rest → IsNewRest (length script.programs) entries rest → t < length script.programs → IsNewSeat (operations script t) script.globals s → SeatStands script (view (core_of heap rest)) t s
+Seat_new script entries t heap rest s at_rest new_rest below new =
+    let v : View = view (core_of heap rest) in
+    let ops : List Op = operations script t in
+    let none : values_of v t ≡ replicate 16 Nil = values_new script entries t heap rest new_rest below in
+    let nothing : Stands v.log t (take 0 ops) [] (replicate 16 Nil) = subst (λ (h : List Entry). Stands h t (take 0 ops) [] (replicate 16 Nil)) (sym new_rest.history) (Stands_new t ops) in
+    record {
+      to_come = new.to_come ∙ ap (λ (rs : List Reply). drop (length rs) ops) (sym new.replies);
+      within = omega (arith, ap length new.replies, ap length new.to_come);
+      none_left = new.none_left;
+      registers = replicate 16 Nil;
+      told = subst (λ (rs : List Reply). Stands v.log t (take (length rs) ops) rs (replicate 16 Nil)) (sym new.replies) nothing;
+      held = inr (sym none);
+      dropped = λ over. none;
+      call = λ c is. absurd (let quiet : call_of v t ≡ None = at_rest.quiet t in cc);
+      fits = elim new.mode [
+        | inl runs ↦ subst (λ (m : Mode). FitsMode m s.op) (sym runs.0) runs.1
+        | inr over ↦ subst (λ (m : Mode). FitsMode m s.op) (sym over.0) tt
+      ];
+      in_range = new.in_range;
+      globals = new.knows;
+      room = omega (arith, ap length new.replies, ap length new.to_come, new.capacity);
+    }
+
+-- a thread that has ended at once has no operations
+ends_new : (script : Script) (log : List Entry) (entries words t : ℕ) (seats : List Seat) (s : Seat) → AreNewSeats script seats entries → slice_get seats t ≡ Some s → EndsSo script log seats words t s.mode
+ends_new script log entries words t seats s new_seats at =
+    let new : IsNewSeat (operations script t) script.globals s = new_seats.each t s at in
+    elim new.mode [
+      | inl runs ↦ subst (EndsSo script log seats words t) (sym runs.0) tt
+      | inr over ↦ subst (EndsSo script log seats words t) (sym over.0) (ap length (no_replies script entries t seats new_seats) ∙ ap length (sym over.1 ∙ new.to_come))
+    ]
+
+-- all threads stand before their first events
+pub Table_new : (script : Script) (words entries : ℕ) (heap : Heap) (rest : Rest) (seats : List Seat) → words < 2 ^ 30 → length script.programs ≤ 8 → IsNewHeap words script.globals true heap → IsNewRest (length script.programs) entries rest → AreNewSeats script seats entries → TableStands script words (view (core_of heap rest)) seats
+Table_new script words entries heap rest seats small few new_heap new_rest new_seats =
+    let n : ℕ = length script.programs in
+    let at_rest : AtRest heap rest = start_at_rest words script.globals n entries heap rest small few new_heap new_rest in
+    record {
+      stands = at_rest.stands;
+      count = new_seats.count;
+      threads = ap length new_rest.held ∙ length-replicate n no_registers;
+      globals = ap length new_heap.globals_hold_nothing ∙ length-replicate script.globals 0;
+      words = new_heap.space.size;
+      each = λ t s at. Seat_new script entries t heap rest s at_rest new_rest (let below : t < length seats = slice_get_within seats t s at in omega (arith, new_seats.count)) (new_seats.each t s at);
+      own = subst (All (λ (e : Entry). e.thread < n)) (sym new_rest.history) (All-nil (λ (e : Entry). e.thread < n));
+      ends = λ t s at. ends_new script rest.log.items entries words t seats s new_seats at;
+      made = λ t k below. absurd (omega (arith, ap length (no_replies script entries t seats new_seats)));
+      entries = omega (arith, ap length new_rest.history, new_seats.entries, new_rest.room);
+      few = omega (arith, ap length new_rest.history, new_seats.few);
+    }
+
+-- no thread waits
+pub stop_new : (script : Script) (entries : ℕ) (heap : Heap) (rest : Rest) (seats : List Seat) → AreNewSeats script seats entries → KnowsStop (view (core_of heap rest)) seats
+stop_new script entries heap rest seats new_seats = record {
+  stop = λ is. absurd (let not : false ≡ true = is in cc);
+  asked = λ t s at is. absurd (elim (new_seats.each t s at).mode [
+    | inl runs ↦ let wrong : Running ≡ Asked = sym runs.0 ∙ is in cc
+    | inr over ↦ let wrong : Ended end.Done ≡ Asked = sym over.0 ∙ is in cc
+  ]);
+}
+
+-- no collection was answered
+pub collections_new : (script : Script) (entries n : ℕ) (seats : List Seat) → AreNewSeats script seats entries → collections script (replies_of seats) n ≡ 0
+collections_new script entries zero seats new_seats = refl
+collections_new script entries (suc n) seats new_seats =
+    let here : collections_of script (replies_of seats) n ≡ 0 = ap (λ (rs : List Reply). count_by is_collect (take (length rs) (operations script n))) (no_replies script entries n seats new_seats) in
+    omega (arith, collections_new script entries n seats new_seats, here)

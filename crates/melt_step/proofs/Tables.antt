@@ -1,0 +1,731 @@
+-- What each step of a run keeps.
+use Rattle.std.proofs.Common.{◌≡◌, ◌≢◌, ℕ, ◌+◌, ◌<◌, ◌≤◌, zero, suc, true, false, List, [], ◌∷◌, ◌++◌, length, take, refl, sym, ◌∙◌, ap, subst, arith, length-append, inl, inr}
+use Rattle.std.proofs.Math.ListN.{set, length-set}
+use Rattle.std.proofs.Math.Seq.{take-append_seam}
+use Rattle.std.proofs.lemmas.Bool.{cases_eq, cases_lt, cond_both}
+use Rattle.std.proofs.lemmas.List.{append-nil, get_or_past}
+use Rattle.std.proofs.lemmas.List.Elements.{All-push}
+use Rattle.std.proofs.lemmas.List.Sums.{sum-map, sum_by-set, sum_by_push, get_or-le-sum_by}
+use Rattle.std.proofs.lemmas.Option.{none-some, same_Some, slice_get_within, slice_get_cases, get_or_from_slice_get}
+use Rattle.std.specs.Prelude.{Option, None, Some, IfSome, IsSome, All, slice_get, slice_set, drop, nat_lt, vec_capacity, if◌then◌else◌, Bool, ◌⊎◌}
+use Rattle.std.specs.Option.{option_map_or}
+use Rattle.std.specs.List.{count_by}
+use Rattle.melt_model.specs.History.{Shape, shape, made, last, IsReference, MayFollow, Legal}
+use Rattle.melt_model.specs.Standing.{HoldReferences, Stands}
+use Rattle.melt_model.specs.Thread.{Deed, unchanged, on_part, found, number, value_in, does}
+use Rattle.melt_model.specs.declared.history.Act.{Act}
+use Rattle.melt_model.specs.declared.history.Act.TheVariants.{Make, Read, Write}
+use Rattle.melt_model.specs.declared.history.Entry.{Entry}
+use Rattle.melt_model.specs.declared.history.Slot.{Slot}
+use Rattle.melt_model.specs.declared.history.Slot.TheVariants.{Field, Cell, Global}
+use Rattle.melt_model.specs.declared.history.Value.{Value}
+use Rattle.melt_model.specs.declared.history.Value.TheVariants.{Nil, Ref, Num}
+use Rattle.melt_model.specs.declared.operations.Op.{Op}
+use Rattle.melt_model.specs.declared.operations.Op.TheVariants as op
+use Rattle.melt_model.specs.declared.operations.Op.TheVariants.{New, Collect}
+use Rattle.melt_model.specs.declared.operations.Reply.{Reply}
+use Rattle.melt_model.specs.declared.operations.Reply.TheVariants as reply
+use Rattle.melt_model.specs.declared.reports.ThreadEnd.TheVariants as end
+use Rattle.melt_model.proofs.Histories.{slice_get-append_seam, made-append, IsReference-append, last_holds}
+use Rattle.melt_model.proofs.Transcripts.{Stands_local, Stands_entry, Stands_other}
+use Rattle.melt_trace.specs.Grammar.{InRange}
+use Rattle.melt_trace.specs.Script.{Script, operations}
+use Rattle.melt_core.specs.declared.call.Call.{Call}
+use Rattle.melt_core.specs.Answering.{entry, with_entry, gives, Answers}
+use Rattle.melt_core.specs.Changed.{stopped}
+use Rattle.melt_core.specs.Views.{View, values_of, call_of, IsQuiet, Standing}
+use Rattle.melt_core.specs.Events.{KeepsOthers, HasRoom, HasRoomFor}
+use Rattle.melt_core.proofs.Values.{get_or_set_keeps}
+use Rattle.melt_step.specs.declared.seat.Seat.{Seat}
+use Rattle.melt_step.specs.declared.seat.Mode.{Mode}
+use Rattle.melt_step.specs.declared.seat.Mode.TheVariants.{Running, Due, Silent, Collecting, Asked, Lacking, Ended}
+use Rattle.melt_step.specs.Run.{is_collect, collections, collections_of}
+use Rattle.melt_step.specs.Seats.{with_first, left, MayGo, IsEnded, FitsMode, SeatStands, replies_of, HadNow, MadeSo, EndsSo, to_reply, Later, TableStands, SeatWaits, SeatGoes, SeatRefused, TakesReply, SeatTold, IsReady, SeatStep, Renewed, Collected, AllWait}
+use Rattle.melt_step.proofs.Cuts.{LacksNow_later, HadNow_later, had_room}
+
+-- an element of a list in which one was set
+pub get_set_same : {A : Type 0} (xs : List A) (t : ℕ) (x y : A) → slice_get xs t ≡ Some x → slice_get (set xs t y) t ≡ Some y
+get_set_same [] t x y at = absurd (cc)
+get_set_same (z ∷ xs) zero x y at = refl
+get_set_same (z ∷ xs) (suc t) x y at = get_set_same xs t x y at
+
+-- the others stay as they were
+pub get_set_other : {A : Type 0} (xs : List A) (t u : ℕ) (y : A) → u ≢ t → slice_get (set xs t y) u ≡ slice_get xs u
+get_set_other [] t u y differ = refl
+get_set_other (z ∷ xs) zero zero y differ = absurd (differ refl)
+get_set_other (z ∷ xs) zero (suc u) y differ = refl
+get_set_other (z ∷ xs) (suc t) zero y differ = refl
+get_set_other (z ∷ xs) (suc t) (suc u) y differ = get_set_other xs t u y (λ same. differ (ap suc same))
+
+-- the first of the elements that are left, where it stands, and what is left behind it
+drop_next : {A : Type 0} (xs rest : List A) (k : ℕ) (x : A) → drop k xs ≡ x ∷ rest → drop (suc k) xs ≡ rest
+drop_next [] rest zero x is = absurd (cc)
+drop_next [] rest (suc k) x is = absurd (cc)
+drop_next (y ∷ xs) rest zero x is = cc
+drop_next (y ∷ xs) rest (suc k) x is = drop_next xs rest k x is
+
+-- with those before it, one element more is taken
+take_next : {A : Type 0} (xs rest : List A) (k : ℕ) (x : A) → drop k xs ≡ x ∷ rest → take (suc k) xs ≡ take k xs ++ x ∷ []
+take_next [] rest zero x is = absurd (cc)
+take_next [] rest (suc k) x is = absurd (cc)
+take_next (y ∷ xs) rest zero x is = cc
+take_next (y ∷ xs) rest (suc k) x is = ap (λ (ys : List _). y ∷ ys) (take_next xs rest k x is)
+
+-- it stands where so many were dropped
+get_next : {A : Type 0} (xs rest : List A) (k : ℕ) (x : A) → drop k xs ≡ x ∷ rest → slice_get xs k ≡ Some x
+get_next [] rest zero x is = absurd (cc)
+get_next [] rest (suc k) x is = absurd (cc)
+get_next (y ∷ xs) rest zero x is = cc
+get_next (y ∷ xs) rest (suc k) x is = get_next xs rest k x is
+
+-- the replies of a thread, also where a seat was set
+pub replies_at : (seats : List Seat) (t : ℕ) (s : Seat) → slice_get seats t ≡ Some s → replies_of seats t ≡ s.replies.items
+replies_at [] t s at = absurd (cc)
+replies_at (x ∷ seats) zero s at = ap (λ (y : Seat). y.replies.items) (same_Some x s at)
+replies_at (x ∷ seats) (suc t) s at = replies_at seats t s at
+
+-- a seat that was set leaves the replies of other threads
+pub replies_other : (seats : List Seat) (t u : ℕ) (after : Seat) → u ≢ t → replies_of (set seats t after) u ≡ replies_of seats u
+replies_other [] t u after differ = refl
+replies_other (x ∷ seats) zero zero after differ = absurd (differ refl)
+replies_other (x ∷ seats) zero (suc u) after differ = refl
+replies_other (x ∷ seats) (suc t) zero after differ = refl
+replies_other (x ∷ seats) (suc t) (suc u) after differ = replies_other seats t u after (λ same. differ (ap suc same))
+
+-- and gives its own thread those of the new seat
+pub replies_same : (seats : List Seat) (t : ℕ) (s after : Seat) → slice_get seats t ≡ Some s → replies_of (set seats t after) t ≡ after.replies.items
+replies_same seats t s after at = replies_at (set seats t after) t after (get_set_same seats t s after at)
+
+-- a thread that has not ended may get more replies
+pub later_set : (seats : List Seat) (t : ℕ) (s after : Seat) (extra : List Reply) → slice_get seats t ≡ Some s → (IsEnded s.mode → ⊥) → after.replies.items ≡ s.replies.items ++ extra → Later seats (set seats t after)
+later_set seats t s after extra at runs grown =
+    let here : replies_of (set seats t after) t ≡ replies_of seats t ++ extra =
+    replies_same seats t s after at ∙ (grown ∙ ap (λ (xs : List Reply). xs ++ extra) (sym (replies_at seats t s at))) in
+    record {
+      count = length-set seats t after;
+      replies = λ u. elim (cases_eq u t) [
+        | inl same ↦ subst (λ (k : ℕ). (more : List Reply) × (replies_of (set seats t after) k ≡ replies_of seats k ++ more)) (sym same) (extra, here)
+        | inr differ ↦ ([], replies_other seats t u after differ ∙ sym (append-nil (replies_of seats u)))
+      ];
+      ended = λ u x there over. elim (cases_eq u t) [
+        | inl same ↦ absurd (runs (subst (λ (y : Seat). IsEnded y.mode) (same_Some x s (sym (subst (λ (k : ℕ). slice_get seats k ≡ Some x) same there) ∙ at)) over))
+        | inr differ ↦ get_set_other seats t u after differ ∙ there
+      ];
+    }
+
+-- how many replies are to come, where a seat was set
+to_reply_set : (seats : List Seat) (t : ℕ) (s after : Seat) → slice_get seats t ≡ Some s → to_reply (set seats t after) + length (left s) ≡ to_reply seats + length (left after)
+to_reply_set seats t s after at =
+    let f : Seat → ℕ = λ (x : Seat). length (left x) in
+    omega (arith, sum-map f seats, sum-map f (set seats t after), sum_by-set f seats t after s (slice_get_within seats t s at), ap f (get_or_from_slice_get seats t s s at))
+
+-- the replies to come of one thread are among those of all
+to_reply_one : (seats : List Seat) (t : ℕ) (s : Seat) → slice_get seats t ≡ Some s → length (left s) ≤ to_reply seats
+to_reply_one seats t s at =
+    let f : Seat → ℕ = λ (x : Seat). length (left x) in
+    omega (arith, sum-map f seats, get_or-le-sum_by f seats t s (slice_get_within seats t s at), ap f (get_or_from_slice_get seats t s s at))
+
+-- What the registers hold behind an operation are references where they were before.
+abbrev KeepsReferences : List Entry → ℕ → ℕ → Value → Deed → Type 0
+KeepsReferences h t globals x d = Legal (with_entry t h d.act) globals → gives h d.act ≡ x → HoldReferences (with_entry t h d.act) d.registers
+
+-- what holds whether the object and its part are there or not
+on_part_both : (R : Deed → Type 0) (parts : Shape → ℕ) (h : List Entry) (regs : List Value) (v : Value) (k : ℕ) (f : ℕ → Deed) → R (unchanged regs reply.Nil) → R (unchanged regs reply.Range) → ((n : ℕ) → R (f n)) → R (on_part parts h regs v k f)
+on_part_both R parts h regs Nil k f nothing past there = nothing
+on_part_both R parts h regs (Num v) k f nothing past there = nothing
+on_part_both R parts h regs (Ref n) k f nothing past there = cond_both (nat_lt k (option_map_or parts (shape h n) 0)) (f n) (unchanged regs reply.Range) R (λ e. there n) (λ e. past)
+
+-- registers that hold references do so by a longer history
+hold_more : (h k : List Entry) (regs : List Value) → HoldReferences h regs → HoldReferences (h ++ k) regs
+hold_more h k regs holds r = IsReference-append h k (value_in regs r) (holds r)
+
+-- and where one of them is set to a reference
+hold_set : (h : List Entry) (regs : List Value) (dst : ℕ) (x : Value) → IsReference h x → HoldReferences h regs → HoldReferences h (set regs dst x)
+hold_set h regs dst x new holds r = get_or_set_keeps (IsReference h) regs dst x r Nil new (holds r)
+
+-- what is read at a slot is what was written there last
+read_last_here : (h : List Entry) (t globals : ℕ) (slot : Slot) (x : Value) → Legal (h ++ entry t (Read slot x) ∷ []) globals → x ≡ last h slot
+read_last_here h t globals slot x legal =
+    let e : Entry = entry t (Read slot x) in
+    let follows : MayFollow (take (length h) (h ++ e ∷ [])) globals e.act = legal (length h) e (slice_get-append_seam h e []) in
+    let here : MayFollow h globals e.act = subst (λ (k : List Entry). MayFollow k globals e.act) (take-append_seam h (e ∷ [])) follows in
+    here.read_last
+
+-- each operation keeps it that registers hold references
+does_references : (h : List Entry) (t globals : ℕ) (regs : List Value) (o : Op) (x : Value) → Legal h globals → HoldReferences h regs → KeepsReferences h t globals x (does h regs o x)
+does_references h t globals regs (op.New dst refs nums) x before holds = λ legal is.
+    let e : Entry = entry t (Make refs nums) in
+    let new : IsReference (h ++ e ∷ []) (Ref (made h)) = omega (arith, made-append h (e ∷ [])) in
+    hold_set (h ++ e ∷ []) regs dst x (subst (IsReference (h ++ e ∷ [])) is new) (hold_more h (e ∷ []) regs holds)
+does_references h t globals regs (op.Load dst src i) x before holds =
+    on_part_both (KeepsReferences h t globals x) (λ (z : Shape). z.refs) h regs (value_in regs src) i (λ (n : ℕ). record { act = Some (Read (Field n i) x); reply = found x; registers = slice_set regs dst x })
+    (λ legal is. holds) (λ legal is. holds)
+    (λ n legal is.
+    let e : Entry = entry t (Read (Field n i) x) in
+    let reads : IsReference h x = subst (IsReference h) (sym (read_last_here h t globals (Field n i) x legal)) (last_holds h globals before (Field n i)) in
+    hold_set (h ++ e ∷ []) regs dst x (IsReference-append h (e ∷ []) x reads) (hold_more h (e ∷ []) regs holds))
+does_references h t globals regs (op.Store obj i src) x before holds =
+    on_part_both (KeepsReferences h t globals x) (λ (z : Shape). z.refs) h regs (value_in regs obj) i (λ (n : ℕ). record { act = Some (Write (Field n i) (value_in regs src)); reply = reply.Done; registers = regs })
+    (λ legal is. holds) (λ legal is. holds)
+    (λ n legal is. hold_more h (entry t (Write (Field n i) (value_in regs src)) ∷ []) regs holds)
+does_references h t globals regs (op.Get src j) x before holds =
+    on_part_both (KeepsReferences h t globals x) (λ (z : Shape). z.nums) h regs (value_in regs src) j (λ (n : ℕ). record { act = Some (Read (Cell n j) (Num (number x))); reply = reply.Num (number x); registers = regs })
+    (λ legal is. holds) (λ legal is. holds)
+    (λ n legal is. hold_more h (entry t (Read (Cell n j) (Num (number x))) ∷ []) regs holds)
+does_references h t globals regs (op.Put obj j v) x before holds =
+    on_part_both (KeepsReferences h t globals x) (λ (z : Shape). z.nums) h regs (value_in regs obj) j (λ (n : ℕ). record { act = Some (Write (Cell n j) (Num v)); reply = reply.Done; registers = regs })
+    (λ legal is. holds) (λ legal is. holds)
+    (λ n legal is. hold_more h (entry t (Write (Cell n j) (Num v)) ∷ []) regs holds)
+does_references h t globals regs (op.GLoad dst g) x before holds = λ legal is.
+    let e : Entry = entry t (Read (Global g) x) in
+    let reads : IsReference h x = subst (IsReference h) (sym (read_last_here h t globals (Global g) x legal)) (last_holds h globals before (Global g)) in
+    hold_set (h ++ e ∷ []) regs dst x (IsReference-append h (e ∷ []) x reads) (hold_more h (e ∷ []) regs holds)
+does_references h t globals regs (op.GStore g src) x before holds = λ legal is. hold_more h (entry t (Write (Global g) (value_in regs src)) ∷ []) regs holds
+does_references h t globals regs (op.Same a b) x before holds = λ legal is. holds
+does_references h t globals regs (op.Copy dst src) x before holds = λ legal is. hold_set h regs dst (value_in regs src) (holds src) holds
+does_references h t globals regs (op.Drop r) x before holds = λ legal is. let nothing : IsReference h Nil = tt in hold_set h regs r Nil nothing holds
+does_references h t globals regs op.Collect x before holds = λ legal is. holds
+
+-- what an entry more changes for the history
+with_more : (h : List Entry) (t : ℕ) (act : Option Act) → (more : List Entry) × (with_entry t h act ≡ h ++ more)
+with_more h t None = ([], sym (append-nil h))
+with_more h t (Some act) = (entry t act ∷ [], refl)
+
+-- there is one entry more at most
+with_length : (h : List Entry) (t : ℕ) (act : Option Act) → length (with_entry t h act) ≤ length h + 1
+with_length h t None = omega arith
+with_length h t (Some act) = omega (arith, length-append h (entry t act ∷ []))
+
+-- the new entry is of a thread of the script
+with_own : (h : List Entry) (t threads : ℕ) (act : Option Act) → t < threads → All (λ (e : Entry). e.thread < threads) h → All (λ (e : Entry). e.thread < threads) (with_entry t h act)
+with_own h t threads None within own = own
+with_own h t threads (Some act) within own = All-push (λ (e : Entry). e.thread < threads) h (entry t act) own within
+
+-- what another thread was told stays
+told_with : (h : List Entry) (t u : ℕ) (ops : List Op) (replies : List Reply) (registers : List Value) (act : Option Act) → u ≢ t → Stands h u ops replies registers → Stands (with_entry t h act) u ops replies registers
+told_with h t u ops replies registers None differ told = told
+told_with h t u ops replies registers (Some act) differ told = Stands_other h u ops replies registers (entry t act) told (λ same. differ (sym same))
+
+-- the thread stands one operation further, where its entry is the new last one or there is none
+stands_by : (h : List Entry) (t : ℕ) (ops : List Op) (replies : List Reply) (rs : List Value) (o : Op) (x : Value) (act : Option Act) → Stands h t ops replies rs → (does h rs o x).act ≡ act → gives h act ≡ x → HoldReferences (with_entry t h act) (does h rs o x).registers → Stands (with_entry t h act) t (ops ++ o ∷ []) (replies ++ (does h rs o x).reply ∷ []) (does h rs o x).registers
+stands_by h t ops replies rs o x None stands is given holds =
+    let S : Value → Type 0 = λ v. (does h rs o v).act ≡ None → HoldReferences h (does h rs o v).registers → Stands h t (ops ++ o ∷ []) (replies ++ (does h rs o v).reply ∷ []) (does h rs o v).registers in
+    let at_nil : S Nil = λ none references. Stands_local h t ops replies rs o stands none references in
+    subst S given at_nil is holds
+stands_by h t ops replies rs o x (Some act) stands is given holds =
+    let S : Value → Type 0 = λ v. (does h rs o v).act ≡ Some act → HoldReferences (h ++ entry t act ∷ []) (does h rs o v).registers → Stands (h ++ entry t act ∷ []) t (ops ++ o ∷ []) (replies ++ (does h rs o v).reply ∷ []) (does h rs o v).registers in
+    let at_given : S (gives h (Some act)) = λ same references. Stands_entry h t ops replies rs o (entry t act) stands refl same references in
+    subst S given at_given is holds
+
+-- a thread that was answered stands one operation further
+Stands_answers : (h h' : List Entry) (t globals : ℕ) (ops : List Op) (replies : List Reply) (rs rs' : List Value) (o : Op) (r : Reply) → Legal h globals → Legal h' globals → Stands h t ops replies rs → Answers t h rs o r h' rs' → Stands h' t (ops ++ o ∷ []) (replies ++ r ∷ []) rs'
+Stands_answers h h' t globals ops replies rs rs' o r before legal stands a =
+    let d : Deed = does h rs o a.value in
+    let held : HoldReferences (with_entry t h d.act) d.registers =
+    does_references h t globals rs o a.value before stands.references (subst (λ (k : List Entry). Legal k globals) a.history legal) a.given in
+    let next : Stands (with_entry t h d.act) t (ops ++ o ∷ []) (replies ++ d.reply ∷ []) d.registers =
+    stands_by h t ops replies rs o a.value d.act stands refl a.given held in
+    let told : Stands (with_entry t h d.act) t (ops ++ o ∷ []) (replies ++ r ∷ []) d.registers =
+    subst (λ (x : Reply). Stands (with_entry t h d.act) t (ops ++ o ∷ []) (replies ++ x ∷ []) d.registers) a.told next in
+    let registers : Stands (with_entry t h d.act) t (ops ++ o ∷ []) (replies ++ r ∷ []) rs' =
+    subst (λ (xs : List Value). Stands (with_entry t h d.act) t (ops ++ o ∷ []) (replies ++ r ∷ []) xs) (sym a.registers) told in
+    subst (λ (k : List Entry). Stands k t (ops ++ o ∷ []) (replies ++ r ∷ []) rs') (sym a.history) registers
+
+-- another thread than that of the event
+other_stands : (script : Script) (v w : View) (t u : ℕ) (s : Seat) (act : Option Act) → u ≢ t → KeepsOthers v w t → w.log ≡ with_entry t v.log act → SeatStands script v u s → SeatStands script w u s
+other_stands script v w t u s act differ others grown st = record {
+  to_come = st.to_come;
+  within = st.within;
+  none_left = st.none_left;
+  registers = st.registers;
+  told = subst (λ (h : List Entry). Stands h u (take (length s.replies.items) (operations script u)) s.replies.items st.registers) (sym grown) (told_with v.log t u (take (length s.replies.items) (operations script u)) s.replies.items st.registers act differ st.told);
+  held = elim st.held [ inl over ↦ inl over | inr same ↦ inr (same ∙ sym (others.values u differ)) ];
+  dropped = λ over. others.values u differ ∙ st.dropped over;
+  call = λ c is. st.call c (sym (others.calls u differ) ∙ is);
+  fits = st.fits;
+  in_range = st.in_range;
+  globals = st.globals;
+  room = st.room;
+}
+
+-- the registers of a thread that has not ended hold what it was told
+held_now : (script : Script) (v : View) (t : ℕ) (s : Seat) (st : SeatStands script v t s) → (IsEnded s.mode → ⊥) → st.registers ≡ values_of v t
+held_now script v t s st runs = elim st.held [ inl over ↦ absurd (runs over) | inr same ↦ same ]
+
+-- a thread of which at most the mode changes
+pub mode_stands : (script : Script) (v w : View) (t : ℕ) (s : Seat) (mode : Mode) → SeatStands script v t s → (IsEnded s.mode → ⊥) → (IsEnded mode → ⊥) → w.log ≡ v.log → values_of w t ≡ values_of v t → FitsMode mode s.op → ((c : Call) → call_of w t ≡ Some c → (mode ≡ Running) × (s.op ≡ Some c.op) × (c.op ≢ Collect)) → SeatStands script w t (record s { mode = mode })
+mode_stands script v w t s mode st runs waits history values fits call = record {
+  to_come = st.to_come;
+  within = st.within;
+  none_left = st.none_left;
+  registers = st.registers;
+  told = subst (λ (h : List Entry). Stands h t (take (length s.replies.items) (operations script t)) s.replies.items st.registers) (sym history) st.told;
+  held = elim st.held [ inl over ↦ absurd (runs over) | inr same ↦ inr (same ∙ sym values) ];
+  dropped = λ over. absurd (waits over);
+  call = call;
+  fits = fits;
+  in_range = st.in_range;
+  globals = st.globals;
+  room = st.room;
+}
+
+-- why a thread has ended stays so
+ends_later : (script : Script) (log more : List Entry) (seats after : List Seat) (heap u : ℕ) (s : Seat) (mode : Mode) → Later seats after → slice_get seats u ≡ Some s → replies_of after u ≡ replies_of seats u → s.mode ≡ mode → EndsSo script log seats heap u mode → EndsSo script (log ++ more) after heap u mode
+ends_later script log more seats after heap u s Running later at same is ends = tt
+ends_later script log more seats after heap u s Due later at same is ends = tt
+ends_later script log more seats after heap u s Silent later at same is ends = tt
+ends_later script log more seats after heap u s Collecting later at same is ends = tt
+ends_later script log more seats after heap u s Asked later at same is ends = tt
+ends_later script log more seats after heap u s Lacking later at same is ends = tt
+ends_later script log more seats after heap u s (Ended end.Done) later at same is ends = ap length same ∙ ends
+ends_later script log more seats after heap u s (Ended (end.OutOfHeap held need)) later at same is ends =
+    LacksNow_later script log more seats after heap u held need s later at (let over : IsEnded (Ended (end.OutOfHeap held need)) = tt in subst IsEnded (sym is) over) ends
+ends_later script log more seats after heap u s (Ended end.DiskFault) later at same is ends = absurd ends
+ends_later script log more seats after heap u s (Ended (end.Damaged home place word)) later at same is ends = absurd ends
+ends_later script log more seats after heap u s (Ended end.Halted) later at same is ends = absurd ends
+
+-- a thread that has not ended need not say why
+pub ends_open : (script : Script) (log : List Entry) (seats : List Seat) (heap t : ℕ) (mode : Mode) → (IsEnded mode → ⊥) → EndsSo script log seats heap t mode
+ends_open script log seats heap t Running free = tt
+ends_open script log seats heap t Due free = tt
+ends_open script log seats heap t Silent free = tt
+ends_open script log seats heap t Collecting free = tt
+ends_open script log seats heap t Asked free = tt
+ends_open script log seats heap t Lacking free = tt
+ends_open script log seats heap t (Ended e) free = absurd (free tt)
+
+-- What an event of a thread shows of it, so that all threads stand behind the event: its entry, if it has one, and the
+-- replies that it got.
+pub record Moves (script : Script) (heap : ℕ) (v w : View) (seats : List Seat) (t : ℕ) (s after : Seat) : Type 0 where
+  pub act : Option Act
+  pub extra : List Reply
+  pub grown : w.log ≡ with_entry t v.log act
+  pub replies : after.replies.items ≡ s.replies.items ++ extra
+  pub stands : SeatStands script w t after
+  pub ends : EndsSo script w.log (set seats t after) heap t after.mode
+  pub made_last : (k : ℕ) → k < length after.replies.items → length s.replies.items ≤ k → MadeSo script v.log seats heap t k
+  pub entries : length w.log + length (left after) ≤ length v.log + length (left s)
+
+-- all threads stand behind such an event
+pub Table_moves : (script : Script) (heap : ℕ) (v w : View) (seats : List Seat) (t : ℕ) (s after : Seat) → TableStands script heap v seats → slice_get seats t ≡ Some s → (IsEnded s.mode → ⊥) → Standing w → KeepsOthers v w t → Moves script heap v w seats t s after → TableStands script heap w (set seats t after)
+Table_moves script heap v w seats t s after table at runs stands others m =
+    let later : Later seats (set seats t after) = later_set seats t s after m.extra at runs m.replies in
+    let more = with_more v.log t m.act in
+    let longer : w.log ≡ v.log ++ more.0 = m.grown ∙ more.1 in
+    let here : slice_get (set seats t after) t ≡ Some after = get_set_same seats t s after at in
+    let at_t : (u : ℕ) (x : Seat) → u ≡ t → slice_get (set seats t after) u ≡ Some x → after ≡ x =
+    λ u x same is. same_Some after x (sym here ∙ (ap (λ (k : ℕ). slice_get (set seats t after) k) (sym same) ∙ is)) in
+    let elsewhere : (u : ℕ) (x : Seat) → u ≢ t → slice_get (set seats t after) u ≡ Some x → slice_get seats u ≡ Some x =
+    λ u x differ is. sym (get_set_other seats t u after differ) ∙ is in
+    let was : replies_of seats t ≡ s.replies.items = replies_at seats t s at in
+    let now : replies_of (set seats t after) t ≡ after.replies.items = replies_same seats t s after at in
+    let to_come : to_reply (set seats t after) + length (left s) ≡ to_reply seats + length (left after) = to_reply_set seats t s after at in
+    let fits : length w.log + length (left after) ≤ length v.log + length (left s) = m.entries in
+    let one : length (left s) ≤ to_reply seats = to_reply_one seats t s at in
+    let size : length (set seats t after) ≡ length seats = length-set seats t after in
+    record {
+      stands = stands;
+      count = size ∙ table.count;
+      threads = others.threads ∙ table.threads;
+      globals = others.globals ∙ table.globals;
+      words = others.words ∙ table.words;
+      each = λ u x is. elim (cases_eq u t) [
+        | inl same ↦ subst (λ (k : ℕ). SeatStands script w k x) (sym same) (subst (λ (y : Seat). SeatStands script w t y) (at_t u x same is) m.stands)
+        | inr differ ↦ other_stands script v w t u x m.act differ others m.grown (table.each u x (elsewhere u x differ is))
+      ];
+      own = subst (All (λ (e : Entry). e.thread < length script.programs)) (sym m.grown)
+          (with_own v.log t (length script.programs) m.act (let within : t < length seats = slice_get_within seats t s at in let count : length seats ≡ length script.programs = table.count in omega arith) table.own);
+      ends = λ u x is. elim (cases_eq u t) [
+        | inl same ↦ subst (λ (k : ℕ). EndsSo script w.log (set seats t after) heap k x.mode) (sym same) (subst (λ (y : Seat). EndsSo script w.log (set seats t after) heap t y.mode) (at_t u x same is) m.ends)
+        | inr differ ↦ subst (λ (h : List Entry). EndsSo script h (set seats t after) heap u x.mode) (sym longer)
+            (ends_later script v.log more.0 seats (set seats t after) heap u x x.mode later (elsewhere u x differ is) (replies_other seats t u after differ) refl (table.ends u x (elsewhere u x differ is)))
+      ];
+      made = λ u k below dst refs nums next.
+          let before : HadNow script v.log seats heap u k (2 + refs + nums) = elim (cases_lt k (length (replies_of seats u))) [
+            | inl earlier ↦ table.made u k earlier dst refs nums next
+            | inr last ↦ elim (cases_eq u t) [
+              | inl same ↦ subst (λ (j : ℕ). slice_get (operations script j) k ≡ Some (New dst refs nums) → HadNow script v.log seats heap j k (2 + refs + nums)) (sym same)
+                  (m.made_last k
+                  (subst (λ (n : ℕ). k < n) (ap (λ (j : ℕ). length (replies_of (set seats t after) j)) same ∙ ap length now) below)
+                  (subst (λ (n : ℕ). n ≤ k) (ap (λ (j : ℕ). length (replies_of seats j)) same ∙ ap length was) last)
+                  dst refs nums) next
+              | inr differ ↦ absurd (let same : length (replies_of (set seats t after) u) ≡ length (replies_of seats u) = ap length (replies_other seats t u after differ) in omega arith)
+            ]
+          ] in
+          subst (λ (h : List Entry). HadNow script h (set seats t after) heap u k (2 + refs + nums)) (sym longer)
+          (HadNow_later script v.log more.0 seats (set seats t after) heap u k (2 + refs + nums) later before);
+      entries = let e : length v.log + to_reply seats ≤ v.capacity = table.entries in let c : w.capacity ≡ v.capacity = others.capacity in omega (arith, e, c, to_come, fits, one);
+      few = let e : length v.log + to_reply seats ≤ 8388608 = table.few in omega (arith, e, to_come, fits, one);
+    }
+
+-- a thread that got no reply
+pub same_moves : (script : Script) (heap : ℕ) (v w : View) (seats : List Seat) (t : ℕ) (s : Seat) (mode : Mode) → (IsEnded mode → ⊥) → w.log ≡ v.log → SeatStands script w t (record s { mode = mode }) → Moves script heap v w seats t s (record s { mode = mode })
+same_moves script heap v w seats t s mode free history stands =
+    let after : Seat = record s { mode = mode } in
+    record {
+      act = None;
+      extra = [];
+      grown = history;
+      replies = sym (append-nil s.replies.items);
+      stands = stands;
+      ends = ends_open script w.log (set seats t after) heap t mode free;
+      made_last = λ k below last. absurd (omega arith);
+      entries = let same : length w.log ≡ length v.log = ap length history in omega arith;
+    }
+
+-- a thread that waits for a collection has not ended
+waits_open : (v w : View) (t : ℕ) (s after : Seat) (mode : Mode) → SeatWaits v w t s after mode → IsEnded mode → ⊥
+waits_open v w t s after mode waits over = elim waits.before [ inl own ↦ subst IsEnded own.2 over | inr due ↦ subst IsEnded due.1 over ]
+
+-- a thread that waits for a collection
+waits_moves : (script : Script) (heap : ℕ) (v w : View) (seats : List Seat) (t : ℕ) (s after : Seat) (mode : Mode) → SeatStands script v t s → (IsEnded s.mode → ⊥) → SeatWaits v w t s after mode → Moves script heap v w seats t s after
+waits_moves script heap v w seats t s after mode st runs waits =
+    let waiting : IsEnded mode → ⊥ = waits_open v w t s after mode waits in
+    let fits : FitsMode mode s.op = elim waits.before [
+      | inl own ↦ subst (λ (m : Mode). FitsMode m s.op) (sym own.2) own.1
+      | inr due ↦ subst (λ (m : Mode). FitsMode m s.op) (sym due.1) tt
+    ] in
+    let call : (c : Call) → call_of v t ≡ Some c → ⊥ = λ c is. elim waits.before [
+      | inl own ↦ let known = st.call c is in known.2 (same_Some c.op Collect (sym known.1 ∙ own.1))
+      | inr due ↦ let known : s.mode ≡ Running = (st.call c is).0 in let is_due : s.mode ≡ Due = due.0 in absurd (cc)
+    ] in
+    let stands : SeatStands script (stopped v) t (record s { mode = mode }) = mode_stands script v (stopped v) t s mode st runs waiting refl refl fits (λ c is. absurd (call c is)) in
+    subst (λ (y : Seat). Moves script heap v w seats t s y) (sym waits.only)
+    (same_moves script heap v w seats t s mode waiting (ap (λ (x : View). x.log) waits.stop) (subst (λ (x : View). SeatStands script x t (record s { mode = mode })) (sym waits.stop) stands))
+
+-- a thread whose call goes on
+goes_moves : (script : Script) (heap : ℕ) (v w : View) (seats : List Seat) (t : ℕ) (s after : Seat) → SeatStands script v t s → (IsEnded s.mode → ⊥) → SeatGoes v w t s after → Moves script heap v w seats t s after
+goes_moves script heap v w seats t s after st runs goes =
+    let stands : SeatStands script w t (record s { mode = s.mode }) =
+    mode_stands script v w t s s.mode st runs runs goes.history goes.values st.fits
+    (λ c is. let same : goes.call ≡ c = same_Some goes.call c (sym goes.flight ∙ is) in
+    (goes.running, goes.op ∙ ap (λ (x : Call). Some x.op) same, subst (λ (x : Call). x.op ≢ Collect) same goes.no_collect)) in
+    subst (λ (y : Seat). Moves script heap v w seats t s y) (sym goes.same) (same_moves script heap v w seats t s s.mode runs goes.history stands)
+
+-- a thread whose call was refused
+refused_moves : (script : Script) (heap : ℕ) (v w : View) (seats : List Seat) (t : ℕ) (s after : Seat) (mode : Mode) → SeatStands script v t s → (IsEnded s.mode → ⊥) → SeatRefused v w t s after mode → Moves script heap v w seats t s after
+refused_moves script heap v w seats t s after mode st runs refused =
+    let waiting : IsEnded mode → ⊥ = λ over. elim refused.waits [ inl asked ↦ subst IsEnded asked over | inr lacking ↦ subst IsEnded lacking over ] in
+    let fits : FitsMode mode s.op = elim refused.waits [
+      | inl asked ↦ subst (λ (m : Mode). FitsMode m s.op) (sym asked) (refused.op, refused.no_collect)
+      | inr lacking ↦ subst (λ (m : Mode). FitsMode m s.op) (sym lacking) (refused.op, refused.no_collect)
+    ] in
+    let stands : SeatStands script w t (record s { mode = mode }) =
+    mode_stands script v w t s mode st runs waiting refused.history refused.values fits
+    (λ c is. absurd (let none : call_of w t ≡ None = refused.call in cc)) in
+    subst (λ (y : Seat). Moves script heap v w seats t s y) (sym refused.only) (same_moves script heap v w seats t s mode waiting refused.history stands)
+
+-- A thread that got the reply to its next operation: what was left began with it.
+told_left : (v w : View) (t : ℕ) (s after : Seat) (told : SeatTold v w t s after) → left s ≡ told.op ∷ s.rest.operations
+told_left v w t s after told = ap (λ (o : Option Op). with_first o s.rest.operations) told.next
+
+-- its mode fits its next operation
+told_fits : (s after : Seat) (reply : Reply) → TakesReply s after reply → FitsMode after.mode after.op
+told_fits s after reply takes =
+    elim takes.fits [
+      | inl runs ↦ subst (λ (m : Mode). FitsMode m after.op) (sym runs.0) runs.1
+      | inr rest ↦ elim rest [
+        | inl due ↦ subst (λ (m : Mode). FitsMode m after.op) (sym due) tt
+        | inr ended ↦ subst (λ (m : Mode). FitsMode m after.op) (sym ended.0) tt
+      ]
+    ]
+
+-- it stands one operation further in the history
+told_stands : (script : Script) (v w : View) (t : ℕ) (s after : Seat) → SeatStands script v t s → (IsEnded s.mode → ⊥) → Standing v → Standing w → length w.globals ≡ length v.globals → SeatTold v w t s after → SeatStands script w t after
+told_stands script v w t s after st runs before behind globals told =
+    let ops : List Op = operations script t in
+    let k : ℕ = length s.replies.items in
+    let takes : TakesReply s after told.reply = told.takes in
+    let first : left s ≡ told.op ∷ s.rest.operations = told_left v w t s after told in
+    let dropped : drop k ops ≡ told.op ∷ s.rest.operations = sym st.to_come ∙ first in
+    let count : length after.replies.items ≡ k + 1 = ap length takes.replies ∙ length-append s.replies.items (told.reply ∷ []) in
+    let more : length after.replies.items ≡ suc k = omega (arith, count) in
+    let legal : Legal w.log (length v.globals) = subst (λ (n : ℕ). Legal w.log n) globals behind.legal in
+    let now : Stands v.log t (take k ops) s.replies.items (values_of v t) = subst (λ (rs : List Value). Stands v.log t (take k ops) s.replies.items rs) (held_now script v t s st runs) st.told in
+    let next : Stands w.log t (take k ops ++ told.op ∷ []) (s.replies.items ++ told.reply ∷ []) told.registers =
+    Stands_answers v.log w.log t (length v.globals) (take k ops) s.replies.items (values_of v t) told.registers told.op told.reply before.legal legal now told.answers in
+    let taken : take (length after.replies.items) ops ≡ take k ops ++ told.op ∷ [] = ap (λ (n : ℕ). take n ops) more ∙ take_next ops s.rest.operations k told.op dropped in
+    let sizes : length (left s) ≡ length s.rest.operations + 1 = omega (arith, ap length first) in
+    let fewer : length (left after) ≡ length s.rest.operations = ap length takes.to_come in
+    let within : k + length (left s) ≡ length ops = st.within in
+    let room : k + length (left s) ≤ vec_capacity s.replies = st.room in
+    let capacity : vec_capacity after.replies ≡ vec_capacity s.replies = takes.capacity in
+    record {
+      to_come = takes.to_come ∙ (sym (drop_next ops s.rest.operations k told.op dropped) ∙ ap (λ (n : ℕ). drop n ops) (sym more));
+      within = omega (arith, count, sizes, fewer, within);
+      none_left = takes.none_left;
+      registers = told.registers;
+      told = subst (λ (os : List Op). Stands w.log t os after.replies.items told.registers) (sym taken)
+          (subst (λ (rs : List Reply). Stands w.log t (take k ops ++ told.op ∷ []) rs told.registers) (sym takes.replies) next);
+      held = told.held;
+      dropped = told.dropped;
+      call = λ c is. absurd (let none : call_of w t ≡ None = told.call in cc);
+      fits = told_fits s after told.reply takes;
+      in_range = subst (λ (n : ℕ). IfSome after.op (InRange n)) st.globals takes.in_range;
+      globals = takes.globals ∙ st.globals;
+      room = omega (arith, count, sizes, fewer, room, capacity);
+    }
+
+-- if it has ended, all its operations were answered
+told_ends : (script : Script) (heap : ℕ) (w : View) (seats : List Seat) (t : ℕ) (s after : Seat) (reply : Reply) → slice_get seats t ≡ Some s → SeatStands script w t after → TakesReply s after reply → EndsSo script w.log (set seats t after) heap t after.mode
+told_ends script heap w seats t s after reply at st takes =
+    elim takes.fits [
+      | inl runs ↦ subst (λ (m : Mode). EndsSo script w.log (set seats t after) heap t m) (sym runs.0) tt
+      | inr rest ↦ elim rest [
+        | inl due ↦ subst (λ (m : Mode). EndsSo script w.log (set seats t after) heap t m) (sym due) tt
+        | inr ended ↦
+            let all : length (replies_of (set seats t after) t) ≡ length (operations script t) =
+            omega (arith, ap length (replies_same seats t s after at), st.within, ap length ended.1) in
+            subst (λ (m : Mode). EndsSo script w.log (set seats t after) heap t m) (sym ended.0) all
+      ]
+    ]
+
+-- an object that it made had room
+told_made : (script : Script) (heap : ℕ) (v w : View) (seats : List Seat) (t k : ℕ) (s after : Seat) → TableStands script heap v seats → slice_get seats t ≡ Some s → (IsEnded s.mode → ⊥) → SeatTold v w t s after → k < length after.replies.items → length s.replies.items ≤ k → MadeSo script v.log seats heap t k
+told_made script heap v w seats t k s after table at runs told below last dst refs nums next =
+    let st : SeatStands script v t s = table.each t s at in
+    let n : ℕ = length s.replies.items in
+    let count : length after.replies.items ≡ n + 1 = ap length told.takes.replies ∙ length-append s.replies.items (told.reply ∷ []) in
+    let is_last : k ≡ n = omega (arith, count, below, last) in
+    let here : slice_get (operations script t) n ≡ Some told.op = get_next (operations script t) s.rest.operations n told.op (sym st.to_come ∙ told_left v w t s after told) in
+    let op_is : told.op ≡ New dst refs nums = same_Some told.op (New dst refs nums) (sym here ∙ (ap (λ (j : ℕ). slice_get (operations script t) j) (sym is_last) ∙ next)) in
+    let room : HasRoom v (2 + refs + nums) = subst (HasRoomFor v) op_is told.room in
+    subst (λ (j : ℕ). HadNow script v.log seats heap t j (2 + refs + nums)) (ap length (replies_at seats t s at) ∙ sym is_last)
+    (had_room script heap v seats t (2 + refs + nums) s table at runs room)
+
+-- so all threads stand behind its reply
+told_moves : (script : Script) (heap : ℕ) (v w : View) (seats : List Seat) (t : ℕ) (s after : Seat) → TableStands script heap v seats → slice_get seats t ≡ Some s → (IsEnded s.mode → ⊥) → Standing w → length w.globals ≡ length v.globals → SeatTold v w t s after → Moves script heap v w seats t s after
+told_moves script heap v w seats t s after table at runs behind globals told =
+    let st : SeatStands script w t after = told_stands script v w t s after (table.each t s at) runs table.stands behind globals told in
+    let act : Option Act = (does v.log (values_of v t) told.op told.answers.value).act in
+    let grown : w.log ≡ with_entry t v.log act = told.answers.history in
+    record {
+      act = act;
+      extra = told.reply ∷ [];
+      grown = grown;
+      replies = told.takes.replies;
+      stands = st;
+      ends = told_ends script heap w seats t s after told.reply at st told.takes;
+      made_last = λ k below last. told_made script heap v w seats t k s after table at runs told below last;
+      entries =
+          let first : left s ≡ told.op ∷ s.rest.operations = told_left v w t s after told in
+          omega (arith, ap length grown, with_length v.log t act, ap length first, ap length told.takes.to_come);
+    }
+
+-- a thread that can go on has not ended
+pub goes_on : (mode : Mode) → MayGo mode → IsEnded mode → ⊥
+goes_on Running goes over = over
+goes_on Due goes over = over
+goes_on Silent goes over = over
+goes_on Collecting goes over = over
+goes_on Asked goes over = over
+goes_on Lacking goes over = over
+goes_on (Ended e) goes over = goes
+
+-- an event of one thread that has not ended
+pub Table_step : (script : Script) (heap : ℕ) (v w : View) (seats : List Seat) (t : ℕ) (s after : Seat) → TableStands script heap v seats → slice_get seats t ≡ Some s → (IsEnded s.mode → ⊥) → SeatStep v w t s after → TableStands script heap w (set seats t after)
+Table_step script heap v w seats t s after table at runs step =
+    let st : SeatStands script v t s = table.each t s at in
+    let moves : Moves script heap v w seats t s after = elim step.what [
+      | inl waits ↦ waits_moves script heap v w seats t s after waits.0 st runs waits.1
+      | inr rest ↦ elim rest [
+        | inl goes ↦ goes_moves script heap v w seats t s after st runs goes
+        | inr further ↦ elim further [
+          | inl refused ↦ refused_moves script heap v w seats t s after refused.0 st runs refused.1
+          | inr told ↦ told_moves script heap v w seats t s after table at runs step.stands step.others.globals told
+        ]
+      ]
+    ] in
+    Table_moves script heap v w seats t s after table at runs step.stands step.others moves
+
+-- a next operation is one of those that are left
+first_counts : (o : Option Op) (ops : List Op) → IsSome o → 0 < length (with_first o ops)
+first_counts None ops is = absurd (cc)
+first_counts (Some o) ops is = omega arith
+
+-- what an event needs
+pub table_ready : (script : Script) (heap : ℕ) (v : View) (seats : List Seat) (t : ℕ) (s : Seat) → TableStands script heap v seats → slice_get seats t ≡ Some s → IsReady v t s
+table_ready script heap v seats t s table at =
+    let st : SeatStands script v t s = table.each t s at in
+    let within : t < length seats = slice_get_within seats t s at in
+    let count : length seats ≡ length script.programs = table.count in
+    let threads : length v.held ≡ length script.programs = table.threads in
+    let entries : length v.log + to_reply seats ≤ v.capacity = table.entries in
+    let few : length v.log + to_reply seats ≤ 8388608 = table.few in
+    let one : length (left s) ≤ to_reply seats = to_reply_one seats t s at in
+    let room : length s.replies.items + length (left s) ≤ vec_capacity s.replies = st.room in
+    record {
+      stands = table.stands;
+      thread = omega (arith, within, count, threads);
+      call = st.call;
+      fits = st.fits;
+      in_range = subst (λ (n : ℕ). IfSome s.op (InRange n)) (sym table.globals) st.in_range;
+      ranges = st.globals ∙ sym table.globals;
+      none_left = st.none_left;
+      room = λ is. let more : 0 < length (left s) = first_counts s.op s.rest.operations is in omega (arith, room, more);
+      entries = λ is. let more : 0 < length (left s) = first_counts s.op s.rest.operations is in omega (arith, entries, one, more);
+      few = omega (arith, few);
+    }
+
+-- a call that is in flight is that of a thread that can go on
+call_goes : (script : Script) (heap : ℕ) (v : View) (seats : List Seat) (t : ℕ) (c : Call) → TableStands script heap v seats → AllWait seats → call_of v t ≡ Some c → ⊥
+call_goes script heap v seats t c table waits is =
+    let count : length seats ≡ length script.programs = table.count in
+    let threads : length v.held ≡ length script.programs = table.threads in
+    let each : length v.calls ≡ length v.held = table.stands.each in
+    elim ((slice_get_cases seats t).1) [
+      | inl seat ↦ waits t seat.0 seat.2 (subst MayGo (sym ((table.each t seat.0 seat.2).call c is).0) tt)
+      | inr past ↦ (let no_call : call_of v t ≡ None = get_or_past v.calls t None (omega (arith, count, threads, each, past.0)) in none-some c (sym no_call ∙ is))
+    ]
+
+-- what is nothing in particular is nothing
+none_of : {A : Type 0} (o : Option A) → ((x : A) → o ≡ Some x → ⊥) → o ≡ None
+none_of None never = refl
+none_of (Some x) never = absurd (never x refl)
+
+-- no call is in flight where no thread can go on
+pub waiting_quiet : (script : Script) (heap : ℕ) (v : View) (seats : List Seat) → TableStands script heap v seats → AllWait seats → IsQuiet v
+waiting_quiet script heap v seats table waits t = none_of (call_of v t) (λ c is. call_goes script heap v seats t c table waits is)
+
+-- all threads stand in it
+pub Table_renewed : (script : Script) (heap : ℕ) (v w : View) (seats : List Seat) → TableStands script heap v seats → Renewed v w → TableStands script heap w seats
+Table_renewed script heap v w seats table renewed = record {
+  stands = renewed.stands;
+  count = table.count;
+  threads = renewed.threads ∙ table.threads;
+  globals = renewed.globals ∙ table.globals;
+  words = renewed.words ∙ table.words;
+  each = λ t s at. let st : SeatStands script v t s = table.each t s at in record {
+    to_come = st.to_come;
+    within = st.within;
+    none_left = st.none_left;
+    registers = st.registers;
+    told = subst (λ (h : List Entry). Stands h t (take (length s.replies.items) (operations script t)) s.replies.items st.registers) (sym renewed.history) st.told;
+    held = elim st.held [ inl over ↦ inl over | inr same ↦ inr (same ∙ sym (renewed.values t)) ];
+    dropped = λ over. renewed.values t ∙ st.dropped over;
+    call = λ c is. absurd (let none : call_of w t ≡ None = renewed.quiet t in cc);
+    fits = st.fits;
+    in_range = st.in_range;
+    globals = st.globals;
+    room = st.room;
+  };
+  own = subst (All (λ (e : Entry). e.thread < length script.programs)) (sym renewed.history) table.own;
+  ends = λ t s at. subst (λ (h : List Entry). EndsSo script h seats heap t s.mode) (sym renewed.history) (table.ends t s at);
+  made = λ t k below dst refs nums next. subst (λ (h : List Entry). HadNow script h seats heap t k (2 + refs + nums)) (sym renewed.history) (table.made t k below dst refs nums next);
+  entries = let e : length v.log + to_reply seats ≤ v.capacity = table.entries in let c : w.capacity ≡ v.capacity = renewed.capacity in omega (arith, e, c, ap length renewed.history);
+  few = let e : length v.log + to_reply seats ≤ 8388608 = table.few in omega (arith, e, ap length renewed.history);
+}
+
+-- a collection
+pub Table_collected : (script : Script) (heap : ℕ) (v w : View) (seats : List Seat) → TableStands script heap v seats → Collected v w → TableStands script heap w seats
+Table_collected script heap v w seats table collected = Table_renewed script heap v w seats table (record {
+  stands = collected.stands;
+  quiet = collected.quiet;
+  globals = collected.globals;
+  words = collected.words;
+  threads = collected.threads;
+  capacity = collected.capacity;
+  history = collected.history;
+  values = collected.values;
+})
+
+-- the collections of all threads, where no thread but one differs
+pub collections_same : (script : Script) (a b : ℕ → List Reply) (n : ℕ) → ((u : ℕ) → u < n → collections_of script a u ≡ collections_of script b u) → collections script a n ≡ collections script b n
+collections_same script a b zero same = refl
+collections_same script a b (suc n) same =
+    let front : collections script a n ≡ collections script b n = collections_same script a b n (λ u below. same u (omega arith)) in
+    let here : collections_of script a n ≡ collections_of script b n = same n (omega arith) in
+    cc
+
+-- the collections of all threads, where one thread has one more at most
+collections_more : (script : Script) (a b : ℕ → List Reply) (t n : ℕ) → ((u : ℕ) → u ≢ t → collections_of script a u ≡ collections_of script b u) → collections_of script a t ≤ collections_of script b t + 1 → collections script a n ≤ collections script b n + 1
+collections_more script a b t zero same more = omega arith
+collections_more script a b t (suc n) same more =
+    elim (cases_eq n t) [
+      | inl here ↦
+          let front : collections script a n ≡ collections script b n = collections_same script a b n (λ u below. same u (λ is. absurd (omega arith))) in
+          let last : collections_of script a n ≤ collections_of script b n + 1 = subst (λ (k : ℕ). collections_of script a k ≤ collections_of script b k + 1) (sym here) more in
+          omega (arith, front, last)
+      | inr differ ↦
+          let front : collections script a n ≤ collections script b n + 1 = collections_more script a b t n same more in
+          omega (arith, front, same n differ)
+    ]
+
+-- those of another thread stay
+pub collections_other : (script : Script) (seats : List Seat) (t u : ℕ) (after : Seat) → u ≢ t → collections_of script (replies_of (set seats t after)) u ≡ collections_of script (replies_of seats) u
+collections_other script seats t u after differ = ap (λ (rs : List Reply). count_by is_collect (take (length rs) (operations script u))) (replies_other seats t u after differ)
+
+-- an operation that is no collection does not count as one
+is_no_collect : (o : Op) → o ≢ Collect → is_collect o ≡ false
+is_no_collect (op.New dst refs nums) differ = refl
+is_no_collect (op.Load dst src i) differ = refl
+is_no_collect (op.Store obj i src) differ = refl
+is_no_collect (op.Get src j) differ = refl
+is_no_collect (op.Put obj j v) differ = refl
+is_no_collect (op.GLoad dst g) differ = refl
+is_no_collect (op.GStore g src) differ = refl
+is_no_collect (op.Same a b) differ = refl
+is_no_collect (op.Copy dst src) differ = refl
+is_no_collect (op.Drop r) differ = refl
+is_no_collect op.Collect differ = absurd (differ refl)
+
+-- one reply counts as one collection at most
+one_at_most : (b : Bool) → (if b then 1 else 0) ≤ 1
+one_at_most true = omega arith
+one_at_most false = omega arith
+
+-- the collections of a thread that got a reply
+told_collections : (script : Script) (v w : View) (seats : List Seat) (t : ℕ) (s after : Seat) → SeatStands script v t s → slice_get seats t ≡ Some s → (told : SeatTold v w t s after) → collections_of script (replies_of (set seats t after)) t ≡ collections_of script (replies_of seats) t + (if is_collect told.op then 1 else 0)
+told_collections script v w seats t s after st at told =
+    let ops : List Op = operations script t in
+    let k : ℕ = length s.replies.items in
+    let C : ℕ → ℕ = λ (n : ℕ). count_by is_collect (take n ops) in
+    let count : length after.replies.items ≡ k + 1 = ap length told.takes.replies ∙ length-append s.replies.items (told.reply ∷ []) in
+    let now : length (replies_of (set seats t after) t) ≡ suc k = omega (arith, count, ap length (replies_same seats t s after at)) in
+    let was : length (replies_of seats t) ≡ k = ap length (replies_at seats t s at) in
+    let taken : take (suc k) ops ≡ take k ops ++ told.op ∷ [] = take_next ops s.rest.operations k told.op (sym st.to_come ∙ told_left v w t s after told) in
+    ap C now ∙ (ap (count_by is_collect) taken ∙ (sum_by_push (λ (o : Op). if is_collect o then 1 else 0) (take k ops) told.op ∙ ap (λ (n : ℕ). n + (if is_collect told.op then 1 else 0)) (ap C (sym was))))
+
+-- the collections of a thread that got no reply
+pub silent_collections : (script : Script) (seats : List Seat) (t : ℕ) (s after : Seat) → slice_get seats t ≡ Some s → after.replies.items ≡ s.replies.items → collections_of script (replies_of (set seats t after)) t ≡ collections_of script (replies_of seats) t
+silent_collections script seats t s after at same =
+    ap (λ (rs : List Reply). count_by is_collect (take (length rs) (operations script t))) (replies_same seats t s after at ∙ (same ∙ sym (replies_at seats t s at)))
+
+-- An event of a thread adds one at most to the collections that were answered, and none where its reply was to another
+-- operation.
+here_step : (script : Script) (heap : ℕ) (v w : View) (seats : List Seat) (t : ℕ) (s after : Seat) → TableStands script heap v seats → slice_get seats t ≡ Some s → SeatStep v w t s after → (collections_of script (replies_of (set seats t after)) t ≡ collections_of script (replies_of seats) t) ⊎ ((told : SeatTold v w t s after) × (collections_of script (replies_of (set seats t after)) t ≡ collections_of script (replies_of seats) t + (if is_collect told.op then 1 else 0)))
+here_step script heap v w seats t s after table at step =
+    elim step.what [
+      | inl waits ↦ inl (silent_collections script seats t s after at (ap (λ (x : Seat). x.replies.items) waits.1.only))
+      | inr rest ↦ elim rest [
+        | inl goes ↦ inl (silent_collections script seats t s after at (ap (λ (x : Seat). x.replies.items) goes.same))
+        | inr further ↦ elim further [
+          | inl refused ↦ inl (silent_collections script seats t s after at (ap (λ (x : Seat). x.replies.items) refused.1.only))
+          | inr told ↦ inr (told, told_collections script v w seats t s after (table.each t s at) at told)
+        ]
+      ]
+    ]
+
+-- the collections that were answered, when a thread got one reply more
+pub collections_grow : (script : Script) (heap : ℕ) (v w : View) (seats : List Seat) (t : ℕ) (s after : Seat) → TableStands script heap v seats → slice_get seats t ≡ Some s → SeatStep v w t s after → collections script (replies_of (set seats t after)) (length script.programs) ≤ collections script (replies_of seats) (length script.programs) + 1
+collections_grow script heap v w seats t s after table at step =
+    collections_more script (replies_of (set seats t after)) (replies_of seats) t (length script.programs)
+    (λ u differ. collections_other script seats t u after differ)
+    (elim (here_step script heap v w seats t s after table at step) [
+      | inl same ↦ omega (arith, same)
+      | inr more ↦ omega (arith, more.1, one_at_most (is_collect more.0.op))
+    ])
+
+-- and when the reply was not to a collection
+pub collections_step : (script : Script) (heap : ℕ) (v w : View) (seats : List Seat) (t : ℕ) (s after : Seat) → TableStands script heap v seats → slice_get seats t ≡ Some s → SeatStep v w t s after → ((told : SeatTold v w t s after) → told.op ≢ Collect) → collections script (replies_of (set seats t after)) (length script.programs) ≡ collections script (replies_of seats) (length script.programs)
+collections_step script heap v w seats t s after table at step other =
+    let here : collections_of script (replies_of (set seats t after)) t ≡ collections_of script (replies_of seats) t =
+    elim (here_step script heap v w seats t s after table at step) [
+      | inl same ↦ same
+      | inr more ↦ omega (arith, more.1, ap {B = ℕ} (λ (b : Bool). if b then 1 else 0) (is_no_collect more.0.op (other more.0)))
+    ] in
+    collections_same script (replies_of (set seats t after)) (replies_of seats) (length script.programs)
+    (λ u below. elim (cases_eq u t) [
+      | inl same ↦ subst (λ (k : ℕ). collections_of script (replies_of (set seats t after)) k ≡ collections_of script (replies_of seats) k) (sym same) here
+      | inr differ ↦ collections_other script seats t u after differ
+    ])

@@ -1,0 +1,16 @@
+-- Each event goes on with the call, or ends it.
+use Rattle.std.proofs.Common.{rules}
+use Rattle.melt_core.specs.Views.{view}
+use Rattle.melt_step.proofs.Alone.{call_goes, call_told}
+use Rattle.melt_step.proofs.events.call_alone.Goals as goal
+
+pub loop-reply-preserved : goal.loop-reply-preserved
+loop-reply-preserved c = record {
+  on = call_goes (view c.args.core.now) (view c.loop-reply.core) (view c.advance.new.self) c.args.thread c.args.op c.loop-reply.invariant.on (search rules);
+  seat = c.loop-reply.invariant.seat;
+}
+
+pub returns-in-Answered : goal.returns-in-Answered
+returns-in-Answered c =
+    call_told (view c.args.core.now) (view c.loop-reply.core) (view c.advance.new.self) (view c.answered.new.core) c.args.thread c.args.op c.in-Answered.reply c.args.seat.now c.answered.new.seat
+    c.requires.op c.requires.no_collect c.loop-reply.invariant.on c.advance.ensures.advances.stands c.advance.ensures.advances.others (search rules) (search rules) c.answered.ensures.drops

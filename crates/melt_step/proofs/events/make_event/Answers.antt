@@ -1,0 +1,19 @@
+-- What the event was, by the mode of the thread.
+use Rattle.std.proofs.Common.{rules, refl, inl}
+use Rattle.melt_core.specs.Views.{view}
+use Rattle.melt_step.proofs.Calling.{waits_step, told_step}
+use Rattle.melt_step.proofs.events.make_event.Goals as goal
+
+pub returns-in-Running-Some-Collect-clause-step : goal.returns-in-Running-Some-Collect-clause-step
+returns-in-Running-Some-Collect-clause-step c =
+    waits_step (view c.args.core.now) (view c.ask.new.self) c.args.thread c.args.seat.now _ c.requires.ready.stands c.ask.ensures (inl (c.in-Running-Some-Collect.is-0, search rules, refl))
+
+pub returns-in-Answered : goal.returns-in-Answered
+returns-in-Answered c =
+    let both = told_step (view c.args.core.now) (view c.advance.new.self) (view c.answered.new.core) c.args.thread c.in-Running-Some.op c.in-Answered.reply c.args.seat.now c.answered.new.seat
+    (search rules) (search rules) c.advance.ensures.advances.stands c.advance.ensures.advances.others (search rules) c.answered.ensures.takes c.answered.ensures.drops in
+    record { step = both.0; stop = both.1 }
+
+pub returns-in_default-clause-step : goal.returns-in_default-clause-step
+returns-in_default-clause-step c =
+    waits_step (view c.args.core.now) (view c.ask-in_default.new.self) c.args.thread c.args.seat.now _ c.requires.ready.stands c.ask-in_default.ensures (search rules)

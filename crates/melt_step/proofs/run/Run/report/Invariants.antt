@@ -1,0 +1,7 @@
+-- The threads so far are reported, and the others are to come.
+use Rattle.std.proofs.Common.{◌≡◌, ◌++◌}
+use Rattle.melt_step.proofs.Reporting.{Reported}
+use Rattle.melt_step.proofs.run.Run.report.Given as goal
+
+abbrev pub invariant-loop-seat : goal.invariant-loop-seat
+invariant-loop-seat l = Reported l.yielded l.threads.items × (l.yielded ++ l.seat-iterator.rest.items ≡ l.fn.self.seats.items)

@@ -1,0 +1,6 @@
+-- Each round takes a line.
+use Rattle.std.proofs.Common.{◌-◌, length}
+use Rattle.melt_step.proofs.turns.Turns.by_line.Given as goal
+
+abbrev pub decreases-loop-self : goal.decreases-loop-self
+decreases-loop-self l = length l.trace.orders - l.self.line

@@ -1,0 +1,372 @@
+-- The threads of a run between two events.
+use Rattle.std.specs.Prelude.{◌≡◌, ◌≢◌, ℕ, zero, suc, ◌+◌, ◌*◌, ◌^◌, ◌<◌, ◌≤◌, true, false, List, [], ◌∷◌, ◌++◌, length, map, sum, take, drop, replicate, slice_get, slice_set, vec_capacity, All, Option, None, Some, IfSome, IsSome, ◌⊎◌}
+use Rattle.melt_model.specs.Standing.{Stands}
+use Rattle.melt_model.specs.Alive.{Alive, words_of, CostsSum}
+use Rattle.melt_model.specs.declared.history.Entry.{Entry}
+use Rattle.melt_model.specs.declared.history.Value.{Value}
+use Rattle.melt_model.specs.declared.history.Value.TheVariants.{Nil}
+use Rattle.melt_model.specs.declared.operations.Op.{Op}
+use Rattle.melt_model.specs.declared.operations.Op.TheVariants.{New, Collect}
+use Rattle.melt_model.specs.declared.operations.Reply.{Reply}
+use Rattle.melt_model.specs.declared.reports.ThreadEnd.TheVariants as end
+use Rattle.melt_trace.specs.Grammar.{InRange}
+use Rattle.melt_trace.specs.Script.{Script, operations}
+use Rattle.melt_core.specs.declared.call.Call.{Call}
+use Rattle.melt_core.specs.Answering.{Answers}
+use Rattle.melt_core.specs.Views.{View, view, call_of, value, values_of, Standing, IsQuiet}
+use Rattle.melt_core.specs.Events.{KeepsOthers, HasRoomFor, events_left, stage_in}
+use Rattle.melt_copy.specs.Copying.{IsCopying}
+use Rattle.melt_model.specs.declared.reports.Journal.{Journal}
+use Rattle.melt_model.specs.declared.reports.Phase.TheVariants.{Move}
+use Rattle.melt_step.specs.declared.collector.Collector.{Collector}
+use Rattle.melt_step.specs.declared.run.Run.{Run}
+use Rattle.melt_core.specs.Changed.{stopped, HasRoomForEntry}
+use Rattle.melt_core.specs.Epochs.{HasDropped}
+use Rattle.melt_step.specs.Run.{Cut, LacksRoom, HadRoom, collections}
+use Rattle.melt_step.specs.declared.seat.Mode.{Mode}
+use Rattle.melt_step.specs.declared.seat.Mode.TheVariants.{Running, Due, Silent, Collecting, Asked, Lacking, Ended}
+use Rattle.melt_step.specs.declared.seat.Seat.{Seat}
+
+-- the next operation, if there is one, and those behind it
+abbrev pub with_first : Option Op → List Op → List Op
+with_first None ops = ops
+with_first (Some o) ops = o ∷ ops
+
+-- the operations of a thread that have no reply yet
+abbrev pub left : Seat → List Op
+left s = with_first s.op s.rest.operations
+
+-- a thread that neither waits nor has ended
+abbrev pub MayGo : Mode → Type 0
+MayGo Running = Unit {0}
+MayGo Due = Unit {0}
+MayGo mode = ⊥
+
+abbrev pub IsEnded : Mode → Type 0
+IsEnded (Ended e) = Unit {0}
+IsEnded mode = ⊥
+
+-- What the mode of a thread says of its next operation: one that runs or waits for its call has one, and one that waits
+-- for its own collection has that.
+abbrev pub FitsMode : Mode → Option Op → Type 0
+FitsMode Running op = IsSome op
+FitsMode Due op = Unit {0}
+FitsMode Silent op = Unit {0}
+FitsMode Collecting op = op ≡ Some Collect
+FitsMode Asked op = IsSome op × (op ≢ Some Collect)
+FitsMode Lacking op = IsSome op × (op ≢ Some Collect)
+FitsMode (Ended e) op = Unit {0}
+
+-- A thread of the script stands in the history: these replies to its first operations, and the others are to come. What
+-- it was told is in its registers, until it ends.
+pub record SeatStands (script : Script) (v : View) (t : ℕ) (s : Seat) : Type 0 where
+  pub to_come : left s ≡ drop (length s.replies.items) (operations script t)
+  pub within : length s.replies.items + length (left s) ≡ length (operations script t)
+  pub none_left : s.op ≡ None → s.rest.operations ≡ []
+  pub registers : List Value
+  pub told : Stands v.log t (take (length s.replies.items) (operations script t)) s.replies.items registers
+  pub held : IsEnded s.mode ⊎ (registers ≡ values_of v t)
+  pub dropped : IsEnded s.mode → values_of v t ≡ replicate 16 Nil
+  pub call : (c : Call) → call_of v t ≡ Some c → (s.mode ≡ Running) × (s.op ≡ Some c.op) × (c.op ≢ Collect)
+  pub fits : FitsMode s.mode s.op
+  pub in_range : IfSome s.op (InRange script.globals)
+  pub globals : s.rest.globals ≡ script.globals
+  pub room : length s.replies.items + length (left s) ≤ vec_capacity s.replies
+
+-- the replies of all threads
+abbrev pub replies_of : List Seat → ℕ → List Reply
+replies_of [] t = []
+replies_of (s ∷ seats) zero = s.replies.items
+replies_of (s ∷ seats) (suc t) = replies_of seats t
+
+-- the threads that had ended at the moment have ended
+abbrev pub GoneIn : List Seat → Cut → Type 0
+GoneIn seats cut = (u : ℕ) (s : Seat) → slice_get seats u ≡ Some s → cut.ended u ≡ true → IsEnded s.mode
+
+-- as in the report of a run, while it goes on
+abbrev pub LacksNow : Script → List Entry → List Seat → ℕ → ℕ → ℕ → ℕ → Type 0
+LacksNow script log seats heap t held need = (x : LacksRoom script log (replies_of seats) heap t held need) × GoneIn seats x.cut
+
+abbrev pub HadNow : Script → List Entry → List Seat → ℕ → ℕ → ℕ → ℕ → Type 0
+HadNow script log seats heap t k need = (x : HadRoom script log (replies_of seats) heap t k need) × GoneIn seats x.cut
+
+abbrev pub MadeSo : Script → List Entry → List Seat → ℕ → ℕ → ℕ → Type 0
+MadeSo script log seats heap t k =
+    (dst refs nums : ℕ) → slice_get (operations script t) k ≡ Some (New dst refs nums) → HadNow script log seats heap t k (2 + refs + nums)
+
+-- why a thread may have ended
+abbrev pub EndsSo : Script → List Entry → List Seat → ℕ → ℕ → Mode → Type 0
+EndsSo script log seats heap t (Ended end.Done) = length (replies_of seats t) ≡ length (operations script t)
+EndsSo script log seats heap t (Ended (end.OutOfHeap held need)) = LacksNow script log seats heap t held need
+EndsSo script log seats heap t (Ended end.DiskFault) = ⊥
+EndsSo script log seats heap t (Ended (end.Damaged home at word)) = ⊥
+EndsSo script log seats heap t (Ended end.Halted) = ⊥
+EndsSo script log seats heap t mode = Unit {0}
+
+-- how many replies all threads are still to get
+abbrev pub to_reply : List Seat → ℕ
+to_reply seats = sum (map (λ (s : Seat). length (left s)) seats)
+
+-- Each thread has its replies and perhaps more, and one that has ended has no more.
+pub record Later (seats after : List Seat) : Type 0 where
+  pub count : length after ≡ length seats
+  pub replies : (t : ℕ) → (extra : List Reply) × (replies_of after t ≡ replies_of seats t ++ extra)
+  pub ended : (t : ℕ) (s : Seat) → slice_get seats t ≡ Some s → IsEnded s.mode → slice_get after t ≡ Some s
+
+-- All threads stand in the history, for which the core stands; it has room for the entries to come.
+pub record TableStands (script : Script) (heap : ℕ) (v : View) (seats : List Seat) : Type 0 where
+  pub stands : Standing v
+  pub count : length seats ≡ length script.programs
+  pub threads : length v.held ≡ length script.programs
+  pub globals : length v.globals ≡ script.globals
+  pub words : length v.space.list ≡ heap
+  pub each : (t : ℕ) (s : Seat) → slice_get seats t ≡ Some s → SeatStands script v t s
+  pub own : All (λ (e : Entry). e.thread < length script.programs) v.log
+  pub ends : (t : ℕ) (s : Seat) → slice_get seats t ≡ Some s → EndsSo script v.log seats heap t s.mode
+  pub made : (t k : ℕ) → k < length (replies_of seats t) → MadeSo script v.log seats heap t k
+  pub entries : length v.log + to_reply seats ≤ v.capacity
+  pub few : length v.log + to_reply seats ≤ 8388608
+
+-- a thread waits for a collection, and the stop word is set
+pub record SeatWaits (v w : View) (t : ℕ) (s after : Seat) (mode : Mode) : Type 0 where
+  pub only : after ≡ record s { mode = mode }
+  pub stop : w ≡ stopped v
+  pub before : ((s.mode ≡ Running) × (s.op ≡ Some Collect) × (mode ≡ Collecting)) ⊎ ((s.mode ≡ Due) × (mode ≡ Silent))
+
+-- the call of a thread goes on, or was refused
+pub record SeatGoes (v w : View) (t : ℕ) (s after : Seat) : Type 0 where
+  pub same : after ≡ s
+  pub running : s.mode ≡ Running
+  pub call : Call
+  pub flight : call_of w t ≡ Some call
+  pub op : s.op ≡ Some call.op
+  pub no_collect : call.op ≢ Collect
+  pub nearer : events_left (stage_in (call_of w t)) < events_left (stage_in (call_of v t))
+  pub history : w.log ≡ v.log
+  pub values : values_of w t ≡ values_of v t
+
+pub record SeatRefused (v w : View) (t : ℕ) (s after : Seat) (mode : Mode) : Type 0 where
+  pub only : after ≡ record s { mode = mode }
+  pub waits : (mode ≡ Asked) ⊎ (mode ≡ Lacking)
+  pub op : IsSome s.op
+  pub no_collect : s.op ≢ Some Collect
+  pub call : call_of w t ≡ None
+  pub history : w.log ≡ v.log
+  pub values : values_of w t ≡ values_of v t
+
+-- What a reply leaves of a thread. If it has ended with it, its registers hold nothing.
+pub record TakesReply (s after : Seat) (reply : Reply) : Type 0 where
+  pub replies : after.replies.items ≡ s.replies.items ++ reply ∷ []
+  pub to_come : left after ≡ s.rest.operations
+  pub none_left : after.op ≡ None → after.rest.operations ≡ []
+  pub fits : (after.mode ≡ Running) × IsSome after.op ⊎ ((after.mode ≡ Due) ⊎ ((after.mode ≡ Ended end.Done) × (left after ≡ [])))
+  pub in_range : IfSome after.op (InRange s.rest.globals)
+  pub globals : after.rest.globals ≡ s.rest.globals
+  pub capacity : vec_capacity after.replies ≡ vec_capacity s.replies
+
+-- a thread that has ended drops its registers, and nothing else changes
+abbrev pub DropsIfEnded : View → View → ℕ → Mode → Type 0
+DropsIfEnded v w t (Ended e) = HasDropped v w t
+DropsIfEnded v w t mode = w ≡ v
+
+-- a thread got the reply to its next operation
+pub record SeatTold (v w : View) (t : ℕ) (s after : Seat) : Type 0 where
+  pub op : Op
+  pub reply : Reply
+  pub next : s.op ≡ Some op
+  pub takes : TakesReply s after reply
+  pub registers : List Value
+  pub answers : Answers t v.log (values_of v t) op reply w.log registers
+  pub held : IsEnded after.mode ⊎ (registers ≡ values_of w t)
+  pub dropped : IsEnded after.mode → values_of w t ≡ replicate 16 Nil
+  pub call : call_of w t ≡ None
+  pub room : HasRoomFor v op
+  pub no_collect : MayGo s.mode → op ≢ Collect
+
+-- What an event needs of its thread: the call in flight is of its next operation, and there is room for its reply and
+-- its entry.
+pub record IsReady (v : View) (t : ℕ) (s : Seat) : Type 0 where
+  pub stands : Standing v
+  pub thread : t < length v.held
+  pub call : (c : Call) → call_of v t ≡ Some c → (s.mode ≡ Running) × (s.op ≡ Some c.op) × (c.op ≢ Collect)
+  pub fits : FitsMode s.mode s.op
+  pub in_range : IfSome s.op (InRange (length v.globals))
+  pub ranges : s.rest.globals ≡ length v.globals
+  pub none_left : s.op ≡ None → s.rest.operations ≡ []
+  pub room : IsSome s.op → length s.replies.items < vec_capacity s.replies
+  pub entries : IsSome s.op → HasRoomForEntry v
+  pub few : length v.log < 2 ^ 32
+
+-- one event of a thread
+pub record SeatStep (v w : View) (t : ℕ) (s after : Seat) : Type 0 where
+  pub stands : Standing w
+  pub others : KeepsOthers v w t
+  pub what : ((mode : Mode) × SeatWaits v w t s after mode) ⊎ (SeatGoes v w t s after ⊎ (((mode : Mode) × SeatRefused v w t s after mode) ⊎ SeatTold v w t s after))
+
+-- a new epoch, in which all stands as before
+pub record Renewed (v w : View) : Type 0 where
+  pub stands : Standing w
+  pub quiet : IsQuiet w
+  pub globals : length w.globals ≡ length v.globals
+  pub words : length w.space.list ≡ length v.space.list
+  pub threads : length w.held ≡ length v.held
+  pub capacity : w.capacity ≡ v.capacity
+  pub history : w.log ≡ v.log
+  pub values : (t : ℕ) → values_of w t ≡ values_of v t
+
+-- A collection: history, values and calls stay, and the words in use are those of what registers and globals reach.
+pub record Collected (v w : View) : Type 0 where
+  pub stands : Standing w
+  pub quiet : IsQuiet w
+  pub globals : length w.globals ≡ length v.globals
+  pub words : length w.space.list ≡ length v.space.list
+  pub threads : length w.held ≡ length v.held
+  pub capacity : w.capacity ≡ v.capacity
+  pub history : w.log ≡ v.log
+  pub values : (t : ℕ) → values_of w t ≡ values_of v t
+  pub stop : w.stop ≡ false
+  pub alive : (used : ℕ) → w.free ≡ used + 1 → CostsSum (words_of w.log) (Alive w.log (value w)) used
+
+-- A thread before its first event.
+pub record IsNewSeat (ops : List Op) (globals : ℕ) (s : Seat) : Type 0 where
+  pub to_come : left s ≡ ops
+  pub none_left : s.op ≡ None → s.rest.operations ≡ []
+  pub replies : s.replies.items ≡ []
+  pub capacity : length ops ≤ vec_capacity s.replies
+  pub mode : ((s.mode ≡ Running) × IsSome s.op) ⊎ ((s.mode ≡ Ended end.Done) × (left s ≡ []))
+  pub in_range : IfSome s.op (InRange globals)
+  pub knows : s.rest.globals ≡ globals
+
+-- the threads of a script before their first events, and how many operations they have together
+pub record AreNewSeats (script : Script) (seats : List Seat) (amount : ℕ) : Type 0 where
+  pub count : length seats ≡ length script.programs
+  pub each : (t : ℕ) (s : Seat) → slice_get seats t ≡ Some s → IsNewSeat (operations script t) script.globals s
+  pub entries : amount ≡ to_reply seats
+  pub few : to_reply seats ≤ 8388608
+
+-- the claim of a thread that made its call alone, for an object of so many words, ended past the last one
+pub record LacksAlone (v w : View) (t : ℕ) (s after : Seat) (need : ℕ) : Type 0 where
+  pub same : after ≡ s
+  pub dst : ℕ
+  pub refs : ℕ
+  pub nums : ℕ
+  pub next : s.op ≡ Some (New dst refs nums)
+  pub needed : need ≡ 2 + refs + nums
+  pub above : length v.space.list + 1 < v.free + need
+  pub call : call_of w t ≡ None
+  pub history : w.log ≡ v.log
+  pub values : values_of w t ≡ values_of v t
+
+-- The call of a thread was made alone: it was answered, or its claim of so many words ended past the last one.
+pub record CalledAlone (v w : View) (t : ℕ) (s after : Seat) (lacks : Option ℕ) : Type 0 where
+  pub stands : Standing w
+  pub others : KeepsOthers v w t
+  pub what : ((lacks ≡ None) × SeatTold v w t s after) ⊎ ((need : ℕ) × LacksAlone v w t s after need × (lacks ≡ Some need))
+
+-- A collector: each collection was of a phase in which objects stay in the heap, and so is the one that is planned.
+pub record IsPlanning (c : Collector) : Type 0 where
+  pub moves : All (λ (j : Journal). j.phase ≢ Move) c.journal.items
+  pub planned : IsCopying c.planned
+
+-- one collection more was written down
+pub record Notes (old new : Collector) : Type 0 where
+  pub planning : IsPlanning new
+  pub count : length new.journal.items ≡ length old.journal.items + 1
+
+-- A run between two events.
+pub record RunStands (script : Script) (heap : ℕ) (run : Run) : Type 0 where
+  pub table : TableStands script heap (view run.core) run.seats.items
+  pub planning : IsPlanning run.collector
+  pub collected : collections script (replies_of run.seats.items) (length script.programs) ≤ length run.collector.journal.items
+
+-- a thread waits for a collection of its own
+abbrev pub ForCollection : Mode → Type 0
+ForCollection Silent = Unit {0}
+ForCollection Collecting = Unit {0}
+ForCollection mode = ⊥
+
+-- a thread waits for a collection of its own, or for room
+abbrev pub Waits : Mode → Type 0
+Waits Lacking = Unit {0}
+Waits mode = ForCollection mode
+
+-- the call of a thread was refused, and is to be made again
+abbrev pub CallsAgain : Mode → Type 0
+CallsAgain Asked = Unit {0}
+CallsAgain Lacking = Unit {0}
+CallsAgain mode = ⊥
+
+-- What a run knows of the stop word: where it is set, a thread waits, and only there calls are refused for it.
+pub record KnowsStop (v : View) (seats : List Seat) : Type 0 where
+  pub stop : v.stop ≡ true → (t : ℕ) × ((s : Seat) × (slice_get seats t ≡ Some s) × Waits s.mode)
+  pub asked : (t : ℕ) (s : Seat) → slice_get seats t ≡ Some s → s.mode ≡ Asked → v.stop ≡ true
+
+-- what an event of a thread does to the stop word
+pub record SetsStop (v w : View) (after : Seat) : Type 0 where
+  pub stop : w.stop ≡ true → (v.stop ≡ true) ⊎ Waits after.mode
+  pub stays : v.stop ≡ true → w.stop ≡ true
+  pub asked : after.mode ≡ Asked → w.stop ≡ true
+
+-- some thread has not ended
+abbrev pub SomeGoesOn : List Seat → Type 0
+SomeGoesOn seats = (t : ℕ) × ((s : Seat) × (slice_get seats t ≡ Some s) × (IsEnded s.mode → ⊥))
+
+-- what a part of a safepoint keeps: for each script that the run stands for
+abbrev pub KeepsRun : Run → Run → Type 0
+KeepsRun old new = (script : Script) (heap : ℕ) → RunStands script heap old → RunStands script heap new
+
+-- no thread can go on
+abbrev pub AllWait : List Seat → Type 0
+AllWait seats = (t : ℕ) (s : Seat) → slice_get seats t ≡ Some s → MayGo s.mode → ⊥
+
+-- How many events a thread has at most before it waits or gets its reply.
+abbrev pub turn_left : Mode → Option Call → ℕ
+turn_left Running call = 1 + events_left (stage_in call)
+turn_left Due call = 1
+turn_left mode call = 0
+
+-- what a thread has still to do: two for each operation, one for a silent collection, one for its end
+abbrev pub jobs : Mode → ℕ → ℕ
+jobs (Ended e) count = 0
+jobs Due count = 2 + 2 * count
+jobs Silent count = 2 + 2 * count
+jobs mode count = 1 + 2 * count
+
+-- what a thread has still to do
+abbrev pub jobs_of : Seat → ℕ
+jobs_of s = jobs s.mode (length (left s))
+
+-- the collection of a thread was made, if it waited for one
+pub record CollectedFor (s after : Seat) : Type 0 where
+  pub fewer : ForCollection s.mode → jobs_of after < jobs_of s
+  pub same : (ForCollection s.mode → ⊥) → after ≡ s
+
+-- at most this thread changed, for whose collection it was
+abbrev pub CollectedAt : List Seat → List Seat → ℕ → Type 0
+CollectedAt seats after t = (s : Seat) → slice_get seats t ≡ Some s → (x : Seat) × (after ≡ slice_set seats t x) × CollectedFor s x
+
+-- and so all threads
+pub record CollectedAll (seats after : List Seat) : Type 0 where
+  pub count : length after ≡ length seats
+  pub each : (t : ℕ) (s : Seat) → slice_get seats t ≡ Some s → (x : Seat) × (slice_get after t ≡ Some x) × CollectedFor s x
+
+-- only this thread changed, and has less to do
+abbrev pub CalledAt : List Seat → List Seat → ℕ → Type 0
+CalledAt seats after t = (s : Seat) → slice_get seats t ≡ Some s → (x : Seat) × (after ≡ slice_set seats t x) × (jobs_of x < jobs_of s)
+
+-- each thread has as much to do as before
+pub record Resumed (seats after : List Seat) : Type 0 where
+  pub count : length after ≡ length seats
+  pub each : (t : ℕ) (s : Seat) → slice_get seats t ≡ Some s → (x : Seat) × (slice_get after t ≡ Some x) × (jobs_of x ≡ jobs_of s)
+
+-- A safepoint: no thread has more to do than before, and one has less.
+pub record Passed (seats after : List Seat) : Type 0 where
+  pub count : length after ≡ length seats
+  pub each : (t : ℕ) (s : Seat) → slice_get seats t ≡ Some s → (x : Seat) × (slice_get after t ≡ Some x) × (jobs_of x ≤ jobs_of s)
+  pub one : (t : ℕ) × ((s : Seat) × ((x : Seat) × (slice_get seats t ≡ Some s) × (slice_get after t ≡ Some x) × (jobs_of x < jobs_of s)))
+
+-- All threads together. It gets smaller with each event and with each safepoint.
+abbrev pub potential : List Seat → List (Option Call) → ℕ
+potential [] calls = 0
+potential (s ∷ seats) [] = 2000 * jobs s.mode (length (left s)) + turn_left s.mode None + potential seats []
+potential (s ∷ seats) (c ∷ calls) = 2000 * jobs s.mode (length (left s)) + turn_left s.mode c + potential seats calls

@@ -1,0 +1,117 @@
+//! The collections of a run.
+ghost use Rattle.std.specs.Prelude.{◌≡◌, ◌<◌, All, [], length, IfOk, OnOk};
+ghost use Rattle.melt_scion.specs.Heaps.{IsFormed};
+ghost use Rattle.melt_copy.specs.Copying.{Collects, IsCopying};
+ghost use Rattle.melt_core.specs.Views.{IsQuiet, Standing, view};
+ghost use Rattle.melt_step.specs.Seats.{Collected, IsPlanning, Notes};
+
+use melt_copy::collect_copy;
+use melt_core::Core;
+use melt_model::{Config, Journal, NoMemory, Phase, Steps};
+use melt_policy::next_phase;
+use melt_scion::{Heap, Registers};
+use std::alloc::Global;
+use std::marker::Brand;
+use std::sync::ledger::{Blank, Ledger};
+
+/// How many registers a thread has is a part of the type, and is told here.
+fn count_registers(registers: Registers)
+    ensures { length registers.regs ≡ 16 }
+{}
+
+/// Each thread has 16 registers.
+fn count_all_registers(held: &[Registers])
+    ensures { All (λ registers. length registers.regs ≡ 16) held.now }
+{
+    for &registers in held {
+        count_registers(registers);
+    }
+}
+
+/// Collects a heap, and counts no steps.
+fn collect_uncounted<L: Ledger>(
+    alloc: Global,
+    heap: &mut Heap,
+    held: &mut [Registers],
+    phase: Phase,
+    blank: Blank,
+) -> Result<Journal, NoMemory>
+    requires name { blank.name ≡ L.name }
+    requires parts { blank.parts ≡ L.parts }
+    requires some { 0 < blank.parts }
+    requires formed { IsFormed heap.old held.old }
+    requires phase { IsCopying phase }
+    ensures collected { IfOk result (Collects heap.old held.old heap.new held.new phase) }
+    ensures before { All (λ registers. length registers.regs ≡ 16) held.old }
+    ensures after { OnOk result (All (λ registers. length registers.regs ≡ 16) held.new) }
+{
+    count_all_registers(held);
+    let mut steps = Steps::<L>::new(blank);
+    let journal = collect_copy(alloc, heap, held, phase, &mut steps)?;
+    count_all_registers(held);
+    Ok(journal)
+}
+
+/// What collections there were, and of which phase the next one is to be.
+#[derive(Drop)]
+pub struct Collector {
+    pub journal: Vec<Journal>,
+    planned: Phase,
+    config: Config,
+}
+
+impl Collector {
+    /// Before the first collection, which is to be Inactive.
+    pub fn new(alloc: Global, config: Config) -> Collector
+        ensures planning { IsPlanning result }
+        ensures none { result.journal.items ≡ [] }
+    {
+        Collector {
+            journal: Vec::new(alloc),
+            planned: Phase::Inactive,
+            config,
+        }
+    }
+
+    /// Makes a collection of this phase between two epochs.
+    pub fn collect(&mut self, alloc: Global, core: Core, phase: Phase) -> Result<Core, NoMemory>
+        requires planning { IsPlanning self.old }
+        requires phase { IsCopying phase }
+        requires stands { Standing (view core) }
+        requires quiet { IsQuiet (view core) }
+        ensures collected { IfOk result (λ after. Collected (view core) (view after)) }
+        ensures notes { OnOk result (Notes self.old self.new) }
+    {
+        let (mut heap, mut rest) = core.finish();
+        let blank = Blank::new(1);
+        let journal = collect_uncounted::<Brand>(alloc, &mut heap, rest.registers(), phase, blank)?;
+        self.plan(journal.live, phase);
+        self.journal.push(journal)?;
+        Ok(Core::begin(heap, rest))
+    }
+
+    /// Plans the next collection. Nothing is moved to disk yet: where the rule says Move, the objects are only marked.
+    fn plan(&mut self, live: u32, phase: Phase)
+        requires { IsPlanning self.old }
+        ensures planning { IsPlanning self.new }
+        ensures journal { self.new.journal ≡ self.old.journal }
+    {
+        let config = self.config;
+        let next = next_phase(live, config.heap, phase, config.mark, config.move_);
+        self.planned = match next {
+            Phase::Inactive => Phase::Inactive,
+            Phase::Mark | Phase::Move => Phase::Mark,
+        };
+    }
+
+    /// Makes the collection that is planned.
+    pub fn collect_planned(&mut self, alloc: Global, core: Core) -> Result<Core, NoMemory>
+        requires planning { IsPlanning self.old }
+        requires stands { Standing (view core) }
+        requires quiet { IsQuiet (view core) }
+        ensures collected { IfOk result (λ after. Collected (view core) (view after)) }
+        ensures notes { OnOk result (Notes self.old self.new) }
+    {
+        self.collect(alloc, core, self.planned)
+    }
+}

@@ -1,0 +1,106 @@
+//! The events of a thread.
+ghost use Rattle.std.specs.Prelude.{◌≡◌, ◌≢◌, ◌^◌, ◌<◌, length, vec_capacity, false, Some, None};
+ghost use Rattle.melt_model.specs.declared.operations.Op.{Op};
+ghost use Rattle.melt_core.specs.Calls.{InBounds};
+ghost use Rattle.melt_core.specs.Changed.{HasRoomForEntry};
+ghost use Rattle.melt_core.specs.Views.{Standing, call_of, view};
+ghost use Rattle.melt_step.specs.Seats.{CalledAlone, DropsIfEnded, IsReady, MayGo, SeatStep, SetsStop, TakesReply};
+
+use crate::seat::{Mode, Seat};
+use melt_core::{Core, Pause, Refusal, StepResult};
+use melt_io::{Failed, RecordReader};
+use melt_model::{Op, Reply};
+
+/// The reader of a disk to which nothing was ever written.
+#[derive(Drop)]
+struct NoDisk;
+
+impl RecordReader for NoDisk {
+    ghost use Rattle.std.specs.Prelude.{Some, []};
+
+    ghost image = { λ _. Some [] };
+
+    ghost faults = { λ _. 0 };
+
+    ghost reads = { λ _. 0 };
+
+    fn read_at(&mut self, _at: u32, words: &mut [u64]) -> Result<(), Failed> {
+        words.fill(0);
+        Ok(())
+    }
+}
+
+/// Makes the next event of a thread that can go on.
+pub fn make_event(core: &mut Core, seat: &mut Seat<'_>, thread: u32, every: u32)
+    requires ready { IsReady (view core.old) thread seat.old }
+    requires goes { MayGo seat.old.mode }
+    ensures step { SeatStep (view core.old) (view core.new) thread seat.old seat.new }
+    ensures stop { SetsStop (view core.old) (view core.new) seat.new }
+{
+    match (seat.mode, seat.op) {
+        (Mode::Running, Some(Op::Collect)) => {
+            core.ask();
+            seat.mode = Mode::Collecting;
+        }
+        (Mode::Running, Some(op)) => {
+            match core.advance(thread, op, 1, &mut NoDisk) {
+                StepResult::Going => {}
+                StepResult::Answered(reply) => answered(core, seat, thread, reply, every),
+                StepResult::Refused(Refusal::Pause(Pause::Asked)) => seat.mode = Mode::Asked,
+                StepResult::Refused(_) => seat.mode = Mode::Lacking,
+            }
+        }
+        _ => {
+            core.ask();
+            seat.mode = Mode::Silent;
+        }
+    }
+}
+
+/// A thread got a reply. One that has ended drops its registers.
+pub fn answered(core: &mut Core, seat: &mut Seat<'_>, thread: u32, reply: Reply, every: u32)
+    requires stands { Standing (view core.old) }
+    requires thread { thread < length (view core.old).held }
+    requires no_call { call_of (view core.old) thread ≡ None }
+    requires room { length seat.old.replies.items < vec_capacity seat.old.replies }
+    ensures takes { TakesReply seat.old seat.new reply }
+    ensures drops { DropsIfEnded (view core.old) (view core.new) thread seat.new.mode }
+{
+    seat.take_reply(reply, every);
+    if seat.has_ended() {
+        core.drop_all(thread);
+    }
+}
+
+/// Makes the call of a thread alone, while all others wait. Answers the words that it lacked, if it was refused.
+pub fn call_alone(
+    core: &mut Core,
+    seat: &mut Seat<'_>,
+    thread: u32,
+    op: Op,
+    every: u32,
+) -> Option<u32>
+    requires stands { Standing (view core.old) }
+    requires thread { thread < length (view core.old).held }
+    requires op { seat.old.op ≡ Some op }
+    requires no_collect { op ≢ Op.Collect }
+    requires bounds { InBounds (length (view core.old).globals) op }
+    requires no_call { call_of (view core.old) thread ≡ None }
+    requires no_stop { (view core.old).stop ≡ false }
+    requires entries { HasRoomForEntry (view core.old) }
+    requires few { length (view core.old).log < 2 ^ 32 }
+    requires room { length seat.old.replies.items < vec_capacity seat.old.replies }
+    ensures { CalledAlone (view core.old) (view core.new) thread seat.old seat.new result }
+{
+    loop {
+        match core.advance(thread, op, 1, &mut NoDisk) {
+            StepResult::Going => {}
+            StepResult::Answered(reply) => {
+                answered(core, seat, thread, reply, every);
+                return None;
+            }
+            StepResult::Refused(Refusal::Pause(Pause::Space { need })) => return Some(need),
+            StepResult::Refused(_) => unreachable!(),
+        }
+    }
+}

@@ -1,0 +1,112 @@
+//! The threads of a run.
+ghost use Rattle.std.specs.Prelude.{◌≡◌, ◌<◌, ◌↔◌, length, vec_capacity, IsTrue, IsSome, IfOk, true, Some, None};
+ghost use Rattle.melt_trace.specs.Script.{operations};
+ghost use Rattle.melt_step.specs.Seats.{CallsAgain, IsEnded, IsNewSeat, MayGo, TakesReply};
+
+use melt_model::{NoMemory, Op, Reply, ThreadEnd};
+use melt_trace::{Cursor, Trace};
+use std::alloc::Global;
+
+/// What a thread does next, or waits for.
+#[derive(Clone, Copy, Debug, PartialEq, Eq)]
+pub enum Mode {
+    /// Its next operation is to be begun, or is in flight.
+    Running,
+    /// It is to ask for a silent collection.
+    Due,
+    /// It waits for a silent collection.
+    Silent,
+    /// It waits for the collection that its next operation is.
+    Collecting,
+    /// Its call was refused as the stop word was set, and is to be made again.
+    Asked,
+    /// Its call was refused for want of room, and is to be made again.
+    Lacking,
+    Ended(ThreadEnd),
+}
+
+/// A thread of a run: its next operation, those behind it, and its replies so far.
+#[derive(Drop)]
+pub struct Seat<'a> {
+    pub op: Option<Op>,
+    pub rest: Cursor<'a>,
+    pub replies: Vec<Reply>,
+    pub mode: Mode,
+}
+
+impl<'a> Seat<'a> {
+    /// A thread before its first event, with room for all its replies. One without operations has ended.
+    pub fn new(alloc: Global, trace: &'a Trace, thread: u32) -> Result<Seat<'a>, NoMemory>
+        requires { thread < length trace.now.programs }
+        ensures { IfOk result (IsNewSeat (operations trace.now thread) trace.now.globals) }
+    {
+        let mut rest = trace.cursor(thread);
+        let op = rest.next();
+        let mut seat = Seat {
+            op,
+            rest,
+            replies: Vec::with_capacity(alloc, trace.count(thread) as usize)?,
+            mode: Mode::Running,
+        };
+        seat.go_on();
+        Ok(seat)
+    }
+
+    /// Whether the thread neither waits nor has ended.
+    pub fn can_go(&self) -> bool
+        ensures { IsTrue result ↔ MayGo self.now.mode }
+    {
+        match self.mode {
+            Mode::Running | Mode::Due => true,
+            Mode::Silent | Mode::Collecting | Mode::Asked | Mode::Lacking | Mode::Ended(_) => false,
+        }
+    }
+
+    /// Whether the thread has ended.
+    pub fn has_ended(&self) -> bool
+        ensures { IsTrue result ↔ IsEnded self.now.mode }
+    {
+        match self.mode {
+            Mode::Ended(_) => true,
+            _ => false,
+        }
+    }
+
+    /// Goes on with the next operation. A thread without one has ended.
+    pub fn go_on(&mut self)
+        ensures only { self.new ≡ record self.old { mode = self.new.mode } }
+        ensures runs { IsSome self.old.op → self.new.mode ≡ Mode.Running }
+        ensures ended { self.old.op ≡ None → self.new.mode ≡ Mode.Ended ThreadEnd.Done }
+    {
+        self.mode = match self.op {
+            Some(_) => Mode::Running,
+            None => Mode::Ended(ThreadEnd::Done),
+        };
+    }
+
+    /// Makes its call again, if that was refused.
+    pub fn make_again(&mut self)
+        ensures again { CallsAgain self.old.mode → self.new ≡ record self.old { mode = Mode.Running } }
+        ensures same { (CallsAgain self.old.mode → ⊥) → self.new ≡ self.old }
+    {
+        match self.mode {
+            Mode::Asked | Mode::Lacking => self.mode = Mode::Running,
+            _ => {}
+        }
+    }
+
+    /// Takes the reply to the next operation. After each of these whose number is a multiple of `every` a silent
+    /// collection is due; 0 is for none.
+    pub fn take_reply(&mut self, reply: Reply, every: u32)
+        requires { length self.old.replies.items < vec_capacity self.old.replies }
+        ensures { TakesReply self.old self.new reply }
+    {
+        self.replies.push_reserved(reply);
+        self.op = self.rest.next();
+        if every != 0 && self.replies.len() as u64 % every as u64 == 0 {
+            self.mode = Mode::Due;
+        } else {
+            self.go_on();
+        }
+    }
+}

@@ -1,0 +1,95 @@
+//! The order in which threads take their events.
+ghost use Rattle.std.specs.Prelude.{◌≡◌, ℕ, ◌+◌, ◌<◌, ◌≤◌, length, slice_get, Some, None, IfSome, IfNone};
+ghost use Rattle.melt_step.specs.Seats.{MayGo};
+ghost use Rattle.melt_step.specs.declared.seat.Seat.{Seat};
+
+use crate::seat::Seat;
+use melt_trace::Trace;
+
+/// Where the giving out of events stands: at a line of the trace's orders, of whose events some are left if it was
+/// begun; and, behind the last line, at the thread whose turn it is.
+#[derive(Drop)]
+pub struct Turns {
+    line: u32,
+    left: u32,
+    turn: u32,
+}
+
+impl Turns {
+    pub fn new() -> Turns {
+        Turns {
+            line: 0,
+            left: 0,
+            turn: 0,
+        }
+    }
+
+    /// What is left of a line is dropped.
+    fn drop_line(&mut self)
+        ensures { self.old.line < 4294967295 → self.new.line ≡ self.old.line + 1 }
+    {
+        self.line = self.line.saturating_add(1);
+        self.left = 0;
+    }
+
+    /// The thread that has the next event by the lines of the trace. A line whose thread cannot go on is dropped.
+    fn by_line(&mut self, trace: &Trace, seats: &[Seat<'_>]) -> Option<u32>
+        requires { length seats.now ≡ length trace.now.programs }
+        ensures { IfSome result (λ t. (s : Seat) × (slice_get seats.now t ≡ Some s) × MayGo s.mode) }
+    {
+        while self.line < trace.orders() {
+            let (thread, events) = trace.order(self.line);
+            if seats[thread as usize].can_go() {
+                let left = if self.left == 0 { events } else { self.left };
+                self.left = left - 1;
+                if self.left == 0 {
+                    self.line += 1;
+                }
+                return Some(thread);
+            }
+            self.drop_line();
+        }
+        None
+    }
+
+    /// The thread that has the next event, if one can go on. Behind the last line the threads take one event each, in
+    /// ascending order and again from the first. A line that is begun is not taken up again once no thread can go on.
+    pub fn next(&mut self, trace: &Trace, seats: &[Seat<'_>]) -> Option<u32>
+        requires { length seats.now ≡ length trace.now.programs }
+        ensures goes { IfSome result (λ t. (s : Seat) × (slice_get seats.now t ≡ Some s) × MayGo s.mode) }
+        ensures none { IfNone result ((t : ℕ) (s : Seat) → slice_get seats.now t ≡ Some s → MayGo s.mode → ⊥) }
+    {
+        let count = trace.threads();
+        let first = match first_from(seats, self.turn, count) {
+            Some(t) => t,
+            None => match first_from(seats, 0, count) {
+                Some(t) => t,
+                None => {
+                    if self.left != 0 {
+                        self.drop_line();
+                    }
+                    return None;
+                }
+            },
+        };
+        if let Some(thread) = self.by_line(trace, seats) {
+            return Some(thread);
+        }
+        self.turn = first + 1;
+        Some(first)
+    }
+}
+
+/// The first thread that can go on, of those from one on.
+fn first_from(seats: &[Seat<'_>], start: u32, count: u32) -> Option<u32>
+    requires { count ≡ length seats.now }
+    ensures goes { IfSome result (λ t. (s : Seat) × (slice_get seats.now t ≡ Some s) × MayGo s.mode) }
+    ensures none { IfNone result ((t : ℕ) (s : Seat) → start ≤ t → slice_get seats.now t ≡ Some s → MayGo s.mode → ⊥) }
+{
+    for t in start..count {
+        if seats[t as usize].can_go() {
+            return Some(t);
+        }
+    }
+    None
+}
