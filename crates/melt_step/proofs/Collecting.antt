@@ -31,7 +31,8 @@ use Rattle.melt_core.specs.declared.machine.Rest.{Rest}
 use Rattle.melt_core.specs.Views.{View, view, maps, maps_of, state, value, values_of, numbers_of, registers_in, held_values, call_of, claimed, claimed_in, Standing}
 use Rattle.melt_core.specs.Epochs.{AtRest, core_of, HasFinished}
 use Rattle.melt_core.proofs.Values.{same_values}
-use Rattle.melt_step.specs.Seats.{Collected, IsPlanning, Notes}
+use Rattle.melt_policy.specs.Policy.{planned}
+use Rattle.melt_step.specs.Seats.{Collected, IsPlanning, Notes, PlansBy, made_as}
 use Rattle.melt_step.specs.declared.collector.Collector.{Collector}
 
 -- the names of a heap are those of its map
@@ -213,3 +214,13 @@ noted old planned new phase journal before plans same copying of_phase pushed ke
       };
       count = ap length items ∙ length-append old.journal.items (journal ∷ []);
     }
+
+-- what the collection left is what the next one is planned by
+pub planned_by : (old plans new : Collector) (phase : Phase) (journal : Journal) → plans.journal ≡ old.journal → journal.phase ≡ phase → new.journal.items ≡ plans.journal.items ++ journal ∷ [] → new.planned ≡ plans.planned → plans.planned ≡ made_as (planned journal.live old.config.heap phase old.config.mark old.config.move_) → new.config ≡ plans.config → plans.config ≡ old.config → PlansBy old new phase
+planned_by old plans new phase journal same of_phase pushed keeps next config before = record {
+  entry = journal;
+  journal = cc;
+  of_phase = of_phase;
+  next = keeps ∙ next;
+  config = config ∙ before;
+}

@@ -13,3 +13,4 @@ pub mod Passing
 pub mod Reporting
 pub mod Collecting
 pub mod Ending
+pub mod Turning

@@ -1,5 +1,5 @@
 -- The threads of a run between two events.
-use Rattle.std.specs.Prelude.{◌≡◌, ◌≢◌, ℕ, zero, suc, ◌+◌, ◌*◌, ◌^◌, ◌<◌, ◌≤◌, true, false, List, [], ◌∷◌, ◌++◌, length, map, sum, take, drop, replicate, slice_get, slice_set, vec_capacity, All, Option, None, Some, IfSome, IsSome, ◌⊎◌}
+use Rattle.std.specs.Prelude.{◌≡◌, ◌≢◌, ℕ, zero, suc, ◌+◌, ◌*◌, ◌^◌, ◌%◌, ◌<◌, ◌≤◌, true, false, List, [], ◌∷◌, ◌++◌, length, map, sum, take, drop, replicate, slice_get, slice_set, vec_capacity, All, Option, None, Some, IfSome, IsSome, ◌⊎◌, ◌↔◌}
 use Rattle.melt_model.specs.Standing.{Stands}
 use Rattle.melt_model.specs.Alive.{Alive, words_of, CostsSum}
 use Rattle.melt_model.specs.declared.history.Entry.{Entry}
@@ -17,7 +17,9 @@ use Rattle.melt_core.specs.Views.{View, view, call_of, value, values_of, Standin
 use Rattle.melt_core.specs.Events.{KeepsOthers, HasRoomFor, events_left, stage_in}
 use Rattle.melt_copy.specs.Copying.{IsCopying}
 use Rattle.melt_model.specs.declared.reports.Journal.{Journal}
-use Rattle.melt_model.specs.declared.reports.Phase.TheVariants.{Move}
+use Rattle.melt_model.specs.declared.reports.Phase.{Phase}
+use Rattle.melt_model.specs.declared.reports.Phase.TheVariants.{Inactive, Mark, Move}
+use Rattle.melt_policy.specs.Policy.{planned}
 use Rattle.melt_step.specs.declared.collector.Collector.{Collector}
 use Rattle.melt_step.specs.declared.run.Run.{Run}
 use Rattle.melt_core.specs.Changed.{stopped, HasRoomForEntry}
@@ -164,6 +166,11 @@ pub record TakesReply (s after : Seat) (reply : Reply) : Type 0 where
   pub globals : after.rest.globals ≡ s.rest.globals
   pub capacity : vec_capacity after.replies ≡ vec_capacity s.replies
 
+-- Where a thread got a reply, a silent collection is due exactly where the number of its replies is a multiple of this
+-- number, and the number is not 0.
+abbrev pub DueBy : ℕ → Seat → Seat → Type 0
+DueBy every s after = after.replies.items ≢ s.replies.items → ((after.mode ≡ Due) ↔ ((every ≢ 0) × (length after.replies.items % every ≡ 0)))
+
 -- a thread that has ended drops its registers, and nothing else changes
 abbrev pub DropsIfEnded : View → View → ℕ → Mode → Type 0
 DropsIfEnded v w t (Ended e) = HasDropped v w t
@@ -272,6 +279,20 @@ pub record IsPlanning (c : Collector) : Type 0 where
 pub record Notes (old new : Collector) : Type 0 where
   pub planning : IsPlanning new
   pub count : length new.journal.items ≡ length old.journal.items + 1
+
+-- the phase in which a collection is made that is planned to be of this one, while there is no disk
+abbrev pub made_as : Phase → Phase
+made_as Inactive = Inactive
+made_as Mark = Mark
+made_as Move = Mark
+
+-- A collection of a phase was written down, and the next one was planned by what it left.
+pub record PlansBy (old new : Collector) (phase : Phase) : Type 0 where
+  pub entry : Journal
+  pub journal : new.journal.items ≡ old.journal.items ++ entry ∷ []
+  pub of_phase : entry.phase ≡ phase
+  pub next : new.planned ≡ made_as (planned entry.live old.config.heap phase old.config.mark old.config.move_)
+  pub config : new.config ≡ old.config
 
 -- A run between two events.
 pub record RunStands (script : Script) (heap : ℕ) (run : Run) : Type 0 where

@@ -3,7 +3,9 @@ ghost use Rattle.std.specs.Prelude.{◌≡◌, ◌<◌, All, [], length, IfOk, O
 ghost use Rattle.melt_scion.specs.Heaps.{IsFormed};
 ghost use Rattle.melt_copy.specs.Copying.{Collects, IsCopying};
 ghost use Rattle.melt_core.specs.Views.{IsQuiet, Standing, view};
-ghost use Rattle.melt_step.specs.Seats.{Collected, IsPlanning, Notes};
+ghost use Rattle.melt_policy.specs.Policy.{planned};
+ghost use Rattle.melt_model.specs.declared.reports.Phase.{Phase};
+ghost use Rattle.melt_step.specs.Seats.{Collected, IsPlanning, Notes, PlansBy, made_as};
 
 use melt_copy::collect_copy;
 use melt_core::Core;
@@ -65,6 +67,8 @@ impl Collector {
     pub fn new(alloc: Global, config: Config) -> Collector
         ensures planning { IsPlanning result }
         ensures none { result.journal.items ≡ [] }
+        ensures planned { result.planned ≡ Phase.Inactive }
+        ensures config { result.config ≡ config }
     {
         Collector {
             journal: Vec::new(alloc),
@@ -81,6 +85,7 @@ impl Collector {
         requires quiet { IsQuiet (view core) }
         ensures collected { IfOk result (λ after. Collected (view core) (view after)) }
         ensures notes { OnOk result (Notes self.old self.new) }
+        ensures plans { OnOk result (PlansBy self.old self.new phase) }
     {
         let (mut heap, mut rest) = core.finish();
         let blank = Blank::new(1);
@@ -95,6 +100,8 @@ impl Collector {
         requires { IsPlanning self.old }
         ensures planning { IsPlanning self.new }
         ensures journal { self.new.journal ≡ self.old.journal }
+        ensures config { self.new.config ≡ self.old.config }
+        ensures next { self.new.planned ≡ made_as (planned live self.old.config.heap phase self.old.config.mark self.old.config.move_) }
     {
         let config = self.config;
         let next = next_phase(live, config.heap, phase, config.mark, config.move_);
@@ -111,6 +118,7 @@ impl Collector {
         requires quiet { IsQuiet (view core) }
         ensures collected { IfOk result (λ after. Collected (view core) (view after)) }
         ensures notes { OnOk result (Notes self.old self.new) }
+        ensures plans { OnOk result (PlansBy self.old self.new self.old.planned) }
     {
         self.collect(alloc, core, self.planned)
     }

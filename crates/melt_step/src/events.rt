@@ -4,7 +4,7 @@ ghost use Rattle.melt_model.specs.declared.operations.Op.{Op};
 ghost use Rattle.melt_core.specs.Calls.{InBounds};
 ghost use Rattle.melt_core.specs.Changed.{HasRoomForEntry};
 ghost use Rattle.melt_core.specs.Views.{Standing, call_of, view};
-ghost use Rattle.melt_step.specs.Seats.{CalledAlone, DropsIfEnded, IsReady, MayGo, SeatStep, SetsStop, TakesReply};
+ghost use Rattle.melt_step.specs.Seats.{CalledAlone, DropsIfEnded, DueBy, IsReady, MayGo, SeatStep, SetsStop, TakesReply};
 
 use crate::seat::{Mode, Seat};
 use melt_core::{Core, Pause, Refusal, StepResult};
@@ -36,6 +36,7 @@ pub fn make_event(core: &mut Core, seat: &mut Seat<'_>, thread: u32, every: u32)
     requires goes { MayGo seat.old.mode }
     ensures step { SeatStep (view core.old) (view core.new) thread seat.old seat.new }
     ensures stop { SetsStop (view core.old) (view core.new) seat.new }
+    ensures due { DueBy every seat.old seat.new }
 {
     match (seat.mode, seat.op) {
         (Mode::Running, Some(Op::Collect)) => {
@@ -65,6 +66,7 @@ pub fn answered(core: &mut Core, seat: &mut Seat<'_>, thread: u32, reply: Reply,
     requires room { length seat.old.replies.items < vec_capacity seat.old.replies }
     ensures takes { TakesReply seat.old seat.new reply }
     ensures drops { DropsIfEnded (view core.old) (view core.new) thread seat.new.mode }
+    ensures due { DueBy every seat.old seat.new }
 {
     seat.take_reply(reply, every);
     if seat.has_ended() {
@@ -90,7 +92,8 @@ pub fn call_alone(
     requires entries { HasRoomForEntry (view core.old) }
     requires few { length (view core.old).log < 2 ^ 32 }
     requires room { length seat.old.replies.items < vec_capacity seat.old.replies }
-    ensures { CalledAlone (view core.old) (view core.new) thread seat.old seat.new result }
+    ensures called { CalledAlone (view core.old) (view core.new) thread seat.old seat.new result }
+    ensures due { DueBy every seat.old seat.new }
 {
     loop {
         match core.advance(thread, op, 1, &mut NoDisk) {

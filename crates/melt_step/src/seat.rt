@@ -1,7 +1,7 @@
 //! The threads of a run.
 ghost use Rattle.std.specs.Prelude.{◌≡◌, ◌<◌, ◌↔◌, length, vec_capacity, IsTrue, IsSome, IfOk, true, Some, None};
 ghost use Rattle.melt_trace.specs.Script.{operations};
-ghost use Rattle.melt_step.specs.Seats.{CallsAgain, IsEnded, IsNewSeat, MayGo, TakesReply};
+ghost use Rattle.melt_step.specs.Seats.{CallsAgain, DueBy, IsEnded, IsNewSeat, MayGo, TakesReply};
 
 use melt_model::{NoMemory, Op, Reply, ThreadEnd};
 use melt_trace::{Cursor, Trace};
@@ -99,7 +99,8 @@ impl<'a> Seat<'a> {
     /// collection is due; 0 is for none.
     pub fn take_reply(&mut self, reply: Reply, every: u32)
         requires { length self.old.replies.items < vec_capacity self.old.replies }
-        ensures { TakesReply self.old self.new reply }
+        ensures takes { TakesReply self.old self.new reply }
+        ensures due { DueBy every self.old self.new }
     {
         self.replies.push_reserved(reply);
         self.op = self.rest.next();

@@ -1,6 +1,7 @@
 //! The order in which threads take their events.
-ghost use Rattle.std.specs.Prelude.{◌≡◌, ℕ, ◌+◌, ◌<◌, ◌≤◌, length, slice_get, Some, None, IfSome, IfNone};
+ghost use Rattle.std.specs.Prelude.{◌≡◌, ℕ, ◌+◌, ◌<◌, ◌≤◌, ◌⊎◌, length, slice_get, Some, None, IfSome, IfNone};
 ghost use Rattle.melt_step.specs.Seats.{MayGo};
+ghost use Rattle.melt_step.specs.Turns.{InTurn, NoLine, NoTurn, NoneGoes, OfLine};
 ghost use Rattle.melt_step.specs.declared.seat.Seat.{Seat};
 
 use crate::seat::Seat;
@@ -16,7 +17,10 @@ pub struct Turns {
 }
 
 impl Turns {
-    pub fn new() -> Turns {
+    /// At the first line, and then at thread 0.
+    pub fn new() -> Turns
+        ensures { result ≡ record { line = 0; left = 0; turn = 0 } }
+    {
         Turns {
             line: 0,
             left: 0,
@@ -26,7 +30,7 @@ impl Turns {
 
     /// What is left of a line is dropped.
     fn drop_line(&mut self)
-        ensures { self.old.line < 4294967295 → self.new.line ≡ self.old.line + 1 }
+        ensures { self.old.line < 4294967295 → self.new ≡ record self.old { line = self.old.line + 1; left = 0 } }
     {
         self.line = self.line.saturating_add(1);
         self.left = 0;
@@ -35,7 +39,11 @@ impl Turns {
     /// The thread that has the next event by the lines of the trace. A line whose thread cannot go on is dropped.
     fn by_line(&mut self, trace: &Trace, seats: &[Seat<'_>]) -> Option<u32>
         requires { length seats.now ≡ length trace.now.programs }
-        ensures { IfSome result (λ t. (s : Seat) × (slice_get seats.now t ≡ Some s) × MayGo s.mode) }
+        ensures line { IfSome result (OfLine trace.now.orders seats.now self.old self.new) }
+        ensures none { IfNone result (NoLine trace.now.orders seats.now self.old.line (length trace.now.orders)) }
+        ensures turn { self.new.turn ≡ self.old.turn }
+        ensures over { IfNone result (self.old.line ≤ length trace.now.orders → self.new.line ≡ length trace.now.orders) }
+        ensures none_left { IfNone result (self.old.line < length trace.now.orders → self.new.left ≡ 0) }
     {
         while self.line < trace.orders() {
             let (thread, events) = trace.order(self.line);
@@ -58,6 +66,8 @@ impl Turns {
         requires { length seats.now ≡ length trace.now.programs }
         ensures goes { IfSome result (λ t. (s : Seat) × (slice_get seats.now t ≡ Some s) × MayGo s.mode) }
         ensures none { IfNone result ((t : ℕ) (s : Seat) → slice_get seats.now t ≡ Some s → MayGo s.mode → ⊥) }
+        ensures given { IfSome result (λ t. OfLine trace.now.orders seats.now self.old self.new t ⊎ InTurn trace.now.orders seats.now self.old self.new t) }
+        ensures waits { IfNone result (NoTurn seats.now self.old self.new) }
     {
         let count = trace.threads();
         let first = match first_from(seats, self.turn, count) {
@@ -84,6 +94,7 @@ impl Turns {
 fn first_from(seats: &[Seat<'_>], start: u32, count: u32) -> Option<u32>
     requires { count ≡ length seats.now }
     ensures goes { IfSome result (λ t. (s : Seat) × (slice_get seats.now t ≡ Some s) × MayGo s.mode) }
+    ensures first { IfSome result (λ t. (start ≤ t) × NoneGoes seats.now start t) }
     ensures none { IfNone result ((t : ℕ) (s : Seat) → start ≤ t → slice_get seats.now t ≡ Some s → MayGo s.mode → ⊥) }
 {
     for t in start..count {

@@ -10,7 +10,7 @@ loop-reply-preserved c = record {
   seat = c.loop-reply.invariant.seat;
 }
 
-pub returns-in-Answered : goal.returns-in-Answered
-returns-in-Answered c =
+pub returns-in-Answered-clause-called : goal.returns-in-Answered-clause-called
+returns-in-Answered-clause-called c =
     call_told (view c.args.core.now) (view c.loop-reply.core) (view c.advance.new.self) (view c.answered.new.core) c.args.thread c.args.op c.in-Answered.reply c.args.seat.now c.answered.new.seat
     c.requires.op c.requires.no_collect c.loop-reply.invariant.on c.advance.ensures.advances.stands c.advance.ensures.advances.others (search rules) (search rules) c.answered.ensures.drops

@@ -11,7 +11,7 @@ use Rattle.melt_core.specs.Lending.{with_held}
 use Rattle.melt_core.specs.declared.machine.Core.{Core}
 use Rattle.melt_core.specs.declared.machine.Rest.{Rest}
 use Rattle.melt_step.specs.Seats.{Collected}
-use Rattle.melt_step.proofs.Collecting.{names_are, rest_formed, rest_collected, finished_collected, same_sizes, noted}
+use Rattle.melt_step.proofs.Collecting.{names_are, rest_formed, rest_collected, finished_collected, same_sizes, noted, planned_by}
 use Rattle.melt_step.proofs.collector.Collector.collect.Goals as goal
 
 pub collect_uncounted-requires-clause-formed : goal.collect_uncounted-requires-clause-formed
@@ -46,3 +46,12 @@ returns-clause-notes c =
     noted c.args.self.now c.plan.new.self _ c.args.phase c.in_ok-journal.journal c.requires.planning c.plan.ensures.planning c.plan.ensures.journal c.requires.phase
     (collects (maps_of heap.names) 1 (names_are heap.names) c.finish-heap.ensures.rests.stands.placed.formed).told.of_phase
     c.in_ok-push.ensures.items refl
+
+pub returns-clause-plans : goal.returns-clause-plans
+returns-clause-plans c =
+    let heap : Heap = c.finish-heap.result.0 in
+    let collects : Collects heap c.finish-heap.result.1.held.items c.collect_uncounted.new.heap c.collect_uncounted.new.held c.args.phase c.in_ok-journal.journal =
+    subst (λ (xs : List Registers). Collects heap xs c.collect_uncounted.new.heap c.collect_uncounted.new.held c.args.phase c.in_ok-journal.journal) c.registers.ensures.value c.in_ok-journal.ensures.collected in
+    planned_by c.args.self.now c.plan.new.self _ c.args.phase c.in_ok-journal.journal c.plan.ensures.journal
+    (collects (maps_of heap.names) 1 (names_are heap.names) c.finish-heap.ensures.rests.stands.placed.formed).told.of_phase
+    c.in_ok-push.ensures.items refl c.plan.ensures.next refl c.plan.ensures.config
