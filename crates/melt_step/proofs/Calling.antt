@@ -1,7 +1,6 @@
 -- What an event or a reply makes of a thread.
 use Rattle.std.proofs.Common.{◌≡◌, ◌≢◌, ℕ, ◌+◌, ◌≤◌, List, length, refl, sym, ◌∙◌, ap, subst, arith, inl, inr}
 use Rattle.std.specs.Prelude.{Some, ◌⊎◌}
-use Rattle.std.proofs.Math.ListN.{length-set}
 use Rattle.melt_model.specs.Alive.{Alive, words_of, CostsSum}
 use Rattle.melt_model.specs.declared.history.Entry.{Entry}
 use Rattle.melt_model.specs.declared.history.Value.{Value}
@@ -16,12 +15,14 @@ use Rattle.melt_core.specs.Answering.{Answers}
 use Rattle.melt_core.specs.Views.{View, value, values_of, call_of, Standing}
 use Rattle.melt_core.specs.Events.{KeepsOthers, HasRoom, HasRoomFor, IsAnswered}
 use Rattle.melt_core.specs.Changed.{stopped}
-use Rattle.melt_core.specs.Epochs.{HasDropped, no_registers}
+use Rattle.melt_core.specs.Epochs.{HasDropped}
 use Rattle.melt_core.proofs.Changing.{Standing_stopped}
 use Rattle.melt_step.specs.declared.seat.Seat.{Seat}
 use Rattle.melt_step.specs.declared.seat.Mode.{Mode}
 use Rattle.melt_step.specs.declared.seat.Mode.TheVariants.{Running, Due, Silent, Collecting, Asked, Lacking, Ended}
 use Rattle.melt_step.specs.Seats.{IsEnded, TakesReply, DropsIfEnded, SeatTold, SeatStep, SetsStop}
+use Rattle.melt_step.proofs.Cuts.{alive_same}
+use Rattle.melt_step.proofs.Modes.{dropped_keeps}
 
 -- a thread waits for a collection
 pub waits_step : (v w : View) (t : ℕ) (s : Seat) (mode : Mode) → Standing v → w ≡ stopped v → ((s.mode ≡ Running) × (s.op ≡ Some Collect) × (mode ≡ Collecting)) ⊎ ((s.mode ≡ Due) × (mode ≡ Silent)) → SeatStep v w t s (record s { mode = mode })
@@ -32,13 +33,6 @@ waits_step v w t s mode stands is before =
       others = subst (λ (x : View). KeepsOthers v x t) (sym is) others;
       what = inl (mode, record { only = refl; stop = is; before = before });
     }
-
--- objects that are alive, where registers hold the same
-alive_same : (h : List Entry) (a b : ℕ → ℕ → Value) (n : ℕ) → ((t r : ℕ) → a t r ≡ b t r) → Alive h a n → Alive h b n
-alive_same h a b n same (Alive.in_register m held) =
-    Alive.in_register m (record { thread = held.thread; register = held.register; holds = sym (same held.thread held.register) ∙ held.holds })
-alive_same h a b n same (Alive.in_global g m at) = Alive.in_global g m at
-alive_same h a b n same (Alive.in_slot from i m found at) = Alive.in_slot from i m (alive_same h a b from same found) at
 
 -- the same words have room, where history and registers are the same
 room_same : (v u : View) (need : ℕ) → u.log ≡ v.log → ((x : ℕ) → values_of u x ≡ values_of v x) → length u.space.list ≡ length v.space.list → HasRoom u need → HasRoom v need
@@ -77,17 +71,6 @@ KeepsOthers_both v u w t first then = record {
   capacity = then.capacity ∙ first.capacity;
   calls = λ u other. then.calls u other ∙ first.calls u other;
   values = λ u other. then.values u other ∙ first.values u other;
-}
-
--- a thread that drops its registers leaves the others as they are
-dropped_others : (w x : View) (t : ℕ) → HasDropped w x t → KeepsOthers w x t
-dropped_others w x t dropped = record {
-  globals = ap (λ (y : View). length y.globals) dropped.only;
-  words = ap (λ (y : View). length y.space.list) dropped.only;
-  threads = ap (λ (y : View). length y.held) dropped.only ∙ length-set w.held t no_registers;
-  capacity = ap (λ (y : View). y.capacity) dropped.only;
-  calls = λ u other. ap (λ (y : View). call_of y u) dropped.only;
-  values = λ u other. dropped.others u other;
 }
 
 -- a thread got its reply, by the last event of a call that the others saw nothing of
@@ -134,7 +117,7 @@ told_seat v u w x t o reply s after next no_collect log values words answered ta
 pub told_stands : (w x : View) (t : ℕ) (mode : Mode) → Standing w → DropsIfEnded w x t mode → Standing x × KeepsOthers w x t × (x.stop ≡ w.stop)
 told_stands w x t mode stands drops =
     elim (drop_cases w x t mode drops) [
-      | inl ended ↦ (ended.1.stands, dropped_others w x t ended.1, ap (λ (y : View). y.stop) ended.1.only)
+      | inl ended ↦ (ended.1.stands, dropped_keeps w x t ended.1, ap (λ (y : View). y.stop) ended.1.only)
       | inr goes ↦
           let others : KeepsOthers w w t = record { globals = refl; words = refl; threads = refl; capacity = refl; calls = λ u other. refl; values = λ u other. refl } in
           (subst Standing (sym goes.1) stands, subst (λ (y : View). KeepsOthers w y t) (sym goes.1) others, ap (λ (y : View). y.stop) goes.1)

@@ -252,7 +252,7 @@ registers_now script heap v seats u r table =
     ]
 
 -- objects that are alive, where registers hold the same
-alive_same : (h : List Entry) (a b : ℕ → ℕ → Value) (n : ℕ) → ((t r : ℕ) → a t r ≡ b t r) → Alive h a n → Alive h b n
+pub alive_same : (h : List Entry) (a b : ℕ → ℕ → Value) (n : ℕ) → ((t r : ℕ) → a t r ≡ b t r) → Alive h a n → Alive h b n
 alive_same h a b n same (Alive.in_register m held) =
     Alive.in_register m (record { thread = held.thread; register = held.register; holds = sym (same held.thread held.register) ∙ held.holds })
 alive_same h a b n same (Alive.in_global g m at) = Alive.in_global g m at

@@ -18,9 +18,8 @@ use Rattle.melt_model.specs.declared.reports.ThreadEnd.TheVariants as end
 use Rattle.melt_model.specs.declared.reports.ThreadReport.{ThreadReport}
 use Rattle.melt_scion.specs.State.{State}
 use Rattle.melt_scion.specs.Placed.{Placed}
-use Rattle.melt_scion.specs.Heaps.{state_of, HasNames}
+use Rattle.melt_scion.specs.Heaps.{state_of}
 use Rattle.melt_scion.specs.declared.heap.Heap.{Heap}
-use Rattle.melt_scion.specs.declared.heap.Names as heap
 use Rattle.melt_scion.proofs.Frame.{Placed_stays}
 use Rattle.melt_scion.proofs.Writes.{SameObjects_by_words}
 use Rattle.melt_trace.specs.Script.{Script, operations}
@@ -33,6 +32,7 @@ use Rattle.melt_step.specs.declared.seat.Mode.TheVariants.{Ended}
 use Rattle.melt_step.specs.declared.run.Run.{Run}
 use Rattle.melt_step.specs.Run.{is_collect, replies_in, Cut, IsCut, LacksRoom, HadRoom, MayEnd, collections_of, collections, IsStepReport, HasRun}
 use Rattle.melt_step.specs.Seats.{IsEnded, replies_of, EndsSo, HadNow, TableStands, RunStands}
+use Rattle.melt_step.proofs.Collecting.{names_are}
 use Rattle.melt_step.proofs.Cuts.{replies_here, replies_past, told_now}
 
 -- a moment, by other lists of the same replies
@@ -100,11 +100,6 @@ may_end script config report seats t (end.OutOfHeap held need) same ends =
 may_end script config report seats t end.DiskFault same ends = ends
 may_end script config report seats t (end.Damaged home at word) same ends = ends
 may_end script config report seats t end.Halted same ends = ends
-
--- the names of a heap are its map
-names_are : (names : Option heap.Names) → HasNames names (maps_of names)
-names_are None = tt
-names_are (Some names) = λ address. refl
 
 -- the heap without the registers of its threads
 placed_left : (heap : Heap) (rest : Rest) → AtRest heap rest → Placed rest.log.items (λ t r. Nil) (maps_of heap.names) (state_of heap [] 1)

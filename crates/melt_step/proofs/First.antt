@@ -2,7 +2,6 @@
 use Rattle.std.proofs.Common.{◌≡◌, ◌≢◌, ℕ, ◌+◌, ◌*◌, ◌<◌, ◌≤◌, List, ◌∷◌, length, get_or, refl, sym, ◌∙◌, ap, subst, arith, inl, inr}
 use Rattle.std.specs.Prelude.{Option, None, Some, IsSome, IfSome, slice_get, vec_capacity}
 use Rattle.std.proofs.Math.ListN.{set}
-use Rattle.std.proofs.lemmas.List.{set-get_or}
 use Rattle.std.proofs.lemmas.Option.{get_or_from_slice_get, same_Some}
 use Rattle.melt_model.specs.declared.history.Entry.{Entry}
 use Rattle.melt_model.specs.declared.operations.Op.{Op}
@@ -24,7 +23,7 @@ use Rattle.melt_step.specs.Run.{collections}
 use Rattle.melt_step.specs.Seats.{with_first, left, jobs, jobs_of, replies_of, FitsMode, IsReady, TableStands, RunStands, IsPlanning, LacksNow, LacksAlone, CalledAlone, Collected, SeatRefused, IsEnded, SeatTold, SeatStep}
 use Rattle.melt_core.proofs.Found.{some_number}
 use Rattle.melt_step.proofs.Cuts.{lacks_room}
-use Rattle.melt_step.proofs.Tables.{Table_step, Table_collected, table_ready, collections_step}
+use Rattle.melt_step.proofs.Tables.{set_got, Table_step, Table_collected, table_ready, collections_step}
 use Rattle.melt_step.proofs.Modes.{Table_gone, collections_mode}
 
 -- What a call that is made alone needs of its thread.
@@ -99,10 +98,6 @@ alone_told v w t s after lacks is called = elim called.what [
 lacking_open : (mode : Mode) → mode ≡ Lacking → IsEnded mode → ⊥
 lacking_open mode is ended = subst IsEnded is ended
 
--- a list in which an element was set to itself
-set_itself : (seats : List Seat) (t : ℕ) (s : Seat) → slice_get seats t ≡ Some s → set seats t s ≡ seats
-set_itself seats t s at = ap (set seats t) (sym (get_or_from_slice_get seats t s s at)) ∙ set-get_or seats t s
-
 -- a call that was refused leaves all threads as they were
 pub lacks_table : (script : Script) (heap : ℕ) (v w : View) (seats : List Seat) (t need : ℕ) (s after : Seat) (lacks : Option ℕ) → TableStands script heap v seats → slice_get seats t ≡ Some s → s.mode ≡ Lacking → lacks ≡ Some need → CalledAlone v w t s after lacks → (after ≡ s) × TableStands script heap w seats
 lacks_table script heap v w seats t need s after lacks table at lacking is called =
@@ -118,7 +113,7 @@ lacks_table script heap v w seats t need s after lacks table at lacking is calle
       values = alone.values;
     } in
     let step : SeatStep v w t s s = record { stands = called.stands; others = called.others; what = inr (inr (inl (Lacking, refused))) } in
-    (alone.same, subst (TableStands script heap w) (set_itself seats t s at) (Table_step script heap v w seats t s s table at (lacking_open s.mode lacking) step))
+    (alone.same, subst (TableStands script heap w) (set_got seats t s at) (Table_step script heap v w seats t s s table at (lacking_open s.mode lacking) step))
 
 -- a call that was refused, and a collection behind it
 again : (script : Script) (heap : ℕ) (v u w : View) (seats : List Seat) (t : ℕ) (s after : Seat) (lacks : Option ℕ) → TableStands script heap v seats → slice_get seats t ≡ Some s → s.mode ≡ Lacking → IsSome lacks → CalledAlone v u t s after lacks → Collected u w → (after ≡ s) × TableStands script heap w seats

@@ -19,8 +19,8 @@ use Rattle.melt_step.specs.declared.seat.Mode.{Mode}
 use Rattle.melt_step.specs.declared.seat.Mode.TheVariants.{Running, Due, Silent, Collecting, Asked, Lacking, Ended}
 use Rattle.melt_step.specs.Run.{collections, collections_of}
 use Rattle.melt_step.specs.Seats.{with_first, left, MayGo, IsEnded, SeatStands, replies_of, EndsSo, LacksNow, Later, TableStands, AllWait, Waits, KnowsStop, SetsStop, SomeGoesOn}
-use Rattle.melt_step.proofs.Cuts.{LacksNow_same}
-use Rattle.melt_step.proofs.Tables.{get_set_same, get_set_other, replies_at, replies_same, later_set, Moves, Table_moves, mode_stands, same_moves, collections_same, collections_other, silent_collections}
+use Rattle.melt_step.proofs.Cuts.{replies_here, LacksNow_same}
+use Rattle.melt_step.proofs.Tables.{get_set_same, get_set_other, replies_same, later_set, Moves, Table_moves, mode_stands, same_moves, collections_same, collections_other, silent_collections}
 
 -- where nothing changes, the others are as they were
 pub nothing_keeps : (v : View) (t : ℕ) → KeepsOthers v v t
@@ -38,7 +38,7 @@ pub ends_done : (script : Script) (heap : ℕ) (v : View) (seats : List Seat) (t
 ends_done script heap v seats t s table at none =
     let st : SeatStands script v t s = table.each t s at in
     let nothing : left s ≡ [] = ap (λ (o : Option Op). with_first o s.rest.operations) none ∙ st.none_left none in
-    omega (arith, ap length (replies_at seats t s at), st.within, ap length nothing)
+    omega (arith, ap length (replies_here seats t s at), st.within, ap length nothing)
 
 -- a thread that drops its registers leaves the others as they were
 pub dropped_keeps : (v w : View) (t : ℕ) → HasDropped v w t → KeepsOthers v w t
@@ -55,12 +55,12 @@ dropped_keeps v w t dropped = record {
 ends_gone : (script : Script) (log : List Entry) (seats : List Seat) (heap t : ℕ) (s : Seat) (e : ThreadEnd) → slice_get seats t ≡ Some s → (IsEnded s.mode → ⊥) → EndsSo script log seats heap t (Ended e) → EndsSo script log (set seats t (record s { mode = Ended e })) heap t (Ended e)
 ends_gone script log seats heap t s end.Done at goes ends =
     let after : Seat = record s { mode = Ended end.Done } in
-    ap length (replies_same seats t s after at ∙ sym (replies_at seats t s at)) ∙ ends
+    ap length (replies_same seats t s after at ∙ sym (replies_here seats t s at)) ∙ ends
 ends_gone script log seats heap t s (end.OutOfHeap held need) at goes ends =
     let after : Seat = record s { mode = Ended (end.OutOfHeap held need) } in
     let later : Later seats (set seats t after) = later_set seats t s after [] at goes (sym (append-nil s.replies.items)) in
     subst (λ (h : List Entry). LacksNow script h (set seats t after) heap t held need) (append-nil log)
-    (LacksNow_same script log [] seats (set seats t after) heap t held need later (replies_same seats t s after at ∙ sym (replies_at seats t s at)) ends)
+    (LacksNow_same script log [] seats (set seats t after) heap t held need later (replies_same seats t s after at ∙ sym (replies_here seats t s at)) ends)
 ends_gone script log seats heap t s end.DiskFault at goes ends = absurd ends
 ends_gone script log seats heap t s (end.Damaged home place word) at goes ends = absurd ends
 ends_gone script log seats heap t s end.Halted at goes ends = absurd ends

@@ -2,8 +2,7 @@
 use Rattle.std.proofs.Common.{◌≡◌, ℕ, ◌+◌, ◌<◌, ◌≤◌, true, false, List, length, refl, sym, ◌∙◌, ap, subst, arith, inl, inr}
 use Rattle.std.proofs.Math.ListN.{set, length-set}
 use Rattle.std.proofs.lemmas.Bool.{cases_eq}
-use Rattle.std.proofs.lemmas.List.{set-get_or}
-use Rattle.std.proofs.lemmas.Option.{same_Some, slice_get_within, slice_get_cases, get_or_from_slice_get}
+use Rattle.std.proofs.lemmas.Option.{same_Some, slice_get_within, slice_get_cases}
 use Rattle.std.specs.Prelude.{Option, Some, IsSome, slice_get, slice_set, ◌⊎◌}
 use Rattle.melt_model.specs.declared.operations.Op.{Op}
 use Rattle.melt_trace.specs.Script.{Script}
@@ -19,7 +18,7 @@ use Rattle.melt_step.specs.declared.seat.Mode.TheVariants.{Running, Due, Silent,
 use Rattle.melt_step.specs.Run.{collections}
 use Rattle.melt_step.specs.Seats.{IsEnded, FitsMode, replies_of, TableStands, CallsAgain, ForCollection, Waits, KnowsStop, jobs, jobs_of, left, CollectedFor, CollectedAt, CollectedAll, CalledAt, Resumed, Passed, Renewed}
 use Rattle.melt_step.proofs.Modes.{Table_runs, collections_mode}
-use Rattle.melt_step.proofs.Tables.{Table_renewed}
+use Rattle.melt_step.proofs.Tables.{set_got, Table_renewed}
 use Rattle.melt_step.proofs.Tables.{get_set_same, get_set_other}
 
 -- a call was refused or was not
@@ -61,10 +60,6 @@ again_jobs Collecting count again = absurd again
 again_jobs Asked count again = refl
 again_jobs Lacking count again = refl
 again_jobs (Ended e) count again = absurd again
-
--- an element that is set where it stands
-set_got : (seats : List Seat) (t : ℕ) (s : Seat) → slice_get seats t ≡ Some s → set seats t s ≡ seats
-set_got seats t s at = subst (λ (y : Seat). set seats t y ≡ seats) (get_or_from_slice_get seats t s s at) (set-get_or seats t s)
 
 -- the call of a thread is made again, if it was refused
 pub record MadeAgain (s after : Seat) : Type 0 where

@@ -3,7 +3,7 @@ use Rattle.std.proofs.Common.{◌≡◌, ◌≢◌, ℕ, ◌+◌, ◌<◌, ◌�
 use Rattle.std.proofs.Math.ListN.{set, length-set}
 use Rattle.std.proofs.Math.Seq.{take-append_seam}
 use Rattle.std.proofs.lemmas.Bool.{cases_eq, cases_lt, cond_both}
-use Rattle.std.proofs.lemmas.List.{append-nil, get_or_past}
+use Rattle.std.proofs.lemmas.List.{append-nil, get_or_past, set-get_or}
 use Rattle.std.proofs.lemmas.List.Elements.{All-push}
 use Rattle.std.proofs.lemmas.List.Sums.{sum-map, sum_by-set, sum_by_push, get_or-le-sum_by}
 use Rattle.std.proofs.lemmas.Option.{none-some, same_Some, slice_get_within, slice_get_cases, get_or_from_slice_get}
@@ -41,7 +41,7 @@ use Rattle.melt_step.specs.declared.seat.Mode.{Mode}
 use Rattle.melt_step.specs.declared.seat.Mode.TheVariants.{Running, Due, Silent, Collecting, Asked, Lacking, Ended}
 use Rattle.melt_step.specs.Run.{is_collect, collections, collections_of}
 use Rattle.melt_step.specs.Seats.{with_first, left, MayGo, IsEnded, FitsMode, SeatStands, replies_of, HadNow, MadeSo, EndsSo, to_reply, Later, TableStands, SeatWaits, SeatGoes, SeatRefused, TakesReply, SeatTold, IsReady, SeatStep, Renewed, Collected, AllWait}
-use Rattle.melt_step.proofs.Cuts.{LacksNow_later, HadNow_later, had_room}
+use Rattle.melt_step.proofs.Cuts.{replies_here, LacksNow_later, HadNow_later, had_room}
 
 -- an element of a list in which one was set
 pub get_set_same : {A : Type 0} (xs : List A) (t : ℕ) (x y : A) → slice_get xs t ≡ Some x → slice_get (set xs t y) t ≡ Some y
@@ -56,6 +56,10 @@ get_set_other (z ∷ xs) zero zero y differ = absurd (differ refl)
 get_set_other (z ∷ xs) zero (suc u) y differ = refl
 get_set_other (z ∷ xs) (suc t) zero y differ = refl
 get_set_other (z ∷ xs) (suc t) (suc u) y differ = get_set_other xs t u y (λ same. differ (ap suc same))
+
+-- an element that is set where it stands
+pub set_got : (seats : List Seat) (t : ℕ) (s : Seat) → slice_get seats t ≡ Some s → set seats t s ≡ seats
+set_got seats t s at = subst (λ (y : Seat). set seats t y ≡ seats) (get_or_from_slice_get seats t s s at) (set-get_or seats t s)
 
 -- the first of the elements that are left, where it stands, and what is left behind it
 drop_next : {A : Type 0} (xs rest : List A) (k : ℕ) (x : A) → drop k xs ≡ x ∷ rest → drop (suc k) xs ≡ rest
@@ -78,12 +82,6 @@ get_next [] rest (suc k) x is = absurd (cc)
 get_next (y ∷ xs) rest zero x is = cc
 get_next (y ∷ xs) rest (suc k) x is = get_next xs rest k x is
 
--- the replies of a thread, also where a seat was set
-pub replies_at : (seats : List Seat) (t : ℕ) (s : Seat) → slice_get seats t ≡ Some s → replies_of seats t ≡ s.replies.items
-replies_at [] t s at = absurd (cc)
-replies_at (x ∷ seats) zero s at = ap (λ (y : Seat). y.replies.items) (same_Some x s at)
-replies_at (x ∷ seats) (suc t) s at = replies_at seats t s at
-
 -- a seat that was set leaves the replies of other threads
 pub replies_other : (seats : List Seat) (t u : ℕ) (after : Seat) → u ≢ t → replies_of (set seats t after) u ≡ replies_of seats u
 replies_other [] t u after differ = refl
@@ -94,13 +92,13 @@ replies_other (x ∷ seats) (suc t) (suc u) after differ = replies_other seats t
 
 -- and gives its own thread those of the new seat
 pub replies_same : (seats : List Seat) (t : ℕ) (s after : Seat) → slice_get seats t ≡ Some s → replies_of (set seats t after) t ≡ after.replies.items
-replies_same seats t s after at = replies_at (set seats t after) t after (get_set_same seats t s after at)
+replies_same seats t s after at = replies_here (set seats t after) t after (get_set_same seats t s after at)
 
 -- a thread that has not ended may get more replies
 pub later_set : (seats : List Seat) (t : ℕ) (s after : Seat) (extra : List Reply) → slice_get seats t ≡ Some s → (IsEnded s.mode → ⊥) → after.replies.items ≡ s.replies.items ++ extra → Later seats (set seats t after)
 later_set seats t s after extra at runs grown =
     let here : replies_of (set seats t after) t ≡ replies_of seats t ++ extra =
-    replies_same seats t s after at ∙ (grown ∙ ap (λ (xs : List Reply). xs ++ extra) (sym (replies_at seats t s at))) in
+    replies_same seats t s after at ∙ (grown ∙ ap (λ (xs : List Reply). xs ++ extra) (sym (replies_here seats t s at))) in
     record {
       count = length-set seats t after;
       replies = λ u. elim (cases_eq u t) [
@@ -317,7 +315,7 @@ Table_moves script heap v w seats t s after table at runs stands others m =
     λ u x same is. same_Some after x (sym here ∙ (ap (λ (k : ℕ). slice_get (set seats t after) k) (sym same) ∙ is)) in
     let elsewhere : (u : ℕ) (x : Seat) → u ≢ t → slice_get (set seats t after) u ≡ Some x → slice_get seats u ≡ Some x =
     λ u x differ is. sym (get_set_other seats t u after differ) ∙ is in
-    let was : replies_of seats t ≡ s.replies.items = replies_at seats t s at in
+    let was : replies_of seats t ≡ s.replies.items = replies_here seats t s at in
     let now : replies_of (set seats t after) t ≡ after.replies.items = replies_same seats t s after at in
     let to_come : to_reply (set seats t after) + length (left s) ≡ to_reply seats + length (left after) = to_reply_set seats t s after at in
     let fits : length w.log + length (left after) ≤ length v.log + length (left s) = m.entries in
@@ -490,7 +488,7 @@ told_made script heap v w seats t k s after table at runs told below last dst re
     let here : slice_get (operations script t) n ≡ Some told.op = get_next (operations script t) s.rest.operations n told.op (sym st.to_come ∙ told_left v w t s after told) in
     let op_is : told.op ≡ New dst refs nums = same_Some told.op (New dst refs nums) (sym here ∙ (ap (λ (j : ℕ). slice_get (operations script t) j) (sym is_last) ∙ next)) in
     let room : HasRoom v (2 + refs + nums) = subst (HasRoomFor v) op_is told.room in
-    subst (λ (j : ℕ). HadNow script v.log seats heap t j (2 + refs + nums)) (ap length (replies_at seats t s at) ∙ sym is_last)
+    subst (λ (j : ℕ). HadNow script v.log seats heap t j (2 + refs + nums)) (ap length (replies_here seats t s at) ∙ sym is_last)
     (had_room script heap v seats t (2 + refs + nums) s table at runs room)
 
 -- so all threads stand behind its reply
@@ -682,14 +680,14 @@ told_collections script v w seats t s after st at told =
     let C : ℕ → ℕ = λ (n : ℕ). count_by is_collect (take n ops) in
     let count : length after.replies.items ≡ k + 1 = ap length told.takes.replies ∙ length-append s.replies.items (told.reply ∷ []) in
     let now : length (replies_of (set seats t after) t) ≡ suc k = omega (arith, count, ap length (replies_same seats t s after at)) in
-    let was : length (replies_of seats t) ≡ k = ap length (replies_at seats t s at) in
+    let was : length (replies_of seats t) ≡ k = ap length (replies_here seats t s at) in
     let taken : take (suc k) ops ≡ take k ops ++ told.op ∷ [] = take_next ops s.rest.operations k told.op (sym st.to_come ∙ told_left v w t s after told) in
     ap C now ∙ (ap (count_by is_collect) taken ∙ (sum_by_push (λ (o : Op). if is_collect o then 1 else 0) (take k ops) told.op ∙ ap (λ (n : ℕ). n + (if is_collect told.op then 1 else 0)) (ap C (sym was))))
 
 -- the collections of a thread that got no reply
 pub silent_collections : (script : Script) (seats : List Seat) (t : ℕ) (s after : Seat) → slice_get seats t ≡ Some s → after.replies.items ≡ s.replies.items → collections_of script (replies_of (set seats t after)) t ≡ collections_of script (replies_of seats) t
 silent_collections script seats t s after at same =
-    ap (λ (rs : List Reply). count_by is_collect (take (length rs) (operations script t))) (replies_same seats t s after at ∙ (same ∙ sym (replies_at seats t s at)))
+    ap (λ (rs : List Reply). count_by is_collect (take (length rs) (operations script t))) (replies_same seats t s after at ∙ (same ∙ sym (replies_here seats t s at)))
 
 -- An event of a thread adds one at most to the collections that were answered, and none where its reply was to another
 -- operation.
