@@ -1,8 +1,8 @@
 pub mod Answering
-pub mod Calls
-pub mod Views
+pub mod Known
 pub mod Events
-pub mod Effects
-pub mod Changed
+pub mod Stages
+pub mod Views
+pub mod Advances
 pub mod Epochs
 pub mod Lending

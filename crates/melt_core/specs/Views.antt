@@ -1,25 +1,25 @@
 -- What a core shows, and when it stands for its history.
-use Rattle.std.specs.Prelude.{◌≡◌, ◌≢◌, ℕ, ◌+◌, ◌^◌, ◌<◌, ◌≤◌, Bool, List, [], length, map, sum, slice_index, slice_index_or, vec_capacity, Option, None, Some, IsSome, unwrap_or}
+use Rattle.std.specs.Prelude.{◌≡◌, ◌≢◌, ◌⊎◌, ℕ, zero, suc, ◌+◌, ◌*◌, ◌<◌, ◌≤◌, Bool, true, false, List, [], length, map, sum, slice_index, slice_index_or, vec_capacity, Option, None, Some, IsSome, unwrap_or, if◌then◌else◌}
 use Rattle.melt_model.specs.History.{made as makes, Legal}
 use Rattle.melt_model.specs.Thread.{value_in}
 use Rattle.melt_model.specs.Alive.{words_of, CostsSum}
 use Rattle.melt_model.specs.declared.history.Value.{Value}
 use Rattle.melt_model.specs.declared.history.Value.TheVariants.{Nil}
 use Rattle.melt_model.specs.declared.history.Entry.{Entry}
-use Rattle.melt_word.specs.Words.{cost_of}
 use Rattle.melt_space.specs.Space.{SpaceWords, word_at}
-use Rattle.melt_scion.specs.State.{State}
-use Rattle.melt_scion.specs.Placed.{Maps, value_at, Placed}
-use Rattle.melt_scion.specs.Collected.{InUse}
+use Rattle.melt_scion.specs.State.{Base, State}
+use Rattle.melt_scion.specs.Placed.{Maps, MayHold, value_at, Holds}
+use Rattle.melt_scion.specs.Regions.{Region, Apart}
 use Rattle.melt_scion.specs.Names.{name_at}
 use Rattle.melt_scion.specs.Heaps.{register_in}
 use Rattle.melt_scion.specs.declared.registers.Registers.{Registers}
 use Rattle.melt_scion.specs.declared.heap.Names as heap
 use Rattle.melt_core.specs.declared.call.Stage.{Stage}
-use Rattle.melt_core.specs.declared.call.Stage.TheVariants.{Claimed}
+use Rattle.melt_core.specs.declared.call.Stage.TheVariants.{Polled, Lacking}
 use Rattle.melt_core.specs.declared.call.Call.{Call}
 use Rattle.melt_core.specs.declared.machine.Core.{Core}
-use Rattle.melt_core.specs.Calls.{InFlight, RegionsApart}
+use Rattle.melt_core.specs.Known.{Known, region_of}
+use Rattle.melt_core.specs.Stages.{Fits}
 
 -- The words of the space, the globals, the names of addresses, the registers and the call in flight of each thread,
 -- the history, how many entries it has room for and how many objects were made in it, the first free place, and whether
@@ -50,7 +50,7 @@ view core = record {
   stop = core.stop;
 }
 
--- the numbers of objects by their addresses, and no homes
+-- the numbers of objects by their addresses; no home has one yet
 abbrev pub numbers_of : Option heap.Names → List (Option ℕ)
 numbers_of None = []
 numbers_of (Some names) = names.addresses
@@ -79,36 +79,59 @@ value v t r = value_in (values_of v t) r
 abbrev pub maps : View → Maps
 maps v = maps_of v.names
 
--- the state that these parts show
+-- The state that these parts show. There are no scions and no forwarding words yet, and no homes: word 1 on disk is past
+-- all of them.
+abbrev pub base_in : SpaceWords → List ℕ → Base
+base_in space globals = record {
+  size = length space.list;
+  globals = length globals;
+  forwards = 0;
+  scion = λ k. None;
+  end = 1;
+  homes = [];
+  free_homes = [];
+  image = λ k. 0;
+}
+
 abbrev pub shown : SpaceWords → List ℕ → List Registers → ℕ → State
 shown space globals held free = record {
-  size = length space.list;
+  base = base_in space globals;
   free = free;
   word = word_at space;
-  globals = length globals;
   global = slice_index globals;
+  forward = λ p. 0;
   register = register_in held;
-  end = 1;
 }
 
 abbrev pub state : View → State
 state v = shown v.space v.globals v.held v.free
 
 -- the call of a thread that is in flight, if one is
+abbrev pub call_in : List (Option Call) → ℕ → Option Call
+call_in calls t = slice_index_or calls t None
+
 abbrev pub call_of : View → ℕ → Option Call
-call_of v t = slice_index_or v.calls t None
+call_of v t = call_in v.calls t
+
+-- the stage that the call of a thread has reached, if it has made an event
+abbrev pub stage_in : Option Call → Option Stage
+stage_in None = None
+stage_in (Some c) = Some c.stage
+
+abbrev pub stage_of : View → ℕ → Option Stage
+stage_of v t = stage_in (call_of v t)
 
 -- the words of the region that a call owns
-abbrev pub claimed_by : Stage → ℕ
-claimed_by (Claimed address shape stored) = cost_of shape
-claimed_by stage = 0
-
 abbrev pub claimed_in : Option Call → ℕ
 claimed_in None = 0
-claimed_in (Some c) = claimed_by c.stage
+claimed_in (Some c) = (region_of c.stage).words
 
 abbrev pub claimed : List (Option Call) → ℕ
 claimed calls = sum (map claimed_in calls)
+
+-- some address has the number
+abbrev pub InUse : Maps → ℕ → Type 0
+InUse maps n = (address : ℕ) × (maps.address address ≡ Some n)
 
 -- The objects in use take so many words. With the regions that calls own they are below the first free place and
 -- within the heap.
@@ -118,19 +141,34 @@ pub record Counts (v : View) : Type 0 where
   pub below : in_use + claimed v.calls + 1 ≤ v.free
   pub within : in_use + claimed v.calls ≤ length v.space.list
 
--- The state stands for the history, and each call in flight is where it may be.
-pub record Standing (v : View) : Type 0 where
-  pub legal : Legal v.log (length v.globals)
+-- how many claims that end past the last word a call may still make, with what its thread does behind it
+abbrev pub claims_left : Bool → Option Stage → ℕ
+claims_left stop (Some (Polled task)) = 1
+claims_left stop (Some (Lacking need)) = 0
+claims_left stop stage = if stop then 0 else 1
+
+-- The first free place lies past the last word only by claims that ended there, at most one for each thread: with such a
+-- claim the stop word is set, and a thread that reads it claims no more.
+abbrev pub Bounded : View → Type 0
+Bounded v = (v.free ≤ length v.space.list + 1) ⊎ (v.free + 126 * sum (map (λ (c : Option Call). claims_left v.stop (stage_in c)) v.calls) ≤ length v.space.list + 1 + 126 * length v.calls)
+
+-- What stands between two events, told or not. The words hold as they are, and so do registers; each call in flight knows
+-- what its stage says, and fits its operation; regions of calls are apart.
+pub record Standing (told : Bool) (v : View) : Type 0 where
   pub named : IsSome v.names
   pub room : length (numbers_of v.names) ≡ length v.space.list
-  pub small : length v.space.list < 2 ^ 30
   pub few : length v.held ≤ 8
   pub each : length v.calls ≡ length v.held
   pub counted : v.made ≡ makes v.log
-  pub placed : Placed v.log (value v) (maps v) (state v)
-  pub in_flight : (t : ℕ) (c : Call) → call_of v t ≡ Some c → InFlight (maps v) (state v) t c
-  pub apart : (t u : ℕ) (c d : Call) → t ≢ u → call_of v t ≡ Some c → call_of v u ≡ Some d → RegionsApart c.stage d.stage
-  pub counts : Counts v
+  pub first : 1 ≤ v.free
+  pub bounded : Bounded v
+  pub holds : Holds told v.log (maps v) (state v)
+  pub legal : told ≡ true → Legal v.log (length v.globals)
+  pub registers : (t r : ℕ) → MayHold (maps v) (state v) (register_in v.held t r)
+  pub known : (t : ℕ) (c : Call) → call_of v t ≡ Some c → Known (maps v) (state v) c.stage
+  pub fits : (t : ℕ) (c : Call) → call_of v t ≡ Some c → Fits (register_in v.held t) c.op c.stage
+  pub apart : (t u : ℕ) (c d : Call) → t ≢ u → call_of v t ≡ Some c → call_of v u ≡ Some d → Apart (region_of c.stage) (region_of d.stage)
+  pub counts : told ≡ true → Counts v
 
 -- no call is in flight
 abbrev pub IsQuiet : View → Type 0

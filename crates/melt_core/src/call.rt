@@ -1,6 +1,9 @@
-//! Calls in flight.
+//! Calls in flight: what an operation has still to do with the words that threads share.
+//!
+//! A stage holds all that the rest of the call needs, so that no event looks at the operation again. What a stage claims
+//! of the words stays true whatever other threads do between two events.
 ghost use Rattle.std.specs.Prelude.{◌↔◌, IsTrue};
-ghost use Rattle.melt_core.specs.Calls.{HasPart};
+ghost use Rattle.melt_core.specs.Stages.{HasPart};
 
 use melt_model::Op;
 use melt_word::Shape;
@@ -14,56 +17,69 @@ pub enum Place {
     Global { g: u8 },
 }
 
-/// A part of an object: a reference slot or a number word, by its index.
+/// What an operation does with a part of an object: with a reference slot `i`, or with a number word `j`.
 #[derive(Clone, Copy, Debug, PartialEq, Eq)]
-pub enum Part {
-    Slot { i: u8 },
-    Number { j: u8 },
+pub enum Access {
+    /// Loads the slot into register `dst`.
+    Load { dst: u8, i: u8 },
+    /// Stores register `src` into the slot.
+    Store { i: u8, src: u8 },
+    /// Reads the number word.
+    Get { j: u8 },
+    /// Writes `v` into the number word.
+    Put { j: u8, v: u64 },
 }
 
-impl Part {
+impl Access {
     /// Whether an object of this shape has the part.
-    pub(crate) fn is_of(self, shape: Shape) -> bool
+    pub(crate) fn is_within(self, shape: Shape) -> bool
         ensures { IsTrue result ↔ HasPart self shape }
     {
         match self {
-            Part::Slot { i } => i < shape.refs,
-            Part::Number { j } => j < shape.nums,
+            Access::Load { i, .. } | Access::Store { i, .. } => i < shape.refs,
+            Access::Get { j } | Access::Put { j, .. } => j < shape.nums,
         }
     }
+}
+
+/// What an operation does with the words that threads share.
+#[derive(Clone, Copy, Debug, PartialEq, Eq)]
+pub enum Task {
+    /// Makes an object of this shape, and puts it into register `dst`.
+    Make { dst: u8, shape: Shape },
+    /// Uses a part of the object in register `r`, which holds one.
+    Use { r: u8, access: Access },
+    /// Loads global `g` into register `dst`.
+    LoadGlobal { dst: u8, g: u8 },
+    /// Stores register `src` into global `g`.
+    StoreGlobal { g: u8, src: u8 },
 }
 
 /// How far a call has come, and what it knows.
 #[derive(Clone, Copy, Debug, PartialEq, Eq)]
 pub enum Stage {
     /// The stop word was not set.
-    Polled,
-    /// The object in the register stands at the address, has this shape, and has the part that the operation is on.
+    Polled { task: Task },
+    /// The object stands at the address, has this shape, and has the part that is used.
     Headed {
         address: u32,
         shape: Shape,
+        access: Access,
     },
-    /// The word at the place was that of the stale address `target`.
-    Looked {
-        place: Place,
-        target: u32,
-    },
+    /// The word at the place, which is loaded into register `dst`, was that of the stale address `target`.
+    Looked { place: Place, target: u32, dst: u8 },
     /// And the object at `target` has no stale bit any more.
-    Cleared {
-        place: Place,
-        target: u32,
-    },
-    /// The words from the address on are for a new object of this shape. So many of those behind its header were
-    /// stored.
+    Cleared { place: Place, target: u32, dst: u8 },
+    /// The words from the address on are for a new object of this shape, which is to come into register `dst`. So many of
+    /// those behind its header were stored.
     Claimed {
         address: u32,
         shape: Shape,
         stored: u32,
+        dst: u8,
     },
     /// The `need` words that were claimed end past the last word of the heap.
-    Lacking {
-        need: u32,
-    },
+    Lacking { need: u32 },
 }
 
 /// A call in flight: its operation, and the stage that it has reached.

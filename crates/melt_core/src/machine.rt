@@ -1,5 +1,5 @@
 //! The core: a heap, the registers and calls of threads, and the history.
-ghost use Rattle.std.specs.Prelude.{◌≡◌, ◌+◌, ◌<◌, ◌≤◌, true, length, None, IfOk};
+ghost use Rattle.std.specs.Prelude.{◌≡◌, ◌+◌, ◌-◌, ◌<◌, Bool, true, length, None, IfOk, IsSome};
 ghost use Rattle.std.specs.Borrow.{sem};
 ghost use Rattle.melt_core.specs.Views.{IsQuiet, Standing, call_of, view};
 ghost use Rattle.melt_core.specs.Epochs.{AtRest, HasDropped, HasFinished, IsNewRest, core_of};
@@ -65,6 +65,7 @@ pub struct Core {
 impl Core {
     /// Begins an epoch with the stop word not set. The words behind those in use are free.
     pub fn begin(heap: Heap, rest: Rest) -> Core
+        requires names { IsSome heap.names }
         ensures { result ≡ core_of heap rest }
     {
         let free = heap.space.used() + 1;
@@ -78,10 +79,9 @@ impl Core {
 
     /// How many words stand before the first free place.
     pub fn used(&self) -> u32
-        requires { Standing (view self.now) }
-        ensures { (view self.now).free ≡ result + 1 }
+        ensures { result ≡ (view self.now).free - 1 }
     {
-        self.free - 1
+        self.free.saturating_sub(1)
     }
 
     /// Whether the stop word is set.
@@ -100,7 +100,6 @@ impl Core {
 
     /// Lets the registers of a thread hold nothing. The thread has no call in flight.
     pub fn drop_all(&mut self, thread: u32)
-        requires stands { Standing (view self.old) }
         requires thread { thread < length (view self.old).held }
         requires no_call { call_of (view self.old) thread ≡ None }
         ensures { HasDropped (view self.old) (view self.new) thread }
@@ -111,9 +110,8 @@ impl Core {
     /// Ends the epoch, in which no call is in flight. The words in use are those before the first free place, or all of
     /// them where a claim ended past the last one.
     pub fn finish(self) -> (Heap, Rest)
-        requires stands { Standing (view self) }
         requires quiet { IsQuiet (view self) }
-        ensures rests { AtRest result.0 result.1 }
+        ensures rests { (told : Bool) → Standing told (view self) → AtRest told result.0 result.1 }
         ensures finished { HasFinished (view self) (view (core_of result.0 result.1)) }
     {
         let Core {
@@ -122,7 +120,7 @@ impl Core {
             free,
             stop: _,
         } = self;
-        let used = (free - 1).min(heap.space.words());
+        let used = free.saturating_sub(1).min(heap.space.words());
         heap.space.set_used(used);
         (heap, rest)
     }

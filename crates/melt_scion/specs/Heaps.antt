@@ -1,7 +1,7 @@
 -- A heap as contracts see it, with the registers over it.
 use Rattle.std.specs.Prelude.{◌≡◌, ℕ, ◌+◌, Bool, if◌then◌else◌, List, [], length, replicate, Option, None, Some, slice_index, slice_index_or, map}
 use Rattle.melt_space.specs.Space.{word_at, IsFresh}
-use Rattle.melt_scion.specs.State.{State}
+use Rattle.melt_scion.specs.State.{Base, State}
 use Rattle.melt_scion.specs.Placed.{Maps, Formed}
 use Rattle.melt_scion.specs.Names.{name_at}
 use Rattle.melt_scion.specs.declared.registers.Registers.{Registers}
@@ -12,16 +12,28 @@ use Rattle.melt_scion.specs.declared.heap.Heap.{Heap}
 abbrev pub register_in : List Registers → ℕ → ℕ → ℕ
 register_in held t r = slice_index (slice_index_or (map (λ (x : Registers). x.regs) held) t []) r
 
--- the state that a heap and the registers of all threads show, with this first word past all homes
+-- A heap has no scions and no forwarding words yet, and the disk under it no homes.
+abbrev pub base_of : Heap → ℕ → Base
+base_of heap end = record {
+  size = length heap.space.list;
+  globals = length heap.globals;
+  forwards = 0;
+  scion = λ k. None;
+  end = end;
+  homes = [];
+  free_homes = [];
+  image = λ k. 0;
+}
+
+-- the state that a heap and the registers of all threads show, with this first word on disk past all homes
 abbrev pub state_of : Heap → List Registers → ℕ → State
 state_of heap held end = record {
-  size = length heap.space.list;
+  base = base_of heap end;
   free = heap.space.used + 1;
   word = word_at heap.space;
-  globals = length heap.globals;
   global = slice_index heap.globals;
+  forward = λ p. 0;
   register = register_in held;
-  end = end;
 }
 
 -- Where a heap keeps names, they are the map of addresses. One that keeps none has a map that nothing is stored of.

@@ -1,5 +1,6 @@
 pub mod State
 pub mod Placed
+pub mod Regions
 pub mod Changes
 pub mod Collected
 pub mod Names

@@ -1,0 +1,153 @@
+-- What one event does to a core.
+use Rattle.std.specs.Prelude.{◌≡◌, ◌≢◌, ℕ, ◌+◌, ◌^◌, ◌<◌, ◌≤◌, Bool, true, false, length, Option, None, Some}
+use Rattle.melt_model.specs.Alive.{Alive, words_of, CostsSum}
+use Rattle.melt_model.specs.declared.history.Act.{Act}
+use Rattle.melt_model.specs.declared.operations.Op.{Op}
+use Rattle.melt_model.specs.declared.operations.Op.TheVariants as op
+use Rattle.melt_model.specs.declared.operations.Reply.{Reply}
+use Rattle.melt_scion.specs.Heaps.{register_in}
+use Rattle.melt_core.specs.declared.answer.Pause.{Pause}
+use Rattle.melt_core.specs.declared.answer.Pause.TheVariants.{Asked, Space, Forward}
+use Rattle.melt_core.specs.declared.answer.Refusal.{Refusal}
+use Rattle.melt_core.specs.declared.answer.Refusal.TheVariants as refusal
+use Rattle.melt_core.specs.declared.answer.StepResult.{StepResult}
+use Rattle.melt_core.specs.declared.answer.StepResult.TheVariants.{Going, Answered, Refused}
+use Rattle.melt_core.specs.declared.call.Place.{Place}
+use Rattle.melt_core.specs.declared.call.Stage.{Stage}
+use Rattle.melt_core.specs.declared.call.Stage.TheVariants.{Lacking}
+use Rattle.melt_core.specs.declared.call.Call.{Call}
+use Rattle.melt_core.specs.Answering.{Answers, with_entry}
+use Rattle.melt_core.specs.Known.{Evolves, IsPlace, IsTagged, word_in}
+use Rattle.melt_core.specs.Stages.{LoadsAt, Applies, change_of, cleared_by, Next, MustPause, events_left}
+use Rattle.melt_core.specs.Views.{View, maps, state, values_of, value, registers_in, call_of, stage_of, Standing}
+
+-- registers and globals that the operation names are there, and the object that it makes is small enough
+abbrev pub InBounds : ℕ → Op → Type 0
+InBounds globals (op.New dst refs nums) = (dst < 16) × (refs ≤ 62) × (nums ≤ 62)
+InBounds globals (op.Load dst src i) = (dst < 16) × (src < 16)
+InBounds globals (op.Store obj i src) = (obj < 16) × (src < 16)
+InBounds globals (op.Get src j) = src < 16
+InBounds globals (op.Put obj j v) = obj < 16
+InBounds globals (op.GLoad dst g) = (dst < 16) × (g < globals)
+InBounds globals (op.GStore g src) = (g < globals) × (src < 16)
+InBounds globals (op.Same a b) = (a < 16) × (b < 16)
+InBounds globals (op.Copy dst src) = (dst < 16) × (src < 16)
+InBounds globals (op.Drop r) = r < 16
+InBounds globals op.Collect = Unit {0}
+
+-- the operation is the one whose call is in flight, if one is
+abbrev pub Continues : Option Call → Op → Type 0
+Continues None o = Unit {0}
+Continues (Some c) o = o ≡ c.op
+
+-- What each event of a thread asks: the words are well formed; operation and thread are in range, and the operation is no
+-- collection; a call that is in flight is continued; and the history has room for an entry.
+pub record MayAdvance (v : View) (t : ℕ) (o : Op) : Type 0 where
+  pub stands : Standing false v
+  pub thread : t < length v.held
+  pub bounds : InBounds (length v.globals) o
+  pub no_collect : o ≢ op.Collect
+  pub continued : Continues (call_of v t) o
+  pub room : length v.log < v.capacity
+  pub few : length v.log < 2 ^ 32
+
+-- what an event of one thread leaves to the others
+pub record KeepsOthers (v w : View) (t : ℕ) : Type 0 where
+  pub globals : length w.globals ≡ length v.globals
+  pub words : length w.space.list ≡ length v.space.list
+  pub threads : length w.held ≡ length v.held
+  pub capacity : w.capacity ≡ v.capacity
+  pub calls : (u : ℕ) → u ≢ t → call_of w u ≡ call_of v u
+  pub registers : (u : ℕ) → u ≢ t → registers_in w.held u ≡ registers_in v.held u
+  pub values : Standing true v → (u : ℕ) → u ≢ t → values_of w u ≡ values_of v u
+
+-- the history and the registers of the thread stay
+pub record KeepsOwn (v w : View) (t : ℕ) : Type 0 where
+  pub history : w.log ≡ v.log
+  pub registers : registers_in w.held t ≡ registers_in v.held t
+  pub values : values_of w t ≡ values_of v t
+
+-- the call of the thread goes on
+pub record Goes (v w : View) (t : ℕ) (o : Op) : Type 0 where
+  pub stage : Stage
+  pub next : Next (maps v) (state v) (register_in v.held t) v.stop o (stage_of v t) stage
+  pub call : call_of w t ≡ Some (record { op = o; stage = stage })
+  pub nearer : events_left (Some stage) < events_left (stage_of v t)
+  pub own : KeepsOwn v w t
+  pub stop : w.stop ≡ v.stop
+
+-- so many words more have room beside those of the objects that registers and globals reach
+pub record HasRoom (v : View) (need : ℕ) : Type 0 where
+  pub alive : ℕ
+  pub adds_up : CostsSum (words_of v.log) (Alive v.log (value v)) alive
+  pub fits : alive + need ≤ length v.space.list
+
+-- the object that the operation makes, if it makes one, has room
+abbrev pub HasRoomFor : View → Op → Type 0
+HasRoomFor v (op.New dst refs nums) = HasRoom v (2 + refs + nums)
+HasRoomFor v o = Unit {0}
+
+-- the operation sets the register
+abbrev pub Sets : Op → ℕ → Type 0
+Sets (op.New dst refs nums) r = r ≡ dst
+Sets (op.Load dst src i) r = r ≡ dst
+Sets (op.GLoad dst g) r = r ≡ dst
+Sets (op.Copy dst src) r = r ≡ dst
+Sets (op.Drop dst) r = r ≡ dst
+Sets o r = ⊥
+
+-- The call of the thread is answered, in an event that neither goes on nor has to pause. Reply, history and registers are
+-- those of the operation, where the words stand for the history; otherwise there is one entry more at most.
+pub record IsAnswered (v w : View) (t : ℕ) (o : Op) (reply : Reply) : Type 0 where
+  pub last : (next : Stage) → Next (maps v) (state v) (register_in v.held t) v.stop o (stage_of v t) next → ⊥
+  pub no_pause : MustPause (register_in v.held t) v.stop o (stage_of v t) → ⊥
+  pub call : call_of w t ≡ None
+  pub answers : Standing true v → Answers t v.log (values_of v t) o reply w.log (values_of w t)
+  pub history : (act : Option Act) × (w.log ≡ with_entry t v.log act)
+  pub registers : (r : ℕ) → (Sets o r → ⊥) → register_in w.held t r ≡ register_in v.held t r
+  pub stop : w.stop ≡ v.stop
+  pub room : Standing true v → HasRoomFor v o
+
+-- the call of the thread is refused, as the stop word is set; nothing changes
+pub record IsAsked (v w : View) (t : ℕ) (o : Op) : Type 0 where
+  pub first : call_of v t ≡ None
+  pub pauses : MustPause (register_in v.held t) v.stop o None
+  pub same : w ≡ v
+
+-- the call of the thread is refused, as its region ended past the last word of the heap; the stop word is set
+pub record IsRefused (v w : View) (t : ℕ) (o : Op) (need : ℕ) : Type 0 where
+  pub stage : stage_of v t ≡ Some (Lacking need)
+  pub call : call_of w t ≡ None
+  pub own : KeepsOwn v w t
+  pub stop : w.stop ≡ true
+
+abbrev pub Pauses : View → View → ℕ → Op → Pause → Type 0
+Pauses v w t o Asked = IsAsked v w t o
+Pauses v w t o (Space need) = IsRefused v w t o need
+Pauses v w t o Forward = ⊥
+
+abbrev pub Refuses : View → View → ℕ → Op → Refusal → Type 0
+Refuses v w t o (refusal.Pause pause) = Pauses v w t o pause
+Refuses v w t o refusal.DiskFault = ⊥
+Refuses v w t o (refusal.Damaged damaged) = ⊥
+
+abbrev pub Outcome : View → View → ℕ → Op → StepResult → Type 0
+Outcome v w t o Going = Goes v w t o
+Outcome v w t o (Answered reply) = IsAnswered v w t o reply
+Outcome v w t o (Refused refusal) = Refuses v w t o refusal
+
+-- where a load was answered, the reference that it read has no tag
+abbrev pub LeavesClean : View → View → ℕ → Op → StepResult → Type 0
+LeavesClean v w t o (Answered reply) = (place : Place) (dst : ℕ) → LoadsAt (register_in v.held t) o place dst → IsPlace (maps v) (state v) place → IsTagged (word_in (state w) place) → ⊥
+LeavesClean v w t o Going = Unit {0}
+LeavesClean v w t o (Refused refusal) = Unit {0}
+
+-- One event of a thread was made: what stood before, told or not, stands after; the shared words changed as that event
+-- changes them, and in no other way.
+pub record Advances (v w : View) (t : ℕ) (o : Op) (result : StepResult) : Type 0 where
+  pub keeps : (told : Bool) → Standing told v → Standing told w
+  pub changes : Applies (maps v) (maps w) (state v) (state w) (change_of (state v) (register_in v.held t) (stage_of v t))
+  pub evolves : Evolves (maps v) (maps w) (state v) (state w) (cleared_by (stage_of v t))
+  pub others : KeepsOthers v w t
+  pub outcome : Outcome v w t o result
+  pub clean : LeavesClean v w t o result

@@ -1,0 +1,2 @@
+//! Forwarding words.
+#![tactic(auto)]
