@@ -3,6 +3,7 @@ pub mod Known
 pub mod Events
 pub mod Stages
 pub mod Views
+pub mod Changed
 pub mod Advances
 pub mod Epochs
 pub mod Lending

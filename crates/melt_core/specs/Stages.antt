@@ -139,3 +139,13 @@ events_left (Some (Looked place target dst)) = 3
 events_left (Some (Cleared place target dst)) = 2
 events_left (Some (Claimed address shape stored dst)) = cost_of shape - stored
 events_left (Some (Lacking need)) = 1
+
+-- the call may look at the place now, to load it into the register
+abbrev pub LooksFrom : Option Stage → Place → ℕ → Type 0
+LooksFrom stage (Field object i) dst = (shape : Shape) × (stage ≡ Some (Headed object shape (Load dst i)))
+LooksFrom stage (Global g) dst = stage ≡ Some (Polled (LoadGlobal dst g))
+
+-- the call may write the register into the place now
+abbrev pub StoresFrom : Option Stage → Place → ℕ → Type 0
+StoresFrom stage (Field object i) src = (shape : Shape) × (stage ≡ Some (Headed object shape (Store i src)))
+StoresFrom stage (Global g) src = stage ≡ Some (Polled (StoreGlobal g src))

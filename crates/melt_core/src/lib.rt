@@ -1,9 +1,15 @@
 //! The machine of events: a heap over which the calls of several threads go on one event at a time.
 #![tactic(auto)]
 
+mod advance;
 pub mod answer;
 pub mod call;
+mod load;
 pub mod machine;
+mod make;
+mod parts;
+mod poll;
+mod write;
 
 pub use answer::{Pause, Refusal, StepResult};
 pub use machine::{Core, Rest};

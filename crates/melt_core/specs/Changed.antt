@@ -1,0 +1,43 @@
+-- The small changes of which events are made, as changes of a view.
+use Rattle.std.specs.Prelude.{◌≡◌, ℕ, [], ◌∷◌, ◌++◌, slice_set, Option, None, Some}
+use Rattle.melt_model.specs.Thread.{found}
+use Rattle.melt_model.specs.declared.history.Entry.{Entry}
+use Rattle.melt_model.specs.declared.history.Act.TheVariants.{Read}
+use Rattle.melt_model.specs.declared.history.Slot.{Slot}
+use Rattle.melt_word.specs.Words.{IsRef, ref_word}
+use Rattle.melt_word.specs.declared.reference.Ref.{Ref}
+use Rattle.melt_core.specs.declared.answer.StepResult.{StepResult}
+use Rattle.melt_core.specs.declared.answer.StepResult.TheVariants.{Answered}
+use Rattle.melt_core.specs.declared.call.Call.{Call}
+use Rattle.melt_core.specs.declared.call.Place.{Place}
+use Rattle.melt_core.specs.Answering.{entry}
+use Rattle.melt_core.specs.Known.{SlotAt}
+use Rattle.melt_core.specs.Views.{View, registers_in, maps, held_value}
+
+-- the word is that of the reference
+pub record HoldsRef (word : ℕ) (reference : Ref) : Type 0 where
+  pub in_range : IsRef reference
+  pub is : word ≡ ref_word reference
+
+-- the call of a thread is this, or is over
+abbrev pub with_call : View → ℕ → Option Call → View
+with_call v t call = record v { calls = slice_set v.calls t call }
+
+-- a register of a thread holds this address
+abbrev pub with_register : View → ℕ → ℕ → ℕ → View
+with_register v t r address = record v { held = slice_set v.held t (record { regs = slice_set (registers_in v.held t) r address }) }
+
+-- the history has one entry more
+abbrev pub noted : View → Entry → View
+noted v e = record v { log = v.log ++ e ∷ [] }
+
+-- only words of the space and globals differ
+abbrev pub OnlyWords : View → View → Type 0
+OnlyWords v w = w ≡ record v { space = w.space; globals = w.globals }
+
+-- What an address stands for was read at a place into a register, and the call is over.
+pub record HasRead (v w : View) (t : ℕ) (place : Place) (dst address : ℕ) (result : StepResult) : Type 0 where
+  pub slot : Slot
+  pub is_slot : SlotAt (maps v) place slot
+  pub told : result ≡ Answered (found (held_value v.names address))
+  pub is : w ≡ with_call (with_register (noted v (entry t (Read slot (held_value v.names address)))) t dst address) t None

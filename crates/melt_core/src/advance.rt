@@ -1,0 +1,79 @@
+//! One event of a call: which it is, by the stage that the call has reached.
+ghost use Rattle.std.specs.Prelude.{◌≡◌, Some};
+ghost use Rattle.melt_core.specs.Advances.{Advances, MayAdvance};
+ghost use Rattle.melt_core.specs.Views.{stage_of, view};
+
+use crate::answer::StepResult;
+use crate::call::{Access, Place, Stage, Task};
+use crate::machine::Core;
+use melt_io::RecordReader;
+use melt_model::Op;
+use melt_word::Shape;
+
+impl Core {
+    /// The event after the stop word was read.
+    fn after_poll(&mut self, thread: u32, op: Op, task: Task) -> StepResult
+        requires asks { MayAdvance (view self.old) thread op }
+        requires stage { stage_of (view self.old) thread ≡ Some (Stage.Polled task) }
+        ensures { Advances (view self.old) (view self.new) thread op result }
+    {
+        match task {
+            Task::Make { dst, shape } => self.claim(thread, op, shape, dst),
+            Task::Use { r, access } => self.head(thread, op, r, access),
+            Task::LoadGlobal { dst, g } => self.look(thread, op, Place::Global { g }, dst),
+            Task::StoreGlobal { g, src } => self.store(thread, op, Place::Global { g }, src),
+        }
+    }
+
+    /// The event after the header of an object was read.
+    fn after_head(&mut self, thread: u32, op: Op, address: u32, shape: Shape, access: Access) -> StepResult
+        requires asks { MayAdvance (view self.old) thread op }
+        requires stage { stage_of (view self.old) thread ≡ Some (Stage.Headed address shape access) }
+        ensures { Advances (view self.old) (view self.new) thread op result }
+    {
+        let object = address;
+        match access {
+            Access::Load { dst, i } => self.look(thread, op, Place::Field { object, i }, dst),
+            Access::Store { i, src } => self.store(thread, op, Place::Field { object, i }, src),
+            Access::Get { j } => self.get(thread, op, address, shape, j),
+            Access::Put { j, v } => self.put(thread, op, address, shape, j, v),
+        }
+    }
+
+    /// Makes one event of a thread: begins the call of an operation, or goes on with the one that is in flight, which
+    /// is to be of the same operation. An answer changes the registers and the history as the operation does; a refused
+    /// call changes neither. It takes no memory.
+    ///
+    /// No object has a home on disk yet: the first word past all homes and the reader are not used.
+    pub fn advance<R: RecordReader>(
+        &mut self,
+        thread: u32,
+        op: Op,
+        _end: u32,
+        _reader: &mut R,
+    ) -> StepResult
+        requires { MayAdvance (view self.old) thread op }
+        ensures { Advances (view self.old) (view self.new) thread op result }
+    {
+        let Some(call) = self.rest.calls[thread as usize] else {
+            return self.begin_call(thread, op);
+        };
+        match call.stage {
+            Stage::Polled { task } => self.after_poll(thread, op, task),
+            Stage::Headed {
+                address,
+                shape,
+                access,
+            } => self.after_head(thread, op, address, shape, access),
+            Stage::Looked { place, target, dst } => self.clear(thread, op, place, target, dst),
+            Stage::Cleared { place, target, dst } => self.untag(thread, op, place, target, dst),
+            Stage::Claimed {
+                address,
+                shape,
+                stored,
+                dst,
+            } => self.fill(thread, op, address, shape, stored, dst),
+            Stage::Lacking { need } => self.lack(thread, op, need),
+        }
+    }
+}

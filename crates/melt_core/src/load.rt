@@ -1,0 +1,131 @@
+//! Reads of objects and globals, and the read barrier.
+//!
+//! A load looks at a word once. One without a tag is answered at once: that is the fast path. A stale address takes the
+//! slow path, one event after the other: the stale bit of the object is cleared first, and then the word is exchanged for
+//! the clean one, if it is still what was found. So no clean address is ever that of an object with the stale bit, and the
+//! word that the exchange finds is always one that may be answered: a word with a tag can only have become one without.
+ghost use Rattle.std.specs.Prelude.{◌≡◌, ◌<◌, false, length, Some, None};
+ghost use Rattle.melt_core.specs.Advances.{Advances, MayAdvance};
+ghost use Rattle.melt_core.specs.Changed.{HasRead, HoldsRef};
+ghost use Rattle.melt_core.specs.Known.{IsPlace, word_in};
+ghost use Rattle.melt_core.specs.Stages.{LooksFrom};
+ghost use Rattle.melt_core.specs.Views.{Standing, maps, stage_of, state, view};
+
+use crate::answer::StepResult;
+use crate::call::{Access, Call, Place, Stage, Task};
+use crate::machine::Core;
+use crate::parts::{found, reference, value_at};
+use melt_model::{Act, Op, Reply, Slot, Value};
+use melt_word::{Header, Ref, Shape, encode_header, encode_ref};
+
+impl Core {
+    /// Reads the header of the object in a register. Its shape never changes, so that what is known of it stays.
+    pub(crate) fn head(&mut self, thread: u32, op: Op, r: u8, access: Access) -> StepResult
+        requires asks { MayAdvance (view self.old) thread op }
+        requires stage { stage_of (view self.old) thread ≡ Some (Stage.Polled (Task.Use r access)) }
+        ensures { Advances (view self.old) (view self.new) thread op result }
+    {
+        let address = self.register(thread, r);
+        let shape = self.heap.space.shape(address);
+        if access.is_within(shape) {
+            let stage = Stage::Headed {
+                address,
+                shape,
+                access,
+            };
+            return self.go(thread, op, stage);
+        }
+        self.set_call(thread, None);
+        StepResult::Answered(Reply::Range)
+    }
+
+    /// Reads a number word of an object.
+    pub(crate) fn get(&mut self, thread: u32, op: Op, address: u32, shape: Shape, j: u8) -> StepResult
+        requires asks { MayAdvance (view self.old) thread op }
+        requires stage { stage_of (view self.old) thread ≡ Some (Stage.Headed address shape (Access.Get j)) }
+        ensures { Advances (view self.old) (view self.new) thread op result }
+    {
+        let at = address + 2 + u32::from(shape.refs) + u32::from(j);
+        let number = self.heap.space.word(at);
+        let slot = Slot::Cell(self.number_at(address), j);
+        let value = Value::Num(number);
+        self.note(thread, Act::Read { slot, value });
+        self.set_call(thread, None);
+        StepResult::Answered(Reply::Num(number))
+    }
+
+    /// The reference at a place, which is no home.
+    fn reference_in(&self, place: Place) -> Ref
+        requires stands { Standing false (view self.now) }
+        requires place { IsPlace (maps (view self.now)) (state (view self.now)) place }
+        ensures { HoldsRef (word_in (state (view self.now)) place) result }
+    {
+        reference(self.word_in(place))
+    }
+
+    /// Answers a load with the object at an address, or with none where that is 0.
+    fn read(&mut self, thread: u32, place: Place, dst: u8, address: u32) -> StepResult
+        requires thread { thread < length (view self.old).held }
+        requires calls { thread < length (view self.old).calls }
+        requires small { thread < 256 }
+        requires register { dst < 16 }
+        requires room { length (view self.old).log < (view self.old).capacity }
+        requires place { IsPlace (maps (view self.old)) (state (view self.old)) place }
+        ensures { HasRead (view self.old) (view self.new) thread place dst address result }
+    {
+        let slot = self.slot_at(place);
+        let value = value_at(&self.heap.names, address);
+        self.note(thread, Act::Read { slot, value });
+        self.set_register(thread, dst, address);
+        self.set_call(thread, None);
+        StepResult::Answered(found(value))
+    }
+
+    /// Looks at the word at a place.
+    pub(crate) fn look(&mut self, thread: u32, op: Op, place: Place, dst: u8) -> StepResult
+        requires asks { MayAdvance (view self.old) thread op }
+        requires stage { LooksFrom (stage_of (view self.old) thread) place dst }
+        ensures { Advances (view self.old) (view self.new) thread op result }
+    {
+        match self.reference_in(place) {
+            Ref::Null => self.read(thread, place, dst, 0),
+            Ref::Clean(address) => self.read(thread, place, dst, address),
+            Ref::Stale(target) => self.go(thread, op, Stage::Looked { place, target, dst }),
+            Ref::Disk(_) => unreachable!(),
+        }
+    }
+
+    /// Clears the stale bit of the object that a load found.
+    pub(crate) fn clear(&mut self, thread: u32, op: Op, place: Place, target: u32, dst: u8) -> StepResult
+        requires asks { MayAdvance (view self.old) thread op }
+        requires stage { stage_of (view self.old) thread ≡ Some (Stage.Looked place target dst) }
+        ensures { Advances (view self.old) (view self.new) thread op result }
+    {
+        let header = Header {
+            shape: self.heap.space.shape(target),
+            stale: false,
+        };
+        self.heap.space.set_word(target, encode_header(header));
+        let stage = Stage::Cleared { place, target, dst };
+        self.set_call(thread, Some(Call { op, stage }));
+        StepResult::Going
+    }
+
+    /// Exchanges the word at a place for that of the clean address, if it is still that of the stale one. The load is
+    /// answered with the reference that stands there then.
+    pub(crate) fn untag(&mut self, thread: u32, op: Op, place: Place, target: u32, dst: u8) -> StepResult
+        requires asks { MayAdvance (view self.old) thread op }
+        requires stage { stage_of (view self.old) thread ≡ Some (Stage.Cleared place target dst) }
+        ensures { Advances (view self.old) (view self.new) thread op result }
+    {
+        match self.reference_in(place) {
+            Ref::Null => self.read(thread, place, dst, 0),
+            Ref::Clean(current) => self.read(thread, place, dst, current),
+            Ref::Stale(_) => {
+                self.set_word_in(place, encode_ref(Ref::Clean(target)));
+                self.read(thread, place, dst, target)
+            }
+            Ref::Disk(_) => unreachable!(),
+        }
+    }
+}

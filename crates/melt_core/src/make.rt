@@ -1,0 +1,103 @@
+//! How an object is made while other threads run: bump allocation in events.
+//!
+//! The claim moves the first free place on, and from then on the words belong to one thread. It stores 0 in all of them
+//! but the first, and the header last: with that word the object is there, whole. A claim that ends past the last word
+//! takes its words too, so that no two threads are ever given one word.
+ghost use Rattle.std.specs.Prelude.{◌≡◌, ◌+◌, ◌<◌, Some};
+ghost use Rattle.melt_word.specs.Words.{cost_of};
+ghost use Rattle.melt_core.specs.Advances.{Advances, MayAdvance};
+ghost use Rattle.melt_core.specs.Views.{stage_of, view};
+
+use crate::answer::{Pause, Refusal, StepResult};
+use crate::call::{Call, Stage, Task};
+use crate::machine::Core;
+use crate::parts::set_name;
+use melt_model::{Act, Op, Reply};
+use melt_word::{Header, Shape, cost, encode_header};
+
+impl Core {
+    /// Claims the words for an object.
+    pub(crate) fn claim(&mut self, thread: u32, op: Op, shape: Shape, dst: u8) -> StepResult
+        requires asks { MayAdvance (view self.old) thread op }
+        requires stage { stage_of (view self.old) thread ≡ Some (Stage.Polled (Task.Make dst shape)) }
+        ensures { Advances (view self.old) (view self.new) thread op result }
+    {
+        let address = self.free;
+        let need = cost(shape);
+        self.free = address + need;
+        let stage = if self.free > self.heap.space.words() + 1 {
+            Stage::Lacking { need }
+        } else {
+            Stage::Claimed {
+                address,
+                shape,
+                stored: 0,
+                dst,
+            }
+        };
+        self.set_call(thread, Some(Call { op, stage }));
+        StepResult::Going
+    }
+
+    /// Stores 0 in the next word of the region of a call.
+    fn store_zero(&mut self, thread: u32, op: Op, address: u32, shape: Shape, stored: u32, dst: u8) -> StepResult
+        requires asks { MayAdvance (view self.old) thread op }
+        requires stage { stage_of (view self.old) thread ≡ Some (Stage.Claimed address shape stored dst) }
+        requires few { stored + 1 < cost_of shape }
+        ensures { Advances (view self.old) (view self.new) thread op result }
+    {
+        self.heap.space.set_word(address + 1 + stored, 0);
+        let stage = Stage::Claimed {
+            address,
+            shape,
+            stored: stored + 1,
+            dst,
+        };
+        self.set_call(thread, Some(Call { op, stage }));
+        StepResult::Going
+    }
+
+    /// Stores the header: the words are an object now, which has the next number.
+    fn publish(&mut self, thread: u32, op: Op, address: u32, shape: Shape, stored: u32, dst: u8) -> StepResult
+        requires asks { MayAdvance (view self.old) thread op }
+        requires stage { stage_of (view self.old) thread ≡ Some (Stage.Claimed address shape stored dst) }
+        requires all { stored + 1 ≡ cost_of shape }
+        ensures { Advances (view self.old) (view self.new) thread op result }
+    {
+        let header = Header {
+            shape,
+            stale: false,
+        };
+        self.heap.space.set_word(address, encode_header(header));
+        set_name(&mut self.heap.names, address, self.rest.made as u32);
+        self.rest.made += 1;
+        let Shape { refs, nums } = shape;
+        self.note(thread, Act::Make { refs, nums });
+        self.set_register(thread, dst, address);
+        self.set_call(thread, None);
+        StepResult::Answered(Reply::Done)
+    }
+
+    /// Stores the next word of the region of a call, the header last.
+    pub(crate) fn fill(&mut self, thread: u32, op: Op, address: u32, shape: Shape, stored: u32, dst: u8) -> StepResult
+        requires asks { MayAdvance (view self.old) thread op }
+        requires stage { stage_of (view self.old) thread ≡ Some (Stage.Claimed address shape stored dst) }
+        ensures { Advances (view self.old) (view self.new) thread op result }
+    {
+        if stored + 1 < cost(shape) {
+            return self.store_zero(thread, op, address, shape, stored, dst);
+        }
+        self.publish(thread, op, address, shape, stored, dst)
+    }
+
+    /// Sets the stop word, as the words that were claimed end past the last one.
+    pub(crate) fn lack(&mut self, thread: u32, op: Op, need: u32) -> StepResult
+        requires asks { MayAdvance (view self.old) thread op }
+        requires stage { stage_of (view self.old) thread ≡ Some (Stage.Lacking need) }
+        ensures { Advances (view self.old) (view self.new) thread op result }
+    {
+        self.stop = true;
+        self.set_call(thread, None);
+        StepResult::Refused(Refusal::Pause(Pause::Space { need }))
+    }
+}

@@ -1,0 +1,170 @@
+//! Steps on the parts of a core, each of which changes one of them and says nothing of the others' meaning.
+ghost use Rattle.std.specs.Prelude.{◌≡◌, ◌*◌, ◌^◌, ◌<◌, ◌≤◌, false, length, slice_set, Some, None, IsSome};
+ghost use Rattle.melt_model.specs.Thread.{found as found_in};
+ghost use Rattle.melt_word.specs.declared.reference.Ref.{Ref};
+ghost use Rattle.melt_scion.specs.Changes.{NameAppears};
+ghost use Rattle.melt_scion.specs.Heaps.{register_in};
+ghost use Rattle.melt_core.specs.Answering.{entry};
+ghost use Rattle.melt_core.specs.Changed.{HoldsRef, OnlyWords, noted, with_call, with_register};
+ghost use Rattle.melt_core.specs.Events.{PlaceChanges};
+ghost use Rattle.melt_core.specs.Known.{IsPlace, SlotAt, word_in};
+ghost use Rattle.melt_core.specs.Views.{Standing, held_value, maps, maps_of, numbers_of, state, view};
+
+use crate::call::{Call, Place};
+use crate::machine::Core;
+use melt_model::{Act, Entry, Reply, Slot, Value};
+use melt_scion::{Globals, Names};
+use melt_word::{Ref, decode_ref, encode_ref};
+
+/// The value that an address in a register stands for.
+pub(crate) fn value_at(names: &Option<Names>, address: u32) -> Value
+    ensures { result ≡ held_value names.now address }
+{
+    let names = names.as_ref();
+    match names.and_then(|names| names.addresses.get(address)) {
+        Some(number) => Value::Ref(u64::from(number)),
+        None => Value::Nil,
+    }
+}
+
+/// Gives an address its name.
+pub(crate) fn set_name(names: &mut Option<Names>, address: u32, number: u32)
+    requires named { IsSome names.old }
+    requires first { 1 ≤ address }
+    requires last { address ≤ length (numbers_of names.old) }
+    ensures named { IsSome names.new }
+    ensures size { length (numbers_of names.new) ≡ length (numbers_of names.old) }
+    ensures appears { NameAppears (maps_of names.old) (maps_of names.new) address number }
+{
+    if let Some(names) = names {
+        names.addresses.set(address, number);
+    }
+}
+
+/// The reference that a word holds.
+pub(crate) fn reference(word: u64) -> Ref
+    requires { (r : Ref) × HoldsRef word r }
+    ensures { HoldsRef word result }
+{
+    match decode_ref(word) {
+        Ok(reference) => reference,
+        Err(_) => unreachable!(),
+    }
+}
+
+/// The word of a clean reference to the object at an address, or of none where the address is 0.
+pub(crate) fn reference_word(address: u32) -> u64
+    requires { address < 2 ^ 30 }
+    ensures { result ≡ 4 * address }
+{
+    if address == 0 {
+        encode_ref(Ref::Null)
+    } else {
+        encode_ref(Ref::Clean(address))
+    }
+}
+
+/// Replaces the word of a global.
+pub(crate) fn set_global_word(globals: &mut Globals, g: u8, word: u64)
+    requires { g < length globals.old }
+    ensures { globals.new ≡ slice_set globals.old g word }
+{
+    globals.items[g as usize] = word;
+}
+
+/// What a load that found this value replies.
+pub(crate) fn found(value: Value) -> Reply
+    ensures { result ≡ found_in value }
+{
+    match value {
+        Value::Nil => Reply::Null,
+        Value::Ref(_) | Value::Num(_) => Reply::Ref,
+    }
+}
+
+impl Core {
+    /// What a register of a thread holds.
+    pub(crate) fn register(&self, thread: u32, r: u8) -> u32
+        requires thread { thread < length (view self.now).held }
+        requires register { r < 16 }
+        ensures { result ≡ register_in (view self.now).held thread r }
+    {
+        self.rest.held[thread as usize].regs[r as usize]
+    }
+
+    /// Sets a register of a thread.
+    pub(crate) fn set_register(&mut self, thread: u32, r: u8, address: u32)
+        requires thread { thread < length (view self.old).held }
+        requires register { r < 16 }
+        ensures { view self.new ≡ with_register (view self.old) thread r address }
+    {
+        self.rest.held[thread as usize].regs[r as usize] = address;
+    }
+
+    /// Says how far the call of a thread has come, or that it is over.
+    pub(crate) fn set_call(&mut self, thread: u32, call: Option<Call>)
+        requires thread { thread < length (view self.old).calls }
+        ensures { view self.new ≡ with_call (view self.old) thread call }
+    {
+        self.rest.calls[thread as usize] = call;
+    }
+
+    /// Writes the entry of a call into the history: the only place where it grows.
+    pub(crate) fn note(&mut self, thread: u32, act: Act)
+        requires thread { thread < 256 }
+        requires room { length (view self.old).log < (view self.old).capacity }
+        ensures { view self.new ≡ noted (view self.old) (entry thread act) }
+    {
+        self.rest.log.push_reserved(Entry {
+            thread: thread as u8,
+            act,
+        });
+    }
+
+    /// The number of the object at an address.
+    pub(crate) fn number_at(&self, address: u32) -> u64
+        requires { IsSome ((maps (view self.now)).address address) }
+        ensures { (maps (view self.now)).address address ≡ Some result }
+    {
+        match value_at(&self.heap.names, address) {
+            Value::Ref(number) => number,
+            Value::Nil | Value::Num(_) => unreachable!(),
+        }
+    }
+
+    /// The slot that a place is.
+    pub(crate) fn slot_at(&self, place: Place) -> Slot
+        requires { IsPlace (maps (view self.now)) (state (view self.now)) place }
+        ensures { SlotAt (maps (view self.now)) place result }
+    {
+        match place {
+            Place::Field { object, i } => Slot::Field(self.number_at(object), i),
+            Place::Global { g } => Slot::Global(g),
+        }
+    }
+
+    /// The word at a place.
+    pub(crate) fn word_in(&self, place: Place) -> u64
+        requires stands { Standing false (view self.now) }
+        requires place { IsPlace (maps (view self.now)) (state (view self.now)) place }
+        ensures { result ≡ word_in (state (view self.now)) place }
+    {
+        match place {
+            Place::Field { object, i } => self.heap.space.word(object + 2 + u32::from(i)),
+            Place::Global { g } => self.heap.globals.items[g as usize],
+        }
+    }
+
+    /// Replaces the word at a place.
+    pub(crate) fn set_word_in(&mut self, place: Place, word: u64)
+        requires stands { Standing false (view self.old) }
+        requires place { IsPlace (maps (view self.old)) (state (view self.old)) place }
+        ensures only { OnlyWords (view self.old) (view self.new) }
+        ensures changes { PlaceChanges (state (view self.old)) (state (view self.new)) place word }
+    {
+        match place {
+            Place::Field { object, i } => self.heap.space.set_word(object + 2 + u32::from(i), word),
+            Place::Global { g } => set_global_word(&mut self.heap.globals, g, word),
+        }
+    }
+}

@@ -1,0 +1,115 @@
+//! The first event of a call: operations on registers alone are answered there, all others read the stop word.
+//!
+//! Only a call that has read the stop word unset goes on, and none reads it twice. So a safepoint waits for each thread
+//! for at most as many events as one call has, and a thread that meets the stop word has changed nothing.
+ghost use Rattle.std.specs.Prelude.{◌≡◌, Some, None};
+ghost use Rattle.melt_scion.specs.Heaps.{register_in};
+ghost use Rattle.melt_core.specs.Advances.{Advances, MayAdvance};
+ghost use Rattle.melt_core.specs.Known.{Known};
+ghost use Rattle.melt_core.specs.Stages.{Next, Nothing, Shares, change_of, task_of};
+ghost use Rattle.melt_core.specs.Views.{call_of, claimed_in, maps, stage_of, state, view};
+
+use crate::answer::{Pause, Refusal, StepResult};
+use crate::call::{Access, Call, Stage, Task};
+use crate::machine::Core;
+use melt_model::{Op, Reply};
+use melt_word::Shape;
+
+impl Core {
+    /// The call goes on at this stage, and no word that threads share changes.
+    pub(crate) fn go(&mut self, thread: u32, op: Op, stage: Stage) -> StepResult
+        requires asks { MayAdvance (view self.old) thread op }
+        requires still { change_of (state (view self.old)) (register_in (view self.old).held thread) (stage_of (view self.old) thread) ≡ Nothing }
+        requires next { Next (maps (view self.old)) (state (view self.old)) (register_in (view self.old).held thread) (view self.old).stop op (stage_of (view self.old) thread) stage }
+        requires known { Known (maps (view self.old)) (state (view self.old)) stage }
+        requires words { claimed_in (Some (record { op = op; stage = stage })) ≡ 0 }
+        ensures { Advances (view self.old) (view self.new) thread op result }
+    {
+        self.set_call(thread, Some(Call { op, stage }));
+        StepResult::Going
+    }
+
+    /// Reads the stop word.
+    fn poll(&mut self, thread: u32, op: Op, task: Task) -> StepResult
+        requires asks { MayAdvance (view self.old) thread op }
+        requires first { call_of (view self.old) thread ≡ None }
+        requires shares { Shares (register_in (view self.old).held thread) op task }
+        ensures { Advances (view self.old) (view self.new) thread op result }
+    {
+        if self.stop {
+            return StepResult::Refused(Refusal::Pause(Pause::Asked));
+        }
+        self.go(thread, op, Stage::Polled { task })
+    }
+
+    /// Begins an operation on a part of the object in a register. Where that holds none, the answer needs no shared word.
+    fn poll_object(&mut self, thread: u32, op: Op, r: u8, access: Access) -> StepResult
+        requires asks { MayAdvance (view self.old) thread op }
+        requires first { call_of (view self.old) thread ≡ None }
+        requires task { task_of op ≡ Some (Task.Use r access) }
+        ensures { Advances (view self.old) (view self.new) thread op result }
+    {
+        if self.register(thread, r) == 0 {
+            return StepResult::Answered(Reply::Nil);
+        }
+        self.poll(thread, op, Task::Use { r, access })
+    }
+
+    /// Each object has one address, so that addresses are compared in place of objects.
+    fn same(&self, thread: u32, a: u8, b: u8) -> StepResult
+        requires asks { MayAdvance (view self.now) thread (Op.Same a b) }
+        requires first { call_of (view self.now) thread ≡ None }
+        ensures { Advances (view self.now) (view self.now) thread (Op.Same a b) result }
+    {
+        if self.register(thread, a) == self.register(thread, b) {
+            StepResult::Answered(Reply::Yes)
+        } else {
+            StepResult::Answered(Reply::No)
+        }
+    }
+
+    fn copy(&mut self, thread: u32, dst: u8, src: u8) -> StepResult
+        requires asks { MayAdvance (view self.old) thread (Op.Copy dst src) }
+        requires first { call_of (view self.old) thread ≡ None }
+        ensures { Advances (view self.old) (view self.new) thread (Op.Copy dst src) result }
+    {
+        let address = self.register(thread, src);
+        self.set_register(thread, dst, address);
+        StepResult::Answered(Reply::Done)
+    }
+
+    fn drop_register(&mut self, thread: u32, r: u8) -> StepResult
+        requires asks { MayAdvance (view self.old) thread (Op.Drop r) }
+        requires first { call_of (view self.old) thread ≡ None }
+        ensures { Advances (view self.old) (view self.new) thread (Op.Drop r) result }
+    {
+        self.set_register(thread, r, 0);
+        StepResult::Answered(Reply::Done)
+    }
+
+    /// The first event of a call.
+    pub(crate) fn begin_call(&mut self, thread: u32, op: Op) -> StepResult
+        requires asks { MayAdvance (view self.old) thread op }
+        requires first { call_of (view self.old) thread ≡ None }
+        ensures { Advances (view self.old) (view self.new) thread op result }
+    {
+        match op {
+            Op::New { dst, refs, nums } => {
+                let shape = Shape { refs, nums };
+                self.poll(thread, op, Task::Make { dst, shape })
+            }
+            Op::Load { dst, src, i } => self.poll_object(thread, op, src, Access::Load { dst, i }),
+            Op::Store { obj, i, src } => {
+                self.poll_object(thread, op, obj, Access::Store { i, src })
+            }
+            Op::Get { src, j } => self.poll_object(thread, op, src, Access::Get { j }),
+            Op::Put { obj, j, v } => self.poll_object(thread, op, obj, Access::Put { j, v }),
+            Op::GLoad { dst, g } => self.poll(thread, op, Task::LoadGlobal { dst, g }),
+            Op::GStore { g, src } => self.poll(thread, op, Task::StoreGlobal { g, src }),
+            Op::Same { a, b } => self.same(thread, a, b),
+            Op::Copy { dst, src } => self.copy(thread, dst, src),
+            Op::Drop { r } => self.drop_register(thread, r),
+            Op::Collect => unreachable!(),
+        }
+    }
+}

@@ -1,0 +1,47 @@
+//! Writes to objects and globals.
+//!
+//! A register never holds an object with the stale bit, so that what is written needs no tag. The entry of the history and
+//! the word are written in one event: no other thread can come between.
+ghost use Rattle.std.specs.Prelude.{◌≡◌, Some};
+ghost use Rattle.melt_core.specs.Advances.{Advances, MayAdvance};
+ghost use Rattle.melt_core.specs.Stages.{StoresFrom};
+ghost use Rattle.melt_core.specs.Views.{stage_of, view};
+
+use crate::answer::StepResult;
+use crate::call::{Access, Place, Stage};
+use crate::machine::Core;
+use crate::parts::{reference_word, value_at};
+use melt_model::{Act, Op, Reply, Slot, Value};
+use melt_word::Shape;
+
+impl Core {
+    /// Writes what a register holds into a slot of an object, or into a global.
+    pub(crate) fn store(&mut self, thread: u32, op: Op, place: Place, src: u8) -> StepResult
+        requires asks { MayAdvance (view self.old) thread op }
+        requires stage { StoresFrom (stage_of (view self.old) thread) place src }
+        ensures { Advances (view self.old) (view self.new) thread op result }
+    {
+        let address = self.register(thread, src);
+        let slot = self.slot_at(place);
+        let value = value_at(&self.heap.names, address);
+        self.set_word_in(place, reference_word(address));
+        self.note(thread, Act::Write { slot, value });
+        self.set_call(thread, None);
+        StepResult::Answered(Reply::Done)
+    }
+
+    /// Writes a number word of an object.
+    pub(crate) fn put(&mut self, thread: u32, op: Op, address: u32, shape: Shape, j: u8, number: u64) -> StepResult
+        requires asks { MayAdvance (view self.old) thread op }
+        requires stage { stage_of (view self.old) thread ≡ Some (Stage.Headed address shape (Access.Put j number)) }
+        ensures { Advances (view self.old) (view self.new) thread op result }
+    {
+        let slot = Slot::Cell(self.number_at(address), j);
+        let value = Value::Num(number);
+        let at = address + 2 + u32::from(shape.refs) + u32::from(j);
+        self.heap.space.set_word(at, number);
+        self.note(thread, Act::Write { slot, value });
+        self.set_call(thread, None);
+        StepResult::Answered(Reply::Done)
+    }
+}
