@@ -1,1 +1,24 @@
+pub mod Values
+pub mod Answers
+pub mod Found
+pub mod Staying
+pub mod Evolving
+pub mod Owning
+pub mod Claims
+pub mod Regions
+pub mod Keeping
+pub mod Standing
 pub mod Probe
+mod Alive
+pub mod Counting
+pub mod Plain
+pub mod Asked
+pub mod Going
+pub mod Tasks
+pub mod Registers
+pub mod Objects
+pub mod Answered
+pub mod Reading
+pub mod Loading
+pub mod Writing
+pub mod Making

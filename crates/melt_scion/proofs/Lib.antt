@@ -1,2 +1,4 @@
 pub mod Probe
 pub mod Named
+pub mod Entries
+pub mod Geometry

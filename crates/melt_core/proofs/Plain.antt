@@ -1,0 +1,110 @@
+-- Events that leave the names, the first free place and the stop word, and whose thread owns no words before and behind
+-- them. What each of these shows is less.
+use Rattle.std.proofs.Common.{◌≡◌, ◌≢◌, ℕ, ◌+◌, ◌*◌, ◌<◌, ◌≤◌, ◌⊎◌, inl, inr, List, [], ◌∷◌, ◌++◌, length, get_or, refl, sym, ◌∙◌, ap, subst, arith}
+use Rattle.std.proofs.Math.ListN.{set, length-set}
+use Rattle.std.proofs.lemmas.List.{get_or-set_same}
+use Rattle.std.specs.Prelude.{Bool, true, false, Option, None, Some, IsSome}
+use Rattle.std.specs.List.{cons_option}
+use Rattle.melt_model.specs.History.{Shape, made as makes, shape_made}
+use Rattle.melt_model.specs.declared.history.Act.{Act}
+use Rattle.melt_model.specs.declared.history.Entry.{Entry}
+use Rattle.melt_model.proofs.Histories.{made-append}
+use Rattle.melt_scion.specs.Placed.{MayHold}
+use Rattle.melt_scion.specs.Regions.{Region, no_region, Apart}
+use Rattle.melt_scion.specs.Heaps.{register_in}
+use Rattle.melt_core.specs.declared.call.Call.{Call}
+use Rattle.melt_core.specs.declared.call.Stage.{Stage}
+use Rattle.melt_core.specs.declared.call.Stage.TheVariants.{Polled, Headed, Looked, Cleared, Claimed, Lacking}
+use Rattle.melt_core.specs.Answering.{entry, with_entry}
+use Rattle.melt_core.specs.Known.{Known, region_of}
+use Rattle.melt_core.specs.Stages.{Fits}
+use Rattle.melt_core.specs.Events.{Event}
+use Rattle.melt_core.specs.Views.{View, Standing, Counts, Bounded, maps, state, numbers_of, registers_in, call_of, stage_in, stage_of, claimed_in, claims_left}
+use Rattle.melt_core.proofs.Keeping.{event_keeps}
+use Rattle.melt_core.proofs.Staying.{hold_stays}
+use Rattle.melt_core.proofs.Regions.{no_region_apart}
+use Rattle.melt_core.proofs.Claims.{bounded_is, bounded_call}
+use Rattle.melt_core.proofs.Counting.{Counts_same, Counts_entry}
+use Rattle.melt_core.proofs.Standing.{Happens, Made}
+
+-- an act that makes no object, or none at all
+abbrev pub MakesNothing : Option Act → Type 0
+MakesNothing None = Unit {0}
+MakesNothing (Some act) = shape_made act ≡ None
+
+pub record Plain (v w : View) (t : ℕ) (cleared : ℕ) (act : Option Act) (after : Option Call) : Type 0 where
+  pub event : (told : Bool) → Standing told v → Event told v.log (maps v) (maps w) (state v) (state w) no_region cleared act
+  pub nothing : MakesNothing act
+  pub log : w.log ≡ with_entry t v.log act
+  pub calls : w.calls ≡ set v.calls t after
+  pub names : w.names ≡ v.names
+  pub free : w.free ≡ v.free
+  pub made : w.made ≡ v.made
+  pub stop : w.stop ≡ v.stop
+  pub words : length w.space.list ≡ length v.space.list
+  pub threads : length w.held ≡ length v.held
+  pub others : (u : ℕ) → u ≢ t → registers_in w.held u ≡ registers_in v.held u
+  pub may_hold : (r : ℕ) → MayHold (maps v) (state v) (register_in w.held t r)
+  pub known : (c : Call) → after ≡ Some c → Known (maps w) (state w) c.stage
+  pub fits : (c : Call) → after ≡ Some c → Fits (register_in w.held t) c.op c.stage
+  pub unclaimed : claimed_in after ≡ 0
+  pub unclaimed_before : claimed_in (call_of v t) ≡ 0
+  pub claims : claims_left v.stop (stage_in after) ≤ claims_left v.stop (stage_of v t)
+
+made_none : (t : ℕ) (act : Act) → shape_made act ≡ None → makes (entry t act ∷ []) ≡ 0
+made_none t act nothing = ap (λ (z : Option Shape). length (cons_option z [])) nothing
+
+made_same : (h : List Entry) (t : ℕ) (act : Option Act) → MakesNothing act → makes h ≡ makes (with_entry t h act)
+made_same h t None nothing = refl
+made_same h t (Some act) nothing =
+    let one : makes (entry t act ∷ []) ≡ 0 = made_none t act nothing in
+    omega (arith, made-append h (entry t act ∷ []))
+
+-- a region of no words
+unclaimed_region : (stage : Stage) → (region_of stage).words ≡ 0 → region_of stage ≡ no_region
+unclaimed_region (Polled task) none = refl
+unclaimed_region (Headed address shape access) none = refl
+unclaimed_region (Looked place target dst) none = refl
+unclaimed_region (Cleared place target dst) none = refl
+unclaimed_region (Claimed address shape stored dst) none = absurd (omega arith)
+unclaimed_region (Lacking need) none = refl
+
+counts_plain : (v w : View) (t cleared : ℕ) (act : Option Act) (after : Option Call) → Standing true v → t < length v.held → Plain v w t cleared act after → Counts w
+counts_plain v w t cleared None after s within p =
+    Counts_same v w t after s within p.names p.log p.free p.words p.calls (p.unclaimed ∙ sym p.unclaimed_before)
+counts_plain v w t cleared (Some act) after s within p =
+    Counts_entry v w t after (entry t act) s within p.names p.log p.nothing p.free p.words p.calls (p.unclaimed ∙ sym p.unclaimed_before)
+
+-- where it is told, it is told so
+pub as_told : (told : Bool) (v : View) → told ≡ true → Standing told v → Standing true v
+as_told told v is s = subst (λ (b : Bool). Standing b v) is s
+
+pub plain : (v w : View) (t cleared : ℕ) (act : Option Act) (after : Option Call) → t < length v.held → Plain v w t cleared act after → Made v w t cleared
+plain v w t cleared act after within p = record {
+  mine = no_region;
+  act = act;
+  after = after;
+  happens = λ told s.
+      let inside : t < length v.calls = let each : length v.calls ≡ length v.held = s.each in omega arith in
+      record {
+        event = p.event told s;
+        log = p.log;
+        calls = p.calls;
+        threads = p.threads;
+        others = p.others;
+        named = subst IsSome (sym p.names) s.named;
+        room = ap (λ n. length (numbers_of n)) p.names;
+        made = p.made ∙ (s.counted ∙ (made_same v.log t act p.nothing ∙ ap makes (sym p.log)));
+        first = let first : 1 ≤ v.free = s.first in let same : w.free ≡ v.free = p.free in omega arith;
+        bounded = bounded_is w (length v.space.list) v.free v.stop (set v.calls t after) p.words p.free p.stop p.calls
+            (bounded_call (length v.space.list) v.free v.stop v.calls t after inside p.claims s.bounded);
+        may_hold = λ r. hold_stays (maps v) (maps w) (state v) (state w) cleared s.holds.formed
+            (event_keeps told t v.log (maps v) (maps w) (state v) (state w) no_region cleared act s.legal s.holds (p.event told s)).evolves (register_in w.held t r) (p.may_hold r);
+        known = p.known;
+        fits = p.fits;
+        mine_is = λ u d differ is. no_region_apart (region_of d.stage);
+        apart = λ c is u d differ other.
+            subst (λ (r : Region). Apart r (region_of d.stage)) (sym (unclaimed_region c.stage (sym (ap claimed_in is) ∙ p.unclaimed))) (no_region_apart (region_of d.stage));
+        counts = λ is. counts_plain v w t cleared act after (as_told told v is s) within p;
+      };
+}

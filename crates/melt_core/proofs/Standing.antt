@@ -1,0 +1,158 @@
+-- What an event of one thread has to show, so that all stands behind it as before.
+use Rattle.std.proofs.Common.{◌≡◌, ◌≢◌, ℕ, ◌+◌, ◌<◌, ◌≤◌, ◌⊎◌, inl, inr, List, [], length, get_or, refl, sym, ◌∙◌, ap, subst, arith}
+use Rattle.std.proofs.Math.ListN.{set, length-set}
+use Rattle.std.proofs.lemmas.Bool.{cases_eq, cases_lt}
+use Rattle.std.proofs.lemmas.List.{get_or-set_same, get_or-set_other, get_or_past}
+use Rattle.std.specs.Prelude.{Bool, true, false, Option, None, Some, IsSome, slice_index}
+use Rattle.melt_model.specs.History.{made as makes, Legal}
+use Rattle.melt_model.specs.declared.history.Entry.{Entry}
+use Rattle.melt_model.specs.Thread.{value_in}
+use Rattle.melt_model.specs.declared.history.Act.{Act}
+use Rattle.melt_model.specs.declared.history.Value.{Value}
+use Rattle.melt_model.specs.declared.operations.Op.{Op}
+use Rattle.melt_scion.specs.State.{State, Base}
+use Rattle.melt_scion.specs.Placed.{MayHold, Holds, value_at}
+use Rattle.melt_scion.specs.Regions.{Region, no_region, Apart, Owns}
+use Rattle.melt_scion.specs.Heaps.{register_in}
+use Rattle.melt_core.specs.declared.call.Call.{Call}
+use Rattle.melt_core.specs.declared.call.Stage.{Stage}
+use Rattle.melt_core.specs.declared.answer.StepResult.{StepResult}
+use Rattle.melt_core.specs.Answering.{with_entry}
+use Rattle.melt_core.specs.Advances.{Advances, MayAdvance, Outcome, LeavesClean}
+use Rattle.melt_core.specs.Known.{Known, Evolves, RegionStays, region_of}
+use Rattle.melt_core.specs.Stages.{Fits, Applies, change_of, cleared_by}
+use Rattle.melt_core.specs.Events.{Event, Keeps}
+use Rattle.melt_core.specs.Views.{View, Standing, Counts, Bounded, maps, state, maps_of, numbers_of, registers_in, call_of, stage_of, values_of, held_value, held_values}
+use Rattle.melt_core.proofs.Keeping.{event_keeps}
+use Rattle.melt_core.proofs.Staying.{known_stays, hold_stays, held_value_stays}
+use Rattle.melt_core.proofs.Values.{same_values, value_held, may_value}
+use Rattle.melt_core.proofs.Regions.{apart_sym}
+
+-- One event of a thread, whose call is this behind it.
+pub record Happens (told : Bool) (v w : View) (t : ℕ) (mine : Region) (cleared : ℕ) (act : Option Act) (after : Option Call) : Type 0 where
+  pub event : Event told v.log (maps v) (maps w) (state v) (state w) mine cleared act
+  pub log : w.log ≡ with_entry t v.log act
+  pub calls : w.calls ≡ set v.calls t after
+  pub threads : length w.held ≡ length v.held
+  pub others : (u : ℕ) → u ≢ t → registers_in w.held u ≡ registers_in v.held u
+  pub named : IsSome w.names
+  pub room : length (numbers_of w.names) ≡ length (numbers_of v.names)
+  pub made : w.made ≡ makes w.log
+  pub first : 1 ≤ w.free
+  pub bounded : Bounded w
+  pub may_hold : (r : ℕ) → MayHold (maps w) (state w) (register_in w.held t r)
+  pub known : (c : Call) → after ≡ Some c → Known (maps w) (state w) c.stage
+  pub fits : (c : Call) → after ≡ Some c → Fits (register_in w.held t) c.op c.stage
+  pub mine_is : (u : ℕ) (d : Call) → u ≢ t → call_of v u ≡ Some d → Apart mine (region_of d.stage)
+  pub apart : (c : Call) → after ≡ Some c → (u : ℕ) (d : Call) → u ≢ t → call_of v u ≡ Some d → Apart (region_of c.stage) (region_of d.stage)
+  pub counts : told ≡ true → Counts w
+
+-- a call in flight where one thread's call was set is that one, or was there before
+set_call : (calls : List (Option Call)) (t u : ℕ) (call : Option Call) (c : Call) → get_or (set calls t call) u None ≡ Some c → ((u ≡ t) × (call ≡ Some c)) ⊎ ((u ≢ t) × (get_or calls u None ≡ Some c))
+set_call calls t u call c is =
+    let size : length (set calls t call) ≡ length calls = length-set calls t call in
+    elim (cases_eq u t) [
+      | inl same ↦ elim (cases_lt u (length calls)) [
+        | inl below ↦ inl (same, sym (get_or-set_same calls t call None (omega arith)) ∙ (ap (λ (k : ℕ). get_or (set calls t call) k None) (sym same) ∙ is))
+        | inr past ↦ absurd (let none : get_or (set calls t call) u None ≡ None = get_or_past (set calls t call) u None (omega arith) in cc)
+      ]
+      | inr differ ↦ inr (differ, sym (get_or-set_other calls t u call None differ) ∙ is)
+    ]
+
+-- a call in flight behind the event
+call_behind : (v w : View) (t u : ℕ) (call : Option Call) (c : Call) → w.calls ≡ set v.calls t call → call_of w u ≡ Some c → ((u ≡ t) × (call ≡ Some c)) ⊎ ((u ≢ t) × (call_of v u ≡ Some c))
+call_behind v w t u call c sets is = set_call v.calls t u call c (ap (λ (cs : List (Option Call)). get_or cs u None) (sym sets) ∙ is)
+
+-- the call of the thread is the one that was set
+pub call_here : (v w : View) (t : ℕ) (call : Option Call) → w.calls ≡ set v.calls t call → t < length v.calls → call_of w t ≡ call
+call_here v w t call sets within = ap (λ (cs : List (Option Call)). get_or cs t None) sets ∙ get_or-set_same v.calls t call None within
+
+-- and those of the others stay
+pub call_there : (v w : View) (t u : ℕ) (call : Option Call) → w.calls ≡ set v.calls t call → u ≢ t → call_of w u ≡ call_of v u
+call_there v w t u call sets differ = ap (λ (cs : List (Option Call)). get_or cs u None) sets ∙ get_or-set_other v.calls t u call None differ
+
+-- behind such an event all stands
+pub stands_behind : (told : Bool) (v w : View) (t : ℕ) (mine : Region) (cleared : ℕ) (act : Option Act) (after : Option Call) → Standing told v → Happens told v w t mine cleared act after → Standing told w
+stands_behind told v w t mine cleared act after s e =
+    let keeps : Keeps told v.log (with_entry t v.log act) (maps v) (maps w) (state v) (state w) mine cleared =
+    event_keeps told t v.log (maps v) (maps w) (state v) (state w) mine cleared act s.legal s.holds e.event in
+    let evolves : Evolves (maps v) (maps w) (state v) (state w) cleared = keeps.evolves in
+    let size : length w.space.list ≡ length v.space.list = ap (λ (b : Base). b.size) evolves.base in
+    record {
+      named = e.named;
+      room = e.room ∙ (s.room ∙ sym size);
+      few = omega (arith, s.few, e.threads);
+      each = ap length e.calls ∙ (length-set v.calls t after ∙ (s.each ∙ sym e.threads));
+      counted = e.made;
+      first = e.first;
+      bounded = e.bounded;
+      holds = subst (λ (h : List Entry). Holds told h (maps w) (state w)) (sym e.log) keeps.holds;
+      legal = λ is. subst (λ (h : List Entry). Legal h (length w.globals)) (sym e.log) (keeps.legal is);
+      registers = λ u r. elim (cases_eq u t) [
+        | inl same ↦ subst (λ (k : ℕ). MayHold (maps w) (state w) (register_in w.held k r)) (sym same) (e.may_hold r)
+        | inr differ ↦
+            subst (λ (regs : List ℕ). MayHold (maps w) (state w) (slice_index regs r)) (sym (e.others u differ))
+            (hold_stays (maps v) (maps w) (state v) (state w) cleared s.holds.formed evolves (register_in v.held u r) (s.registers u r))
+      ];
+      known = λ u c is. elim (call_behind v w t u after c e.calls is) [
+        | inl here ↦ e.known c here.1
+        | inr there ↦ known_stays (maps v) (maps w) (state v) (state w) cleared s.holds.formed evolves c.stage
+            (λ owns. keeps.regions (region_of c.stage) owns (e.mine_is u c there.0 there.1)) (s.known u c there.1)
+      ];
+      fits = λ u c is. elim (call_behind v w t u after c e.calls is) [
+        | inl here ↦ subst (λ (k : ℕ). Fits (register_in w.held k) c.op c.stage) (sym here.0) (e.fits c here.1)
+        | inr there ↦ subst (λ (regs : List ℕ). Fits (slice_index regs) c.op c.stage) (sym (e.others u there.0)) (s.fits u c there.1)
+      ];
+      apart = λ a b c d differ first second. elim (call_behind v w t a after c e.calls first) [
+        | inl here ↦ elim (call_behind v w t b after d e.calls second) [
+          | inl also ↦ absurd (differ (here.0 ∙ sym also.0))
+          | inr there ↦ e.apart c here.1 b d there.0 there.1
+        ]
+        | inr there ↦ elim (call_behind v w t b after d e.calls second) [
+          | inl here ↦ apart_sym (region_of d.stage) (region_of c.stage) (e.apart d here.1 a c there.0 there.1)
+          | inr also ↦ s.apart a b c d differ there.1 also.1
+        ]
+      ];
+      counts = e.counts;
+    }
+
+-- What an event does, by what it has to show: each form of it, told or not.
+pub record Made (v w : View) (t : ℕ) (cleared : ℕ) : Type 0 where
+  pub mine : Region
+  pub act : Option Act
+  pub after : Option Call
+  pub happens : (told : Bool) → Standing told v → Happens told v w t mine cleared act after
+
+-- the values of the others stay
+pub values_stay : (v w : View) (u cleared : ℕ) → Standing false v → Evolves (maps v) (maps w) (state v) (state w) cleared → registers_in w.held u ≡ registers_in v.held u → values_of w u ≡ values_of v u
+values_stay v w u cleared s evolves same =
+    let may : (r : ℕ) → MayHold (maps v) (state v) (register_in v.held u r) = s.registers u in
+    same_values v.names w.names (registers_in v.held u) (registers_in w.held u) (ap length same)
+    (λ r. subst (λ (regs : List ℕ). value_at (maps_of w.names) (get_or regs r 0) ≡ Some (value_in (held_values v.names (registers_in v.held u)) r)) (sym same)
+    (subst (λ (x : Value). value_at (maps_of w.names) (get_or (registers_in v.held u) r 0) ≡ Some x) (sym (value_held v.names (registers_in v.held u) r))
+    (held_value_stays (maps v) (maps w) (state v) (state w) cleared s.holds.formed evolves (register_in v.held u r) (held_value v.names (register_in v.held u r)) (may_value v.names (state v) (register_in v.held u r) (may r)))))
+
+-- One event was made.
+pub advances : (v w : View) (t : ℕ) (o : Op) (result : StepResult) → (asks : MayAdvance v t o) → (made : Made v w t (cleared_by (stage_of v t))) → w.capacity ≡ v.capacity → Applies (maps v) (maps w) (state v) (state w) (change_of (state v) (register_in v.held t) (stage_of v t)) → Outcome v w t o result → LeavesClean v w t o result → Advances v w t o result
+advances v w t o result asks made capacity applies outcome clean =
+    let s : Standing false v = asks.stands in
+    let cleared : ℕ = cleared_by (stage_of v t) in
+    let h : Happens false v w t made.mine cleared made.act made.after = made.happens false s in
+    let evolves : Evolves (maps v) (maps w) (state v) (state w) cleared =
+    (event_keeps false t v.log (maps v) (maps w) (state v) (state w) made.mine cleared made.act s.legal s.holds h.event).evolves in
+    record {
+      keeps = λ told stands. stands_behind told v w t made.mine cleared made.act made.after stands (made.happens told stands);
+      changes = applies;
+      evolves = evolves;
+      others = record {
+        globals = ap (λ (b : Base). b.globals) evolves.base;
+        words = ap (λ (b : Base). b.size) evolves.base;
+        threads = h.threads;
+        capacity = capacity;
+        calls = λ u differ. call_there v w t u made.after h.calls differ;
+        registers = h.others;
+        values = λ told u differ. values_stay v w u cleared s evolves (h.others u differ);
+      };
+      outcome = outcome;
+      clean = clean;
+    }
