@@ -9,7 +9,7 @@ pub mod Regions
 pub mod Keeping
 pub mod Standing
 pub mod Probe
-mod Alive
+pub mod Alive
 pub mod Counting
 pub mod Plain
 pub mod Asked
@@ -22,3 +22,4 @@ pub mod Reading
 pub mod Loading
 pub mod Writing
 pub mod Making
+pub mod Resting

@@ -3,7 +3,8 @@ use Rattle.std.proofs.Common.{◌≡◌, ◌≢◌, ℕ, ◌+◌, ◌*◌, ◌-�
 use Rattle.std.proofs.Math.ListN.{set}
 use Rattle.std.proofs.lemmas.Bool.{cases_eq, cases_lt, eq-eqb, ne_eqb}
 use Rattle.std.specs.Prelude.{Bool, true, false, Option, None, Some, IsSome, if◌then◌else◌}
-use Rattle.melt_model.specs.History.{made as makes}
+use Rattle.std.specs.List.{filter_map, cons_option}
+use Rattle.melt_model.specs.History.{made as makes, shape_made}
 use Rattle.melt_model.proofs.Histories.{made-append}
 use Rattle.melt_model.specs.declared.history.Entry.{Entry}
 use Rattle.melt_model.specs.declared.history.Act.{Act}
@@ -352,3 +353,19 @@ publish_advances v space names t word o address stored dst shape asks at all is 
       room = λ told. subst (HasRoomFor v) (sym same) (room_for v t address stored dst before shape told asks.thread call refl);
     })
     (λ place d loads there tagged. no_load (register_in v.held t) o place d (subst LoadsNothing (sym task) tt) loads)
+
+-- no more objects were made than the history has entries
+cons_fewer : {Y : Type 0} (o : Option Y) (ys : List Y) → length (cons_option o ys) ≤ length ys + 1
+cons_fewer None ys = omega arith
+cons_fewer (Some y) ys = omega arith
+
+filter_map_fewer : {X Y : Type 0} (h : X → Option Y) (xs : List X) → length (filter_map h xs) ≤ length xs
+filter_map_fewer h [] = omega arith
+filter_map_fewer h (x ∷ xs) = omega (arith, cons_fewer (h x) (filter_map h xs), filter_map_fewer h xs)
+
+pub made_few : (v : View) (t : ℕ) (o : Op) → MayAdvance v t o → v.made < 4294967296
+made_few v t o asks =
+    let counted : v.made ≡ makes v.log = asks.stands.counted in
+    let few : length v.log < 4294967296 = asks.few in
+    let fewer : makes v.log ≤ length v.log = filter_map_fewer (λ (e : Entry). shape_made e.act) v.log in
+    omega arith

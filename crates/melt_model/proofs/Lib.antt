@@ -3,3 +3,4 @@ pub mod OneAnswer
 pub mod Transcripts
 pub mod Sums
 pub mod AliveObjects
+pub mod AliveSums

@@ -1,0 +1,15 @@
+use Rattle.std.proofs.Common.{refl, sym, ◌∙◌, ap, subst, arith, ◌≡◌, ◌+◌, ◌<◌, ◌≤◌, length}
+use Rattle.melt_core.specs.Advances.{Advances}
+use Rattle.melt_core.specs.declared.answer.StepResult.TheVariants.{Going}
+use Rattle.melt_core.specs.Views.{View, view}
+use Rattle.melt_core.proofs.Making.{claim_advances}
+use Rattle.melt_core.proofs.machine.Core.claim.Goals.{then-self-words, else-self-words}
+use Rattle.melt_core.proofs.machine.Core.claim.Goals as goal
+
+pub returns : goal.returns
+returns c =
+    let v : View = view c.args.self.now in
+    subst (λ (w : View). Advances v w c.args.thread c.args.op Going) (sym c.set_call.ensures)
+    (claim_advances v c.args.thread (v.free + c.cost-need.result) c.cost-need.result c.args.op c.args.shape c.args.dst c.if-self-words.stage c.requires.asks c.requires.stage c.cost-need.ensures refl
+    (λ below. elim c.if-self-words.branch [ then-self-words w ↦ ? | else-self-words w ↦ w.stage-is ])
+    (λ above. elim c.if-self-words.branch [ then-self-words w ↦ w.stage-is | else-self-words w ↦ ? ]))
