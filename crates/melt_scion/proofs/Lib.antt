@@ -1,2 +1,3 @@
 pub mod Probe
 pub mod Named
+pub mod Geometry
