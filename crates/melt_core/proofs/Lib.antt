@@ -1,1 +1,4 @@
 pub mod Probe
+pub mod Staying
+pub mod Evolving
+pub mod Owning
