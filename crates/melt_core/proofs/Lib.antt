@@ -2,3 +2,5 @@ pub mod Probe
 pub mod Staying
 pub mod Evolving
 pub mod Owning
+pub mod Claims
+pub mod Regions
