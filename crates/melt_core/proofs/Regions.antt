@@ -155,4 +155,5 @@ pub nearer_in : (v : View) (t : ℕ) (o : Op) (next : Stage) → MayAdvance v t 
     Next (maps v) (state v) (register_in v.held t) v.stop o (stage_of v t) next →
     events_left (Some next) < events_left (stage_of v t)
 nearer_in v t o next may is =
-    Next_nearer (maps v) (state v) (register_in v.held t) v.stop _ o (stage_of v t) next may.bounds (at_stage v t o may) is
+    Next_nearer (maps v) (state v) (register_in v.held t) v.stop _ o (stage_of v t) next may.bounds
+    (at_stage v t o may) is
