@@ -4,3 +4,9 @@ pub mod Geometry
 pub mod Entries
 pub mod Parts
 pub mod Keeping
+pub mod Following
+pub mod Homes
+pub mod Frame
+pub mod Changing
+pub mod Staying
+pub mod Writing
