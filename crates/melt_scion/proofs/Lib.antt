@@ -10,3 +10,5 @@ pub mod Frame
 pub mod Changing
 pub mod Staying
 pub mod Writing
+pub mod Entering
+pub mod EnteringTells
