@@ -26,7 +26,8 @@ keeps_heads maps s t same = record {
   free = same.free;
   names = λ a n named. named;
   homes = λ home. refl;
-  was = λ a n header named starts. (header, header_moves s t a header (sym (same.header a n named)) starts, refl, λ fresh. fresh);
+  was = λ a n header named starts.
+      (header, header_moves s t a header (sym (same.header a n named)) starts, refl, λ fresh. fresh);
   now = λ a n header named starts. (header, header_moves t s a header (same.header a n named) starts, refl);
   home_word = same.home_word;
   forwards = λ home a n named. same_forwards s t home a same.base same.forward;
@@ -43,7 +44,8 @@ keeps_words maps s t same = keeps_heads maps s t (record {
 })
 
 -- where the first free place moves on
-pub keeps_free : (maps : Maps) (s t : State) (free : ℕ) → s.free ≤ free → FreeMoves s t free → KeepsObjects maps maps s t
+pub keeps_free : (maps : Maps) (s t : State) (free : ℕ) → s.free ≤ free → FreeMoves s t free →
+    KeepsObjects maps maps s t
 keeps_free maps s t free up moves = keeps_heads maps s t (record {
   base = moves.base;
   free = let e : t.free ≡ free = moves.is in omega arith;
@@ -79,10 +81,12 @@ module _ (maps : Maps) (s t : State) (x word : ℕ) (formed : FormedWords maps s
   keeps_part a n p h part behind = keeps_word
       (λ b m named.
       let object = formed.objects b m named in
-      parts_differ maps s a b n m p 0 x b h object.0 formed part (head_part maps s b m object.0 named object.1.starts) (omega arith))
+      parts_differ maps s a b n m p 0 x b h object.0 formed part (head_part maps s b m object.0 named object.1.starts)
+      (omega arith))
       (λ b m named.
       let object = formed.objects b m named in
-      parts_differ maps s a b n m p 1 x (b + 1) h object.0 formed part (home_part maps s b m object.0 named object.1.starts) (omega arith))
+      parts_differ maps s a b n m p 1 x (b + 1) h object.0 formed part
+      (home_part maps s b m object.0 named object.1.starts) (omega arith))
 
   -- a word of a region of a thread
   pub keeps_outside : (r : Region) → Owns maps s r → r.at ≤ x → x < r.at + r.words → KeepsObjects maps maps s t
@@ -92,35 +96,50 @@ module _ (maps : Maps) (s t : State) (x word : ℕ) (formed : FormedWords maps s
       part_outside maps s r b m 0 b x object.0 owns (head_part maps s b m object.0 named object.1.starts) from below)
       (λ b m named.
       let object = formed.objects b m named in
-      part_outside maps s r b m 1 (b + 1) x object.0 owns (home_part maps s b m object.0 named object.1.starts) from below)
+      part_outside maps s r b m 1 (b + 1) x object.0 owns
+      (home_part maps s b m object.0 named object.1.starts) from below)
 
 -- the header without the stale bit
 abbrev pub fresh_header : Header → Header
 fresh_header h = record { shape = h.shape; stale = false }
 
-module _ (maps : Maps) (s t : State) (a n : ℕ) (h : Header) (formed : FormedWords maps s) (named : maps.address a ≡ Some n)
-    (starts : HeaderAt s a h) (changes : WordChanges s t a (header_word (record { shape = h.shape; stale = false }))) where
+module _ (maps : Maps) (s t : State) (a n : ℕ) (h : Header) (formed : FormedWords maps s)
+    (named : maps.address a ≡ Some n)
+    (starts : HeaderAt s a h)
+    (changes : WordChanges s t a (header_word (record { shape = h.shape; stale = false }))) where
   -- a word behind a header is another
   pub behind_cleared : (b m q y : ℕ) (k : Header) → PartAt maps s b m q y k → 1 ≤ q → t.word y ≡ s.word y
   behind_cleared b m q y k part behind =
-      changes.others y (parts_differ maps s a b n m 0 q a y h k formed (head_part maps s a n h named starts) part (omega arith))
+      changes.others y (parts_differ maps s a b n m 0 q a y h k formed (head_part maps s a n h named starts) part
+      (omega arith))
 
   cleared_starts : HeaderAt t a (fresh_header h)
   cleared_starts = record { in_range = starts.in_range; word = changes.here }
 
-  cleared_was : (b : ℕ) (k : Header) → HeaderAt t b k → (old : Header) × HeaderAt s b old × (old.shape ≡ k.shape) × (old.stale ≡ false → k.stale ≡ false)
+  cleared_was : (b : ℕ) (k : Header) → HeaderAt t b k →
+      (old : Header) × HeaderAt s b old × (old.shape ≡ k.shape) × (old.stale ≡ false → k.stale ≡ false)
   cleared_was b k at_b = elim (eqb_tells b a) [
     | inl same ↦
-        let is : k ≡ fresh_header h = one_header t a k (fresh_header h) (subst (λ (c : ℕ). HeaderAt t c k) same.1 at_b) cleared_starts in
-        (h, subst (λ (c : ℕ). HeaderAt s c h) (sym same.1) starts, ap (λ (x : Header). x.shape) (sym is), λ fresh. ap (λ (x : Header). x.stale) is)
+        let is : k ≡ fresh_header h = one_header t a k (fresh_header h)
+        (subst (λ (c : ℕ). HeaderAt t c k) same.1 at_b) cleared_starts in (
+          h,
+          subst (λ (c : ℕ). HeaderAt s c h) (sym same.1) starts,
+          ap (λ (x : Header). x.shape) (sym is),
+          λ fresh.
+              ap (λ (x : Header). x.stale) is,
+        )
     | inr other ↦ (k, header_moves s t b k (sym (changes.others b other.1)) at_b, refl, λ fresh. fresh)
   ]
 
   cleared_now : (b : ℕ) (k : Header) → HeaderAt s b k → (later : Header) × HeaderAt t b later × (later.shape ≡ k.shape)
   cleared_now b k at_b = elim (eqb_tells b a) [
     | inl same ↦
-        let is : k ≡ h = one_header s a k h (subst (λ (c : ℕ). HeaderAt s c k) same.1 at_b) starts in
-        (fresh_header h, subst (λ (c : ℕ). HeaderAt t c (fresh_header h)) (sym same.1) cleared_starts, ap (λ (x : Header). x.shape) (sym is))
+        let is : k ≡ h = one_header s a k h (subst (λ (c : ℕ). HeaderAt s c k) same.1 at_b) starts in (
+          fresh_header h,
+          subst (λ (c : ℕ). HeaderAt t c (fresh_header h))
+              (sym same.1) cleared_starts,
+          ap (λ (x : Header). x.shape) (sym is),
+        )
     | inr other ↦ (k, header_moves t s b k (changes.others b other.1) at_b, refl)
   ]
 

@@ -37,7 +37,8 @@ pub record NewWords (new : Maps) (t : State) (at : ℕ) (z : Shape) : Type 0 whe
   pub slots : (i : ℕ) → i < z.refs → IsReferenceWord new t (t.word (at + 2 + i))
   pub home_word : IsHomeWord t at (cost_of z)
   pub forwards : (p : ℕ) → p < t.base.forwards → ForwardMayStand new t (t.forward p)
-  pub one_forward : (p q home a b : ℕ) → p < t.base.forwards → q < t.base.forwards → Sends (t.forward p) home a → Sends (t.forward q) home b → p ≡ q
+  pub one_forward : (p q home a b : ℕ) → p < t.base.forwards → q < t.base.forwards → Sends (t.forward p) home a →
+      Sends (t.forward q) home b → p ≡ q
 
 module _ (maps new : Maps) (s t : State) (at n : ℕ) (z : Shape) (formed : FormedWords maps s)
     (appears : ObjectAppears maps new s t at n z) where
@@ -67,7 +68,8 @@ module _ (maps new : Maps) (s t : State) (at n : ℕ) (z : Shape) (formed : Form
     free = appears.free;
     names = λ a m named. appears.named.others a (other_address a m named) ∙ named;
     homes = appears.named.home;
-    was = λ a m header named starts. (header, header_moves s t a header (sym (old_head a m named)) starts, refl, λ fresh. fresh);
+    was = λ a m header named starts.
+        (header, header_moves s t a header (sym (old_head a m named)) starts, refl, λ fresh. fresh);
     now = λ a m header named starts. (header, header_moves t s a header (old_head a m named) starts, refl);
     home_word = λ a m named.
         let object = formed.objects a m named in
@@ -78,7 +80,10 @@ module _ (maps new : Maps) (s t : State) (at n : ℕ) (z : Shape) (formed : Form
   -- a name is the new one, or one of before
   pub name_cases : (a m : ℕ) → new.address a ≡ Some m → ((a ≡ at) × (m ≡ n)) ⊎ (maps.address a ≡ Some m)
   name_cases a m named = elim (eqb_tells a at) [
-    | inl same ↦ inl (same.1, (let e : Some m ≡ Some n = sym named ∙ (ap new.address same.1 ∙ appears.named.here) in cc))
+    | inl same ↦ inl (
+      same.1,
+      (let e : Some m ≡ Some n = sym named ∙ (ap new.address same.1 ∙ appears.named.here) in cc),
+    )
     | inr other ↦ inr (sym (appears.named.others a other.1) ∙ named)
   ]
 
@@ -88,22 +93,28 @@ module _ (maps new : Maps) (s t : State) (at n : ℕ) (z : Shape) (formed : Form
   -- the shape of the new object
   pub new_shape : (a : ℕ) (h : Header) → a ≡ at → HeaderAt t a h → h.shape ≡ z
   new_shape a h here starts =
-      ap (λ (x : Header). x.shape) (one_header t at h new_header (subst (λ (c : ℕ). HeaderAt t c h) here starts) new_starts)
+      ap (λ (x : Header). x.shape)
+      (one_header t at h new_header (subst (λ (c : ℕ). HeaderAt t c h) here starts) new_starts)
 
   pub header_was : (a m : ℕ) (h : Header) → maps.address a ≡ Some m → HeaderAt t a h → HeaderAt s a h
   header_was a m h named starts = header_moves s t a h (sym (old_head a m named)) starts
 
   new_object : (a : ℕ) → a ≡ at → (h : Header) × ObjectAt t a h
   new_object a here =
-      let object : (h : Header) × ObjectAt t at h = (new_header, record {
-        starts = new_starts;
-        first = appears.owns.first;
-        within = subst (λ (b : Base). at + cost_of z ≤ b.size + 1) (sym appears.base) appears.owns.within;
-        below = let was : at + cost_of z ≤ s.free = appears.owns.below in let more : s.free ≤ t.free = appears.free in omega arith;
-      }) in
+      let object : (h : Header) × ObjectAt t at h = (
+        new_header,
+        record {
+          starts = new_starts;
+          first = appears.owns.first;
+          within = subst (λ (b : Base). at + cost_of z ≤ b.size + 1) (sym appears.base) appears.owns.within;
+          below = let was : at + cost_of z ≤ s.free = appears.owns.below in let more : s.free ≤ t.free = appears.free in
+              omega arith;
+        },
+      ) in
       subst (λ (c : ℕ). (h : Header) × ObjectAt t c h) (sym here) object
 
-  new_apart : (a b m k : ℕ) (h : Header) → new.address a ≡ Some m → new.address b ≡ Some k → HeaderAt t a h → a < b → a + cost_of h.shape ≤ b
+  new_apart : (a b m k : ℕ) (h : Header) → new.address a ≡ Some m → new.address b ≡ Some k → HeaderAt t a h → a < b →
+      a + cost_of h.shape ≤ b
   new_apart a b m k h named_a named_b starts less = elim (name_cases a m named_a) [
     | inl new_a ↦ elim (name_cases b k named_b) [
       | inl new_b ↦ absurd (let x : a ≡ at = new_a.0 in let y : b ≡ at = new_b.0 in omega arith)
@@ -145,7 +156,8 @@ module _ (maps new : Maps) (s t : State) (at n : ℕ) (z : Shape) (formed : Form
           subst (λ (c : ℕ). IsReferenceWord new t (t.word (c + 2 + i))) (sym here.0) (words.slots i (omega arith))
       | inr old ↦
           let was : HeaderAt s a h = header_was a m h old starts in
-          subst (IsReferenceWord new t) (sym (old_part a m (2 + i) (a + 2 + i) h (slot_part maps s a m i h old was below)))
+          subst (IsReferenceWord new t)
+          (sym (old_part a m (2 + i) (a + 2 + i) h (slot_part maps s a m i h old was below)))
           (IsReferenceWord_stays maps new s t keeps_appears (s.word (a + 2 + i)) (formed.slots a m i h old was below))
     ];
     home_words = λ a m h named starts. elim (name_cases a m named) [
@@ -156,7 +168,8 @@ module _ (maps new : Maps) (s t : State) (at n : ℕ) (z : Shape) (formed : Form
     ];
     globals = λ g below.
         subst (IsReferenceWord new t) (sym (appears.global g))
-        (IsReferenceWord_stays maps new s t keeps_appears (s.global g) (formed.globals g (subst (λ (b : Base). g < b.globals) appears.base below)));
+        (IsReferenceWord_stays maps new s t keeps_appears (s.global g)
+        (formed.globals g (subst (λ (b : Base). g < b.globals) appears.base below)));
     scions = scions_stay maps new s t keeps_appears formed;
     forwards = words.forwards;
     one_forward = words.one_forward;

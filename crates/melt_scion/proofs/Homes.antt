@@ -20,7 +20,8 @@ pub record BodyKeeps (h k : List Entry) (maps new : Maps) (n : ℕ) : Type 0 whe
   pub numbers : IsNowhere maps n → (j : ℕ) → last k (Cell n j) ≡ last h (Cell n j)
 
 module _ (h k : List Entry) (maps new : Maps) (s t : State) (keeps : KeepsObjects maps new s t) where
-  IsBody_stays : (home n : ℕ) (z : words.Shape) → BodyKeeps h k maps new n → IsBody h maps s.base home n z → IsBody k new t.base home n z
+  IsBody_stays : (home n : ℕ) (z : words.Shape) → BodyKeeps h k maps new n → IsBody h maps s.base home n z →
+      IsBody k new t.base home n z
   IsBody_stays home n z stays was =
       let body : IsBody h maps t.base home n z = subst (λ (b : Base). IsBody h maps b home n z) (sym keeps.base) was in
       record {
@@ -52,7 +53,8 @@ module _ (h k : List Entry) (maps new : Maps) (s t : State) (keeps : KeepsObject
   }
 
   -- a home stays what it is
-  pub HomeStands_stays : (home n : ℕ) → ((z : Shape) → shape h n ≡ Some z → shape k n ≡ Some z) → BodyKeeps h k maps new n →
+  pub HomeStands_stays : (home n : ℕ) → ((z : Shape) → shape h n ≡ Some z → shape k n ≡ Some z) →
+      BodyKeeps h k maps new n →
       HomeStands h maps s home n → HomeStands k new t home n
   HomeStands_stays home n shapes stays was = record {
     reserved_for = was.reserved_for;

@@ -19,13 +19,16 @@ pub record KeepsObjects (maps new : Maps) (s t : State) : Type 0 where
   pub free : s.free ≤ t.free
   pub names : (a n : ℕ) → maps.address a ≡ Some n → new.address a ≡ Some n
   pub homes : (home : ℕ) → new.home home ≡ maps.home home
-  pub was : (a n : ℕ) (header : Header) → maps.address a ≡ Some n → HeaderAt t a header → (old : Header) × HeaderAt s a old × (old.shape ≡ header.shape) × (old.stale ≡ false → header.stale ≡ false)
-  pub now : (a n : ℕ) (header : Header) → maps.address a ≡ Some n → HeaderAt s a header → (later : Header) × HeaderAt t a later × (later.shape ≡ header.shape)
+  pub was : (a n : ℕ) (header : Header) → maps.address a ≡ Some n → HeaderAt t a header →
+      (old : Header) × HeaderAt s a old × (old.shape ≡ header.shape) × (old.stale ≡ false → header.stale ≡ false)
+  pub now : (a n : ℕ) (header : Header) → maps.address a ≡ Some n → HeaderAt s a header →
+      (later : Header) × HeaderAt t a later × (later.shape ≡ header.shape)
   pub home_word : (a n : ℕ) → maps.address a ≡ Some n → t.word (a + 1) ≡ s.word (a + 1)
   pub forwards : (home a n : ℕ) → maps.address a ≡ Some n → Forwards s home a ↔ Forwards t home a
 
 -- a home that is forwarded stays so, where forwarding words do
-pub Forwards_stays : (s t : State) (home a : ℕ) → t.base ≡ s.base → ((p : ℕ) → t.forward p ≡ s.forward p) → Forwards s home a → Forwards t home a
+pub Forwards_stays : (s t : State) (home a : ℕ) → t.base ≡ s.base → ((p : ℕ) → t.forward p ≡ s.forward p) →
+    Forwards s home a → Forwards t home a
 Forwards_stays s t home a base same forwards = record {
   place = forwards.place;
   within = subst (λ (b : Base). forwards.place < b.forwards) (sym base) forwards.within;
@@ -33,7 +36,8 @@ Forwards_stays s t home a base same forwards = record {
 }
 
 -- and was so before
-pub same_forwards : (s t : State) (home a : ℕ) → t.base ≡ s.base → ((p : ℕ) → t.forward p ≡ s.forward p) → Forwards s home a ↔ Forwards t home a
+pub same_forwards : (s t : State) (home a : ℕ) → t.base ≡ s.base → ((p : ℕ) → t.forward p ≡ s.forward p) →
+    Forwards s home a ↔ Forwards t home a
 same_forwards s t home a base same = (
   Forwards_stays s t home a base same,
   Forwards_stays t s home a (sym base) (λ p. sym (same p)),
@@ -46,11 +50,13 @@ NoGaps_stays s t base same gaps = record {
       let count : t.base.forwards ≡ s.base.forwards = ap (λ (b : Base). b.forwards) base in
       let at : (j : ℕ) → t.forward (probe home t.base.forwards j) ≡ s.forward (probe home s.base.forwards j) =
       λ j. ap (λ c. t.forward (probe home c j)) count ∙ same (probe home s.base.forwards j) in
-      gaps.filled home address k i (omega arith) (subst (λ w. Sends w home address) (at k) sends) less (sym (at i) ∙ empty);
+      gaps.filled home address k i (omega arith) (subst (λ w. Sends w home address) (at k) sends) less
+      (sym (at i) ∙ empty);
 }
 
 -- a map that keeps the names of another keeps what references stand for
-named_value : (old new : Option ℕ) (v : Value) → ((n : ℕ) → old ≡ Some n → new ≡ Some n) → option_map Ref old ≡ Some v → option_map Ref new ≡ Some v
+named_value : (old new : Option ℕ) (v : Value) → ((n : ℕ) → old ≡ Some n → new ≡ Some n) →
+    option_map Ref old ≡ Some v → option_map Ref new ≡ Some v
 named_value None new v keeps is = absurd (cc)
 named_value (Some n) new v keeps is = ap (option_map Ref) (keeps n refl) ∙ is
 
@@ -100,10 +106,12 @@ module _ (maps new : Maps) (s t : State) (keeps : KeepsObjects maps new s t) whe
 
   pub value_at_stays : (a : ℕ) (v : Value) → value_at maps a ≡ Some v → value_at new a ≡ Some v
   value_at_stays zero v is = is
-  value_at_stays (suc a) v is = named_value (maps.address (suc a)) (new.address (suc a)) v (λ n e. keeps.names (suc a) n e) is
+  value_at_stays (suc a) v is = named_value (maps.address (suc a)) (new.address (suc a)) v
+      (λ n e. keeps.names (suc a) n e) is
 
   -- an object keeps its home
-  HasHome_stays : (a n words home scion : ℕ) → maps.address a ≡ Some n → HasHome s a words home scion → HasHome t a words home scion
+  HasHome_stays : (a n words home scion : ℕ) → maps.address a ≡ Some n → HasHome s a words home scion →
+      HasHome t a words home scion
   HasHome_stays a n words home scion named has = record {
     in_range = has.in_range;
     is = keeps.home_word a n named ∙ has.is;

@@ -27,18 +27,21 @@ module _ (maps : Maps) (s : State) where
   -- one of its slots
   pub slot_part : (a n i : ℕ) (h : Header) → maps.address a ≡ Some n → HeaderAt s a h → i < h.shape.refs →
       PartAt maps s a n (2 + i) (a + 2 + i) h
-  slot_part a n i h named starts below = record { named = named; starts = starts; within = omega arith; is = omega arith }
+  slot_part a n i h named starts below =
+      record { named = named; starts = starts; within = omega arith; is = omega arith }
 
   -- one of its number words
   pub number_part : (a n j : ℕ) (h : Header) → maps.address a ≡ Some n → HeaderAt s a h → j < h.shape.nums →
       PartAt maps s a n (2 + h.shape.refs + j) (a + 2 + h.shape.refs + j) h
-  number_part a n j h named starts below = record { named = named; starts = starts; within = omega arith; is = omega arith }
+  number_part a n j h named starts below =
+      record { named = named; starts = starts; within = omega arith; is = omega arith }
 
   -- parts at different places are different words
   pub parts_differ : (a b n m p q x y : ℕ) (h k : Header) → FormedWords maps s → PartAt maps s a n p x h →
       PartAt maps s b m q y k → q ≢ p → y ≢ x
   parts_differ a b n m p q x y h k formed this that differ =
-      elim (one_part maps s a b n m p q x y h k formed this.named that.named this.starts that.starts this.within that.within this.is that.is) [
+      elim (one_part maps s a b n m p q x y h k formed this.named that.named this.starts that.starts this.within
+      that.within this.is that.is) [
         | inl same ↦ absurd (differ same.2)
         | inr other ↦ other
       ]
@@ -47,7 +50,8 @@ module _ (maps : Maps) (s : State) where
   pub same_slot : (a b n m i j : ℕ) (h k : Header) → FormedWords maps s → PartAt maps s a n (2 + i) (a + 2 + i) h →
       PartAt maps s b m (2 + j) (b + 2 + j) k → b + 2 + j ≡ a + 2 + i → (m ≡ n) × (j ≡ i)
   same_slot a b n m i j h k formed this that same =
-      elim (one_part maps s a b n m (2 + i) (2 + j) (a + 2 + i) (b + 2 + j) h k formed this.named that.named this.starts that.starts this.within that.within this.is that.is) [
+      elim (one_part maps s a b n m (2 + i) (2 + j) (a + 2 + i)
+      (b + 2 + j) h k formed this.named that.named this.starts that.starts this.within that.within this.is that.is) [
         | inl one ↦ (one.3, (let e : 2 + j ≡ 2 + i = one.2 in omega arith))
         | inr other ↦ absurd (other same)
       ]
@@ -58,17 +62,27 @@ module _ (maps : Maps) (s : State) where
       PartAt maps s b m (2 + k.shape.refs + j) (b + 2 + k.shape.refs + j) k →
       b + 2 + k.shape.refs + j ≡ a + 2 + h.shape.refs + i → (m ≡ n) × (j ≡ i)
   same_number a b n m i j h k formed this that same =
-      elim (one_part maps s a b n m (2 + h.shape.refs + i) (2 + k.shape.refs + j) (a + 2 + h.shape.refs + i) (b + 2 + k.shape.refs + j) h k formed this.named that.named this.starts that.starts this.within that.within this.is that.is) [
-        | inl one ↦ (one.3, (let e : 2 + k.shape.refs + j ≡ 2 + h.shape.refs + i = one.2 in let z : k.shape.refs ≡ h.shape.refs = ap (λ (x : Header). x.shape.refs) one.1 in omega arith))
+      elim (one_part maps s a b n m (2 + h.shape.refs + i) (2 + k.shape.refs + j) (a + 2 + h.shape.refs + i)
+      (b + 2 + k.shape.refs + j) h k formed this.named that.named this.starts that.starts this.within that.within
+      this.is that.is) [
+        | inl one ↦ (
+          one.3,
+          (let e : 2 + k.shape.refs + j ≡ 2 + h.shape.refs + i = one.2 in
+              let z : k.shape.refs ≡ h.shape.refs = ap (λ (x : Header). x.shape.refs) one.1 in omega arith),
+        )
         | inr other ↦ absurd (other same)
       ]
 
   -- no word is a slot and a number word
   pub slot_or_number : (a b n m i j : ℕ) (h k : Header) → FormedWords maps s → PartAt maps s a n (2 + i) (a + 2 + i) h →
-      PartAt maps s b m (2 + k.shape.refs + j) (b + 2 + k.shape.refs + j) k → i < h.shape.refs → b + 2 + k.shape.refs + j ≢ a + 2 + i
+      PartAt maps s b m (2 + k.shape.refs + j)
+      (b + 2 + k.shape.refs + j) k → i < h.shape.refs → b + 2 + k.shape.refs + j ≢ a + 2 + i
   slot_or_number a b n m i j h k formed this that below =
-      elim (one_part maps s a b n m (2 + i) (2 + k.shape.refs + j) (a + 2 + i) (b + 2 + k.shape.refs + j) h k formed this.named that.named this.starts that.starts this.within that.within this.is that.is) [
-        | inl one ↦ absurd (let e : 2 + k.shape.refs + j ≡ 2 + i = one.2 in let z : k.shape.refs ≡ h.shape.refs = ap (λ (x : Header). x.shape.refs) one.1 in omega arith)
+      elim (one_part maps s a b n m (2 + i) (2 + k.shape.refs + j) (a + 2 + i)
+      (b + 2 + k.shape.refs + j) h k formed this.named that.named this.starts that.starts this.within that.within
+      this.is that.is) [
+        | inl one ↦ absurd (let e : 2 + k.shape.refs + j ≡ 2 + i = one.2 in let z : k.shape.refs ≡ h.shape.refs =
+            ap (λ (x : Header). x.shape.refs) one.1 in omega arith)
         | inr other ↦ other
       ]
 
@@ -81,4 +95,5 @@ module _ (maps : Maps) (s : State) where
       y < r.at + r.words → x ≢ y
   part_outside r a n p x y h owns part from below =
       let apart = owns.outside a n h part.named part.starts in
-      outside_word a p x y (cost_of h.shape) r.at r.words apart.before apart.behind apart.differ part.within part.is from below
+      outside_word a p x y (cost_of h.shape) r.at r.words apart.before apart.behind apart.differ part.within part.is
+      from below

@@ -1,6 +1,7 @@
 -- A state without objects and homes stands for the empty history.
-use Rattle.std.proofs.Common.{◌≡◌, ◌≢◌, ℕ, zero, suc, ◌+◌, ◌<◌, ◌≤◌, refl, sym, ◌∙◌, ap, subst, arith, inl, []}
-use Rattle.std.specs.Prelude.{◌^◌, Option, None, Some, Contains}
+use Rattle.std.proofs.Common.{◌≡◌, ◌≢◌, ℕ, zero, suc, ◌+◌, ◌<◌, ◌≤◌, refl, sym, ◌∙◌, ap, subst, arith, inl, List, [], length, replicate, Bool}
+use Rattle.std.proofs.lemmas.List.{get_or-replicate, length-replicate}
+use Rattle.std.specs.Prelude.{◌^◌, Option, None, Some, Contains, slice_index}
 use Rattle.melt_model.specs.History.{last}
 use Rattle.melt_model.specs.declared.history.Value.{Value}
 use Rattle.melt_model.specs.declared.history.Value.TheVariants.{Nil}
@@ -8,6 +9,9 @@ use Rattle.melt_word.specs.declared.header.Shape.{Shape}
 use Rattle.melt_forward.specs.Forwarding.{Sends, forward_word, probe}
 use Rattle.melt_scion.specs.State.{Base, State, NoGaps, IsReserved, Follow}
 use Rattle.melt_scion.specs.Placed.{Maps, HasObject, IsTaken, FormedWords, Formed, Tells, Placed, value_at}
+use Rattle.melt_scion.specs.Heaps.{state_of, IsNewHeap}
+use Rattle.melt_scion.specs.declared.registers.Registers.{Registers}
+use Rattle.melt_scion.specs.declared.heap.Heap.{Heap}
 use Rattle.melt_scion.proofs.Making.{null_may, null_stands}
 
 -- no object has an address or a home
@@ -24,6 +28,22 @@ pub record IsEmpty (s : State) : Type 0 where
   pub homes : s.base.homes ≡ []
   pub free_homes : s.base.free_homes ≡ []
   pub globals : (g : ℕ) → g < s.base.globals → s.global g ≡ 0
+
+-- a new heap is empty
+pub new_heap_empty : (heap : Heap) (held : List Registers) (words globals : ℕ) (named : Bool) → words < 2 ^ 30 →
+    IsNewHeap words globals named heap → IsEmpty (state_of heap held 1)
+new_heap_empty heap held words globals named small is = record {
+  small = let size : length heap.space.list ≡ words = is.space.size in omega arith;
+  forwards = λ p below. refl;
+  scions = λ k. refl;
+  end = refl;
+  homes = refl;
+  free_homes = refl;
+  globals = λ g below.
+      let all : heap.globals ≡ replicate globals 0 = is.globals_hold_nothing in
+      let count : length heap.globals ≡ globals = ap length all ∙ length-replicate globals 0 in
+      ap (λ xs. slice_index xs g) all ∙ get_or-replicate globals g 0 0 (omega arith);
+}
 
 -- each place that is tried is that of a forwarding word
 probe_at : (home count k : ℕ) → probe home count k ≡ k
@@ -61,7 +81,8 @@ module _ (maps : Maps) (s : State) (none : NoObjects maps) (empty : IsEmpty s) w
     globals = λ g below. null_may maps s (s.global g) (empty.globals g below);
     scions = λ k x live. absurd (no_scion k x (s.base.scion k) (empty.scions k) live);
     forwards = λ p below. inl (empty.forwards p below);
-    one_forward = λ p q home a b in_p in_q sends_a sends_b. absurd (sends_nothing (s.forward p) home a (empty.forwards p in_p) sends_a);
+    one_forward = λ p q home a b in_p in_q sends_a sends_b.
+        absurd (sends_nothing (s.forward p) home a (empty.forwards p in_p) sends_a);
   }
 
   pub NoGaps_start : NoGaps s
@@ -76,15 +97,22 @@ module _ (maps : Maps) (s : State) (none : NoObjects maps) (empty : IsEmpty s) w
   Formed_start nothing = record { words = FormedWords_start; registers = λ t r. inl (nothing t r) }
 
   not_reserved : (home : ℕ) (z : Shape) → IsReserved s.base.homes home z → ⊥
-  not_reserved home z is = absurd (let e : IsReserved [] home z = subst (λ hs. IsReserved hs home z) empty.homes is in cc)
+  not_reserved home z is =
+      absurd (let e : IsReserved [] home z = subst (λ hs. IsReserved hs home z) empty.homes is in cc)
 
   pub Tells_start : Tells [] maps s
   Tells_start = record {
     one_address = λ a b n named other. absurd (no_name a n named);
     one_home = λ a b n has other. absurd (no_home a n has);
     homes_follow = subst (λ hs. Follow 1 hs s.base.end) (sym empty.homes) (sym empty.end);
-    taken = λ home. (λ has. absurd (no_home home has.0 has.1), λ is. absurd (not_reserved home is.reserved_for is.reserved));
-    free_homes = λ home is. absurd (let e : Contains [] home = subst (λ hs. Contains hs home) empty.free_homes is in let below : e.0 < 0 = e.1 in omega arith);
+    taken = λ home. (
+      λ has. absurd (no_home home has.0 has.1),
+      λ is.
+          absurd (not_reserved home is.reserved_for is.reserved),
+    );
+    free_homes = λ home is.
+        absurd (let e : Contains [] home = subst (λ hs. Contains hs home) empty.free_homes is in let below : e.0 < 0 =
+        e.1 in omega arith);
     shapes = λ a n header named starts. absurd (no_name a n named);
     slots = λ a n i header named starts below. absurd (no_name a n named);
     numbers = λ a n j header named starts below. absurd (no_name a n named);

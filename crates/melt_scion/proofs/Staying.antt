@@ -37,24 +37,29 @@ module _ (maps : Maps) (s t : State) (same : SameParts maps s t) where
   pub FormedWords_same : FormedWords maps s → FormedWords maps t
   FormedWords_same formed = FormedWords_stay maps s t same.keeps formed (record {
     slots = λ a n i h named starts below.
-        subst (IsReferenceWord maps s) (sym (same.part a n (2 + i) (a + 2 + i) h (slot_part maps s a n i h named starts below) (omega arith)))
+        subst (IsReferenceWord maps s)
+        (sym (same.part a n (2 + i) (a + 2 + i) h (slot_part maps s a n i h named starts below) (omega arith)))
         (formed.slots a n i h named starts below);
     globals = λ g below. subst (IsReferenceWord maps s) (sym (same.global g)) (formed.globals g below);
     forward = same.forward;
   })
 
   pub Tells_same : (h k : List Entry) → SameValues h k → Tells h maps s → Tells k maps t
-  Tells_same h k values tells = Tells_stay maps s t same.keeps h k tells values.shapes (same_bodies h k maps values) (record {
-    slots = λ a n i hd named starts below.
-        subst (λ w. Stands maps w (last k (Field n i))) (sym (same.part a n (2 + i) (a + 2 + i) hd (slot_part maps s a n i hd named starts below) (omega arith)))
-        (subst (Stands maps (s.word (a + 2 + i))) (sym (values.last (Field n i))) (tells.slots a n i hd named starts below));
-    numbers = λ a n j hd named starts below.
-        ap Num (same.part a n (2 + hd.shape.refs + j) (a + 2 + hd.shape.refs + j) hd (number_part maps s a n j hd named starts below) (omega arith))
-        ∙ (tells.numbers a n j hd named starts below ∙ sym (values.last (Cell n j)));
-    globals = λ g below.
-        subst (λ w. Stands maps w (last k (Global g))) (sym (same.global g))
-        (subst (Stands maps (s.global g)) (sym (values.last (Global g))) (tells.globals g below));
-  })
+  Tells_same h k values tells = Tells_stay maps s t same.keeps h k tells values.shapes (same_bodies h k maps values)
+      (record {
+        slots = λ a n i hd named starts below.
+            subst (λ w. Stands maps w (last k (Field n i)))
+            (sym (same.part a n (2 + i) (a + 2 + i) hd (slot_part maps s a n i hd named starts below) (omega arith)))
+            (subst (Stands maps (s.word (a + 2 + i))) (sym (values.last (Field n i)))
+            (tells.slots a n i hd named starts below));
+        numbers = λ a n j hd named starts below.
+            ap Num (same.part a n (2 + hd.shape.refs + j) (a + 2 + hd.shape.refs + j) hd
+            (number_part maps s a n j hd named starts below) (omega arith))
+            ∙ (tells.numbers a n j hd named starts below ∙ sym (values.last (Cell n j)));
+        globals = λ g below.
+            subst (λ w. Stands maps w (last k (Global g))) (sym (same.global g))
+            (subst (Stands maps (s.global g)) (sym (values.last (Global g))) (tells.globals g below));
+      })
 
   pub NoGaps_same : NoGaps s → NoGaps t
   NoGaps_same gaps = NoGaps_stays s t same.keeps.base same.forward gaps
@@ -92,7 +97,8 @@ pub bit_cleared : (maps : Maps) (s t : State) (a n : ℕ) (h : Header) → Forme
     HeaderAt s a h → WordChanges s t a (header_word (record { shape = h.shape; stale = false })) → SameParts maps s t
 bit_cleared maps s t a n h formed named starts changes = record {
   keeps = keeps_cleared maps s t a n h formed named starts changes;
-  part = λ b m p y k part behind. behind_cleared maps s t a n h formed named starts changes b m p y k part (omega arith);
+  part = λ b m p y k part behind. behind_cleared maps s t a n h formed named starts changes b m p y k part
+      (omega arith);
   global = changes.global;
   forward = changes.forward;
 }
@@ -101,5 +107,12 @@ bit_cleared maps s t a n h formed named starts changes = record {
 pub Tells_reads : (h k : List Entry) (maps : Maps) (s : State) → SameValues h k → Tells h maps s → Tells k maps s
 Tells_reads h k maps s values tells =
     Tells_same maps s s
-    (same_words maps s s (record { base = refl; free = refl; word = λ a. refl; global = λ g. refl; forward = λ p. refl })) h k
+    (same_words maps s s (record {
+      base = refl;
+      free = refl;
+      word = λ a. refl;
+      global = λ g. refl;
+      forward = λ p.
+          refl;
+    })) h k
     values tells
