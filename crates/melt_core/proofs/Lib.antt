@@ -1,14 +1,15 @@
 pub mod Values
 pub mod Answers
-pub mod Found
 pub mod Staying
+pub mod Places
 pub mod Evolving
 pub mod Owning
 pub mod Claims
 pub mod Regions
+pub mod Legality
+pub mod Holding
 pub mod Keeping
 pub mod Standing
-pub mod Probe
 pub mod Alive
 pub mod Counting
 pub mod Plain
