@@ -4,7 +4,7 @@
 pub mod collect;
 mod commit;
 mod copy;
-pub mod plan;
+pub mod forwarding;
 
 pub use collect::collect_copy;
 
