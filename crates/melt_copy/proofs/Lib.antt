@@ -18,3 +18,4 @@ pub mod Held
 pub mod Outs
 pub mod Collects
 pub mod Building
+pub mod Costs
