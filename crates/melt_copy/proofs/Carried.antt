@@ -36,9 +36,11 @@ module _ (phase : Phase) (maps : Maps) (s t : State) (f : ℕ → ℕ) (moves : 
   ]
 
   -- the number at a place
-  pub copy_name : (k : ℕ) (m : Relocation) → slice_get moves k ≡ Some m → name_after maps.address moves m.to ≡ maps.address m.from
+  pub copy_name : (k : ℕ) (m : Relocation) → slice_get moves k ≡ Some m
+      → name_after maps.address moves m.to ≡ maps.address m.from
   copy_name k m at =
-      name_after-at maps.address moves k m at (λ j x there same. (same_place s f moves t.free j k x m copy.found there at same).1)
+      name_after-at maps.address moves k m at
+      (λ j x there same. (same_place s f moves t.free j k x m copy.found there at same).1)
 
   -- the header at a place
   pub header_there : (k : ℕ) (m : Relocation) (b : ℕ) (header : Header) → (at : slice_get moves k ≡ Some m) → m.to ≡ b
@@ -130,14 +132,16 @@ module _ (phase : Phase) (maps : Maps) (s t : State) (f : ℕ → ℕ) (moves : 
         cc
 
     pub no_forward : (p : ℕ) → p < t.base.forwards → ⊥
-    no_forward p below = let same : t.base.forwards ≡ s.base.forwards = ap (λ (b : Base). b.forwards) copy.base in omega (arith, below, same, none.forwards)
+    no_forward p below = let same : t.base.forwards ≡ s.base.forwards = ap (λ (b : Base). b.forwards) copy.base in
+        omega (arith, below, same, none.forwards)
 
     -- no object has a home word
     pub homeless_there : FormedWords maps s → (b n : ℕ) → name_after maps.address moves b ≡ Some n → t.word (b + 1) ≡ 0
     homeless_there formed b n named =
         let c = came b n named in
         ap (λ (a : ℕ). t.word (a + 1)) (sym c.to)
-        ∙ ((copy.objects c.index c.move c.is).home ∙ homeless maps s c.move.from n formed none.forwards none.scions c.named)
+        ∙ ((copy.objects c.index c.move c.is).home
+        ∙ homeless maps s c.move.from n formed none.forwards none.scions c.named)
 
     formed_words : FormedWords maps s → FormedWords (maps_after maps moves) t
     formed_words formed = record {
@@ -150,9 +154,16 @@ module _ (phase : Phase) (maps : Maps) (s t : State) (f : ℕ → ℕ) (moves : 
       apart = λ a b n m header first second starts before.
           let x = came a n first in
           let y = came b m second in
-          let cost : cost_of header.shape ≡ cost_of x.move.shape = ap cost_of (shape_before x.index x.move a header x.is x.to starts) in
+          let cost : cost_of header.shape ≡ cost_of x.move.shape =
+          ap cost_of (shape_before x.index x.move a header x.is x.to starts) in
           let less : x.move.to < y.move.to = omega (arith, x.to, y.to, before) in
-          omega (arith, x.to, y.to, objects_apart x.index y.index x.move y.move (cost_of header.shape) x.is y.is cost less);
+          omega (
+            arith,
+            x.to,
+            y.to,
+            objects_apart x.index y.index x.move y.move
+                (cost_of header.shape) x.is y.is cost less,
+          );
       slots = λ b n i header named starts below.
           let c = came b n named in
           let shape = shape_before c.index c.move b header c.is c.to starts in

@@ -15,15 +15,18 @@ use Rattle.melt_scion.proofs.Totals.{live_costs, held_costs}
 use Rattle.melt_copy.specs.Copying.{IsCopying, HasCollected, no_home}
 use Rattle.melt_copy.proofs.Phases.{none_leaves}
 
-module _ (h : List Entry) (value : ℕ → ℕ → Value) (maps : Maps) (end : ℕ) (old new : Heap) (held held_after : List Registers)
+module _ (h : List Entry) (value : ℕ → ℕ
+    → Value) (maps : Maps) (end : ℕ) (old new : Heap) (held held_after : List Registers)
     (phase : Phase) (journal : Journal) (placed : Placed h value maps (state_of old held end))
     (has : HasCollected maps end old new held held_after phase journal) where
-
   -- live are the words of all that is alive
-  pub live_are_alive : IsCopying phase → Legal h (length old.globals) → CostsSum (words_of h) (Alive h value) journal.live
+  pub live_are_alive : IsCopying phase → Legal h (length old.globals)
+      → CostsSum (words_of h) (Alive h value) journal.live
   live_are_alive copying legal =
-      live_costs h value maps (state_of old held end) placed phase has.after (state_of new held_after end) has.to no_home journal.live legal
-      (heap_has_no_scions old held end) refl (λ a. none_leaves phase (state_of old held end) a copying) has.collected has.live
+      live_costs h value maps (state_of old held end) placed phase has.after
+      (state_of new held_after end) has.to no_home journal.live legal
+      (heap_has_no_scions old held end) refl
+      (λ a. none_leaves phase (state_of old held end) a copying) has.collected has.live
 
   -- and held are those of what registers hold
   pub held_are_held : CostsSum (words_of h) (Held value) journal.held

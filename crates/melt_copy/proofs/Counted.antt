@@ -21,7 +21,8 @@ use Rattle.melt_copy.proofs.Counting.{slice_get-take, slice_get_in_front, counts
 cost_in : ℕ → ℕ
 cost_in word = 2 + word / 256 % 256 + word / 65536
 
-cost_in_word : (refs nums : ℕ) (stale : Bool) → refs ≤ 62 → nums ≤ 62 → cost_in (1 + 2 * bit stale + 256 * refs + 65536 * nums) ≡ 2 + refs + nums
+cost_in_word : (refs nums : ℕ) (stale : Bool) → refs ≤ 62 → nums ≤ 62
+    → cost_in (1 + 2 * bit stale + 256 * refs + 65536 * nums) ≡ 2 + refs + nums
 unfolding cost_in
 cost_in_word refs nums false few small = omega (arith, few, small)
 cost_in_word refs nums true few small = omega (arith, few, small)
@@ -52,10 +53,12 @@ module _ (phase : Phase) (maps : Maps) (s t : State) (f : ℕ → ℕ) (moves : 
   pub live_words : Formed maps s → CountsWords t (IsNamed (maps_after maps moves)) (words_in moves)
   live_words formed = counts_words t (IsNamed (maps_after maps moves)) (words_in moves) (
       counts_moves (cost_at t) (IsNamed (maps_after maps moves)) (λ (m : Relocation). m.to) moves
-      (λ i j a b first second before same. let one = (same_place s f moves t.free i j a b copy.found first second same).0 in omega (arith, one, before))
+      (λ i j a b first second before same. let one =
+      (same_place s f moves t.free i j a b copy.found first second same).0 in omega (arith, one, before))
       (λ k m at.
       let o = object_there phase maps s t f moves front whole copy k m at in
-      (costs_at t).is m.to o.0 o.1.starts ∙ ap cost_of (shape_before phase maps s t f moves front whole copy k m m.to o.0 at refl o.1.starts))
+      (costs_at t).is m.to o.0 o.1.starts
+      ∙ ap cost_of (shape_before phase maps s t f moves front whole copy k m m.to o.0 at refl o.1.starts))
       (λ b named. let c = comes maps.address moves b named.0 named.1 in (c.index, c.move, c.is, c.to))
       (λ k m at.
       let n = reached_named maps s m.from formed (copy.found.whole k m at).reached in

@@ -26,7 +26,8 @@ use Rattle.melt_copy.proofs.Carried.{copy_name, copy_renames, formed_there}
 use Rattle.melt_copy.proofs.Told.{placed_there}
 
 -- a reference that was moved, by the reference that stood there
-became : (phase : Phase) (f : ℕ → ℕ) (new : ℕ) (r : Ref) → IsFound f r → new ≡ ref_word (moved phase f r) → Became phase f no_home new r
+became : (phase : Phase) (f : ℕ → ℕ) (new : ℕ) (r : Ref) → IsFound f r → new ≡ ref_word (moved phase f r)
+    → Became phase f no_home new r
 became phase f new Null found is = is
 became phase f new (Clean a) found is = (λ some. is, λ none. absurd (found none))
 became phase f new (Stale a) found is = (λ some. is, λ none. absurd (found none))
@@ -38,19 +39,23 @@ word_goes phase f old new moves r range is =
     subst (Became phase f no_home new) same (became phase f new moves.reference moves.found moves.is)
 
 -- the stale bit after the move, by whether a register holds the object
-bit_set : (held : Bool) (s : State) (a : ℕ) (old new : Bool) → new ≡ (if held then old else true) → (held ≡ true → HoldsAt s a)
+bit_set : (held : Bool) (s : State) (a : ℕ) (old new : Bool) → new ≡ (if held then old else true)
+    → (held ≡ true → HoldsAt s a)
     → (HoldsAt s a → (held ≡ true) × (old ≡ false)) → (new ≡ false) ↔ HoldsAt s a
 bit_set true s a old new is holds back = (λ fresh. holds refl, λ held. is ∙ (back held).1)
-bit_set false s a old new is holds back = (λ fresh. absurd (let set : new ≡ true = is in cc), λ held. absurd (let both = (back held).0 in cc))
+bit_set false s a old new is holds back =
+    (λ fresh. absurd (let set : new ≡ true = is in cc), λ held. absurd (let both = (back held).0 in cc))
 
-bit_goes : (phase : Phase) (held : Bool) (s : State) (a : ℕ) (old later : Header) → later.stale ≡ stale_after phase held old.stale
+bit_goes : (phase : Phase) (held : Bool) (s : State) (a : ℕ) (old later : Header)
+    → later.stale ≡ stale_after phase held old.stale
     → (held ≡ true → HoldsAt s a) → (HoldsAt s a → (held ≡ true) × (old.stale ≡ false)) → BitGoes phase s a old later
 bit_goes Inactive held s a old later is holds back = is
 bit_goes Mark held s a old later is holds back = bit_set held s a old.stale later.stale is holds back
 bit_goes Move held s a old later is holds back = bit_set held s a old.stale later.stale is holds back
 
 in_front : (k front : ℕ) → nat_lt k front ≡ true → k < front
-in_front k front is = elim (cases_lt k front) [ inl below ↦ below | inr above ↦ absurd (let not = le-ltb k front above in cc) ]
+in_front k front is =
+    elim (cases_lt k front) [ inl below ↦ below | inr above ↦ absurd (let not = le-ltb k front above in cc) ]
 
 module _ (phase : Phase) (maps : Maps) (s t : State) (f : ℕ → ℕ) (moves : List Relocation) (front : ℕ)
     (whole : IsWhole s) (copy : IsCopy phase s t f moves front) (none : HasNoScions s.base) (formed : Formed maps s) where
@@ -75,7 +80,11 @@ module _ (phase : Phase) (maps : Maps) (s t : State) (f : ℕ → ℕ) (moves : 
         from = g.from;
         to = sym g.to;
         shape = source_shape s g.move header (copy.found.whole g.index g.move g.is) at;
-        there = record { in_range = starts.in_range; word = ap t.word g.to ∙ (copy.objects g.index g.move g.is).header header at };
+        there = record {
+          in_range = starts.in_range;
+          word = ap t.word g.to
+              ∙ (copy.objects g.index g.move g.is).header header at;
+        };
       }
 
   -- each word of a copy belongs to an object
@@ -89,7 +98,11 @@ module _ (phase : Phase) (maps : Maps) (s t : State) (f : ℕ → ℕ) (moves : 
         address = w.move.to;
         header = header_after phase (nat_lt w.index front) is.header;
         named = (n.0, copy_name phase maps s t f moves front whole copy w.index w.move w.is ∙ n.1);
-        starts = record { in_range = is.starts.in_range; word = (copy.objects w.index w.move w.is).header is.header is.starts };
+        starts = record {
+          in_range = is.starts.in_range;
+          word =
+              (copy.objects w.index w.move w.is).header is.header is.starts;
+        };
         from = omega (arith, place, w.from);
         to = omega (arith, place, w.to, source_cost s w.move is);
       }
@@ -98,7 +111,8 @@ module _ (phase : Phase) (maps : Maps) (s t : State) (f : ℕ → ℕ) (moves : 
   found_once a b some same =
       let x = goes s f moves t.free a copy.found some in
       let y = goes s f moves t.free b copy.found (λ nought. some (same ∙ nought)) in
-      let one = (same_place s f moves t.free x.index y.index x.move y.move copy.found x.is y.is (sym x.to ∙ (same ∙ y.to))).1 in
+      let one = (same_place s f moves t.free x.index y.index x.move y.move copy.found x.is y.is
+      (sym x.to ∙ (same ∙ y.to))).1 in
       sym x.from ∙ (ap (λ (m : Relocation). m.from) one ∙ y.from)
 
   -- exactly what can be reached was found, and goes where it is to
@@ -126,10 +140,12 @@ module _ (phase : Phase) (maps : Maps) (s t : State) (f : ℕ → ℕ) (moves : 
   }
 
   -- the first objects are those in registers, none of which has the stale bit
-  held_bit : (a : ℕ) (header : Header) (x : FoundAt a header) → HeaderAt s a header → HoldsAt s a → (nat_lt x.index front ≡ true) × (header.stale ≡ false)
+  held_bit : (a : ℕ) (header : Header) (x : FoundAt a header) → HeaderAt s a header → HoldsAt s a
+      → (nat_lt x.index front ≡ true) × (header.stale ≡ false)
   held_bit a header x starts holds =
       let first = (source_object s x.move whole (copy.found.whole x.index x.move x.is)).first in
-      let full : s.register holds.thread holds.register ≢ 0 = λ nought. omega (arith, nought, holds.holds, first, x.from) in
+      let full : s.register holds.thread holds.register ≢ 0 =
+      λ nought. omega (arith, nought, holds.holds, first, x.from) in
       let m = copy.held.all holds.thread holds.register full in
       let from : m.1.from ≡ x.move.from = m.4 ∙ (holds.holds ∙ sym x.from) in
       let one = (same_source s f moves t.free m.0 x.index m.1 x.move copy.found m.2 x.is from).0 in
@@ -143,7 +159,9 @@ module _ (phase : Phase) (maps : Maps) (s t : State) (f : ℕ → ℕ) (moves : 
   copy_marks = record {
     headers = λ a old later some starts after.
         let x = found_at a old some starts in
-        let same : later ≡ header_after phase (nat_lt x.index front) old = same_header later (header_after phase (nat_lt x.index front) old) after.in_range x.there.in_range (sym after.word ∙ x.there.word) in
+        let same : later ≡ header_after phase (nat_lt x.index front) old =
+        same_header later (header_after phase (nat_lt x.index front) old) after.in_range x.there.in_range
+        (sym after.word ∙ x.there.word) in
         bit_goes phase (nat_lt x.index front) s a old later (ap (λ (h : Header). h.stale) same)
         (λ held.
         let h = copy.held.each x.index x.move x.is (in_front x.index front held) in
@@ -151,13 +169,16 @@ module _ (phase : Phase) (maps : Maps) (s t : State) (f : ℕ → ℕ) (moves : 
         (held_bit a old x starts);
     slots = λ a i header some starts below.
         let x = found_at a header some starts in
-        let small : i < x.move.shape.refs = let refs : header.shape.refs ≡ x.move.shape.refs = ap (λ (z : Shape). z.refs) x.shape in omega (arith, refs, below) in
+        let small : i < x.move.shape.refs = let refs : header.shape.refs ≡ x.move.shape.refs =
+        ap (λ (z : Shape). z.refs) x.shape in omega (arith, refs, below) in
         subst (λ (b : ℕ). WordGoes phase f no_home (s.word (b + 2 + i)) (t.word (f a + 2 + i))) x.from
         (subst (λ (b : ℕ). WordGoes phase f no_home (s.word (x.move.from + 2 + i)) (t.word (b + 2 + i))) x.to
-        (word_goes phase f (s.word (x.move.from + 2 + i)) (t.word (x.move.to + 2 + i)) ((copy.objects x.index x.move x.is).slots i small)));
+        (word_goes phase f (s.word (x.move.from + 2 + i)) (t.word (x.move.to + 2 + i))
+        ((copy.objects x.index x.move x.is).slots i small)));
     numbers = λ a j header some starts below.
         let x = found_at a header some starts in
-        let small : j < x.move.shape.nums = let nums : header.shape.nums ≡ x.move.shape.nums = ap (λ (z : Shape). z.nums) x.shape in omega (arith, nums, below) in
+        let small : j < x.move.shape.nums = let nums : header.shape.nums ≡ x.move.shape.nums =
+        ap (λ (z : Shape). z.nums) x.shape in omega (arith, nums, below) in
         let refs : header.shape.refs ≡ x.move.shape.refs = ap (λ (z : Shape). z.refs) x.shape in
         let number = (copy.objects x.index x.move x.is).numbers j small in
         ap t.word (omega (arith, refs, x.to)) ∙ (number ∙ ap s.word (omega (arith, refs, x.from)));

@@ -23,12 +23,14 @@ kept_in_range Inactive address is = is
 kept_in_range Mark address is = is
 kept_in_range Move address is = is
 
-pub kept_value : (phase : Phase) (maps : Maps) (address : ℕ) → value_of maps (kept_tag phase address) ≡ option_map value.Ref (maps.address address)
+pub kept_value : (phase : Phase) (maps : Maps) (address : ℕ)
+    → value_of maps (kept_tag phase address) ≡ option_map value.Ref (maps.address address)
 kept_value Inactive maps address = refl
 kept_value Mark maps address = refl
 kept_value Move maps address = refl
 
-pub kept_may_stand : (phase : Phase) (maps : Maps) (s : State) (address : ℕ) → IsNamed maps address → (KeepsBits phase → IsFresh s address) → MayStand maps s (kept_tag phase address)
+pub kept_may_stand : (phase : Phase) (maps : Maps) (s : State) (address : ℕ) → IsNamed maps address
+    → (KeepsBits phase → IsFresh s address) → MayStand maps s (kept_tag phase address)
 kept_may_stand Inactive maps s address named fresh = (named, fresh tt)
 kept_may_stand Mark maps s address named fresh = named
 kept_may_stand Move maps s address named fresh = named

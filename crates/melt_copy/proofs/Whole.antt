@@ -10,7 +10,8 @@ pub formed_whole : (maps : Maps) (s : State) → s.free ≤ s.base.size + 1 → 
 formed_whole maps s inside formed = record {
   small = formed.words.small;
   inside = inside;
-  objects = λ address reached. let n = reached_named maps s address formed reached in formed.words.objects address n.0 n.1;
+  objects = λ address reached. let n = reached_named maps s address formed reached in
+      formed.words.objects address n.0 n.1;
   apart = λ a b header first second starts before.
       let n = reached_named maps s a formed first in
       let m = reached_named maps s b formed second in
@@ -19,5 +20,6 @@ formed_whole maps s inside formed = record {
       let n = reached_named maps s address formed reached in
       let is = formed.words.slots address n.0 i header n.1 starts below in
       record { reference = is.reference; in_range = is.in_range; is = is.is };
-  globals = λ g below. let is = formed.words.globals g below in record { reference = is.reference; in_range = is.in_range; is = is.is };
+  globals = λ g below. let is = formed.words.globals g below in
+      record { reference = is.reference; in_range = is.in_range; is = is.is };
 }

@@ -27,8 +27,8 @@ pub record Journals (journal : Journal) (phase : Phase) (used : ℕ) : Type 0 wh
   pub no_stubs : journal.stubs ≡ 0
   pub no_end : journal.end ≡ 0
 
--- What was collected, by the maps with which heap and registers were well formed: the maps after it, and where each object
--- went. Live are the words of all objects after it, and held those of the objects in registers before it.
+-- What was collected, by the maps with which heap and registers were well formed: the maps after it, and where each
+-- object went. Live are the words of all objects after it, and held those of the objects in registers before it.
 pub record HasCollected (maps : Maps) (end : ℕ) (old new : Heap) (held held_after : List Registers) (phase : Phase) (journal : Journal) : Type 0 where
   pub after : Maps
   pub to : ℕ → ℕ
@@ -41,4 +41,5 @@ pub record HasCollected (maps : Maps) (end : ℕ) (old new : Heap) (held held_af
 
 abbrev pub Collects : Heap → List Registers → Heap → List Registers → Phase → Journal → Type 0
 Collects old held new held_after phase journal =
-    (maps : Maps) (end : ℕ) → HasNames old.names maps → Formed maps (state_of old held end) → HasCollected maps end old new held held_after phase journal
+    (maps : Maps) (end : ℕ) → HasNames old.names maps → Formed maps (state_of old held end)
+    → HasCollected maps end old new held held_after phase journal

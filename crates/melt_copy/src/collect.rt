@@ -1,4 +1,12 @@
 //! The copying collection.
+//!
+//! All that is to stay is copied out of the heap before the first change. So want of memory leaves heap and registers as
+//! they were, at whatever moment it comes, and what is left then takes none.
+//!
+//! Objects in registers are found before all others. So they are the first in the list of those that were found, and one
+//! number, the front, tells of each object whether a register holds it, on which its stale bit depends. The words up to
+//! the front are those of the objects in registers, each counted once, however many registers hold it. What globals
+//! refer to comes behind them, and then what slots do.
 ghost use Rattle.std.specs.Prelude.{◌≡◌, ℕ, ◌<◌, ◌≤◌, length, IfOk, OnErr};
 ghost use Rattle.melt_scion.specs.Heaps.{IsFormed};
 ghost use Rattle.melt_copy.specs.Copying.{Collects, IsCopying};
@@ -61,6 +69,7 @@ fn copy_out<L: Ledger>(
 {
     let mut forwarding = Forwarding::new(alloc, heap.space.used())?;
     find_all_held(&mut forwarding, &heap.space, held, steps)?;
+    // Nothing but objects in registers was found yet.
     let held_words = forwarding.next - 1;
     let front = forwarding.moves.len();
     let mut globals = Vec::with_capacity(alloc, heap.globals.items.len())?;

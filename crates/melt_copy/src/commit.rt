@@ -1,4 +1,12 @@
-//! What changes once everything that is to be kept was copied. None of it takes memory.
+//! What changes once everything that is to stay was copied. None of it takes memory.
+//!
+//! A register holds 0 or the address of an object that was found, and the table of new addresses has 0 at 0. So each
+//! register is looked up there, whatever it holds.
+//!
+//! The names of addresses lie apart from the words, and a heap may have none. An object may move to an address from which
+//! another one is still to take its number away. So the numbers of all objects that stay are read before the first
+//! change, in the order of the moves; then the names of the words in use are cleared, and each object gets its number
+//! again where it stands now.
 ghost use Rattle.std.specs.Prelude.{◌≡◌, ℕ, ◌<◌, ◌≤◌, length, map, slice_get, slice_index, Some, None, IfOk};
 ghost use Rattle.melt_scion.specs.Heaps.{register_in};
 ghost use Rattle.melt_scion.specs.Names.{name_at};

@@ -1,4 +1,13 @@
 //! Finds what can be reached, and copies it.
+//!
+//! An object gets its new address when it is found, which is before it is copied. Objects are copied in the order in
+//! which they were found, so each begins where the last one ended, and the words of the copy are written from the front
+//! to the end. A slot that is copied may find an object more, which then waits its turn behind the others. Once none
+//! waits, each reference in the copy is to an object in it: what is reached was copied, and nothing else was.
+//!
+//! All is read from the old words, and none of them changes meanwhile. So an object that was found still has its header
+//! there, from which its shape and its stale bit come, and a slot still refers to an old address. The new addresses stand
+//! in a table beside the words.
 ghost use Rattle.std.specs.Prelude.{◌≡◌, ◌≢◌, ℕ, ◌+◌, ◌<◌, ◌≤◌, length, slice_index, IfOk, OnOk};
 ghost use Rattle.melt_word.specs.Words.{IsHeader, IsShape, cost_of, header_word};
 ghost use Rattle.melt_word.specs.declared.header.Header.{Header};
@@ -82,6 +91,7 @@ fn move_header(phase: Phase, held: bool, shape: Shape, word: u64) -> u64
     ensures { (header : Header) → IsHeader header → header.shape ≡ shape → word ≡ header_word header → result ≡ header_word (header_after phase held header) }
 {
     match phase {
+        // An object in a register has no stale bit, and so keeps its header.
         Phase::Mark | Phase::Move if !held => encode_header(Header { shape, stale: true }),
         _ => word,
     }
@@ -104,6 +114,7 @@ fn copy_object<L: Ledger>(
     ensures tracks { (s : State) → TracksOf space.now s forwarding.old m → Tracks space.now s forwarding.new }
 {
     let object = space.words_at(m.from, cost(m.shape));
+    // Before the slots stand the header and the home word.
     let numbers = 2 + m.shape.refs as usize;
     let header = move_header(phase, held, m.shape, object[0]);
     out.extend_from_slice(&[header, object[1]])?;

@@ -1,4 +1,12 @@
 //! Where each object that a collection finds goes.
+//!
+//! The objects that were found stand in a list, in the order in which they are to lie from word 1 on. A table has the new
+//! address of each at its old one, and 0 everywhere else. Both only grow: an object keeps the place that it got when it
+//! was found first, so a reference that was moved stays right while more objects are found, and an object to which many
+//! references are is copied once.
+//!
+//! Objects lie apart from each other among the words in use. So those that were found take no more words than these,
+//! whatever refers to what: each new address is one of the space, and the copy has room in it.
 ghost use Rattle.std.specs.Prelude.{◌≡◌, ◌≢◌, ℕ, ◌+◌, ◌^◌, ◌<◌, ◌≤◌, ◌⊎◌, [], slice_get, slice_index, length, replicate, Some, IfOk};
 ghost use Rattle.melt_word.specs.Words.{IsAddress, IsRef};
 ghost use Rattle.melt_scion.specs.State.{State};
@@ -100,6 +108,7 @@ impl Forwarding {
             Ok(Ref::Clean(address)) => Ok(encode_ref(tagged(phase, self.find(space, address)?))),
             Ok(Ref::Stale(address)) => Ok(encode_ref(Ref::Stale(self.find(space, address)?))),
             Ok(Ref::Null | Ref::Disk(_)) => Ok(word),
+            // A slot or a global always has the word of a reference.
             Err(_) => unreachable!(),
         }
     }

@@ -25,7 +25,8 @@ no_home_word s a words home scion none has =
       | inr some ↦ absurd (let live = has.live some in let dead = none.scions scion in cc)
     ]
 
-pub homeless : (maps : Maps) (s : State) (a n : ℕ) → FormedWords maps s → s.base.forwards ≡ 0 → ((k : ℕ) → s.base.scion k ≡ None) → maps.address a ≡ Some n → s.word (a + 1) ≡ 0
+pub homeless : (maps : Maps) (s : State) (a n : ℕ) → FormedWords maps s → s.base.forwards ≡ 0
+    → ((k : ℕ) → s.base.scion k ≡ None) → maps.address a ≡ Some n → s.word (a + 1) ≡ 0
 homeless maps s a n formed forwards scions named =
     let object = formed.objects a n named in
     elim (formed.home_words a n object.0 named object.1.starts) [
@@ -38,7 +39,8 @@ not_empty [] k x none at = cc
 not_empty (y ∷ homes) k x none at = cc
 
 -- where no home was reserved, no object has one
-pub no_homes : (h : List Entry) (maps : Maps) (s : State) (home n : ℕ) → Tells h maps s → s.base.homes ≡ [] → maps.home home ≡ Some n → ⊥
+pub no_homes : (h : List Entry) (maps : Maps) (s : State) (home n : ℕ) → Tells h maps s → s.base.homes ≡ []
+    → maps.home home ≡ Some n → ⊥
 no_homes h maps s home n tells none is =
     let reserved = ((tells.taken home).0 (n, is)).reserved in
     not_empty s.base.homes reserved.index _ none reserved.is

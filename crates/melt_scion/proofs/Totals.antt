@@ -1,5 +1,5 @@
 -- What the two totals of a collection are to the history for which the state stands.
-use Rattle.std.proofs.Common.{◌≡◌, ◌≢◌, ℕ, List, [], refl, sym, ◌∙◌, ap, subst, arith, inl, inr}
+use Rattle.std.proofs.Common.{◌≡◌, ◌≢◌, ℕ, ◌≤◌, List, [], refl, sym, ◌∙◌, ap, subst, arith, inl, inr}
 use Rattle.std.specs.Prelude.{◌↔◌, Some}
 use Rattle.melt_model.specs.History.{Legal}
 use Rattle.melt_model.specs.Alive.{Alive, Held, words_of, CostsSum}
@@ -24,22 +24,30 @@ module _ (h : List Entry) (value : ℕ → ℕ → Value) (maps : Maps) (s : Sta
   held_number n = (
     λ held.
         let a = s.register held.thread held.register in
-        let at = held_address maps n a (value held.thread held.register) (placed.registers held.thread held.register) held.holds in
-        (a, (record { thread = held.thread; register = held.register; holds = refl }, λ none. omega (arith, none, at.0)), at.1),
+        let at = held_address maps n a (value held.thread held.register)
+            (placed.registers held.thread held.register) held.holds in
+        (a, (record { thread = held.thread; register = held.register; holds = refl },
+            λ none. omega (arith, none, at.0)), at.1),
     λ is.
         let t = is.1.0.thread in
         let r = is.1.0.register in
-        let stands : value_at maps is.0 ≡ Some (value t r) = ap (value_at maps) (sym is.1.0.holds) ∙ placed.registers t r in
-        record { thread = t; register = r; holds = value_held maps is.0 n (value t r) stands (let some = is.1.1 in omega (arith, some)) is.2 },
+        let stands : value_at maps is.0 ≡ Some (value t r) = ap (value_at maps) (sym is.1.0.holds)
+            ∙ placed.registers t r in
+        let first : 1 ≤ is.0 = let some = is.1.1 in omega (arith, some) in
+        record { thread = t; register = r; holds = value_held maps is.0 n (value t r) stands first is.2 },
   )
 
   -- the words of the objects in registers
   pub held_costs : (held : ℕ) → CountsWords s (HeldAt s) held → CostsSum (words_of h) (Held value) held
-  held_costs held counts = counts_numbers h maps s placed.formed.words placed.tells (HeldAt s) (Held value) held held_named held_number counts
+  held_costs held counts =
+      counts_numbers h maps s placed.formed.words placed.tells (HeldAt s) (Held value) held held_named held_number
+      counts
 
-  -- The words of all objects after a collection of which none left for the disk: before it no scion was live, and no home
-  -- was reserved.
-  pub live_costs : (phase : Phase) (new : Maps) (t : State) (to home : ℕ → ℕ) (live : ℕ) → Legal h s.base.globals → HasNoScions s.base → s.base.homes ≡ [] → ((a : ℕ) → Leaves phase s a → ⊥) → Collected phase maps new s t to home → CountsWords t (IsNamed new) live → CostsSum (words_of h) (Alive h value) live
+  -- The words of all objects after a collection of which none left for the disk. Before it no scion was live, and no
+  -- home was reserved.
+  pub live_costs : (phase : Phase) (new : Maps) (t : State) (to home : ℕ → ℕ) (live : ℕ) → Legal h s.base.globals
+      → HasNoScions s.base → s.base.homes ≡ [] → ((a : ℕ) → Leaves phase s a → ⊥) → Collected phase maps new s t to home
+      → CountsWords t (IsNamed new) live → CostsSum (words_of h) (Alive h value) live
   live_costs phase new t to home live legal none none_reserved stay collected counts =
       let after = collected.placed h value placed in
       counts_numbers h new t after.formed.words after.tells (IsNamed new) (Alive h value) live (λ a is. is) (λ n. (
@@ -51,6 +59,7 @@ module _ (h : List Entry) (value : ℕ → ℕ → Value) (maps : Maps) (s : Sta
         λ is.
             let from = collected.goes.only is.0 is.1 in
             let some : to from.0 ≢ 0 = λ nought. from.2 (sym from.1 ∙ nought) in
-            let at : maps.address from.0 ≡ Some n = sym (collected.goes.named from.0 some) ∙ (ap new.address from.1 ∙ is.2) in
+            let at : maps.address from.0 ≡ Some n = sym (collected.goes.named from.0 some)
+                ∙ (ap new.address from.1 ∙ is.2) in
             reached_alive h value maps s from.0 n placed none.scions ((collected.goes.stays from.0).0 some).0 at,
       )) counts
