@@ -1,23 +1,22 @@
 -- Heaps that are built by hand, for tests: one without objects, and one with three.
-use Rattle.std.proofs.Common.{◌≡◌, ◌≢◌, ℕ, ◌+◌, ◌<◌, zero, suc, List, [], ◌∷◌, length, replicate, refl, sym, subst, ap, ◌∙◌, arith, lit≤, ◌⊎◌, inl, inr}
+use Rattle.std.proofs.Common.{◌≡◌, ◌≢◌, ℕ, ◌+◌, ◌^◌, ◌<◌, zero, suc, List, [], ◌∷◌, length, replicate, refl, sym, subst, ap, ◌∙◌, arith, lit≤, ◌⊎◌, inl, inr}
 use Rattle.std.specs.Prelude.{Option, None, Some, true, false, slice_index}
 use Rattle.std.proofs.lemmas.List.{length-replicate, get_or-replicate, get_or_past}
 use Rattle.std.proofs.lemmas.Bool.{cases_lt}
 use Rattle.std.proofs.lemmas.Bool.Decides.{eqb_tells}
-use Rattle.melt_model.specs.declared.history.Value.TheVariants.{Nil}
 use Rattle.melt_word.specs.Words.{cost_of, header_word, ref_word}
 use Rattle.melt_word.specs.declared.header.Header.{Header}
-use Rattle.melt_word.specs.declared.reference.Ref.TheVariants.{Clean, Stale}
+use Rattle.melt_word.specs.declared.reference.Ref.TheVariants.{Null, Clean, Stale}
 use Rattle.melt_space.specs.Space.{SpaceWords, word_at, Makes, SetsWord, IsFresh as IsFreshSpace}
 use Rattle.melt_scion.specs.State.{State, HeaderAt, ObjectAt, IsFresh}
-use Rattle.melt_scion.specs.Placed.{Maps, Formed}
+use Rattle.melt_scion.specs.Placed.{Maps, FormedWords, Formed}
 use Rattle.melt_scion.specs.Names.{name_at, SetsName}
 use Rattle.melt_scion.specs.Heaps.{register_in, state_of, IsFormed, IsNewHeap, HasNames, NamesMade}
 use Rattle.melt_scion.specs.declared.registers.Registers.{Registers}
 use Rattle.melt_scion.specs.declared.heap.Names as heap
 use Rattle.melt_scion.specs.declared.heap.Heap.{Heap}
 use Rattle.melt_scion.proofs.Geometry.{one_header}
-use Rattle.melt_scion.proofs.Events.{Placed_start}
+use Rattle.melt_scion.proofs.Homeless.{HasNoScions, heap_has_no_scions}
 
 all_null : (n g : ℕ) → slice_index (replicate n 0) g ≡ 0
 all_null n g = elim (cases_lt g n) [ inl below ↦ get_or-replicate n g 0 0 below | inr above ↦ get_or_past (replicate n 0) g 0 (omega (arith, length-replicate {A = ℕ} n 0, above)) ]
@@ -26,16 +25,40 @@ none_at : (n k : ℕ) → name_at (replicate n None) k ≡ None
 none_at n zero = refl
 none_at n (suc k) = elim (cases_lt k n) [ inl below ↦ get_or-replicate n k None None below | inr above ↦ get_or_past (replicate n None) k None (omega (arith, length-replicate {A = Option ℕ} n None, above)) ]
 
+-- a state without objects, scions and forwarding words, in which nothing holds anything, is well formed
+empty_formed : (maps : Maps) (s : State) → s.base.size < 2 ^ 30 → s.base.end ≡ 1 → HasNoScions s.base → ((k : ℕ) → maps.address k ≡ None)
+    → ((g : ℕ) → s.global g ≡ 0) → ((t r : ℕ) → s.register t r ≡ 0) → Formed maps s
+empty_formed maps s small end none nowhere globals registers =
+    let not_named : (k n : ℕ) → maps.address k ≡ Some n → ⊥ = λ k n named. let no = nowhere k in cc in
+    record {
+      words = record {
+        small = small;
+        first_end = omega (arith, end);
+        small_end = omega (arith, end);
+        objects = λ a n named. absurd (not_named a n named);
+        apart = λ a b n m header named. absurd (not_named a n named);
+        slots = λ a n i header named. absurd (not_named a n named);
+        home_words = λ a n header named. absurd (not_named a n named);
+        globals = λ g below. record { reference = Null; in_range = tt; is = globals g; stands = tt };
+        scions = λ k x live. absurd (let dead = none.scions k in cc);
+        forwards = λ p below. absurd (omega (arith, below, none.forwards));
+        one_forward = λ p q home a b below. absurd (omega (arith, below, none.forwards));
+      };
+      registers = λ t r. inl (registers t r);
+    }
+
 -- a new heap with names, and registers that hold nothing
-pub new_formed : (words globals : ℕ) (h : Heap) (held : List Registers) → IsNewHeap words globals true h → ((t r : ℕ) → register_in held t r ≡ 0) → IsFormed h held
-new_formed words globals h held new registers =
+pub new_formed : (words globals : ℕ) (h : Heap) (held : List Registers) → words < 2 ^ 30 → IsNewHeap words globals true h
+    → ((t r : ℕ) → register_in held t r ≡ 0) → IsFormed h held
+new_formed words globals h held small new registers =
     let maps : Maps = record { address = λ k. None; home = λ k. None } in
     record {
       maps = maps;
       end = 1;
       names = subst (λ (o : Option heap.Names). HasNames o maps) (sym new.names) (λ k. sym (none_at words k));
       made = subst (NamesMade (length h.space.list)) (sym new.names) (length-replicate {A = Option ℕ} words None ∙ sym new.space.size);
-      formed = (Placed_start (λ t r. Nil) maps (state_of h held 1) (λ k. refl) (λ k. refl) (λ g. ap (λ (gs : List ℕ). slice_index gs g) new.globals_hold_nothing ∙ all_null globals g) registers (λ t r. refl)).formed;
+      formed = empty_formed maps (state_of h held 1) (let size = new.space.size in omega (arith, size, small)) refl (heap_has_no_scions h held 1) (λ k. refl)
+          (λ g. ap (λ (gs : List ℕ). slice_index gs g) new.globals_hold_nothing ∙ all_null globals g) registers;
     }
 
 abbrev pub no_registers : Registers
@@ -71,7 +94,9 @@ leaf_header = record { shape = record { refs = 0; nums = 0 }; stale = false }
 
 -- the words of these objects, of which the second refers to the third, as do the globals
 pub record HasWords (maps : Maps) (s : State) : Type 0 where
-  pub size : s.size ≡ 10
+  pub size : s.base.size ≡ 10
+  pub end : s.base.end ≡ 1
+  pub none : HasNoScions s.base
   pub free : s.free ≡ 10
   pub named_at : (k n : ℕ) → maps.address k ≡ Some n → (k ≡ 1) ⊎ ((k ≡ 4) ⊎ (k ≡ 8))
   pub pair_named : maps.address 4 ≡ Some 1
@@ -83,7 +108,7 @@ pub record HasWords (maps : Maps) (s : State) : Type 0 where
   pub slot : s.word 6 ≡ ref_word (Stale 8)
   pub leaf : s.word 8 ≡ header_word leaf_header
   pub leaf_home : s.word 9 ≡ 0
-  pub globals : (g : ℕ) → g < s.globals → s.global g ≡ ref_word (Clean 8)
+  pub globals : (g : ℕ) → g < s.base.globals → s.global g ≡ ref_word (Clean 8)
   pub registers : (t r : ℕ) → (s.register t r ≡ 0) ⊎ (s.register t r ≡ 4)
 
 module _ (maps : Maps) (s : State) (has : HasWords maps s) where
@@ -108,8 +133,11 @@ module _ (maps : Maps) (s : State) (has : HasWords maps s) where
   fresh_at : (b : ℕ) (k : Header) → HeaderAt s b k → k.stale ≡ false → IsFresh s b
   fresh_at b k there fresh h starts = ap (λ (x : Header). x.stale) (is_header b b h k refl there starts) ∙ fresh
 
-  pub words_formed : Formed maps s
-  words_formed = record {
+  formed_words : FormedWords maps s
+  formed_words = record {
+    small = omega (arith, has.size);
+    first_end = omega (arith, has.end);
+    small_end = omega (arith, has.end);
     objects = λ a n is. elim (has.named_at a n is) [
       | inl one ↦ subst (λ (c : ℕ). (h : Header) × ObjectAt s c h) (sym one) (number_header, record { starts = number_starts; first = omega arith; within = omega (arith, has.size); below = omega (arith, has.free) })
       | inr more ↦ elim more [
@@ -147,14 +175,22 @@ module _ (maps : Maps) (s : State) (has : HasWords maps s) where
         | inr eight ↦ absurd (let refs = slots_in a 8 h leaf_header eight leaf_starts starts in omega (arith, refs, below))
       ]
     ];
-    home_words = λ a n is. elim (has.named_at a n is) [
+    home_words = λ a n header is starts. inl (elim (has.named_at a n is) [
       | inl one ↦ ap (λ (c : ℕ). s.word (c + 1)) one ∙ has.number_home
       | inr more ↦ elim more [
         | inl four ↦ ap (λ (c : ℕ). s.word (c + 1)) four ∙ has.pair_home
         | inr eight ↦ ap (λ (c : ℕ). s.word (c + 1)) eight ∙ has.leaf_home
       ]
-    ];
+    ]);
     globals = λ g below. record { reference = Clean 8; in_range = record { not_null = lit≤ tt; small = lit≤ tt }; is = has.globals g below; stands = ((2, has.leaf_named), fresh_at 8 leaf_header leaf_starts refl) };
+    scions = λ k x live. absurd (let dead = has.none.scions k in cc);
+    forwards = λ p below. absurd (omega (arith, below, has.none.forwards));
+    one_forward = λ p q home a b below. absurd (omega (arith, below, has.none.forwards));
+  }
+
+  pub words_formed : Formed maps s
+  words_formed = record {
+    words = formed_words;
     registers = λ t r. elim (has.registers t r) [
       | inl nothing ↦ inl nothing
       | inr four ↦ inr (subst (λ (c : ℕ). ((n : ℕ) × (maps.address c ≡ Some n)) × IsFresh s c) (sym four) ((1, has.pair_named), fresh_at 4 pair_header pair_starts refl))
@@ -219,6 +255,8 @@ three_formed h held names first second third is =
       made = subst (NamesMade (length h.space.list)) (sym is.has) (count ∙ sym size);
       formed = words_formed maps s (record {
         size = size;
+        end = refl;
+        none = heap_has_no_scions h held 1;
         free = omega (arith, used);
         named_at = named_at;
         pair_named = is.three_named.others 4 (omega (arith, at_eight)) ∙ subst (λ (c : ℕ). name_at is.names_two c ≡ Some 1) at_four is.two_named.here;

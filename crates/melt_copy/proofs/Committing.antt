@@ -6,7 +6,7 @@ use Rattle.std.proofs.lemmas.Bool.{cases_eq, eq-eqb, ne_eqb, cond-true, cond-fal
 use Rattle.std.proofs.lemmas.List.{get_or-map, get_or-set_same, get_or-set_other, length-set, map-set, take_more}
 use Rattle.melt_scion.specs.Heaps.{register_in}
 use Rattle.melt_scion.specs.declared.registers.Registers.{Registers}
-use Rattle.melt_copy.specs.declared.plan.Move.{Move}
+use Rattle.melt_copy.specs.declared.forwarding.Relocation.{Relocation}
 use Rattle.melt_copy.specs.Moving.{name_after}
 use Rattle.melt_copy.proofs.Counting.{slice_get-take}
 
@@ -46,19 +46,19 @@ forwards_more f old new i d x before within here = record {
 }
 
 -- an address to which no object moves has no number
-name_after-none : (name : ℕ → Option ℕ) (moves : List Move) (address : ℕ) → ((j : ℕ) (x : Move) → slice_get moves j ≡ Some x → x.to ≢ address) → name_after name moves address ≡ None
+name_after-none : (name : ℕ → Option ℕ) (moves : List Relocation) (address : ℕ) → ((j : ℕ) (x : Relocation) → slice_get moves j ≡ Some x → x.to ≢ address) → name_after name moves address ≡ None
 name_after-none name [] address free = refl
 name_after-none name (x ∷ moves) address free =
     cond-false (eqb x.to address) (name x.from) (name_after name moves address) (ne_eqb x.to address (free 0 x refl)) ∙ name_after-none name moves address (λ j y there. free (suc j) y there)
 
 -- a further move gives its address a number, if no earlier one goes there
-name_after-here : (name : ℕ → Option ℕ) (moves : List Move) (m : Move) → ((j : ℕ) (x : Move) → slice_get moves j ≡ Some x → x.to ≢ m.to) → name_after name (moves ++ m ∷ []) m.to ≡ name m.from
+name_after-here : (name : ℕ → Option ℕ) (moves : List Relocation) (m : Relocation) → ((j : ℕ) (x : Relocation) → slice_get moves j ≡ Some x → x.to ≢ m.to) → name_after name (moves ++ m ∷ []) m.to ≡ name m.from
 name_after-here name [] m free = cond-true (eqb m.to m.to) (name m.from) None (eq-eqb m.to m.to refl)
 name_after-here name (x ∷ moves) m free =
     cond-false (eqb x.to m.to) (name x.from) (name_after name (moves ++ m ∷ []) m.to) (ne_eqb x.to m.to (free 0 x refl)) ∙ name_after-here name moves m (λ j y there. free (suc j) y there)
 
 -- it changes no other number
-name_after-other : (name : ℕ → Option ℕ) (moves : List Move) (m : Move) (address : ℕ) → address ≢ m.to → name_after name (moves ++ m ∷ []) address ≡ name_after name moves address
+name_after-other : (name : ℕ → Option ℕ) (moves : List Relocation) (m : Relocation) (address : ℕ) → address ≢ m.to → name_after name (moves ++ m ∷ []) address ≡ name_after name moves address
 name_after-other name [] m address other = cond-false (eqb m.to address) (name m.from) None (ne_eqb m.to address (λ e. other (sym e)))
 name_after-other name (x ∷ moves) m address other =
     elim (cases_eq x.to address) [
@@ -68,37 +68,37 @@ name_after-other name (x ∷ moves) m address other =
     ]
 
 -- The move at an index, whose place is that of no other move.
-pub record IsMoveAt (moves : List Move) (i : ℕ) (m : Move) : Type 0 where
+pub record IsMoveAt (moves : List Relocation) (i : ℕ) (m : Relocation) : Type 0 where
   pub at : slice_get moves i ≡ Some m
-  pub alone : (j : ℕ) (x : Move) → slice_get moves j ≡ Some x → x.to ≡ m.to → j ≡ i
+  pub alone : (j : ℕ) (x : Relocation) → slice_get moves j ≡ Some x → x.to ≡ m.to → j ≡ i
 
-pub move_at : (moves : List Move) (i : ℕ) (m : Move) → i < length moves → m ≡ get_or moves i m → ((i j : ℕ) (m n : Move) → slice_get moves i ≡ Some m → slice_get moves j ≡ Some n → m.to ≡ n.to → i ≡ j) → IsMoveAt moves i m
+pub move_at : (moves : List Relocation) (i : ℕ) (m : Relocation) → i < length moves → m ≡ get_or moves i m → ((i j : ℕ) (m n : Relocation) → slice_get moves i ≡ Some m → slice_get moves j ≡ Some n → m.to ≡ n.to → i ≡ j) → IsMoveAt moves i m
 move_at moves i m within is apart =
     let at : slice_get moves i ≡ Some m = slice_get_read moves (length moves) i m refl within is in
     record { at = at; alone = λ j x there same. apart j i x m there at same }
 
 -- no earlier move goes to the place of this one
-free_before : (moves : List Move) (i : ℕ) (m : Move) → IsMoveAt moves i m → (j : ℕ) (x : Move) → slice_get (take i moves) j ≡ Some x → x.to ≢ m.to
+free_before : (moves : List Relocation) (i : ℕ) (m : Relocation) → IsMoveAt moves i m → (j : ℕ) (x : Relocation) → slice_get (take i moves) j ≡ Some x → x.to ≢ m.to
 free_before moves i m move j x there same =
     let old = slice_get-take moves i j x there in
     omega (arith, old.0, move.alone j x old.1 same)
 
 -- the place of a move has no number before it
-pub unnamed_before : (name : ℕ → Option ℕ) (moves : List Move) (i : ℕ) (m : Move) → IsMoveAt moves i m → name_after name (take i moves) m.to ≡ None
+pub unnamed_before : (name : ℕ → Option ℕ) (moves : List Relocation) (i : ℕ) (m : Relocation) → IsMoveAt moves i m → name_after name (take i moves) m.to ≡ None
 unnamed_before name moves i m move = name_after-none name (take i moves) m.to (free_before moves i m move)
 
 -- one move more
-pub name_after_more : (name now new : ℕ → Option ℕ) (moves : List Move) (i n : ℕ) (m : Move) → IsMoveAt moves i m → n ≡ i + 1 → ((k : ℕ) → now k ≡ name_after name (take i moves) k) → new m.to ≡ name m.from → ((k : ℕ) → k ≢ m.to → new k ≡ now k) → (k : ℕ) → new k ≡ name_after name (take n moves) k
+pub name_after_more : (name now new : ℕ → Option ℕ) (moves : List Relocation) (i n : ℕ) (m : Relocation) → IsMoveAt moves i m → n ≡ i + 1 → ((k : ℕ) → now k ≡ name_after name (take i moves) k) → new m.to ≡ name m.from → ((k : ℕ) → k ≢ m.to → new k ≡ now k) → (k : ℕ) → new k ≡ name_after name (take n moves) k
 name_after_more name now new moves i n m move next before here others k =
     let front : take n moves ≡ take i moves ++ m ∷ [] =
-    ap (λ (count : ℕ). take count moves) next ∙ (take_more moves i m (slice_get_within moves i m move.at) ∙ ap (λ (x : Move). take i moves ++ x ∷ []) (get_or_from_slice_get moves i m m move.at)) in
+    ap (λ (count : ℕ). take count moves) next ∙ (take_more moves i m (slice_get_within moves i m move.at) ∙ ap (λ (x : Relocation). take i moves ++ x ∷ []) (get_or_from_slice_get moves i m m move.at)) in
     let on : new k ≡ name_after name (take i moves ++ m ∷ []) k = elim (cases_eq k m.to) [
       | inl same ↦ subst (λ (a : ℕ). new a ≡ name_after name (take i moves ++ m ∷ []) a) (sym same) (here ∙ sym (name_after-here name (take i moves) m (free_before moves i m move)))
       | inr other ↦ others k other ∙ (before k ∙ sym (name_after-other name (take i moves) m k other))
     ] in
-    on ∙ ap (λ (ms : List Move). name_after name ms k) (sym front)
+    on ∙ ap (λ (ms : List Relocation). name_after name ms k) (sym front)
 
 -- the number that was found for the object of a move
-pub number_of : (name : ℕ → Option ℕ) (moves : List Move) (numbers : List (Option ℕ)) (i : ℕ) (m : Move) (number : Option ℕ) → numbers ≡ map (λ (x : Move). name x.from) moves → IsMoveAt moves i m → number ≡ get_or numbers i None → number ≡ name m.from
+pub number_of : (name : ℕ → Option ℕ) (moves : List Relocation) (numbers : List (Option ℕ)) (i : ℕ) (m : Relocation) (number : Option ℕ) → numbers ≡ map (λ (x : Relocation). name x.from) moves → IsMoveAt moves i m → number ≡ get_or numbers i None → number ≡ name m.from
 number_of name moves numbers i m number all move is =
-    is ∙ (ap (λ (ns : List (Option ℕ)). get_or ns i None) all ∙ (get_or-map (λ (x : Move). name x.from) moves i m None (slice_get_within moves i m move.at) ∙ ap (λ (x : Move). name x.from) (get_or_from_slice_get moves i m m move.at)))
+    is ∙ (ap (λ (ns : List (Option ℕ)). get_or ns i None) all ∙ (get_or-map (λ (x : Relocation). name x.from) moves i m None (slice_get_within moves i m move.at) ∙ ap (λ (x : Relocation). name x.from) (get_or_from_slice_get moves i m m move.at)))

@@ -8,10 +8,10 @@ use Rattle.melt_word.specs.declared.header.Header.{Header}
 use Rattle.melt_space.specs.Space.{SpaceWords, word_at, AreWords}
 use Rattle.melt_scion.specs.State.{State, RefersTo}
 use Rattle.melt_scion.specs.State.Reached.{in_slot}
-use Rattle.melt_copy.specs.declared.plan.Move.{Move}
-use Rattle.melt_copy.specs.declared.plan.Plan.{Plan}
+use Rattle.melt_copy.specs.declared.forwarding.Relocation.{Relocation}
+use Rattle.melt_copy.specs.declared.forwarding.Forwarding.{Forwarding}
 use Rattle.melt_copy.specs.Moving.{IsRefWord, WordMoves, ObjectMoves, header_after}
-use Rattle.melt_copy.specs.Plans.{word_in, Extends, PlansIn, PlansOf}
+use Rattle.melt_copy.specs.Tracking.{word_in, Extends, TracksIn, TracksOf}
 use Rattle.melt_copy.proofs.Sources.{source_shape}
 
 slots_length : (refs nums : ℕ) (object : List ℕ) → length object ≡ 2 + refs + nums → length (take (2 + refs - 2) (drop 2 object)) ≡ refs
@@ -27,18 +27,18 @@ slot_word space s from refs nums object i word are below =
     ∙ (are.each (2 + i) (omega (arith, below)) ∙ (ap (word_at space) (let sum : from + (2 + i) ≡ from + 2 + i = omega arith in sum) ∙ sym (word (from + 2 + i))))
 
 -- what the slots of an object refer to is found
-pub object_slots : (space : SpaceWords) (s : State) (plan : Plan) (m : Move) (object : List ℕ) → AreWords space m.from (cost_of m.shape) object → PlansOf space s plan m → PlansIn space s plan (take (2 + m.shape.refs - 2) (drop 2 object))
-object_slots space s plan m object are of =
+pub object_slots : (space : SpaceWords) (s : State) (forwarding : Forwarding) (m : Relocation) (object : List ℕ) → AreWords space m.from (cost_of m.shape) object → TracksOf space s forwarding m → TracksIn space s forwarding (take (2 + m.shape.refs - 2) (drop 2 object))
+object_slots space s forwarding m object are of =
     let move = of.move in
     let count : length (take (2 + m.shape.refs - 2) (drop 2 object)) ≡ m.shape.refs = slots_length m.shape.refs m.shape.nums object are.count_is in
     let within : (i : ℕ) → i < length (take (2 + m.shape.refs - 2) (drop 2 object)) → i < m.shape.refs = λ i below. omega (arith, below, count) in
     let in_header : (i : ℕ) → i < m.shape.refs → i < move.header.shape.refs = λ i below. subst (λ shape. i < shape.refs) (sym move.shape) below in
     record {
-      plans = of.plans;
-      references = λ i below. subst IsRefWord (sym (slot_word space s m.from m.shape.refs m.shape.nums object i of.plans.word are (within i below)))
-          (of.plans.whole.slots m.from i move.header move.reached move.starts (in_header i (within i below)));
+      tracks = of.tracks;
+      references = λ i below. subst IsRefWord (sym (slot_word space s m.from m.shape.refs m.shape.nums object i of.tracks.word are (within i below)))
+          (of.tracks.whole.slots m.from i move.header move.reached move.starts (in_header i (within i below)));
       reached = λ i at below refers. in_slot m.from i at move.header move.reached move.starts (in_header i (within i below))
-          (subst (λ (w : ℕ). RefersTo w at) (slot_word space s m.from m.shape.refs m.shape.nums object i of.plans.word are (within i below)) refers);
+          (subst (λ (w : ℕ). RefersTo w at) (slot_word space s m.from m.shape.refs m.shape.nums object i of.tracks.word are (within i below)) refers);
     }
 
 word_in_at : (words : List ℕ) (n j at : ℕ) → at ≡ n + 1 + j → word_in words at ≡ slice_index words (n + j)
@@ -46,15 +46,15 @@ word_in_at words n j zero is = absurd (omega (arith, is))
 word_in_at words n j (suc k) is = ap (slice_index words) (omega (arith, is))
 
 -- an object whose words were put behind those that were there
-pub object_copied : (phase : Phase) (held : Bool) (space : SpaceWords) (s : State) (plan : Plan) (f : ℕ → ℕ) (m : Move) (object out first then_ last : List ℕ) (before header home : ℕ) → AreWords space m.from (cost_of m.shape) object → PlansOf space s plan m → m.to ≡ length out + 1 → before ≡ slice_index object 0 → ((h : Header) → IsHeader h → h.shape ≡ m.shape → before ≡ header_word h → header ≡ header_word (header_after phase held h)) → home ≡ slice_index object 1 → first ≡ out ++ header ∷ home ∷ [] → Extends first then_ (length (take (2 + m.shape.refs - 2) (drop 2 object))) → ((i : ℕ) → i < length (take (2 + m.shape.refs - 2) (drop 2 object)) → WordMoves phase f (slice_index (take (2 + m.shape.refs - 2) (drop 2 object)) i) (slice_index then_ (length first + i))) → last ≡ then_ ++ drop (2 + m.shape.refs) object → ObjectMoves phase held f s (word_in last) m
-object_copied phase held space s plan f m object out first then_ last before header home are of to before_is header_is home_is first_is extends moves last_is =
+pub object_copied : (phase : Phase) (held : Bool) (space : SpaceWords) (s : State) (forwarding : Forwarding) (f : ℕ → ℕ) (m : Relocation) (object out first then_ last : List ℕ) (before header home : ℕ) → AreWords space m.from (cost_of m.shape) object → TracksOf space s forwarding m → m.to ≡ length out + 1 → before ≡ slice_index object 0 → ((h : Header) → IsHeader h → h.shape ≡ m.shape → before ≡ header_word h → header ≡ header_word (header_after phase held h)) → home ≡ slice_index object 1 → first ≡ out ++ header ∷ home ∷ [] → Extends first then_ (length (take (2 + m.shape.refs - 2) (drop 2 object))) → ((i : ℕ) → i < length (take (2 + m.shape.refs - 2) (drop 2 object)) → WordMoves phase f (slice_index (take (2 + m.shape.refs - 2) (drop 2 object)) i) (slice_index then_ (length first + i))) → last ≡ then_ ++ drop (2 + m.shape.refs) object → ObjectMoves phase held f s (word_in last) m
+object_copied phase held space s forwarding f m object out first then_ last before header home are of to before_is header_is home_is first_is extends moves last_is =
     let refs : ℕ = m.shape.refs in
     let nums : ℕ = m.shape.nums in
     let size : length object ≡ 2 + refs + nums = are.count_is in
     let first_size : length first ≡ length out + 2 = ap length first_is ∙ length-append out (header ∷ home ∷ []) in
     let slots : length (take (2 + refs - 2) (drop 2 object)) ≡ refs = slots_length refs nums object size in
     let then_size : length then_ ≡ length out + 2 + refs = omega (arith, extends.size, first_size, slots) in
-    let as_was : (k : ℕ) → k < 2 + refs + nums → slice_index object k ≡ s.word (m.from + k) = λ k below. are.each k below ∙ sym (of.plans.word (m.from + k)) in
+    let as_was : (k : ℕ) → k < 2 + refs + nums → slice_index object k ≡ s.word (m.from + k) = λ k below. are.each k below ∙ sym (of.tracks.word (m.from + k)) in
     let in_then : (k : ℕ) → k < length then_ → slice_index last k ≡ slice_index then_ k = λ k below. ap (λ (l : List ℕ). slice_index l k) last_is ∙ get_or_append_left then_ (drop (2 + refs) object) 0 k below in
     let front : (j : ℕ) → j < 2 → slice_index last (length out + j) ≡ slice_index (header ∷ home ∷ []) j = λ j below.
     in_then (length out + j) (omega (arith, below, then_size))
@@ -70,7 +70,7 @@ object_copied phase held space s plan f m object out first then_ last before hea
           word_in_at last (length out) (2 + i) (m.to + 2 + i) (omega (arith, to))
           ∙ (in_then (length out + (2 + i)) (omega (arith, below, then_size)) ∙ ap (slice_index then_) (let sum : length out + (2 + i) ≡ length first + i = omega (arith, first_size) in sum)) in
           subst (WordMoves phase f (s.word (m.from + 2 + i))) (sym place)
-          (subst (λ (w : ℕ). WordMoves phase f w (slice_index then_ (length first + i))) (slot_word space s m.from refs nums object i of.plans.word are below)
+          (subst (λ (w : ℕ). WordMoves phase f w (slice_index then_ (length first + i))) (slot_word space s m.from refs nums object i of.tracks.word are below)
           (moves i (omega (arith, below, slots))));
       numbers = λ j below.
           word_in_at last (length out) (2 + refs + j) (m.to + 2 + refs + j) (omega (arith, to))

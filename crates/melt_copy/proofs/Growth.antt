@@ -1,4 +1,4 @@
--- What a plan found stays found when it grows, and so does what was copied.
+-- What a forwarding found stays found when it grows, and so does what was copied.
 use Rattle.std.proofs.Common.{◌≡◌, ℕ, ◌+◌, ◌<◌, ◌≤◌, zero, suc, List, [], ◌∷◌, ◌++◌, length, length-append, below_more, refl, sym, subst, ap, ◌∙◌, arith, append_assoc}
 use Rattle.std.specs.Prelude.{Bool, slice_get, slice_index, Some}
 use Rattle.std.proofs.lemmas.List.{append-nil, get_or_append_left, get_or_push}
@@ -10,41 +10,42 @@ use Rattle.melt_word.specs.declared.reference.Ref.{Ref}
 use Rattle.melt_word.specs.declared.reference.Ref.TheVariants.{Null, Clean, Stale, Disk}
 use Rattle.melt_space.specs.Space.{SpaceWords}
 use Rattle.melt_scion.specs.State.{State}
-use Rattle.melt_copy.specs.declared.plan.Move.{Move}
-use Rattle.melt_copy.specs.declared.plan.Plan.{Plan}
-use Rattle.melt_copy.specs.Moving.{WordMoves, ObjectMoves, tagged, moved, IsFound}
-use Rattle.melt_copy.specs.Plans.{goes, Grows, word_in, Extends, Plans, PlansIn, PlansFor}
+use Rattle.melt_scion.specs.Collected.{kept_tag}
+use Rattle.melt_copy.specs.declared.forwarding.Relocation.{Relocation}
+use Rattle.melt_copy.specs.declared.forwarding.Forwarding.{Forwarding}
+use Rattle.melt_copy.specs.Moving.{WordMoves, ObjectMoves, moved, IsFound}
+use Rattle.melt_copy.specs.Tracking.{goes, Grows, word_in, Extends, Tracks, TracksIn, TracksFor}
 
-pub Grows-start : (plan : Plan) → Grows plan plan
-Grows-start plan = record { rest = []; moves = sym (append-nil plan.moves.items); goes = λ a known. refl }
+pub Grows-start : (forwarding : Forwarding) → Grows forwarding forwarding
+Grows-start forwarding = record { rest = []; moves = sym (append-nil forwarding.moves.items); goes = λ a known. refl }
 
-pub Grows-more : (a b c : Plan) → Grows a b → Grows b c → Grows a c
+pub Grows-more : (a b c : Forwarding) → Grows a b → Grows b c → Grows a c
 Grows-more a b c first then_ = record {
   rest = first.rest ++ then_.rest;
-  moves = then_.moves ∙ (ap (λ (ms : List Move). ms ++ then_.rest) first.moves ∙ append_assoc a.moves.items first.rest then_.rest);
+  moves = then_.moves ∙ (ap (λ (ms : List Relocation). ms ++ then_.rest) first.moves ∙ append_assoc a.moves.items first.rest then_.rest);
   goes = λ at known.
       let once : goes b at ≡ goes a at = first.goes at known in
       then_.goes at (λ (nought : goes b at ≡ 0). known (sym once ∙ nought)) ∙ once;
 }
 
 -- a move that is there stays where it is
-pub stays_there : (a b : Plan) (k : ℕ) (m : Move) → Grows a b → slice_get a.moves.items k ≡ Some m → slice_get b.moves.items k ≡ Some m
-stays_there a b k m grows at = ap (λ (ms : List Move). slice_get ms k) grows.moves ∙ (slice_get-append_left a.moves.items grows.rest k (slice_get_within a.moves.items k m at) ∙ at)
+pub stays_there : (a b : Forwarding) (k : ℕ) (m : Relocation) → Grows a b → slice_get a.moves.items k ≡ Some m → slice_get b.moves.items k ≡ Some m
+stays_there a b k m grows at = ap (λ (ms : List Relocation). slice_get ms k) grows.moves ∙ (slice_get-append_left a.moves.items grows.rest k (slice_get_within a.moves.items k m at) ∙ at)
 
-same_reference : (phase : Phase) (a b : Plan) (r : Ref) → Grows a b → IsFound (goes a) r → moved phase (goes b) r ≡ moved phase (goes a) r
+same_reference : (phase : Phase) (a b : Forwarding) (r : Ref) → Grows a b → IsFound (goes a) r → moved phase (goes b) r ≡ moved phase (goes a) r
 same_reference phase a b Null grows found = refl
-same_reference phase a b (Clean at) grows found = ap (tagged phase) (grows.goes at found)
+same_reference phase a b (Clean at) grows found = ap (kept_tag phase) (grows.goes at found)
 same_reference phase a b (Stale at) grows found = ap Stale (grows.goes at found)
 same_reference phase a b (Disk home) grows found = refl
 
-still_found : (a b : Plan) (r : Ref) → Grows a b → IsFound (goes a) r → IsFound (goes b) r
+still_found : (a b : Forwarding) (r : Ref) → Grows a b → IsFound (goes a) r → IsFound (goes b) r
 still_found a b Null grows found = tt
 still_found a b (Clean at) grows found = λ (nought : goes b at ≡ 0). found (sym (grows.goes at found) ∙ nought)
 still_found a b (Stale at) grows found = λ (nought : goes b at ≡ 0). found (sym (grows.goes at found) ∙ nought)
 still_found a b (Disk home) grows found = tt
 
--- a word that moved by a plan moves so by one that grew from it
-pub WordMoves-more : {phase : Phase} (a b : Plan) (old new : ℕ) → Grows a b → WordMoves phase (goes a) old new → WordMoves phase (goes b) old new
+-- a word that moved by a forwarding moves so by one that grew from it
+pub WordMoves-more : {phase : Phase} (a b : Forwarding) (old new : ℕ) → Grows a b → WordMoves phase (goes a) old new → WordMoves phase (goes b) old new
 WordMoves-more {phase} a b old new grows moves = record {
   reference = moves.reference;
   in_range = moves.in_range;
@@ -67,7 +68,7 @@ word_in_before a b n zero extends below = refl
 word_in_before a b n (suc k) extends below = extends.before k (omega (arith, below))
 
 -- an object that was copied stays so
-pub ObjectMoves-more : {phase : Phase} {held : Bool} (a b : Plan) (s : State) (words more : List ℕ) (n : ℕ) (m : Move) → Grows a b → Extends words more n → m.to + cost_of m.shape ≤ length words + 1 → ObjectMoves phase held (goes a) s (word_in words) m → ObjectMoves phase held (goes b) s (word_in more) m
+pub ObjectMoves-more : {phase : Phase} {held : Bool} (a b : Forwarding) (s : State) (words more : List ℕ) (n : ℕ) (m : Relocation) → Grows a b → Extends words more n → m.to + cost_of m.shape ≤ length words + 1 → ObjectMoves phase held (goes a) s (word_in words) m → ObjectMoves phase held (goes b) s (word_in more) m
 ObjectMoves-more {phase} a b s words more n m grows extends within object = record {
   header = λ header starts. word_in_before words more n m.to extends (omega (arith, within)) ∙ object.header header starts;
   home = word_in_before words more n (m.to + 1) extends (omega (arith, within)) ∙ object.home;
@@ -78,8 +79,8 @@ ObjectMoves-more {phase} a b s words more n m grows extends within object = reco
 }
 
 -- what one of the words refers to is found
-pub words_for : (space : SpaceWords) (s : State) (a b : Plan) (words : List ℕ) (i : ℕ) → PlansIn space s a words → Plans space s b → i < length words → PlansFor space s b (slice_index words i)
-words_for space s a b words i in_ plans below = record { plans = plans; reference = in_.references i below; reached = λ at refers. in_.reached i at below refers }
+pub words_for : (space : SpaceWords) (s : State) (a b : Forwarding) (words : List ℕ) (i : ℕ) → TracksIn space s a words → Tracks space s b → i < length words → TracksFor space s b (slice_index words i)
+words_for space s a b words i in_ tracks below = record { tracks = tracks; reference = in_.references i below; reached = λ at refers. in_.reached i at below refers }
 
 -- one word more behind those that are there
 pub Extends-push : (a b c : List ℕ) (n w : ℕ) → Extends a b n → c ≡ b ++ w ∷ [] → Extends a c (n + 1)
@@ -89,7 +90,7 @@ Extends-push a b c n w extends is = record {
 }
 
 -- one word more that moved
-pub moves_push : {phase : Phase} (f g : Plan) (words a b c : List ℕ) (n w : ℕ) → Extends a b n → c ≡ b ++ w ∷ [] → Grows f g → ((i : ℕ) → i < n → WordMoves phase (goes f) (slice_index words i) (slice_index b (length a + i))) → WordMoves phase (goes g) (slice_index words n) w → (i : ℕ) → i < n + 1 → WordMoves phase (goes g) (slice_index words i) (slice_index c (length a + i))
+pub moves_push : {phase : Phase} (f g : Forwarding) (words a b c : List ℕ) (n w : ℕ) → Extends a b n → c ≡ b ++ w ∷ [] → Grows f g → ((i : ℕ) → i < n → WordMoves phase (goes f) (slice_index words i) (slice_index b (length a + i))) → WordMoves phase (goes g) (slice_index words n) w → (i : ℕ) → i < n + 1 → WordMoves phase (goes g) (slice_index words i) (slice_index c (length a + i))
 moves_push {phase} f g words a b c n w extends is grows before here =
     below_more _ _
     (λ i below.

@@ -5,12 +5,12 @@ pub mod Phases
 pub mod Renaming
 pub mod Committing
 pub mod Carried
+pub mod Told
 pub mod Whole
 pub mod Counting
-pub mod Marks
 pub mod Counted
 pub mod Moved
-pub mod PlanLaws
+pub mod Finding
 pub mod Growth
 pub mod Copies
 pub mod Queue
@@ -18,3 +18,4 @@ pub mod Held
 pub mod Outs
 pub mod Collects
 pub mod Building
+pub mod Costs

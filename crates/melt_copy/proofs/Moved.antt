@@ -1,141 +1,198 @@
--- A copy of what can be reached is a collection.
-use Rattle.std.proofs.Common.{◌≡◌, ◌≢◌, ℕ, ◌+◌, ◌-◌, ◌<◌, ◌≤◌, List, take, refl, sym, ◌∙◌, ap, subst, arith, inl, inr}
-use Rattle.std.specs.Prelude.{◌^◌, nat_lt, Bool, true, false, slice_get, Some}
-use Rattle.std.proofs.lemmas.Bool.{cases_lt, le-ltb}
+-- A copy of what can be reached is a collection, where no scion is live and no home is forwarded.
+use Rattle.std.proofs.Common.{◌≡◌, ◌≢◌, ℕ, ◌+◌, ◌-◌, ◌<◌, ◌≤◌, List, refl, sym, ◌∙◌, ap, subst, arith, inl, inr}
+use Rattle.std.specs.Prelude.{nat_lt, Bool, true, false, if◌then◌else◌, slice_get, Some, ◌↔◌}
+use Rattle.std.proofs.lemmas.Bool.{cases_lt, le-ltb, lt-ltb}
 use Rattle.melt_model.specs.declared.reports.Phase.{Phase}
-use Rattle.melt_model.specs.declared.reports.Phase.TheVariants.{Inactive, Mark, Move as Moving}
+use Rattle.melt_model.specs.declared.reports.Phase.TheVariants.{Inactive, Mark, Move}
+use Rattle.melt_word.specs.Words.{ref_word}
 use Rattle.melt_word.specs.declared.header.Shape.{Shape}
 use Rattle.melt_word.specs.declared.header.Header.{Header}
-use Rattle.melt_scion.specs.State.{State, HeaderAt, HoldsAt}
+use Rattle.melt_word.specs.declared.reference.Ref.{Ref}
+use Rattle.melt_word.specs.declared.reference.Ref.TheVariants.{Null, Clean, Stale, Disk}
+use Rattle.melt_word.proofs.OneToOne.{same_ref, same_header}
+use Rattle.melt_scion.specs.State.{Base, State, HeaderAt, HoldsAt, IsFresh, Reached}
 use Rattle.melt_scion.specs.Placed.{Maps, Formed}
-use Rattle.melt_scion.specs.Collected.{Taken, Collected, CountsWords}
-use Rattle.melt_copy.specs.declared.plan.Move.{Move}
-use Rattle.melt_copy.specs.Moving.{IsWhole, words_in, IsPlan, IsCopy, stale_after, header_after, maps_after}
-use Rattle.melt_copy.specs.Copying.{IsCopying, KeepsTag, KeepsMarks, IsMarked, SetsMarks, Marks}
-use Rattle.melt_copy.proofs.Places.{place_below, takes_word}
-use Rattle.melt_copy.proofs.Sources.{source_cost, source_shape, plan_words, reached_found}
+use Rattle.melt_scion.specs.Collected.{Taken, GoesTo, BitGoes, Became, WordGoes, Marks, Collected}
+use Rattle.melt_scion.proofs.Homeless.{HasNoScions}
+use Rattle.melt_scion.proofs.Reaching.{reached_named}
+use Rattle.melt_copy.specs.declared.forwarding.Relocation.{Relocation}
+use Rattle.melt_copy.specs.Moving.{IsWhole, IsFound, IsCopy, WordMoves, moved, stale_after, header_after, maps_after}
+use Rattle.melt_copy.specs.Copying.{IsCopying, no_home}
+use Rattle.melt_copy.proofs.Places.{takes_word, place_found, same_place, same_source}
+use Rattle.melt_copy.proofs.Sources.{goes, source_cost, source_shape, source_object, reached_found}
+use Rattle.melt_copy.proofs.Phases.{none_leaves}
 use Rattle.melt_copy.proofs.Renaming.{comes}
-use Rattle.melt_copy.proofs.Carried.{copy_name, header_there, shape_before, copy_renames, formed_there, placed_there}
-use Rattle.melt_copy.proofs.Whole.{reached_named, formed_whole}
-use Rattle.melt_copy.proofs.Marks.{moved_keeps_tag, moved_marked}
-use Rattle.melt_copy.proofs.Counted as counted
+use Rattle.melt_copy.proofs.Carried.{copy_name, copy_renames, formed_there}
+use Rattle.melt_copy.proofs.Told.{placed_there}
 
--- what is well formed is whole
-pub whole_of_formed : (maps : Maps) (s : State) → s.size < 2 ^ 30 → s.free ≤ s.size + 1 → Formed maps s → IsWhole s
-whole_of_formed maps s small inside formed = formed_whole maps s small inside formed
+-- a reference that was moved, by the reference that stood there
+became : (phase : Phase) (f : ℕ → ℕ) (new : ℕ) (r : Ref) → IsFound f r → new ≡ ref_word (moved phase f r)
+    → Became phase f no_home new r
+became phase f new Null found is = is
+became phase f new (Clean a) found is = (λ some. is, λ none. absurd (found none))
+became phase f new (Stale a) found is = (λ some. is, λ none. absurd (found none))
+became phase f new (Disk home) found is = is
 
--- objects that were found take no more words than are in use
-pub plan_fits : (s : State) (f : ℕ → ℕ) (moves : List Move) (free : ℕ) → IsWhole s → IsPlan s f moves free → 1 ≤ s.free → free ≤ s.free
-plan_fits s f moves free whole plan some = omega (arith, plan_words s f moves free whole plan, plan.behind)
+word_goes : (phase : Phase) (f : ℕ → ℕ) (old new : ℕ) → WordMoves phase f old new → WordGoes phase f no_home old new
+word_goes phase f old new moves r range is =
+    let same : moves.reference ≡ r = same_ref moves.reference r moves.in_range range (sym moves.was ∙ is) in
+    subst (Became phase f no_home new) same (became phase f new moves.reference moves.found moves.is)
 
--- each word of a copy belongs to an object
-word_taken : {phase : Phase} (maps : Maps) (s t : State) (f : ℕ → ℕ) (moves : List Move) (front at : ℕ) → Formed maps s → IsCopy phase s t f moves front → 1 ≤ at → at < t.free → Taken (maps_after maps moves) t at
-word_taken {phase} maps s t f moves front at formed copy first below =
-    let w = takes_word moves (at - 1) (omega (arith, copy.plan.behind)) in
-    let is = copy.plan.whole w.index w.move w.is in
-    let place = copy.plan.places w.index w.move w.is in
-    let n = reached_named maps s formed w.move.from is.reached in
-    record {
-      address = w.move.to;
-      number = n.0;
-      header = header_after phase (nat_lt w.index front) is.header;
-      named = copy_name maps s t f moves front w.index w.move copy w.is ∙ n.1;
-      starts = record { in_range = is.starts.in_range; word = (copy.objects w.index w.move w.is).header is.header is.starts };
-      from = omega (arith, place, w.from);
-      to = omega (arith, place, w.to, source_cost s w.move is);
-    }
+-- the stale bit after the move, by whether a register holds the object
+bit_set : (held : Bool) (s : State) (a : ℕ) (old new : Bool) → new ≡ (if held then old else true)
+    → (held ≡ true → HoldsAt s a)
+    → (HoldsAt s a → (held ≡ true) × (old ≡ false)) → (new ≡ false) ↔ HoldsAt s a
+bit_set true s a old new is holds back = (λ fresh. holds refl, λ held. is ∙ (back held).1)
+bit_set false s a old new is holds back =
+    (λ fresh. absurd (let set : new ≡ true = is in cc), λ held. absurd (let both = (back held).0 in cc))
 
--- a copy is a collection
-pub copy_collects : {phase : Phase} (maps : Maps) (s t : State) (f : ℕ → ℕ) (moves : List Move) (front : ℕ) → IsWhole s → Formed maps s → IsCopy phase s t f moves front → Collected maps (maps_after maps moves) s t
-copy_collects maps s t f moves front whole formed copy = record {
-  formed = formed_there maps s t f moves front whole formed copy;
-  placed = λ h value placed. placed_there maps s t f moves front h value whole copy placed;
-  in_use = λ n. (
-    λ used. let c = comes maps.address moves used.0 n used.1 in (c.move.from, c.named, (copy.plan.whole c.index c.move c.is).reached),
-    λ reach. (f reach.0, (copy_renames maps s t f moves front whole copy).names reach.0 (reached_found s t f moves front copy reach.0 reach.2) ∙ reach.1),
-  );
-  no_gaps = λ at first below. word_taken maps s t f moves front at formed copy first below;
-  homes = λ home. refl;
-  size = copy.size;
-  globals = copy.globals;
-  end = copy.end;
-}
+bit_goes : (phase : Phase) (held : Bool) (s : State) (a : ℕ) (old later : Header)
+    → later.stale ≡ stale_after phase held old.stale
+    → (held ≡ true → HoldsAt s a) → (HoldsAt s a → (held ≡ true) × (old.stale ≡ false)) → BitGoes phase s a old later
+bit_goes Inactive held s a old later is holds back = is
+bit_goes Mark held s a old later is holds back = bit_set held s a old.stale later.stale is holds back
+bit_goes Move held s a old later is holds back = bit_set held s a old.stale later.stale is holds back
 
--- in Inactive a copy keeps headers and tags
-copy_keeps : (maps : Maps) (s t : State) (f : ℕ → ℕ) (moves : List Move) (front : ℕ) → IsWhole s → IsCopy Inactive s t f moves front → KeepsMarks maps (maps_after maps moves) s t
-copy_keeps maps s t f moves front whole copy =
-    let renames = copy_renames maps s t f moves front whole copy in
-    record {
-      headers = λ a b n named there only.
-          let c = comes maps.address moves b n there in
-          let is = copy.plan.whole c.index c.move c.is in
-          ap t.word (sym c.to) ∙ ((copy.objects c.index c.move c.is).header is.header is.starts ∙ (sym is.starts.word ∙ ap s.word (only c.move.from c.named)));
-      slots = λ a b n i header named there only starts below.
-          let c = comes maps.address moves b n there in
-          let from : c.move.from ≡ a = only c.move.from c.named in
-          let starts_there : HeaderAt s c.move.from header = subst (λ (x : ℕ). HeaderAt s x header) (sym from) starts in
-          let refs : header.shape.refs ≡ c.move.shape.refs = ap (λ (z : Shape). z.refs) (source_shape s c.move header (copy.plan.whole c.index c.move c.is) starts_there) in
-          subst (λ (x : ℕ). KeepsTag (s.word (x + 2 + i)) (t.word (b + 2 + i))) from (
-          subst (λ (x : ℕ). KeepsTag (s.word (c.move.from + 2 + i)) (t.word (x + 2 + i))) c.to (
-          moved_keeps_tag maps s t f moves (s.word (c.move.from + 2 + i)) (t.word (c.move.to + 2 + i)) renames ((copy.objects c.index c.move c.is).slots i (omega (arith, refs, below)))
-          )
-          );
-      globals = λ g below. moved_keeps_tag maps s t f moves (s.global g) (t.global g) renames (copy.global g below);
-    }
+in_front : (k front : ℕ) → nat_lt k front ≡ true → k < front
+in_front k front is =
+    elim (cases_lt k front) [ inl below ↦ below | inr above ↦ absurd (let not = le-ltb k front above in cc) ]
 
--- the object of a move without the stale bit is in a register
-held_if_fresh : (s t : State) (f : ℕ → ℕ) (moves : List Move) (front k : ℕ) (m : Move) (b : ℕ) (header : Header) → IsCopy Mark s t f moves front → slice_get moves k ≡ Some m → m.to ≡ b → HeaderAt t b header → header.stale ≡ false → HoldsAt t b
-held_if_fresh s t f moves front k m b header copy at to starts fresh =
-    elim (cases_lt k front) [
-      | inl below ↦
-          let h = copy.held.each k m at below in
-          record { thread = h.0; register = h.1; holds = copy.register h.0 h.1 ∙ (ap f h.2 ∙ (copy.plan.found k m at ∙ to)) }
-      | inr above ↦
-          let is = copy.plan.whole k m at in
-          let stale : header.stale ≡ true =
-          ap (λ (h : Header). h.stale) (header_there s t f moves front k m b header copy at to starts) ∙ ap (λ (held : Bool). stale_after Mark held is.header.stale) (le-ltb k front above) in
-          absurd (let both : true ≡ false = sym stale ∙ fresh in cc)
-    ]
+module _ (phase : Phase) (maps : Maps) (s t : State) (f : ℕ → ℕ) (moves : List Relocation) (front : ℕ)
+    (whole : IsWhole s) (copy : IsCopy phase s t f moves front) (none : HasNoScions s.base) (formed : Formed maps s) where
+  -- the object that was found at an address, and its header before and after
+  record FoundAt (a : ℕ) (header : Header) : Type 0 where
+    pub index : ℕ
+    pub move : Relocation
+    pub is : slice_get moves index ≡ Some move
+    pub from : move.from ≡ a
+    pub to : move.to ≡ f a
+    pub shape : header.shape ≡ move.shape
+    pub there : HeaderAt t (f a) (header_after phase (nat_lt index front) header)
 
--- an object in a register has no stale bit
-fresh_if_held : (maps : Maps) (s t : State) (f : ℕ → ℕ) (moves : List Move) (front k : ℕ) (m : Move) (b : ℕ) (header : Header) → IsWhole s → Formed maps s → IsCopy Mark s t f moves front → slice_get moves k ≡ Some m → m.to ≡ b → HeaderAt t b header → HoldsAt t b → header.stale ≡ false
-fresh_if_held maps s t f moves front k m b header whole formed copy at to starts held =
-    let goes_there : f (s.register held.thread held.register) ≡ b = sym (copy.register held.thread held.register) ∙ held.holds in
-    let renames = copy_renames maps s t f moves front whole copy in
-    let first : 1 ≤ m.to = (place_below s f moves t.free k m copy.plan at).0 in
-    let some : s.register held.thread held.register ≢ 0 = λ none. let nothing = ap f none ∙ renames.nothing in omega (arith, goes_there, nothing, first, to) in
-    elim (formed.registers held.thread held.register) [
-      | inl none ↦ absurd (some none)
-      | inr named ↦ renames.held held.thread held.register some named.1 header (subst (λ (c : ℕ). HeaderAt t c header) (sym goes_there) starts)
-    ]
+  found_at : (a : ℕ) (header : Header) → f a ≢ 0 → HeaderAt s a header → FoundAt a header
+  found_at a header some starts =
+      let g = goes s f moves t.free a copy.found some in
+      let at : HeaderAt s g.move.from header = subst (λ (b : ℕ). HeaderAt s b header) (sym g.from) starts in
+      record {
+        index = g.index;
+        move = g.move;
+        is = g.is;
+        from = g.from;
+        to = sym g.to;
+        shape = source_shape s g.move header (copy.found.whole g.index g.move g.is) at;
+        there = record {
+          in_range = starts.in_range;
+          word = ap t.word g.to
+              ∙ (copy.objects g.index g.move g.is).header header at;
+        };
+      }
 
--- in Mark a copy has stale bits and tags
-copy_sets : (maps : Maps) (s t : State) (f : ℕ → ℕ) (moves : List Move) (front : ℕ) → IsWhole s → Formed maps s → IsCopy Mark s t f moves front → SetsMarks (maps_after maps moves) t
-copy_sets maps s t f moves front whole formed copy =
-    let renames = copy_renames maps s t f moves front whole copy in
-    record {
-      headers = λ b n header named starts.
-          let c = comes maps.address moves b n named in (
-            held_if_fresh s t f moves front c.index c.move b header copy c.is c.to starts,
-            fresh_if_held maps s t f moves front c.index c.move b header whole formed copy c.is c.to starts,
-          );
-      slots = λ b n i header named starts below.
-          let c = comes maps.address moves b n named in
-          let refs : header.shape.refs ≡ c.move.shape.refs = ap (λ (z : Shape). z.refs) (shape_before s t f moves front c.index c.move b header copy c.is c.to starts) in
-          subst (λ (x : ℕ). IsMarked (t.word (x + 2 + i))) c.to
-          (moved_marked maps s t f moves (s.word (c.move.from + 2 + i)) (t.word (c.move.to + 2 + i)) renames ((copy.objects c.index c.move c.is).slots i (omega (arith, refs, below))));
-      globals = λ g below. moved_marked maps s t f moves (s.global g) (t.global g) renames (copy.global g (let same = copy.globals in omega (arith, same, below)));
-    }
+  -- each word of a copy belongs to an object
+  word_taken : (at : ℕ) → 1 ≤ at → at < t.free → Taken (maps_after maps moves) t at
+  word_taken at first below =
+      let w = takes_word moves (at - 1) (omega (arith, copy.found.behind)) in
+      let is = copy.found.whole w.index w.move w.is in
+      let place = copy.found.places w.index w.move w.is in
+      let n = reached_named maps s w.move.from formed is.reached in
+      record {
+        address = w.move.to;
+        header = header_after phase (nat_lt w.index front) is.header;
+        named = (n.0, copy_name phase maps s t f moves front whole copy w.index w.move w.is ∙ n.1);
+        starts = record {
+          in_range = is.starts.in_range;
+          word =
+              (copy.objects w.index w.move w.is).header is.header is.starts;
+        };
+        from = omega (arith, place, w.from);
+        to = omega (arith, place, w.to, source_cost s w.move is);
+      }
 
--- a copy has the marks that the phase leaves
-pub copy_marks : (phase : Phase) (maps : Maps) (s t : State) (f : ℕ → ℕ) (moves : List Move) (front : ℕ) → IsCopying phase → IsWhole s → Formed maps s → IsCopy phase s t f moves front → Marks phase maps (maps_after maps moves) s t
-copy_marks Inactive maps s t f moves front copying whole formed copy = copy_keeps maps s t f moves front whole copy
-copy_marks Mark maps s t f moves front copying whole formed copy = copy_sets maps s t f moves front whole formed copy
-copy_marks Moving maps s t f moves front copying whole formed copy = absurd copying
+  found_once : (a b : ℕ) → f a ≢ 0 → f a ≡ f b → a ≡ b
+  found_once a b some same =
+      let x = goes s f moves t.free a copy.found some in
+      let y = goes s f moves t.free b copy.found (λ nought. some (same ∙ nought)) in
+      let one = (same_place s f moves t.free x.index y.index x.move y.move copy.found x.is y.is
+      (sym x.to ∙ (same ∙ y.to))).1 in
+      sym x.from ∙ (ap (λ (m : Relocation). m.from) one ∙ y.from)
 
--- the words of a copy, and those of its first objects, are those of the objects in use and of those in registers
-pub copy_counts : {phase : Phase} (maps : Maps) (s t : State) (f : ℕ → ℕ) (moves : List Move) (front : ℕ) → IsWhole s → Formed maps s → IsCopy phase s t f moves front → CountsWords maps (maps_after maps moves) s (words_in moves) (words_in (take front moves))
-copy_counts maps s t f moves front whole formed copy = record {
-  live_words = λ h value placed. counted.live_words maps s t f moves front h value copy placed;
-  held_words = λ h value placed. counted.held_words maps s t f moves front h value whole copy placed;
-}
+  -- exactly what can be reached was found, and goes where it is to
+  pub copy_goes : IsCopying phase → GoesTo phase maps (maps_after maps moves) s t f no_home
+  copy_goes copying = record {
+    stays = λ a. (
+      λ some.
+          let g = goes s f moves t.free a copy.found some in
+          (subst (Reached s) g.from (copy.found.whole g.index g.move g.is).reached, none_leaves phase s a copying),
+      λ is. reached_found s t f moves front none.scions copy a is.0,
+    );
+    once = found_once;
+    named = (copy_renames phase maps s t f moves front whole copy).names;
+    only = λ b named.
+        let c = comes maps.address moves b named.0 named.1 in
+        let to : f c.move.from ≡ b = copy.found.found c.index c.move c.is ∙ c.to in
+        (c.move.from, to, λ nought. place_found s f moves t.free c.index c.move copy.found c.is (to ∙ nought));
+    shapes = λ a header some starts.
+        let x = found_at a header some starts in
+        (header_after phase (nat_lt x.index front) header, x.there, refl);
+    leave = λ a leaves. absurd (none_leaves phase s a copying leaves);
+    homes = λ k has. refl;
+    registers = copy.register;
+    no_gaps = word_taken;
+  }
+
+  -- the first objects are those in registers, none of which has the stale bit
+  held_bit : (a : ℕ) (header : Header) (x : FoundAt a header) → HeaderAt s a header → HoldsAt s a
+      → (nat_lt x.index front ≡ true) × (header.stale ≡ false)
+  held_bit a header x starts holds =
+      let first = (source_object s x.move whole (copy.found.whole x.index x.move x.is)).first in
+      let full : s.register holds.thread holds.register ≢ 0 =
+      λ nought. omega (arith, nought, holds.holds, first, x.from) in
+      let m = copy.held.all holds.thread holds.register full in
+      let from : m.1.from ≡ x.move.from = m.4 ∙ (holds.holds ∙ sym x.from) in
+      let one = (same_source s f moves t.free m.0 x.index m.1 x.move copy.found m.2 x.is from).0 in
+      let fresh : IsFresh s a = elim (formed.registers holds.thread holds.register) [
+        | inl nought ↦ absurd (full nought)
+        | inr held ↦ subst (IsFresh s) holds.holds held.1
+      ] in
+      (lt-ltb x.index front (omega (arith, one, m.3)), fresh header starts)
+
+  pub copy_marks : Marks phase s t f no_home
+  copy_marks = record {
+    headers = λ a old later some starts after.
+        let x = found_at a old some starts in
+        let same : later ≡ header_after phase (nat_lt x.index front) old =
+        same_header later (header_after phase (nat_lt x.index front) old) after.in_range x.there.in_range
+        (sym after.word ∙ x.there.word) in
+        bit_goes phase (nat_lt x.index front) s a old later (ap (λ (h : Header). h.stale) same)
+        (λ held.
+        let h = copy.held.each x.index x.move x.is (in_front x.index front held) in
+        record { thread = h.0; register = h.1; holds = h.2 ∙ x.from })
+        (held_bit a old x starts);
+    slots = λ a i header some starts below.
+        let x = found_at a header some starts in
+        let small : i < x.move.shape.refs = let refs : header.shape.refs ≡ x.move.shape.refs =
+        ap (λ (z : Shape). z.refs) x.shape in omega (arith, refs, below) in
+        subst (λ (b : ℕ). WordGoes phase f no_home (s.word (b + 2 + i)) (t.word (f a + 2 + i))) x.from
+        (subst (λ (b : ℕ). WordGoes phase f no_home (s.word (x.move.from + 2 + i)) (t.word (b + 2 + i))) x.to
+        (word_goes phase f (s.word (x.move.from + 2 + i)) (t.word (x.move.to + 2 + i))
+        ((copy.objects x.index x.move x.is).slots i small)));
+    numbers = λ a j header some starts below.
+        let x = found_at a header some starts in
+        let small : j < x.move.shape.nums = let nums : header.shape.nums ≡ x.move.shape.nums =
+        ap (λ (z : Shape). z.nums) x.shape in omega (arith, nums, below) in
+        let refs : header.shape.refs ≡ x.move.shape.refs = ap (λ (z : Shape). z.refs) x.shape in
+        let number = (copy.objects x.index x.move x.is).numbers j small in
+        ap t.word (omega (arith, refs, x.to)) ∙ (number ∙ ap s.word (omega (arith, refs, x.from)));
+    globals = λ g below. word_goes phase f (s.global g) (t.global g) (copy.global g below);
+  }
+
+  -- a copy is a collection
+  pub copy_collects : IsCopying phase → Collected phase maps (maps_after maps moves) s t f no_home
+  copy_collects copying = record {
+    formed = formed_there phase maps s t f moves front whole copy none formed;
+    placed = λ h value placed. placed_there phase maps s t f moves front whole copy none h value placed;
+    goes = copy_goes copying;
+    marks = copy_marks;
+    size = ap (λ (b : Base). b.size) copy.base;
+    globals = ap (λ (b : Base). b.globals) copy.base;
+    end = (let same : t.base.end ≡ s.base.end = ap (λ (b : Base). b.end) copy.base in omega (arith, same));
+  }

@@ -11,24 +11,24 @@ use Rattle.melt_model.specs.declared.reports.Phase.{Phase}
 use Rattle.melt_word.specs.Words.{cost_of}
 use Rattle.melt_space.specs.Space.{SpaceWords}
 use Rattle.melt_scion.specs.State.{State}
-use Rattle.melt_copy.specs.declared.plan.Move.{Move}
-use Rattle.melt_copy.specs.declared.plan.Plan.{Plan}
+use Rattle.melt_copy.specs.declared.forwarding.Relocation.{Relocation}
+use Rattle.melt_copy.specs.declared.forwarding.Forwarding.{Forwarding}
 use Rattle.melt_copy.specs.Moving.{words_in, ObjectMoves}
-use Rattle.melt_copy.specs.Plans.{goes, Plans, PlansOf, Grows, word_in, HasCopied, Extends}
+use Rattle.melt_copy.specs.Tracking.{goes, Tracks, TracksOf, Grows, word_in, HasCopied, Extends}
 use Rattle.melt_copy.proofs.Places.{words_in-cons, words_in-before}
-use Rattle.melt_copy.proofs.Sources.{plan_words}
+use Rattle.melt_copy.proofs.Sources.{found_words}
 use Rattle.melt_copy.proofs.Growth.{ObjectMoves-more}
 
 -- each object takes a word at least
-count_words : (moves : List Move) → length moves ≤ words_in moves
+count_words : (moves : List Relocation) → length moves ≤ words_in moves
 count_words [] = omega arith
 count_words (m ∷ moves) = let rest = count_words moves in omega (arith, rest, words_in-cons m moves)
 
 -- no more objects are found than there are words in use
-pub count_fits : (space : SpaceWords) (s : State) (plan : Plan) → Plans space s plan → length plan.moves.items ≤ space.used
-count_fits space s plan plans =
-    let words = plan_words s (goes plan) plan.moves.items plan.next plans.whole plans.holds in
-    omega (arith, words, plans.free, count_words plan.moves.items)
+pub count_fits : (space : SpaceWords) (s : State) (forwarding : Forwarding) → Tracks space s forwarding → length forwarding.moves.items ≤ space.used
+count_fits space s forwarding tracks =
+    let words = found_words s (goes forwarding) forwarding.moves.items forwarding.next tracks.whole tracks.holds in
+    omega (arith, words, tracks.free, count_words forwarding.moves.items)
 
 some_one : {A : Type 0} (x y : A) → Some x ≡ Some y → x ≡ y
 some_one x y same = cc
@@ -38,38 +38,38 @@ slice_get_get [] k x at = absurd (cc)
 slice_get_get (y ∷ xs) zero x at = some_one y x at
 slice_get_get (y ∷ xs) (suc k) x at = slice_get_get xs k x at
 
-words_in-next : (moves : List Move) (k : ℕ) (m : Move) → slice_get moves k ≡ Some m → words_in (take (k + 1) moves) ≡ words_in (take k moves) + cost_of m.shape
+words_in-next : (moves : List Relocation) (k : ℕ) (m : Relocation) → slice_get moves k ≡ Some m → words_in (take (k + 1) moves) ≡ words_in (take k moves) + cost_of m.shape
 words_in-next moves k m at =
     let below : k < length moves = slice_get_within moves k m at in
     let there : get_or moves k m ≡ m = slice_get_get moves k m at in
-    sum-map (λ (x : Move). cost_of x.shape) (take (k + 1) moves)
-    ∙ (sum_by_more (λ (x : Move). cost_of x.shape) moves k m below
-    ∙ (ap (λ (x : Move). sum_by (λ (y : Move). cost_of y.shape) (take k moves) + cost_of x.shape) there
-    ∙ ap (λ (n : ℕ). n + cost_of m.shape) (sym (sum-map (λ (x : Move). cost_of x.shape) (take k moves)))))
+    sum-map (λ (x : Relocation). cost_of x.shape) (take (k + 1) moves)
+    ∙ (sum_by_more (λ (x : Relocation). cost_of x.shape) moves k m below
+    ∙ (ap (λ (x : Relocation). sum_by (λ (y : Relocation). cost_of y.shape) (take k moves) + cost_of x.shape) there
+    ∙ ap (λ (n : ℕ). n + cost_of m.shape) (sym (sum-map (λ (x : Relocation). cost_of x.shape) (take k moves)))))
 
--- the front of a plan that grows
-pub words_in-stay : (a b : Plan) (k : ℕ) → Grows a b → k ≤ length a.moves.items → words_in (take k b.moves.items) ≡ words_in (take k a.moves.items)
-words_in-stay a b k grows within = ap (λ (ms : List Move). words_in (take k ms)) grows.moves ∙ ap words_in (take-append-le k a.moves.items grows.rest within)
+-- the front of a forwarding that grows
+pub words_in-stay : (a b : Forwarding) (k : ℕ) → Grows a b → k ≤ length a.moves.items → words_in (take k b.moves.items) ≡ words_in (take k a.moves.items)
+words_in-stay a b k grows within = ap (λ (ms : List Relocation). words_in (take k ms)) grows.moves ∙ ap words_in (take-append-le k a.moves.items grows.rest within)
 
-pub was_there : (a b : Plan) (k : ℕ) (m : Move) → Grows a b → k < length a.moves.items → slice_get b.moves.items k ≡ Some m → slice_get a.moves.items k ≡ Some m
-was_there a b k m grows below at = sym (slice_get-append_left a.moves.items grows.rest k below) ∙ (sym (ap (λ (ms : List Move). slice_get ms k) grows.moves) ∙ at)
+pub was_there : (a b : Forwarding) (k : ℕ) (m : Relocation) → Grows a b → k < length a.moves.items → slice_get b.moves.items k ≡ Some m → slice_get a.moves.items k ≡ Some m
+was_there a b k m grows below at = sym (slice_get-append_left a.moves.items grows.rest k below) ∙ (sym (ap (λ (ms : List Relocation). slice_get ms k) grows.moves) ∙ at)
 
-pub longer : (a b : Plan) → Grows a b → length a.moves.items ≤ length b.moves.items
+pub longer : (a b : Forwarding) → Grows a b → length a.moves.items ≤ length b.moves.items
 longer a b grows = let sum : length b.moves.items ≡ length a.moves.items + length grows.rest = ap length grows.moves ∙ length-append a.moves.items grows.rest in omega (arith, sum)
 
 -- the next object of the queue, which was found
-pub next_object : {phase : Phase} {front : ℕ} (space : SpaceWords) (s : State) (plan : Plan) (words : List ℕ) (done : ℕ) (m : Move) → HasCopied phase front space s plan words done → done < length plan.moves.items → m ≡ get_or plan.moves.items done m → PlansOf space s plan m
-next_object space s plan words done m copied below is = record {
-  plans = copied.plans;
-  move = copied.plans.holds.whole done m (slice_get_read plan.moves.items (length plan.moves.items) done m refl below is);
+pub next_object : {phase : Phase} {front : ℕ} (space : SpaceWords) (s : State) (forwarding : Forwarding) (words : List ℕ) (done : ℕ) (m : Relocation) → HasCopied phase front space s forwarding words done → done < length forwarding.moves.items → m ≡ get_or forwarding.moves.items done m → TracksOf space s forwarding m
+next_object space s forwarding words done m copied below is = record {
+  tracks = copied.tracks;
+  move = copied.tracks.holds.whole done m (slice_get_read forwarding.moves.items (length forwarding.moves.items) done m refl below is);
 }
 
 -- one object more was copied
-pub copied_more : (phase : Phase) (front : ℕ) (space : SpaceWords) (s : State) (a b : Plan) (words more : List ℕ) (done : ℕ) (m : Move) → HasCopied phase front space s a words done → done < length a.moves.items → m ≡ get_or a.moves.items done m → Grows a b → Plans space s b → Extends words more (cost_of m.shape) → (m.to ≡ length words + 1 → ObjectMoves phase (nat_lt done front) (goes b) s (word_in more) m) → HasCopied phase front space s b more (done + 1)
-copied_more phase front space s a b words more done m copied below is grows plans extends object =
+pub copied_more : (phase : Phase) (front : ℕ) (space : SpaceWords) (s : State) (a b : Forwarding) (words more : List ℕ) (done : ℕ) (m : Relocation) → HasCopied phase front space s a words done → done < length a.moves.items → m ≡ get_or a.moves.items done m → Grows a b → Tracks space s b → Extends words more (cost_of m.shape) → (m.to ≡ length words + 1 → ObjectMoves phase (nat_lt done front) (goes b) s (word_in more) m) → HasCopied phase front space s b more (done + 1)
+copied_more phase front space s a b words more done m copied below is grows tracks extends object =
     let at : slice_get a.moves.items done ≡ Some m = slice_get_read a.moves.items (length a.moves.items) done m refl below is in
     record {
-      plans = plans;
+      tracks = tracks;
       size = extends.size ∙ (ap (λ (n : ℕ). n + cost_of m.shape) copied.size ∙ (sym (words_in-next a.moves.items done m at) ∙ sym (words_in-stay a b (done + 1) grows (omega (arith, below)))));
       objects = λ k x under there.
           let before : slice_get a.moves.items k ≡ Some x = was_there a b k x grows (omega (arith, under, below)) there in
@@ -78,10 +78,10 @@ copied_more phase front space s a b words more done m copied below is grows plan
                 let one : x ≡ m = some_one x m (sym before ∙ (ap (slice_get a.moves.items) same.1 ∙ at)) in
                 subst (λ (i : ℕ). ObjectMoves phase (nat_lt i front) (goes b) s (word_in more) x) (sym same.1)
                 (subst (ObjectMoves phase (nat_lt done front) (goes b) s (word_in more)) (sym one)
-                (object (let place = copied.plans.holds.places done m at in omega (arith, place, copied.size))))
+                (object (let place = copied.tracks.holds.places done m at in omega (arith, place, copied.size))))
             | inr other ↦
                 let lower : k < done = omega (arith, under, other.1) in
-                let place = copied.plans.holds.places k x before in
+                let place = copied.tracks.holds.places k x before in
                 let fits = words_in-before a.moves.items k done x before lower in
                 ObjectMoves-more a b s words more (cost_of m.shape) x grows extends (omega (arith, place, fits, copied.size)) (copied.objects k x lower before)
           ];

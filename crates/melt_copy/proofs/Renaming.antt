@@ -12,30 +12,30 @@ use Rattle.melt_word.specs.declared.reference.Ref.TheVariants.{Null, Clean, Stal
 use Rattle.melt_word.proofs.OneToOne.{same_ref}
 use Rattle.melt_scion.specs.State.{State, IsFresh}
 use Rattle.melt_scion.specs.Placed.{Maps, value_of, Stands, MayStand, IsReferenceWord, MayHold, value_at}
-use Rattle.melt_copy.specs.declared.plan.Move.{Move}
+use Rattle.melt_copy.specs.declared.forwarding.Relocation.{Relocation}
 use Rattle.melt_copy.specs.Moving.{IsFound, moved, WordMoves, name_after, maps_after}
-use Rattle.melt_copy.proofs.Phases.{KeepsBits, tagged_in_range, tagged_value, tagged_may_stand}
+use Rattle.melt_copy.proofs.Phases.{KeepsBits, kept_in_range, kept_value, kept_may_stand}
 
 -- what moves to an address, where no two objects do
-pub name_after-at : (name : ℕ → Option ℕ) (moves : List Move) (k : ℕ) (m : Move) → slice_get moves k ≡ Some m → ((j : ℕ) (x : Move) → slice_get moves j ≡ Some x → x.to ≡ m.to → x ≡ m) → name_after name moves m.to ≡ name m.from
+pub name_after-at : (name : ℕ → Option ℕ) (moves : List Relocation) (k : ℕ) (m : Relocation) → slice_get moves k ≡ Some m → ((j : ℕ) (x : Relocation) → slice_get moves j ≡ Some x → x.to ≡ m.to → x ≡ m) → name_after name moves m.to ≡ name m.from
 name_after-at name [] k m at one = absurd (cc)
 name_after-at name (x ∷ moves) zero m at one = cond-true (eqb x.to m.to) (name x.from) (name_after name moves m.to) (let same : x.to ≡ m.to = cc in eq-eqb x.to m.to same) ∙ (let same : name x.from ≡ name m.from = cc in same)
 name_after-at name (x ∷ moves) (suc k) m at one =
     elim (cases_eq x.to m.to) [
-      | inl same ↦ cond-true (eqb x.to m.to) (name x.from) (name_after name moves m.to) (eq-eqb x.to m.to same) ∙ ap (λ (y : Move). name y.from) (one 0 x refl same)
+      | inl same ↦ cond-true (eqb x.to m.to) (name x.from) (name_after name moves m.to) (eq-eqb x.to m.to same) ∙ ap (λ (y : Relocation). name y.from) (one 0 x refl same)
       | inr other ↦ cond-false (eqb x.to m.to) (name x.from) (name_after name moves m.to) (ne_eqb x.to m.to other) ∙ name_after-at name moves k m at (λ j y there. one (suc j) y there)
     ]
 
 -- an object that moves to an address, with its number
-pub record Comes (name : ℕ → Option ℕ) (moves : List Move) (address n : ℕ) : Type 0 where
+pub record Comes (name : ℕ → Option ℕ) (moves : List Relocation) (address n : ℕ) : Type 0 where
   pub index : ℕ
-  pub move : Move
+  pub move : Relocation
   pub is : slice_get moves index ≡ Some move
   pub to : move.to ≡ address
   pub named : name move.from ≡ Some n
 
 -- an address with a number has an object that moved there
-pub comes : (name : ℕ → Option ℕ) (moves : List Move) (address n : ℕ) → name_after name moves address ≡ Some n → Comes name moves address n
+pub comes : (name : ℕ → Option ℕ) (moves : List Relocation) (address n : ℕ) → name_after name moves address ≡ Some n → Comes name moves address n
 comes name [] address n named = absurd (cc)
 comes name (x ∷ moves) address n named =
     elim (cases_eq x.to address) [
@@ -47,38 +47,38 @@ comes name (x ∷ moves) address n named =
 
 -- how addresses change: each object keeps its number; an object without the stale bit gets none if the phase leaves all
 -- of them, or if a register holds it
-pub record Renames (phase : Phase) (maps : Maps) (s t : State) (f : ℕ → ℕ) (moves : List Move) : Type 0 where
+pub record Renames (phase : Phase) (maps : Maps) (s t : State) (f : ℕ → ℕ) (moves : List Relocation) : Type 0 where
   pub names : (address : ℕ) → f address ≢ 0 → name_after maps.address moves (f address) ≡ maps.address address
   pub fresh : KeepsBits phase → (address : ℕ) → f address ≢ 0 → IsFresh s address → IsFresh t (f address)
   pub held : (u r : ℕ) → s.register u r ≢ 0 → IsFresh s (s.register u r) → IsFresh t (f (s.register u r))
   pub small : (address : ℕ) → f address ≢ 0 → f address < 2 ^ 30
   pub nothing : f 0 ≡ 0
-  pub end : t.end ≡ s.end
+  pub end : t.base.end ≡ s.base.end
 
 -- a reference that was moved is in range
-pub moved_in_range : {phase : Phase} (maps : Maps) (s t : State) (f : ℕ → ℕ) (moves : List Move) (r : Ref) → Renames phase maps s t f moves → IsFound f r → IsRef r → IsRef (moved phase f r)
+pub moved_in_range : {phase : Phase} (maps : Maps) (s t : State) (f : ℕ → ℕ) (moves : List Relocation) (r : Ref) → Renames phase maps s t f moves → IsFound f r → IsRef r → IsRef (moved phase f r)
 moved_in_range {phase} maps s t f moves Null renames found is = is
-moved_in_range {phase} maps s t f moves (Clean a) renames found is = tagged_in_range phase (f a) (record { not_null = omega arith; small = renames.small a found })
+moved_in_range {phase} maps s t f moves (Clean a) renames found is = kept_in_range phase (f a) (record { not_null = omega arith; small = renames.small a found })
 moved_in_range {phase} maps s t f moves (Stale a) renames found is = record { not_null = omega arith; small = renames.small a found }
 moved_in_range {phase} maps s t f moves (Disk home) renames found is = is
 
 -- it stands for the same value
-pub moved_value : {phase : Phase} (maps : Maps) (s t : State) (f : ℕ → ℕ) (moves : List Move) (r : Ref) → Renames phase maps s t f moves → IsFound f r → value_of (maps_after maps moves) (moved phase f r) ≡ value_of maps r
+pub moved_value : {phase : Phase} (maps : Maps) (s t : State) (f : ℕ → ℕ) (moves : List Relocation) (r : Ref) → Renames phase maps s t f moves → IsFound f r → value_of (maps_after maps moves) (moved phase f r) ≡ value_of maps r
 moved_value {phase} maps s t f moves Null renames found = refl
-moved_value {phase} maps s t f moves (Clean a) renames found = tagged_value phase (maps_after maps moves) (f a) ∙ ap (option_map value.Ref) (renames.names a found)
+moved_value {phase} maps s t f moves (Clean a) renames found = kept_value phase (maps_after maps moves) (f a) ∙ ap (option_map value.Ref) (renames.names a found)
 moved_value {phase} maps s t f moves (Stale a) renames found = ap (option_map value.Ref) (renames.names a found)
 moved_value {phase} maps s t f moves (Disk home) renames found = refl
 
 -- it may stand where it stood
-pub moved_may_stand : {phase : Phase} (maps : Maps) (s t : State) (f : ℕ → ℕ) (moves : List Move) (r : Ref) → Renames phase maps s t f moves → IsFound f r → MayStand maps s r → MayStand (maps_after maps moves) t (moved phase f r)
+pub moved_may_stand : {phase : Phase} (maps : Maps) (s t : State) (f : ℕ → ℕ) (moves : List Relocation) (r : Ref) → Renames phase maps s t f moves → IsFound f r → MayStand maps s r → MayStand (maps_after maps moves) t (moved phase f r)
 moved_may_stand {phase} maps s t f moves Null renames found may = tt
 moved_may_stand {phase} maps s t f moves (Clean a) renames found may =
-    tagged_may_stand phase (maps_after maps moves) t (f a) (may.0.0, renames.names a found ∙ may.0.1) (λ keeps. renames.fresh keeps a found may.1)
+    kept_may_stand phase (maps_after maps moves) t (f a) (may.0.0, renames.names a found ∙ may.0.1) (λ keeps. renames.fresh keeps a found may.1)
 moved_may_stand {phase} maps s t f moves (Stale a) renames found may = (may.0, renames.names a found ∙ may.1)
 moved_may_stand {phase} maps s t f moves (Disk home) renames found may = (may.0, omega (arith, renames.end, may.1))
 
 -- a word that was moved is still that of a reference
-pub moved_word : {phase : Phase} (maps : Maps) (s t : State) (f : ℕ → ℕ) (moves : List Move) (old new : ℕ) → Renames phase maps s t f moves → WordMoves phase f old new → IsReferenceWord maps s old → IsReferenceWord (maps_after maps moves) t new
+pub moved_word : {phase : Phase} (maps : Maps) (s t : State) (f : ℕ → ℕ) (moves : List Relocation) (old new : ℕ) → Renames phase maps s t f moves → WordMoves phase f old new → IsReferenceWord maps s old → IsReferenceWord (maps_after maps moves) t new
 moved_word {phase} maps s t f moves old new renames w is =
     let same : is.reference ≡ w.reference = same_ref is.reference w.reference is.in_range w.in_range (sym is.is ∙ w.was) in
     record {
@@ -89,7 +89,7 @@ moved_word {phase} maps s t f moves old new renames w is =
     }
 
 -- a word that was moved stands for the same value
-pub moved_stands : {phase : Phase} (maps : Maps) (s t : State) (f : ℕ → ℕ) (moves : List Move) (old new : ℕ) (v : Value) → Renames phase maps s t f moves → WordMoves phase f old new → Stands maps old v → Stands (maps_after maps moves) new v
+pub moved_stands : {phase : Phase} (maps : Maps) (s t : State) (f : ℕ → ℕ) (moves : List Relocation) (old new : ℕ) (v : Value) → Renames phase maps s t f moves → WordMoves phase f old new → Stands maps old v → Stands (maps_after maps moves) new v
 moved_stands {phase} maps s t f moves old new v renames w is =
     let same : is.reference ≡ w.reference = same_ref is.reference w.reference is.in_range w.in_range (sym is.is ∙ w.was) in
     record {
@@ -100,7 +100,7 @@ moved_stands {phase} maps s t f moves old new v renames w is =
     }
 
 -- what a register holds after the move
-pub moved_hold : {phase : Phase} (maps : Maps) (s t : State) (f : ℕ → ℕ) (moves : List Move) (u r : ℕ) → Renames phase maps s t f moves → MayHold maps s (s.register u r) → MayHold (maps_after maps moves) t (f (s.register u r))
+pub moved_hold : {phase : Phase} (maps : Maps) (s t : State) (f : ℕ → ℕ) (moves : List Relocation) (u r : ℕ) → Renames phase maps s t f moves → MayHold maps s (s.register u r) → MayHold (maps_after maps moves) t (f (s.register u r))
 moved_hold maps s t f moves u r renames may =
     elim (cases_eq (f (s.register u r)) 0) [
       | inl none ↦ inl none
@@ -118,7 +118,7 @@ value_at_some maps zero some = absurd (some refl)
 value_at_some maps (suc a) some = refl
 
 -- a register stands for the same value
-pub moved_value_at : {phase : Phase} (maps : Maps) (s t : State) (f : ℕ → ℕ) (moves : List Move) (address : ℕ) → Renames phase maps s t f moves → (address ≢ 0 → f address ≢ 0) → value_at (maps_after maps moves) (f address) ≡ value_at maps address
+pub moved_value_at : {phase : Phase} (maps : Maps) (s t : State) (f : ℕ → ℕ) (moves : List Relocation) (address : ℕ) → Renames phase maps s t f moves → (address ≢ 0 → f address ≢ 0) → value_at (maps_after maps moves) (f address) ≡ value_at maps address
 moved_value_at maps s t f moves address renames all =
     elim (cases_eq address 0) [
       | inl none ↦ ap (λ (a : ℕ). value_at (maps_after maps moves) (f a)) none ∙ (ap (value_at (maps_after maps moves)) renames.nothing ∙ ap (value_at maps) (sym none))

@@ -1,6 +1,6 @@
 -- The objects that a collection found, where they were before.
 use Rattle.std.proofs.Common.{◌≡◌, ◌≢◌, ℕ, ◌+◌, ◌-◌, ◌≤◌, List, sym, ◌∙◌, ap, subst, arith, inl, inr}
-use Rattle.std.specs.Prelude.{slice_get, Some}
+use Rattle.std.specs.Prelude.{slice_get, None, Some}
 use Rattle.std.proofs.lemmas.Bool.{cases_order}
 use Rattle.melt_model.specs.declared.reports.Phase.{Phase}
 use Rattle.melt_word.specs.Words.{cost_of}
@@ -8,38 +8,35 @@ use Rattle.melt_word.specs.declared.header.Shape.{Shape}
 use Rattle.melt_word.specs.declared.header.Header.{Header}
 use Rattle.melt_word.specs.declared.reference.Ref.{Ref}
 use Rattle.melt_word.specs.declared.reference.Ref.TheVariants.{Null, Clean, Stale, Disk}
-use Rattle.melt_word.proofs.OneToOne.{same_ref, same_header}
-use Rattle.melt_scion.specs.State.{State, HeaderAt, ObjectAt, address_in, RefersTo, Reached, in_register, in_global, in_slot}
-use Rattle.melt_copy.specs.declared.plan.Move.{Move}
-use Rattle.melt_copy.specs.Moving.{IsWhole, words_in, IsMove, IsPlan, IsFound, WordMoves, IsCopy}
+use Rattle.melt_word.proofs.OneToOne.{same_ref}
+use Rattle.melt_scion.specs.State.{State, HeaderAt, ObjectAt, address_in, RefersTo, Reached, in_register, in_global, at_scion, in_slot}
+use Rattle.melt_copy.specs.declared.forwarding.Relocation.{Relocation}
+use Rattle.melt_copy.specs.Moving.{IsWhole, words_in, IsRelocation, Relocates, IsFound, WordMoves, IsCopy}
+use Rattle.melt_scion.proofs.Geometry.{one_header}
 use Rattle.melt_copy.proofs.Places.{place_found, same_source}
 use Rattle.melt_copy.proofs.Packing.{AreApart, packed}
 
--- one header at an address
-pub one_header : (s : State) (address : ℕ) (h k : Header) → HeaderAt s address h → HeaderAt s address k → h ≡ k
-one_header s address h k first second = same_header h k first.in_range second.in_range (sym first.word ∙ second.word)
-
 -- the object of a move, where it was
-pub source_object : (s : State) (m : Move) → IsWhole s → (is : IsMove s m) → ObjectAt s m.from is.header
+pub source_object : (s : State) (m : Relocation) → IsWhole s → (is : IsRelocation s m) → ObjectAt s m.from is.header
 source_object s m whole is =
     let o = whole.objects m.from is.reached in
     subst (ObjectAt s m.from) (one_header s m.from o.0 is.header o.1.starts is.starts) o.1
 
 -- it takes as many words as the move says
-pub source_cost : (s : State) (m : Move) → (is : IsMove s m) → cost_of is.header.shape ≡ cost_of m.shape
+pub source_cost : (s : State) (m : Relocation) → (is : IsRelocation s m) → cost_of is.header.shape ≡ cost_of m.shape
 source_cost s m is = ap cost_of is.shape
 
 -- a header at the old address has the shape of the move
-pub source_shape : (s : State) (m : Move) (h : Header) → IsMove s m → HeaderAt s m.from h → h.shape ≡ m.shape
+pub source_shape : (s : State) (m : Relocation) (h : Header) → IsRelocation s m → HeaderAt s m.from h → h.shape ≡ m.shape
 source_shape s m h is starts = ap (λ (x : Header). x.shape) (one_header s m.from h is.header starts is.starts) ∙ is.shape
 
 -- objects that were found do not overlap
-sources_apart : (s : State) (f : ℕ → ℕ) (moves : List Move) (free : ℕ) → IsWhole s → IsPlan s f moves free → AreApart moves
-sources_apart s f moves free whole plan i j a b first second before =
-    let one = plan.whole i a first in
-    let other = plan.whole j b second in
+sources_apart : (s : State) (f : ℕ → ℕ) (moves : List Relocation) (free : ℕ) → IsWhole s → Relocates s f moves free → AreApart moves
+sources_apart s f moves free whole forwarding i j a b first second before =
+    let one = forwarding.whole i a first in
+    let other = forwarding.whole j b second in
     elim (cases_order a.from b.from) [
-      | inl same ↦ absurd (omega (arith, (same_source s f moves free i j a b plan first second same).0))
+      | inl same ↦ absurd (omega (arith, (same_source s f moves free i j a b forwarding first second same).0))
       | inr differ ↦ elim differ [
         | inl below ↦ inl (omega (arith, source_cost s a one, whole.apart a.from b.from one.header one.reached other.reached one.starts below))
         | inr above ↦ inr (omega (arith, source_cost s b other, whole.apart b.from a.from other.header other.reached one.reached other.starts above))
@@ -47,31 +44,31 @@ sources_apart s f moves free whole plan i j a b first second before =
     ]
 
 -- the words of the objects that were found are below the first free place
-pub plan_words : (s : State) (f : ℕ → ℕ) (moves : List Move) (free : ℕ) → IsWhole s → IsPlan s f moves free → words_in moves ≤ s.free - 1
-plan_words s f moves free whole plan =
-    packed (s.free - 1) moves (sources_apart s f moves free whole plan)
-    (λ k m at. (source_object s m whole (plan.whole k m at)).first)
-    (λ k m at. let o = source_object s m whole (plan.whole k m at) in omega (arith, o.below, o.first, source_cost s m (plan.whole k m at)))
+pub found_words : (s : State) (f : ℕ → ℕ) (moves : List Relocation) (free : ℕ) → IsWhole s → Relocates s f moves free → words_in moves ≤ s.free - 1
+found_words s f moves free whole forwarding =
+    packed (s.free - 1) moves (sources_apart s f moves free whole forwarding)
+    (λ k m at. (source_object s m whole (forwarding.whole k m at)).first)
+    (λ k m at. let o = source_object s m whole (forwarding.whole k m at) in omega (arith, o.below, o.first, source_cost s m (forwarding.whole k m at)))
 
 -- where there is an object, the new words fit into the old
-pub found_fits : (s : State) (f : ℕ → ℕ) (moves : List Move) (free k : ℕ) (m : Move) → IsWhole s → IsPlan s f moves free → slice_get moves k ≡ Some m → free ≤ s.free
-found_fits s f moves free k m whole plan at =
-    let o = source_object s m whole (plan.whole k m at) in
-    omega (arith, plan_words s f moves free whole plan, plan.behind, o.below, o.first)
+pub found_fits : (s : State) (f : ℕ → ℕ) (moves : List Relocation) (free k : ℕ) (m : Relocation) → IsWhole s → Relocates s f moves free → slice_get moves k ≡ Some m → free ≤ s.free
+found_fits s f moves free k m whole forwarding at =
+    let o = source_object s m whole (forwarding.whole k m at) in
+    omega (arith, found_words s f moves free whole forwarding, forwarding.behind, o.below, o.first)
 
 -- the move of an object that was found
-pub record Goes (f : ℕ → ℕ) (moves : List Move) (address : ℕ) : Type 0 where
+pub record Goes (f : ℕ → ℕ) (moves : List Relocation) (address : ℕ) : Type 0 where
   pub index : ℕ
-  pub move : Move
+  pub move : Relocation
   pub is : slice_get moves index ≡ Some move
   pub from : move.from ≡ address
   pub to : f address ≡ move.to
 
 -- an address that was found has a move
-pub goes : (s : State) (f : ℕ → ℕ) (moves : List Move) (free address : ℕ) → IsPlan s f moves free → f address ≢ 0 → Goes f moves address
-goes s f moves free address plan found =
-    let m = plan.only address found in
-    record { index = m.0; move = m.1; is = m.2; from = m.3; to = ap f (sym m.3) ∙ plan.found m.0 m.1 m.2 }
+pub goes : (s : State) (f : ℕ → ℕ) (moves : List Relocation) (free address : ℕ) → Relocates s f moves free → f address ≢ 0 → Goes f moves address
+goes s f moves free address forwarding found =
+    let m = forwarding.only address found in
+    record { index = m.0; move = m.1; is = m.2; from = m.3; to = ap f (sym m.3) ∙ forwarding.found m.0 m.1 m.2 }
 
 -- an address in a reference whose object was found
 pub found_in : (f : ℕ → ℕ) (r : Ref) (address : ℕ) → IsFound f r → address_in r ≡ Some address → f address ≢ 0
@@ -86,17 +83,18 @@ found_in_word f old new address moves refers =
     let same : refers.reference ≡ moves.reference = same_ref refers.reference moves.reference refers.in_range moves.in_range (sym refers.is ∙ moves.was) in
     found_in f moves.reference address moves.found (ap address_in (sym same) ∙ refers.at)
 
--- what can be reached was found
-pub reached_found : {phase : Phase} (s t : State) (f : ℕ → ℕ) (moves : List Move) (front : ℕ) → IsCopy phase s t f moves front → (address : ℕ) → Reached s address → f address ≢ 0
-reached_found s t f moves front copy address (in_register u r a holds first) =
+-- where no scion is live, what can be reached was found
+pub reached_found : {phase : Phase} (s t : State) (f : ℕ → ℕ) (moves : List Relocation) (front : ℕ) → ((k : ℕ) → s.base.scion k ≡ None) → IsCopy phase s t f moves front → (address : ℕ) → Reached s address → f address ≢ 0
+reached_found s t f moves front no_scions copy address (in_register u r a holds first) =
     let held : s.register u r ≢ 0 = λ none. omega (arith, holds, none, first) in
     let m = copy.held.all u r held in
-    λ none. place_found s f moves t.free m.0 m.1 copy.plan m.2 (ap f (m.4 ∙ holds) ∙ none)
-reached_found s t f moves front copy address (in_global g a below refers) = found_in_word f (s.global g) (t.global g) a (copy.global g below) refers
-reached_found s t f moves front copy address (in_slot from i a header reached starts below refers) =
-    let m = goes s f moves t.free from copy.plan (reached_found s t f moves front copy from reached) in
+    λ none. place_found s f moves t.free m.0 m.1 copy.found m.2 (ap f (m.4 ∙ holds) ∙ none)
+reached_found s t f moves front no_scions copy address (in_global g a below refers) = found_in_word f (s.global g) (t.global g) a (copy.global g below) refers
+reached_found s t f moves front no_scions copy address (at_scion k x live) = absurd (let dead = no_scions k in cc)
+reached_found s t f moves front no_scions copy address (in_slot from i a header reached starts below refers) =
+    let m = goes s f moves t.free from copy.found (reached_found s t f moves front no_scions copy from reached) in
     let starts_there : HeaderAt s m.move.from header = subst (λ (b : ℕ). HeaderAt s b header) (sym m.from) starts in
-    let shape : header.shape.refs ≡ m.move.shape.refs = ap (λ (z : Shape). z.refs) (source_shape s m.move header (copy.plan.whole m.index m.move m.is) starts_there) in
+    let shape : header.shape.refs ≡ m.move.shape.refs = ap (λ (z : Shape). z.refs) (source_shape s m.move header (copy.found.whole m.index m.move m.is) starts_there) in
     let slot = (copy.objects m.index m.move m.is).slots i (omega (arith, shape, below)) in
     let there : RefersTo (s.word (m.move.from + 2 + i)) a = subst (λ (b : ℕ). RefersTo (s.word (b + 2 + i)) a) (sym m.from) refers in
     found_in_word f (s.word (m.move.from + 2 + i)) (t.word (m.move.to + 2 + i)) a slot there

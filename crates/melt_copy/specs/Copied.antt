@@ -9,47 +9,47 @@ use Rattle.melt_scion.specs.Heaps.{register_in, state_of}
 use Rattle.melt_scion.specs.declared.registers.Registers.{Registers}
 use Rattle.melt_scion.specs.declared.heap.Names.{Names}
 use Rattle.melt_scion.specs.declared.heap.Heap.{Heap}
-use Rattle.melt_copy.specs.declared.plan.Move.{Move}
+use Rattle.melt_copy.specs.declared.forwarding.Relocation.{Relocation}
 use Rattle.melt_copy.specs.declared.collect.Copied.{Copied}
-use Rattle.melt_copy.specs.Moving.{IsWhole, IsPlan, AreHeld, ObjectMoves, WordMoves, words_in, name_after}
-use Rattle.melt_copy.specs.Plans.{goes, word_in}
+use Rattle.melt_copy.specs.Moving.{IsWhole, Relocates, AreHeld, ObjectMoves, WordMoves, words_in, name_after}
+use Rattle.melt_copy.specs.Tracking.{goes, word_in}
 
 -- where a heap keeps names, the numbers are those of the objects that move
-abbrev pub NumbersAre : Option Names → List Move → List (Option ℕ) → Type 0
+abbrev pub NumbersAre : Option Names → List Relocation → List (Option ℕ) → Type 0
 NumbersAre None moves numbers = Unit {0}
-NumbersAre (Some names) moves numbers = numbers ≡ map (λ (m : Move). name_at names.addresses m.from) moves
+NumbersAre (Some names) moves numbers = numbers ≡ map (λ (m : Relocation). name_at names.addresses m.from) moves
 
 -- Everything that can be reached was copied in this phase.
 pub record IsCopied (phase : Phase) (s : State) (names : Option Names) (copied : Copied) : Type 0 where
   pub front : ℕ
   pub whole : IsWhole s
-  pub holds : IsPlan s (goes copied.plan) copied.plan.moves.items copied.plan.next
-  pub size : length copied.words.items ≡ words_in copied.plan.moves.items
-  pub objects : (k : ℕ) (m : Move) → slice_get copied.plan.moves.items k ≡ Some m → ObjectMoves phase (nat_lt k front) (goes copied.plan) s (word_in copied.words.items) m
-  pub globals_count : length copied.globals.items ≡ s.globals
-  pub globals : (g : ℕ) → g < s.globals → WordMoves phase (goes copied.plan) (s.global g) (slice_index copied.globals.items g)
-  pub held : AreHeld s copied.plan.moves.items front
-  pub held_words : copied.held ≡ words_in (take front copied.plan.moves.items)
-  pub numbers : NumbersAre names copied.plan.moves.items copied.numbers.items
+  pub holds : Relocates s (goes copied.forwarding) copied.forwarding.moves.items copied.forwarding.next
+  pub size : length copied.words.items ≡ words_in copied.forwarding.moves.items
+  pub objects : (k : ℕ) (m : Relocation) → slice_get copied.forwarding.moves.items k ≡ Some m → ObjectMoves phase (nat_lt k front) (goes copied.forwarding) s (word_in copied.words.items) m
+  pub globals_count : length copied.globals.items ≡ s.base.globals
+  pub globals : (g : ℕ) → g < s.base.globals → WordMoves phase (goes copied.forwarding) (s.global g) (slice_index copied.globals.items g)
+  pub held : AreHeld s copied.forwarding.moves.items front
+  pub held_words : copied.held ≡ words_in (take front copied.forwarding.moves.items)
+  pub numbers : NumbersAre names copied.forwarding.moves.items copied.numbers.items
 
 -- for each map with which the heap is well formed
 abbrev pub Copies : Phase → Heap → List Registers → Copied → Type 0
 Copies phase heap held copied = (maps : Maps) (end : ℕ) → Formed maps (state_of heap held end) → IsCopied phase (state_of heap held end) heap.names copied
 
 -- the names can be given anew
-pub record CanRename (used : ℕ) (names : Names) (moves : List Move) (numbers : List (Option ℕ)) : Type 0 where
+pub record CanRename (used : ℕ) (names : Names) (moves : List Relocation) (numbers : List (Option ℕ)) : Type 0 where
   pub room : used ≤ length names.addresses
   pub behind : (k : ℕ) → used < k → name_at names.addresses k ≡ None
-  pub numbers_are : numbers ≡ map (λ (m : Move). name_at names.addresses m.from) moves
-  pub places : (k : ℕ) (m : Move) → slice_get moves k ≡ Some m → (1 ≤ m.to) × (m.to ≤ used)
-  pub apart : (i j : ℕ) (m n : Move) → slice_get moves i ≡ Some m → slice_get moves j ≡ Some n → m.to ≡ n.to → i ≡ j
+  pub numbers_are : numbers ≡ map (λ (m : Relocation). name_at names.addresses m.from) moves
+  pub places : (k : ℕ) (m : Relocation) → slice_get moves k ≡ Some m → (1 ≤ m.to) × (m.to ≤ used)
+  pub apart : (i j : ℕ) (m n : Relocation) → slice_get moves i ≡ Some m → slice_get moves j ≡ Some n → m.to ≡ n.to → i ≡ j
 
-abbrev pub MayRename : ℕ → Option Names → List Move → List (Option ℕ) → Type 0
+abbrev pub MayRename : ℕ → Option Names → List Relocation → List (Option ℕ) → Type 0
 MayRename used None moves numbers = Unit {0}
 MayRename used (Some names) moves numbers = CanRename used names moves numbers
 
 -- names are those of the moved objects, where there are any
-abbrev pub AreRenamed : Option Names → Option Names → List Move → Type 0
+abbrev pub AreRenamed : Option Names → Option Names → List Relocation → Type 0
 AreRenamed None None moves = Unit {0}
 AreRenamed (Some old) (Some new) moves = ((k : ℕ) → name_at new.addresses k ≡ name_after (name_at old.addresses) moves k) × (length new.addresses ≡ length old.addresses)
 AreRenamed None (Some new) moves = ⊥
@@ -59,5 +59,5 @@ AreRenamed (Some old) None moves = ⊥
 pub record IsPutBack (old new : Heap) (held held_after : List Registers) (copied : Copied) : Type 0 where
   pub space : Replaces old.space new.space copied.words.items
   pub globals : new.globals ≡ copied.globals.items
-  pub registers : (t r : ℕ) → register_in held_after t r ≡ goes copied.plan (register_in held t r)
-  pub names : AreRenamed old.names new.names copied.plan.moves.items
+  pub registers : (t r : ℕ) → register_in held_after t r ≡ goes copied.forwarding (register_in held t r)
+  pub names : AreRenamed old.names new.names copied.forwarding.moves.items

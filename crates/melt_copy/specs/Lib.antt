@@ -1,4 +1,4 @@
 pub mod Moving
 pub mod Copying
-pub mod Plans
+pub mod Tracking
 pub mod Copied

@@ -1,13 +1,21 @@
 //! The copying collection.
+//!
+//! All that is to stay is copied out of the heap before the first change. So want of memory leaves heap and registers as
+//! they were, at whatever moment it comes, and what is left then takes none.
+//!
+//! Objects in registers are found before all others. So they are the first in the list of those that were found, and one
+//! number, the front, tells of each object whether a register holds it, on which its stale bit depends. The words up to
+//! the front are those of the objects in registers, each counted once, however many registers hold it. What globals
+//! refer to comes behind them, and then what slots do.
 ghost use Rattle.std.specs.Prelude.{◌≡◌, ℕ, ◌<◌, ◌≤◌, length, IfOk, OnErr};
 ghost use Rattle.melt_scion.specs.Heaps.{IsFormed};
 ghost use Rattle.melt_copy.specs.Copying.{Collects, IsCopying};
 ghost use Rattle.melt_copy.specs.Copied.{AreRenamed, Copies, IsPutBack, MayRename, NumbersAre};
-ghost use Rattle.melt_copy.specs.Plans.{goes};
+ghost use Rattle.melt_copy.specs.Tracking.{goes};
 
 use crate::commit::{forward_held, numbers_of, rename};
 use crate::copy::{copy_objects, find_all_held, move_words};
-use crate::plan::{Move, Plan};
+use crate::forwarding::{Forwarding, Relocation};
 use melt_model::{Journal, NoMemory, Phase, Steps};
 use melt_scion::{Globals, Heap, Names, Registers};
 use std::alloc::Global;
@@ -16,7 +24,7 @@ use std::sync::ledger::Ledger;
 /// What is to stand in the place of the words, the globals and the names of a heap.
 #[derive(Debug, Drop)]
 struct Copied {
-    plan: Plan,
+    forwarding: Forwarding,
     words: Vec<u64>,
     globals: Vec<u64>,
     numbers: Vec<Option<u32>>,
@@ -28,7 +36,7 @@ struct Copied {
 fn numbers_for<L: Ledger>(
     alloc: Global,
     names: &Option<Names>,
-    moves: &[Move],
+    moves: &[Relocation],
     steps: &mut Steps<L>,
 ) -> Result<Vec<Option<u32>>, NoMemory>
     ensures { IfOk result (λ numbers. NumbersAre names.now moves.now numbers.items) }
@@ -59,23 +67,24 @@ fn copy_out<L: Ledger>(
     requires { IsFormed heap.now held.now }
     ensures { IfOk result (Copies phase heap.now held.now) }
 {
-    let mut plan = Plan::new(alloc, heap.space.used())?;
-    find_all_held(&mut plan, &heap.space, held, steps)?;
-    let held_words = plan.next - 1;
-    let front = plan.moves.len();
+    let mut forwarding = Forwarding::new(alloc, heap.space.used())?;
+    find_all_held(&mut forwarding, &heap.space, held, steps)?;
+    // Nothing but objects in registers was found yet.
+    let held_words = forwarding.next - 1;
+    let front = forwarding.moves.len();
     let mut globals = Vec::with_capacity(alloc, heap.globals.items.len())?;
     move_words(
         &mut globals,
-        &mut plan,
+        &mut forwarding,
         &heap.space,
         phase,
         &heap.globals.items,
         steps,
     )?;
-    let words = copy_objects(room, &mut plan, &heap.space, phase, front, steps)?;
-    let numbers = numbers_for(alloc, &heap.names, &plan.moves, steps)?;
+    let words = copy_objects(room, &mut forwarding, &heap.space, phase, front, steps)?;
+    let numbers = numbers_for(alloc, &heap.names, &forwarding.moves, steps)?;
     Ok(Copied {
-        plan,
+        forwarding,
         words,
         globals,
         numbers,
@@ -87,7 +96,7 @@ fn copy_out<L: Ledger>(
 fn rename_all<L: Ledger>(
     names: &mut Option<Names>,
     used: u32,
-    moves: &[Move],
+    moves: &[Relocation],
     numbers: &[Option<u32>],
     steps: &mut Steps<L>,
 )
@@ -107,8 +116,8 @@ fn put_back<L: Ledger>(
     steps: &mut Steps<L>,
 )
     requires fits { length copied.words.items ≤ length heap.old.space.list }
-    requires nothing { goes copied.plan 0 ≡ 0 }
-    requires names { MayRename heap.old.space.used heap.old.names copied.plan.moves.items copied.numbers.items }
+    requires nothing { goes copied.forwarding 0 ≡ 0 }
+    requires names { MayRename heap.old.space.used heap.old.names copied.forwarding.moves.items copied.numbers.items }
     ensures { IsPutBack heap.old heap.new held.old held.new copied }
 {
     let used = heap.space.used();
@@ -116,11 +125,11 @@ fn put_back<L: Ledger>(
     heap.globals = Globals {
         items: copied.globals,
     };
-    forward_held(&copied.plan, held, steps);
+    forward_held(&copied.forwarding, held, steps);
     rename_all(
         &mut heap.names,
         used,
-        &copied.plan.moves,
+        &copied.forwarding.moves,
         &copied.numbers,
         steps,
     );

@@ -1,12 +1,21 @@
 //! Finds what can be reached, and copies it.
+//!
+//! An object gets its new address when it is found, which is before it is copied. Objects are copied in the order in
+//! which they were found, so each begins where the last one ended, and the words of the copy are written from the front
+//! to the end. A slot that is copied may find an object more, which then waits its turn behind the others. Once none
+//! waits, each reference in the copy is to an object in it: what is reached was copied, and nothing else was.
+//!
+//! All is read from the old words, and none of them changes meanwhile. So an object that was found still has its header
+//! there, from which its shape and its stale bit come, and a slot still refers to an old address. The new addresses stand
+//! in a table beside the words.
 ghost use Rattle.std.specs.Prelude.{◌≡◌, ◌≢◌, ℕ, ◌+◌, ◌<◌, ◌≤◌, length, slice_index, IfOk, OnOk};
 ghost use Rattle.melt_word.specs.Words.{IsHeader, IsShape, cost_of, header_word};
 ghost use Rattle.melt_word.specs.declared.header.Header.{Header};
 ghost use Rattle.melt_scion.specs.State.{State};
 ghost use Rattle.melt_copy.specs.Moving.{WordMoves, ObjectMoves, header_after};
-ghost use Rattle.melt_copy.specs.Plans.{Extends, FindsHeld, FindsThreads, Grows, HasCopied, Plans, PlansHeld, PlansIn, PlansOf, PlansThreads, goes, word_in};
+ghost use Rattle.melt_copy.specs.Tracking.{Extends, FindsHeld, FindsThreads, Grows, HasCopied, Tracks, TracksHeld, TracksIn, TracksOf, TracksThreads, goes, word_in};
 
-use crate::plan::{Move, Plan};
+use crate::forwarding::{Forwarding, Relocation};
 use melt_model::{NoMemory, Phase, Steps};
 use melt_scion::Registers;
 use melt_space::Space;
@@ -15,20 +24,20 @@ use std::sync::ledger::Ledger;
 
 /// Finds the objects in the registers of a thread.
 fn find_held<L: Ledger>(
-    plan: &mut Plan,
+    forwarding: &mut Forwarding,
     space: &Space,
     registers: &Registers,
     steps: &mut Steps<L>,
 ) -> Result<(), NoMemory>
-    requires { (s : State) × PlansHeld space.now s plan.old (slice_index registers.now.regs) }
-    ensures finds { OnOk result (FindsHeld plan.old plan.new (slice_index registers.now.regs)) }
-    ensures grows { Grows plan.old plan.new }
-    ensures plans { (s : State) → PlansHeld space.now s plan.old (slice_index registers.now.regs) → Plans space.now s plan.new }
+    requires { (s : State) × TracksHeld space.now s forwarding.old (slice_index registers.now.regs) }
+    ensures finds { OnOk result (FindsHeld forwarding.old forwarding.new (slice_index registers.now.regs)) }
+    ensures grows { Grows forwarding.old forwarding.new }
+    ensures tracks { (s : State) → TracksHeld space.now s forwarding.old (slice_index registers.now.regs) → Tracks space.now s forwarding.new }
 {
     for address in &registers.regs {
         steps.tick();
         if *address != 0 {
-            plan.find(space, *address)?;
+            forwarding.find(space, *address)?;
         }
     }
     Ok(())
@@ -36,19 +45,19 @@ fn find_held<L: Ledger>(
 
 /// Finds the objects in the registers of all threads.
 pub fn find_all_held<L: Ledger>(
-    plan: &mut Plan,
+    forwarding: &mut Forwarding,
     space: &Space,
     held: &[Registers],
     steps: &mut Steps<L>,
 ) -> Result<(), NoMemory>
-    requires { (s : State) × PlansThreads space.now s plan.old held.now }
-    ensures finds { OnOk result (FindsThreads plan.old plan.new held.now) }
-    ensures grows { Grows plan.old plan.new }
-    ensures plans { (s : State) → PlansThreads space.now s plan.old held.now → Plans space.now s plan.new }
+    requires { (s : State) × TracksThreads space.now s forwarding.old held.now }
+    ensures finds { OnOk result (FindsThreads forwarding.old forwarding.new held.now) }
+    ensures grows { Grows forwarding.old forwarding.new }
+    ensures tracks { (s : State) → TracksThreads space.now s forwarding.old held.now → Tracks space.now s forwarding.new }
 {
     for registers in held {
         steps.tick();
-        find_held(plan, space, registers, steps)?;
+        find_held(forwarding, space, registers, steps)?;
     }
     Ok(())
 }
@@ -57,21 +66,21 @@ pub fn find_all_held<L: Ledger>(
 /// refer.
 pub fn move_words<L: Ledger>(
     out: &mut Vec<u64>,
-    plan: &mut Plan,
+    forwarding: &mut Forwarding,
     space: &Space,
     phase: Phase,
     words: &[u64],
     steps: &mut Steps<L>,
 ) -> Result<(), NoMemory>
-    requires { (s : State) × PlansIn space.now s plan.old words.now }
+    requires { (s : State) × TracksIn space.now s forwarding.old words.now }
     ensures extends { OnOk result (Extends out.old.items out.new.items (length words.now)) }
-    ensures moves { OnOk result ((i : ℕ) → i < length words.now → WordMoves phase (goes plan.new) (slice_index words.now i) (slice_index out.new.items (length out.old.items + i))) }
-    ensures grows { Grows plan.old plan.new }
-    ensures plans { (s : State) → PlansIn space.now s plan.old words.now → Plans space.now s plan.new }
+    ensures moves { OnOk result ((i : ℕ) → i < length words.now → WordMoves phase (goes forwarding.new) (slice_index words.now i) (slice_index out.new.items (length out.old.items + i))) }
+    ensures grows { Grows forwarding.old forwarding.new }
+    ensures tracks { (s : State) → TracksIn space.now s forwarding.old words.now → Tracks space.now s forwarding.new }
 {
     for word in words {
         steps.tick();
-        out.push(plan.move_word(space, phase, *word)?)?;
+        out.push(forwarding.move_word(space, phase, *word)?)?;
     }
     Ok(())
 }
@@ -82,7 +91,8 @@ fn move_header(phase: Phase, held: bool, shape: Shape, word: u64) -> u64
     ensures { (header : Header) → IsHeader header → header.shape ≡ shape → word ≡ header_word header → result ≡ header_word (header_after phase held header) }
 {
     match phase {
-        Phase::Mark if !held => encode_header(Header { shape, stale: true }),
+        // An object in a register has no stale bit, and so keeps its header.
+        Phase::Mark | Phase::Move if !held => encode_header(Header { shape, stale: true }),
         _ => word,
     }
 }
@@ -90,24 +100,25 @@ fn move_header(phase: Phase, held: bool, shape: Shape, word: u64) -> u64
 /// Puts an object that was found behind the words that are there. Finds the objects to which it refers.
 fn copy_object<L: Ledger>(
     out: &mut Vec<u64>,
-    plan: &mut Plan,
+    forwarding: &mut Forwarding,
     space: &Space,
     phase: Phase,
-    m: Move,
+    m: Relocation,
     held: bool,
     steps: &mut Steps<L>,
 ) -> Result<(), NoMemory>
-    requires { (s : State) × PlansOf space.now s plan.old m }
+    requires { (s : State) × TracksOf space.now s forwarding.old m }
     ensures extends { OnOk result (Extends out.old.items out.new.items (cost_of m.shape)) }
-    ensures object { OnOk result ((s : State) → PlansOf space.now s plan.old m → m.to ≡ length out.old.items + 1 → ObjectMoves phase held (goes plan.new) s (word_in out.new.items) m) }
-    ensures grows { Grows plan.old plan.new }
-    ensures plans { (s : State) → PlansOf space.now s plan.old m → Plans space.now s plan.new }
+    ensures object { OnOk result ((s : State) → TracksOf space.now s forwarding.old m → m.to ≡ length out.old.items + 1 → ObjectMoves phase held (goes forwarding.new) s (word_in out.new.items) m) }
+    ensures grows { Grows forwarding.old forwarding.new }
+    ensures tracks { (s : State) → TracksOf space.now s forwarding.old m → Tracks space.now s forwarding.new }
 {
     let object = space.words_at(m.from, cost(m.shape));
+    // Before the slots stand the header and the home word.
     let numbers = 2 + m.shape.refs as usize;
     let header = move_header(phase, held, m.shape, object[0]);
     out.extend_from_slice(&[header, object[1]])?;
-    move_words(out, plan, space, phase, &object[2..numbers], steps)?;
+    move_words(out, forwarding, space, phase, &object[2..numbers], steps)?;
     out.extend_from_slice(&object[numbers..])?;
     Ok(())
 }
@@ -119,22 +130,22 @@ fn copy_object<L: Ledger>(
 /// the objects that were found and not copied yet are a queue.
 pub fn copy_objects<L: Ledger>(
     mut words: Vec<u64>,
-    plan: &mut Plan,
+    forwarding: &mut Forwarding,
     space: &Space,
     phase: Phase,
     front: usize,
     steps: &mut Steps<L>,
 ) -> Result<Vec<u64>, NoMemory>
-    requires { (s : State) × Plans space.now s plan.old }
-    ensures copied { IfOk result (λ words. (s : State) → Plans space.now s plan.old → HasCopied phase front space.now s plan.new words.items (length plan.new.moves.items)) }
-    ensures grows { Grows plan.old plan.new }
+    requires { (s : State) × Tracks space.now s forwarding.old }
+    ensures copied { IfOk result (λ words. (s : State) → Tracks space.now s forwarding.old → HasCopied phase front space.now s forwarding.new words.items (length forwarding.new.moves.items)) }
+    ensures grows { Grows forwarding.old forwarding.new }
 {
     words.clear();
     let mut done = 0;
-    while done < plan.moves.len() {
+    while done < forwarding.moves.len() {
         steps.tick();
-        let m = plan.moves[done];
-        copy_object(&mut words, plan, space, phase, m, done < front, steps)?;
+        let m = forwarding.moves[done];
+        copy_object(&mut words, forwarding, space, phase, m, done < front, steps)?;
         done += 1;
     }
     Ok(words)

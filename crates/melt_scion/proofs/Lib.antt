@@ -4,10 +4,7 @@ pub mod Homeless
 pub mod Reaching
 pub mod Numbered
 pub mod Totals
-pub mod Probe
 pub mod Named
-pub mod Geometry
-pub mod Entries
 pub mod Parts
 pub mod Keeping
 pub mod Following

@@ -1,9 +1,9 @@
 use Rattle.std.proofs.Common.{[], arith}
-use Rattle.melt_copy.specs.Plans.{goes}
+use Rattle.melt_copy.specs.Tracking.{goes}
 use Rattle.melt_copy.proofs.Committing.{forwards_more}
 use Rattle.melt_copy.proofs.commit.forward_held.Goals as goal
 
 pub loop-registers-preserved : goal.loop-registers-preserved
 loop-registers-preserved g c =
-    forwards_more (goes c.args.plan.now) c.args.held.now c.loop-registers.held c.loop-registers.registers-index (record { regs = [] }) c.forward_thread.new.registers
+    forwards_more (goes c.args.forwarding.now) c.args.held.now c.loop-registers.held c.loop-registers.registers-index (record { regs = [] }) c.forward_thread.new.registers
     c.loop-registers.invariant (omega arith) c.forward_thread.ensures

@@ -1,6 +1,6 @@
-use Rattle.melt_copy.specs.Plans.{goes}
+use Rattle.melt_copy.specs.Tracking.{goes}
 use Rattle.melt_copy.proofs.Committing.{Forwards}
 use Rattle.melt_copy.proofs.commit.forward_held.Given as goal
 
 abbrev pub invariant-loop-registers : goal.invariant-loop-registers
-invariant-loop-registers g l = Forwards (goes l.plan) l.fn.held l.held l.registers-index
+invariant-loop-registers g l = Forwards (goes l.forwarding) l.fn.held l.held l.registers-index

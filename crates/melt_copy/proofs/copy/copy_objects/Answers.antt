@@ -1,5 +1,5 @@
 use Rattle.std.proofs.Common.{◌≡◌, arith, length, subst}
-use Rattle.melt_copy.specs.Plans.{HasCopied}
+use Rattle.melt_copy.specs.Tracking.{HasCopied}
 use Rattle.melt_copy.proofs.Growth.{Grows-more}
 use Rattle.melt_copy.proofs.Queue.{next_object, copied_more, count_fits, longer}
 use Rattle.melt_copy.proofs.copy.copy_objects.Goals as goal
@@ -8,26 +8,26 @@ pub copy_object-requires : goal.copy_object-requires
 copy_object-requires g c =
     let s = c.requires.0 in
     let copied = c.loop-done.invariant.copied s c.requires.1 in
-    (s, next_object c.args.space.now s c.loop-done.plan c.loop-done.words.items c.loop-done.done c.index-m.result.now copied (omega (arith, c.loop-done-test.true, c.len.ensures, c.loop-done.plan.moves.ok.0)) c.index-m.ensures)
+    (s, next_object c.args.space.now s c.loop-done.forwarding c.loop-done.words.items c.loop-done.done c.index-m.result.now copied (omega (arith, c.loop-done-test.true, c.len.ensures, c.loop-done.forwarding.moves.ok.0)) c.index-m.ensures)
 
 pub loop-done-smaller : goal.loop-done-smaller
 loop-done-smaller g c =
     let s = c.requires.0 in
     let copied = c.loop-done.invariant.copied s c.requires.1 in
-    let fits = count_fits c.args.space.now s c.loop-done.plan copied.plans in
-    omega (arith, fits, c.loop-done-test.true, c.len.ensures, c.loop-done.plan.moves.ok.0)
+    let fits = count_fits c.args.space.now s c.loop-done.forwarding copied.tracks in
+    omega (arith, fits, c.loop-done-test.true, c.len.ensures, c.loop-done.forwarding.moves.ok.0)
 
 pub loop-done-preserved : goal.loop-done-preserved
 loop-done-preserved g c = record {
-  within = let more = longer c.loop-done.plan c.copy_object.new.plan c.copy_object.ensures.grows in omega (arith, more, c.loop-done-test.true, c.len.ensures, c.loop-done.plan.moves.ok.0);
-  grows = Grows-more c.args.plan.now c.loop-done.plan c.copy_object.new.plan c.loop-done.invariant.grows c.copy_object.ensures.grows;
-  copied = λ s plans.
-      let copied = c.loop-done.invariant.copied s plans in
-      let of = next_object c.args.space.now s c.loop-done.plan c.loop-done.words.items c.loop-done.done c.index-m.result.now copied (omega (arith, c.loop-done-test.true, c.len.ensures, c.loop-done.plan.moves.ok.0)) c.index-m.ensures in
-      copied_more c.args.phase c.args.front c.args.space.now s c.loop-done.plan c.copy_object.new.plan c.loop-done.words.items _ c.loop-done.done c.index-m.result.now copied (omega (arith, c.loop-done-test.true, c.len.ensures, c.loop-done.plan.moves.ok.0)) c.index-m.ensures c.copy_object.ensures.grows (c.copy_object.ensures.plans s of) c.in_ok-copy_object.ensures.extends (c.in_ok-copy_object.ensures.object s of);
+  within = let more = longer c.loop-done.forwarding c.copy_object.new.forwarding c.copy_object.ensures.grows in omega (arith, more, c.loop-done-test.true, c.len.ensures, c.loop-done.forwarding.moves.ok.0);
+  grows = Grows-more c.args.forwarding.now c.loop-done.forwarding c.copy_object.new.forwarding c.loop-done.invariant.grows c.copy_object.ensures.grows;
+  copied = λ s tracks.
+      let copied = c.loop-done.invariant.copied s tracks in
+      let of = next_object c.args.space.now s c.loop-done.forwarding c.loop-done.words.items c.loop-done.done c.index-m.result.now copied (omega (arith, c.loop-done-test.true, c.len.ensures, c.loop-done.forwarding.moves.ok.0)) c.index-m.ensures in
+      copied_more c.args.phase c.args.front c.args.space.now s c.loop-done.forwarding c.copy_object.new.forwarding c.loop-done.words.items _ c.loop-done.done c.index-m.result.now copied (omega (arith, c.loop-done-test.true, c.len.ensures, c.loop-done.forwarding.moves.ok.0)) c.index-m.ensures c.copy_object.ensures.grows (c.copy_object.ensures.tracks s of) c.in_ok-copy_object.ensures.extends (c.in_ok-copy_object.ensures.object s of);
 }
 
 pub returns-clause-copied : goal.returns-clause-copied
-returns-clause-copied g c = λ s plans.
-    let all : c.loop-done.done ≡ length c.loop-done.plan.moves.items = omega (arith, c.loop-done.invariant.within, c.loop-done-test.false, c.len.ensures, c.loop-done.plan.moves.ok.0) in
-    subst (HasCopied c.args.phase c.args.front c.args.space.now s c.loop-done.plan c.loop-done.words.items) all (c.loop-done.invariant.copied s plans)
+returns-clause-copied g c = λ s tracks.
+    let all : c.loop-done.done ≡ length c.loop-done.forwarding.moves.items = omega (arith, c.loop-done.invariant.within, c.loop-done-test.false, c.len.ensures, c.loop-done.forwarding.moves.ok.0) in
+    subst (HasCopied c.args.phase c.args.front c.args.space.now s c.loop-done.forwarding c.loop-done.words.items) all (c.loop-done.invariant.copied s tracks)

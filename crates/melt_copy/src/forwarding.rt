@@ -1,10 +1,19 @@
 //! Where each object that a collection finds goes.
+//!
+//! The objects that were found stand in a list, in the order in which they are to lie from word 1 on. A table has the new
+//! address of each at its old one, and 0 everywhere else. Both only grow: an object keeps the place that it got when it
+//! was found first, so a reference that was moved stays right while more objects are found, and an object to which many
+//! references are is copied once.
+//!
+//! Objects lie apart from each other among the words in use. So those that were found take no more words than these,
+//! whatever refers to what: each new address is one of the space, and the copy has room in it.
 ghost use Rattle.std.specs.Prelude.{◌≡◌, ◌≢◌, ℕ, ◌+◌, ◌^◌, ◌<◌, ◌≤◌, ◌⊎◌, [], slice_get, slice_index, length, replicate, Some, IfOk};
 ghost use Rattle.melt_word.specs.Words.{IsAddress, IsRef};
 ghost use Rattle.melt_scion.specs.State.{State};
-ghost use Rattle.melt_copy.specs.declared.plan.Move.{Move};
-ghost use Rattle.melt_copy.specs.Moving.{WordMoves, tagged};
-ghost use Rattle.melt_copy.specs.Plans.{Grows, Plans, PlansAt, PlansFor, goes};
+ghost use Rattle.melt_copy.specs.declared.forwarding.Relocation.{Relocation};
+ghost use Rattle.melt_scion.specs.Collected.{kept_tag};
+ghost use Rattle.melt_copy.specs.Moving.{WordMoves};
+ghost use Rattle.melt_copy.specs.Tracking.{Grows, Tracks, TracksAt, TracksFor, goes};
 
 use melt_model::{NoMemory, Phase};
 use melt_space::Space;
@@ -13,7 +22,7 @@ use std::alloc::Global;
 
 /// An object that was found: its address, the address that it gets, and its shape.
 #[derive(Clone, Copy, Debug)]
-pub struct Move {
+pub struct Relocation {
     pub from: u32,
     pub to: u32,
     pub shape: Shape,
@@ -21,10 +30,10 @@ pub struct Move {
 
 /// The objects that were found so far, in the order in which they are to stand from word 1 on.
 #[derive(Debug, Drop)]
-pub struct Plan {
+pub struct Forwarding {
     /// The new address of the object at each address from 0 on, 0 where none was found.
-    pub forward: Vec<u32>,
-    pub moves: Vec<Move>,
+    pub addresses: Vec<u32>,
+    pub moves: Vec<Relocation>,
     /// The first place behind the objects that were found.
     pub next: u32,
 }
@@ -32,25 +41,25 @@ pub struct Plan {
 /// A clean reference to an address, as a collection of the phase leaves it.
 fn tagged(phase: Phase, address: u32) -> Ref
     requires { IsAddress address }
-    ensures value { result ≡ tagged phase address }
+    ensures value { result ≡ kept_tag phase address }
     ensures in_range { IsRef result }
 {
     match phase {
-        Phase::Mark => Ref::Stale(address),
-        Phase::Inactive | Phase::Move => Ref::Clean(address),
+        Phase::Inactive => Ref::Clean(address),
+        Phase::Mark | Phase::Move => Ref::Stale(address),
     }
 }
 
-impl Plan {
-    /// A plan without objects, for a space of which so many words are in use.
-    pub fn new(alloc: Global, used: u32) -> Result<Plan, NoMemory>
+impl Forwarding {
+    /// A forwarding without objects, for a space of which so many words are in use.
+    pub fn new(alloc: Global, used: u32) -> Result<Forwarding, NoMemory>
         requires { used < 2 ^ 30 }
-        ensures forward { IfOk result (λ plan. plan.forward.items ≡ replicate (used + 1) 0) }
-        ensures moves { IfOk result (λ plan. plan.moves.items ≡ []) }
-        ensures next { IfOk result (λ plan. plan.next ≡ 1) }
+        ensures addresses { IfOk result (λ forwarding. forwarding.addresses.items ≡ replicate (used + 1) 0) }
+        ensures moves { IfOk result (λ forwarding. forwarding.moves.items ≡ []) }
+        ensures next { IfOk result (λ forwarding. forwarding.next ≡ 1) }
     {
-        Ok(Plan {
-            forward: vec![in alloc; 0; used as usize + 1]?,
+        Ok(Forwarding {
+            addresses: vec![in alloc; 0; used as usize + 1]?,
             moves: Vec::new(alloc),
             next: 1,
         })
@@ -60,45 +69,46 @@ impl Plan {
     pub fn forwarded(&self, address: u32) -> u32
         ensures { result ≡ goes self.now address }
     {
-        self.forward.get(address as usize).copied().unwrap_or(0)
+        self.addresses.get(address as usize).copied().unwrap_or(0)
     }
 
     /// Finds the object at an address, and answers its new one. An object that was found before keeps its place.
     pub fn find(&mut self, space: &Space, address: u32) -> Result<u32, NoMemory>
-        requires { (s : State) × PlansAt space.now s self.old address }
+        requires { (s : State) × TracksAt space.now s self.old address }
         ensures found { IfOk result (λ to. (goes self.new address ≡ to) × (to ≢ 0)) }
         ensures small { IfOk result (λ to. to < 2 ^ 30) }
         ensures grows { Grows self.old self.new }
-        ensures only { (k : ℕ) (m : Move) → slice_get self.new.moves.items k ≡ Some m → (slice_get self.old.moves.items k ≡ Some m) ⊎ (m.from ≡ address) }
-        ensures plans { (s : State) → PlansAt space.now s self.old address → Plans space.now s self.new }
+        ensures only { (k : ℕ) (m : Relocation) → slice_get self.new.moves.items k ≡ Some m → (slice_get self.old.moves.items k ≡ Some m) ⊎ (m.from ≡ address) }
+        ensures tracks { (s : State) → TracksAt space.now s self.old address → Tracks space.now s self.new }
     {
-        let known = self.forward[address as usize];
+        let known = self.addresses[address as usize];
         if known != 0 {
             return Ok(known);
         }
         let shape = space.shape(address);
         let to = self.next;
-        self.moves.push(Move {
+        self.moves.push(Relocation {
             from: address,
             to,
             shape,
         })?;
-        self.forward[address as usize] = to;
+        self.addresses[address as usize] = to;
         self.next += cost(shape);
         Ok(to)
     }
 
     /// The word of a reference after the move. Finds the object to which it refers.
     pub fn move_word(&mut self, space: &Space, phase: Phase, word: u64) -> Result<u64, NoMemory>
-        requires { (s : State) × PlansFor space.now s self.old word }
+        requires { (s : State) × TracksFor space.now s self.old word }
         ensures moves { IfOk result (WordMoves phase (goes self.new) word) }
         ensures grows { Grows self.old self.new }
-        ensures plans { (s : State) → PlansFor space.now s self.old word → Plans space.now s self.new }
+        ensures tracks { (s : State) → TracksFor space.now s self.old word → Tracks space.now s self.new }
     {
         match decode_ref(word) {
             Ok(Ref::Clean(address)) => Ok(encode_ref(tagged(phase, self.find(space, address)?))),
             Ok(Ref::Stale(address)) => Ok(encode_ref(Ref::Stale(self.find(space, address)?))),
             Ok(Ref::Null | Ref::Disk(_)) => Ok(word),
+            // A slot or a global always has the word of a reference.
             Err(_) => unreachable!(),
         }
     }

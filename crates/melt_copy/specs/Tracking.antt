@@ -1,0 +1,87 @@
+-- What the parts of a copying collection do, over every state that has the words of the space.
+use Rattle.std.specs.Prelude.{◌≡◌, ◌≢◌, ℕ, zero, suc, ◌+◌, ◌<◌, nat_lt, List, ◌++◌, length, take, slice_get, slice_index, Some, ◌⊎◌}
+use Rattle.melt_model.specs.declared.reports.Phase.{Phase}
+use Rattle.melt_space.specs.Space.{SpaceWords, word_at}
+use Rattle.melt_scion.specs.State.{State, RefersTo, Reached}
+use Rattle.melt_scion.specs.Heaps.{register_in}
+use Rattle.melt_scion.specs.declared.registers.Registers.{Registers}
+use Rattle.melt_copy.specs.declared.forwarding.Relocation.{Relocation}
+use Rattle.melt_copy.specs.declared.forwarding.Forwarding.{Forwarding}
+use Rattle.melt_copy.specs.Moving.{IsWhole, IsRefWord, IsRelocation, Relocates, ObjectMoves, words_in}
+
+-- where the forwarding sends an address
+abbrev pub goes : Forwarding → ℕ → ℕ
+goes forwarding = slice_index forwarding.addresses.items
+
+-- The state has the words of the space, and the forwarding is that of objects that were found in it.
+pub record Tracks (space : SpaceWords) (s : State) (forwarding : Forwarding) : Type 0 where
+  pub whole : IsWhole s
+  pub word : (k : ℕ) → s.word k ≡ word_at space k
+  pub size : s.base.size ≡ length space.list
+  pub free : s.free ≡ space.used + 1
+  pub holds : Relocates s (goes forwarding) forwarding.moves.items forwarding.next
+  pub table : length forwarding.addresses.items ≡ space.used + 1
+
+-- what was found stays
+pub record Grows (old new : Forwarding) : Type 0 where
+  pub rest : List Relocation
+  pub moves : new.moves.items ≡ old.moves.items ++ rest
+  pub goes : (address : ℕ) → goes old address ≢ 0 → goes new address ≡ goes old address
+
+-- a state in which the object at the address is found
+pub record TracksAt (space : SpaceWords) (s : State) (forwarding : Forwarding) (address : ℕ) : Type 0 where
+  pub tracks : Tracks space s forwarding
+  pub reached : Reached s address
+
+-- a state in which the object that the word refers to, if it does, is found
+pub record TracksFor (space : SpaceWords) (s : State) (forwarding : Forwarding) (word : ℕ) : Type 0 where
+  pub tracks : Tracks space s forwarding
+  pub reference : IsRefWord word
+  pub reached : (address : ℕ) → RefersTo word address → Reached s address
+
+-- words numbered from 1
+abbrev pub word_in : List ℕ → ℕ → ℕ
+word_in words zero = 0
+word_in words (suc k) = slice_index words k
+
+-- The first objects of the forwarding, so many of them, were copied in this phase. Registers hold those before the front.
+pub record HasCopied (phase : Phase) (front : ℕ) (space : SpaceWords) (s : State) (forwarding : Forwarding) (words : List ℕ) (count : ℕ) : Type 0 where
+  pub tracks : Tracks space s forwarding
+  pub size : length words ≡ words_in (take count forwarding.moves.items)
+  pub objects : (k : ℕ) (m : Relocation) → k < count → slice_get forwarding.moves.items k ≡ Some m → ObjectMoves phase (nat_lt k front) (goes forwarding) s (word_in words) m
+
+-- words are put behind those that are there
+pub record Extends (old new : List ℕ) (count : ℕ) : Type 0 where
+  pub size : length new ≡ length old + count
+  pub before : (k : ℕ) → k < length old → slice_index new k ≡ slice_index old k
+
+-- a state in which the objects to which these words refer are found
+pub record TracksIn (space : SpaceWords) (s : State) (forwarding : Forwarding) (words : List ℕ) : Type 0 where
+  pub tracks : Tracks space s forwarding
+  pub references : (i : ℕ) → i < length words → IsRefWord (slice_index words i)
+  pub reached : (i address : ℕ) → i < length words → RefersTo (slice_index words i) address → Reached s address
+
+-- a state in which this object was found
+pub record TracksOf (space : SpaceWords) (s : State) (forwarding : Forwarding) (m : Relocation) : Type 0 where
+  pub tracks : Tracks space s forwarding
+  pub move : IsRelocation s m
+
+-- a state in which the objects in these registers are found
+pub record TracksHeld (space : SpaceWords) (s : State) (forwarding : Forwarding) (register : ℕ → ℕ) : Type 0 where
+  pub tracks : Tracks space s forwarding
+  pub reached : (r : ℕ) → register r ≢ 0 → Reached s (register r)
+
+-- the objects in these registers were found, and no others were
+pub record FindsHeld (old new : Forwarding) (register : ℕ → ℕ) : Type 0 where
+  pub all : (r : ℕ) → register r ≢ 0 → goes new (register r) ≢ 0
+  pub each : (k : ℕ) (m : Relocation) → slice_get new.moves.items k ≡ Some m → (slice_get old.moves.items k ≡ Some m) ⊎ ((r : ℕ) × (register r ≡ m.from))
+
+-- a state in which the objects in the registers of all threads are found
+pub record TracksThreads (space : SpaceWords) (s : State) (forwarding : Forwarding) (held : List Registers) : Type 0 where
+  pub tracks : Tracks space s forwarding
+  pub reached : (t r : ℕ) → register_in held t r ≢ 0 → Reached s (register_in held t r)
+
+-- the objects in the registers of these threads were found, and no others were
+pub record FindsThreads (old new : Forwarding) (held : List Registers) : Type 0 where
+  pub all : (t r : ℕ) → register_in held t r ≢ 0 → goes new (register_in held t r) ≢ 0
+  pub each : (k : ℕ) (m : Relocation) → slice_get new.moves.items k ≡ Some m → (slice_get old.moves.items k ≡ Some m) ⊎ ((t : ℕ) × (r : ℕ) × (register_in held t r ≡ m.from))
