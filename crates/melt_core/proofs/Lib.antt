@@ -4,3 +4,6 @@ pub mod Evolving
 pub mod Owning
 pub mod Claims
 pub mod Regions
+pub mod Places
+pub mod Holding
+pub mod Legality

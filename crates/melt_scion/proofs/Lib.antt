@@ -12,3 +12,6 @@ pub mod Staying
 pub mod Writing
 pub mod Entering
 pub mod EnteringTells
+pub mod Making
+pub mod Holding
+pub mod Starting
