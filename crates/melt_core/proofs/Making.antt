@@ -44,7 +44,7 @@ use Rattle.melt_core.proofs.Claims.{bounded_is, bounded_lacking, bounded_call, b
 use Rattle.melt_core.proofs.Counting.{Counts_claimed, Counts_lacking, Counts_same, Counts_published, room_for}
 use Rattle.melt_core.proofs.Answered.{same_words}
 use Rattle.melt_core.proofs.Answers.{new_answers}
-use Rattle.melt_core.proofs.Evolving.{evolves_event, in_first}
+use Rattle.melt_core.proofs.Evolving.{evolves_event}
 use Rattle.melt_core.proofs.Staying.{hold_stays}
 use Rattle.melt_core.proofs.Registers.{register_keeps, register_other, registers_other, threads_set, values_set}
 use Rattle.melt_core.proofs.Values.{held_is, named_value}
@@ -69,7 +69,7 @@ made_one : (h : List Entry) (t : ℕ) (shape : Shape) → makes h + 1 ≡ makes 
 made_one h t shape = omega (arith, made-append h (entry t (Make shape.refs shape.nums) ∷ []))
 
 -- what may stand in a register, where words stay
-hold_words : (m : Maps) (s t : State) (address : ℕ) → ((k : ℕ) → t.word k ≡ s.word k) → MayHold m s address → MayHold m t address
+pub hold_words : (m : Maps) (s t : State) (address : ℕ) → ((k : ℕ) → t.word k ≡ s.word k) → MayHold m s address → MayHold m t address
 hold_words m s t address same (inl nothing) = inl nothing
 hold_words m s t address same (inr holds) = inr (holds.0, λ header starts. holds.1 header (record { in_range = starts.in_range; word = sym (same address) ∙ starts.word }))
 
@@ -160,6 +160,13 @@ claim_advances v t free need o shape dst stage asks at needed sum fits lacks =
     (goes v w t o stage asks next refl (record { history = refl; registers = refl; values = refl }) refl)
     tt
 
+-- an object apart from a region does not start in it
+outside_at : (b cost at : ℕ) (r : Region) → Apart (record { at = b; words = 2 + cost }) r → r.at ≤ at → at < r.at + r.words → b ≢ at
+outside_at b cost at r apart from to = λ same. elim (cases_eq b r.at) [
+  | inl first ↦ apart.differ (omega arith) (omega arith) first
+  | inr other ↦ let past : r.at + r.words ≤ b = apart.behind (omega arith) in omega arith
+]
+
 -- the region of a thread, where one of its own words is stored
 owns_stored : (m : Maps) (s t : State) (r : Region) (at word : ℕ) → FormedWords m s → Owns m s r → r.at ≤ at → at < r.at + r.words → WordChanges s t at word → Owns m t r
 owns_stored m s t r at word formed owns from to changes = record {
@@ -169,7 +176,7 @@ owns_stored m s t r at word formed owns from to changes = record {
   outside = λ b n header named starts.
       let object = formed.objects b n named in
       let apart : Apart (record { at = b; words = cost_of object.0.shape }) r = owns.outside b n object.0 named object.1.starts in
-      let other : b ≢ at = in_first r (record { at = b; words = cost_of object.0.shape }) at b (apart_sym (record { at = b; words = cost_of object.0.shape }) r apart) from to (omega arith) (omega arith) in
+      let other : b ≢ at = outside_at b (object.0.shape.refs + object.0.shape.nums) at r (subst (λ (n : ℕ). Apart (record { at = b; words = n }) r) (let e : cost_of object.0.shape ≡ 2 + (object.0.shape.refs + object.0.shape.nums) = omega arith in e) apart) from to in
       let same : object.0 ≡ header = one_header s b object.0 header object.1.starts (header_moves s t b header (sym (changes.others b other)) starts) in
       subst (λ (h : Header). Apart (record { at = b; words = cost_of h.shape }) r) same apart;
 }

@@ -15,7 +15,7 @@ use Rattle.melt_scion.proofs.Parts.{PartAt, head_part, home_part, parts_differ, 
 -- The same words, globals aside: the headers and the home words of all objects stay, and what is not in words.
 pub record SameHeads (maps : Maps) (s t : State) : Type 0 where
   pub base : t.base ≡ s.base
-  pub free : s.free ≤ t.free
+  pub ends : (end : ℕ) → end ≤ s.free → end ≤ s.base.size + 1 → end ≤ t.free
   pub forward : (p : ℕ) → t.forward p ≡ s.forward p
   pub header : (a n : ℕ) → maps.address a ≡ Some n → t.word a ≡ s.word a
   pub home_word : (a n : ℕ) → maps.address a ≡ Some n → t.word (a + 1) ≡ s.word (a + 1)
@@ -23,7 +23,7 @@ pub record SameHeads (maps : Maps) (s t : State) : Type 0 where
 pub keeps_heads : (maps : Maps) (s t : State) → SameHeads maps s t → KeepsObjects maps maps s t
 keeps_heads maps s t same = record {
   base = same.base;
-  free = same.free;
+  ends = same.ends;
   names = λ a n named. named;
   homes = λ home. refl;
   was = λ a n header named starts.
@@ -37,7 +37,7 @@ keeps_heads maps s t same = record {
 pub keeps_words : (maps : Maps) (s t : State) → SameWords s t → KeepsObjects maps maps s t
 keeps_words maps s t same = keeps_heads maps s t (record {
   base = same.base;
-  free = let e : t.free ≡ s.free = same.free in omega arith;
+  ends = λ end below inside. let e : t.free ≡ s.free = same.free in omega arith;
   forward = same.forward;
   header = λ a n named. same.word a;
   home_word = λ a n named. same.word (a + 1);
@@ -48,7 +48,18 @@ pub keeps_free : (maps : Maps) (s t : State) (free : ℕ) → s.free ≤ free �
     KeepsObjects maps maps s t
 keeps_free maps s t free up moves = keeps_heads maps s t (record {
   base = moves.base;
-  free = let e : t.free ≡ free = moves.is in omega arith;
+  ends = λ end below inside. let e : t.free ≡ free = moves.is in omega arith;
+  forward = moves.forward;
+  header = λ a n named. moves.word a;
+  home_word = λ a n named. moves.word (a + 1);
+})
+
+-- where the first free place is another, before which all ends that ended before the old one, and within the words
+pub keeps_ends : (maps : Maps) (s t : State) → FreeMoves s t t.free →
+    ((end : ℕ) → end ≤ s.free → end ≤ s.base.size + 1 → end ≤ t.free) → KeepsObjects maps maps s t
+keeps_ends maps s t moves ends = keeps_heads maps s t (record {
+  base = moves.base;
+  ends = ends;
   forward = moves.forward;
   header = λ a n named. moves.word a;
   home_word = λ a n named. moves.word (a + 1);
@@ -58,7 +69,7 @@ keeps_free maps s t free up moves = keeps_heads maps s t (record {
 pub keeps_global : (maps : Maps) (s t : State) (g word : ℕ) → GlobalChanges s t g word → KeepsObjects maps maps s t
 keeps_global maps s t g word changes = keeps_heads maps s t (record {
   base = changes.base;
-  free = let e : t.free ≡ s.free = changes.free in omega arith;
+  ends = λ end below inside. let e : t.free ≡ s.free = changes.free in omega arith;
   forward = changes.forward;
   header = λ a n named. changes.word_stays a;
   home_word = λ a n named. changes.word_stays (a + 1);
@@ -70,7 +81,7 @@ module _ (maps : Maps) (s t : State) (x word : ℕ) (formed : FormedWords maps s
       KeepsObjects maps maps s t
   keeps_word no_header no_home = keeps_heads maps s t (record {
     base = changes.base;
-    free = let e : t.free ≡ s.free = changes.free in omega arith;
+    ends = λ end below inside. let e : t.free ≡ s.free = changes.free in omega arith;
     forward = changes.forward;
     header = λ a n named. changes.others a (no_header a n named);
     home_word = λ a n named. changes.others (a + 1) (no_home a n named);
@@ -147,7 +158,7 @@ module _ (maps : Maps) (s t : State) (a n : ℕ) (h : Header) (formed : FormedWo
   pub keeps_cleared : KeepsObjects maps maps s t
   keeps_cleared = record {
     base = changes.base;
-    free = let e : t.free ≡ s.free = changes.free in omega arith;
+    ends = λ end below inside. let e : t.free ≡ s.free = changes.free in omega arith;
     names = λ b m is. is;
     homes = λ home. refl;
     was = λ b m k named_b at_b. cleared_was b k at_b;

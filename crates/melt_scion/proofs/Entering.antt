@@ -65,7 +65,7 @@ module _ (maps new : Maps) (s t : State) (at n : ℕ) (z : Shape) (formed : Form
   pub keeps_appears : KeepsObjects maps new s t
   keeps_appears = record {
     base = appears.base;
-    free = appears.free;
+    ends = λ end below inside. let more : s.free ≤ t.free = appears.free in omega arith;
     names = λ a m named. appears.named.others a (other_address a m named) ∙ named;
     homes = appears.named.home;
     was = λ a m header named starts.

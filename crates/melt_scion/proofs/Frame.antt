@@ -53,8 +53,7 @@ module _ (maps new : Maps) (s t : State) (keeps : KeepsObjects maps new s t) whe
               let within : a + cost_of header.shape ≤ s.base.size + 1 = was.within in
               omega arith;
           below =
-              let free : s.free ≤ t.free = keeps.free in
-              let below : a + cost_of header.shape ≤ s.free = was.below in
+              let below : a + cost_of header.shape ≤ t.free = keeps.ends (a + cost_of header.shape) was.below was.within in
               omega arith;
         },
       )

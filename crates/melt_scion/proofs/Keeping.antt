@@ -16,7 +16,7 @@ use Rattle.melt_scion.specs.Placed.{Maps, IsNamed, HasObject, MayStand, IsRefere
 -- Objects keep their addresses, their shapes and their home words, and none gets the stale bit. New ones may appear.
 pub record KeepsObjects (maps new : Maps) (s t : State) : Type 0 where
   pub base : t.base ≡ s.base
-  pub free : s.free ≤ t.free
+  pub ends : (end : ℕ) → end ≤ s.free → end ≤ s.base.size + 1 → end ≤ t.free
   pub names : (a n : ℕ) → maps.address a ≡ Some n → new.address a ≡ Some n
   pub homes : (home : ℕ) → new.home home ≡ maps.home home
   pub was : (a n : ℕ) (header : Header) → maps.address a ≡ Some n → HeaderAt t a header →

@@ -16,7 +16,7 @@ use Rattle.melt_scion.proofs.Parts.{PartAt, slot_part, number_part, part_outside
 use Rattle.melt_scion.proofs.Following.{SameValues, same_history}
 use Rattle.melt_scion.proofs.Homes.{BodyKeeps}
 use Rattle.melt_scion.proofs.Frame.{WordsMayStand, WordsTell, FormedWords_stay, Tells_stay}
-use Rattle.melt_scion.proofs.Changing.{keeps_words, keeps_free, keeps_outside, behind_cleared, keeps_cleared}
+use Rattle.melt_scion.proofs.Changing.{keeps_words, keeps_free, keeps_ends, keeps_outside, behind_cleared, keeps_cleared}
 
 -- objects are kept, and with them all words behind their home words, globals and forwarding words
 pub record SameParts (maps : Maps) (s t : State) : Type 0 where
@@ -77,6 +77,16 @@ same_words maps s t same = record {
 pub free_moves : (maps : Maps) (s t : State) (free : ℕ) → s.free ≤ free → FreeMoves s t free → SameParts maps s t
 free_moves maps s t free up moves = record {
   keeps = keeps_free maps s t free up moves;
+  part = λ a n p x h part behind. moves.word x;
+  global = moves.global;
+  forward = moves.forward;
+}
+
+-- the first free place is another
+pub free_shifts : (maps : Maps) (s t : State) → FreeMoves s t t.free →
+    ((end : ℕ) → end ≤ s.free → end ≤ s.base.size + 1 → end ≤ t.free) → SameParts maps s t
+free_shifts maps s t moves ends = record {
+  keeps = keeps_ends maps s t moves ends;
   part = λ a n p x h part behind. moves.word x;
   global = moves.global;
   forward = moves.forward;
