@@ -1,1 +1,9 @@
 pub mod Probe
+pub mod Staying
+pub mod Evolving
+pub mod Owning
+pub mod Claims
+pub mod Regions
+pub mod Places
+pub mod Holding
+pub mod Legality

@@ -33,3 +33,13 @@ one_part maps s a b n m p q x y h k formed named_a named_b at_a at_b in_a in_b i
           ]
       | inr other ↦ inr (stretches_apart a b p q x y (cost_of h.shape) (cost_of k.shape) (formed.apart a b n m h named_a named_b at_a) (formed.apart b a m n k named_b named_a at_b) (λ e. other.1 (sym e)) in_a in_b is_x is_y)
     ]
+
+-- a word behind the header of an object is no header
+pub behind_header : (maps : Maps) (s : State) (a b n m q y : ℕ) (k : Header) → FormedWords maps s →
+    maps.address a ≡ Some n → maps.address b ≡ Some m → HeaderAt s b k → 1 ≤ q → q < cost_of k.shape → y ≡ b + q → a ≢ y
+behind_header maps s a b n m q y k formed named_a named_b at_b behind within is =
+    let object = formed.objects a n named_a in
+    elim (one_part maps s a b n m 0 q a y object.0 k formed named_a named_b object.1.starts at_b (omega arith) within (omega arith) is) [
+      | inl same ↦ absurd (let e : q ≡ 0 = same.2 in omega arith)
+      | inr other ↦ λ e. other (sym e)
+    ]

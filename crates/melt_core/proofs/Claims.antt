@@ -1,0 +1,174 @@
+-- How far the first free place may lie past the last word, as calls come and go.
+use Rattle.std.proofs.Common.{◌≡◌, ◌⊎◌, ℕ, ◌+◌, ◌*◌, ◌^◌, ◌<◌, ◌≤◌, inl, inr, List, [], ◌∷◌, length, refl, sym, ap, subst, arith}
+use Rattle.std.proofs.lemmas.List.Sums.{sum-map, sum_by-cons, sum_by-set, sum_by-le-sum_by}
+use Rattle.std.specs.List.{sum_by}
+use Rattle.std.proofs.Math.ListN.{length-set}
+use Rattle.std.specs.Prelude.{Bool, true, false, map, sum, slice_set, Option, None, Some}
+use Rattle.melt_model.specs.declared.operations.Op.{Op}
+use Rattle.melt_scion.specs.State.{State}
+use Rattle.melt_scion.specs.Placed.{Maps}
+use Rattle.melt_core.specs.declared.call.Place.TheVariants.{Field}
+use Rattle.melt_core.specs.Stages.{Next}
+use Rattle.melt_core.specs.declared.call.Access.TheVariants.{Load}
+use Rattle.melt_core.specs.declared.call.Task.{Task}
+use Rattle.melt_core.specs.declared.call.Stage.{Stage}
+use Rattle.melt_core.specs.declared.call.Stage.TheVariants.{Polled, Headed, Looked, Cleared, Claimed, Lacking}
+use Rattle.melt_core.specs.declared.call.Call.{Call}
+use Rattle.melt_core.specs.Views.{View, call_in, stage_in, claims_left, Bounded}
+
+-- how many claims past the last word these calls may still make
+abbrev pub claims_in : Bool → Option Call → ℕ
+claims_in stop call = claims_left stop (stage_in call)
+
+abbrev pub claims : Bool → List (Option Call) → ℕ
+claims stop calls = sum (map (claims_in stop) calls)
+
+-- `Bounded` by its parts
+abbrev pub BoundedBy : ℕ → ℕ → Bool → List (Option Call) → Type 0
+BoundedBy words free stop calls = (free ≤ words + 1) ⊎ (free + 126 * claims stop calls ≤ words + 1 + 126 * length calls)
+
+pub bounded_is : (w : View) (words free : ℕ) (stop : Bool) (calls : List (Option Call)) → length w.space.list ≡ words →
+    w.free ≡ free → w.stop ≡ stop → w.calls ≡ calls → BoundedBy words free stop calls → Bounded w
+bounded_is w words free stop calls same_words same_free same_stop same_calls bounded =
+    subst (λ (n : ℕ). BoundedBy n w.free w.stop w.calls) (sym same_words)
+    (subst (λ (n : ℕ). BoundedBy words n w.stop w.calls) (sym same_free)
+    (subst (λ (b : Bool). BoundedBy words free b w.calls) (sym same_stop)
+    (subst (λ (cs : List (Option Call)). BoundedBy words free stop cs) (sym same_calls) bounded)))
+
+-- one for each thread
+claims_one : (stop : Bool) (stage : Option Stage) → claims_left stop stage ≤ 1
+claims_one true None = omega arith
+claims_one false None = omega arith
+claims_one stop (Some (Polled task)) = omega arith
+claims_one stop (Some (Lacking need)) = omega arith
+claims_one true (Some (Headed address shape access)) = omega arith
+claims_one false (Some (Headed address shape access)) = omega arith
+claims_one true (Some (Looked place target dst)) = omega arith
+claims_one false (Some (Looked place target dst)) = omega arith
+claims_one true (Some (Cleared place target dst)) = omega arith
+claims_one false (Some (Cleared place target dst)) = omega arith
+claims_one true (Some (Claimed address shape stored dst)) = omega arith
+claims_one false (Some (Claimed address shape stored dst)) = omega arith
+
+-- none more where the stop word is set
+claims_true : (stop : Bool) (stage : Option Stage) → claims_left true stage ≤ claims_left stop stage
+claims_true true stage = omega arith
+claims_true false None = omega arith
+claims_true false (Some (Polled task)) = omega arith
+claims_true false (Some (Lacking need)) = omega arith
+claims_true false (Some (Headed address shape access)) = omega arith
+claims_true false (Some (Looked place target dst)) = omega arith
+claims_true false (Some (Cleared place target dst)) = omega arith
+claims_true false (Some (Claimed address shape stored dst)) = omega arith
+
+claims_each : (stop : Bool) (calls : List (Option Call)) → sum_by (claims_in stop) calls ≤ length calls
+claims_each stop [] = omega arith
+claims_each stop (c ∷ cs) =
+    omega (arith, sum_by-cons (claims_in stop) c cs, claims_one stop (stage_in c), claims_each stop cs)
+
+claims_few : (stop : Bool) (calls : List (Option Call)) → claims stop calls ≤ length calls
+claims_few stop calls = omega (arith, sum-map (claims_in stop) calls, claims_each stop calls)
+
+claims_stop : (stop : Bool) (calls : List (Option Call)) → claims true calls ≤ claims stop calls
+claims_stop stop calls =
+    omega (
+      arith,
+      sum-map (claims_in true) calls,
+      sum-map (claims_in stop) calls,
+      sum_by-le-sum_by (claims_in true) (claims_in stop) calls (λ c. claims_true stop (stage_in c)),
+    )
+
+claims-set : (stop : Bool) (calls : List (Option Call)) (t : ℕ) (call : Option Call) → t < length calls →
+    claims stop (slice_set calls t call) + claims_in stop (call_in calls t) ≡ claims stop calls + claims_in stop call
+claims-set stop calls t call within =
+    omega (
+      arith,
+      sum_by-set (claims_in stop) calls t call None within,
+      sum-map (claims_in stop) calls,
+      sum-map (claims_in stop) (slice_set calls t call),
+    )
+
+-- the call of one thread is another now, that may make no more claims
+pub bounded_call : (words free : ℕ) (stop : Bool) (calls : List (Option Call)) (t : ℕ) (call : Option Call) →
+    t < length calls → claims_in stop call ≤ claims_in stop (call_in calls t) → BoundedBy words free stop calls →
+    BoundedBy words free stop (slice_set calls t call)
+bounded_call words free stop calls t call within fewer (inl below) = inl below
+bounded_call words free stop calls t call within fewer (inr above) =
+    let after = claims-set stop calls t call within in
+    let same : length (slice_set calls t call) ≡ length calls = length-set calls t call in
+    inr (omega arith)
+
+-- a claim ended past the last word
+pub bounded_lacking : (words free need : ℕ) (stop : Bool) (calls : List (Option Call)) (t : ℕ) (call : Option Call)
+    (task : Task) → t < length calls → stage_in (call_in calls t) ≡ Some (Polled task) →
+    stage_in call ≡ Some (Lacking need) → need ≤ 126 → BoundedBy words free stop calls →
+    BoundedBy words (free + need) stop (slice_set calls t call)
+bounded_lacking words free need stop calls t call task within polled lacking small bounded =
+    let after = claims-set stop calls t call within in
+    let same : length (slice_set calls t call) ≡ length calls = length-set calls t call in
+    let was : claims_in stop (call_in calls t) ≡ 1 = ap (claims_left stop) polled in
+    let is : claims_in stop call ≡ 0 = ap (claims_left stop) lacking in
+    let few : claims stop calls ≤ length calls = claims_few stop calls in
+    elim bounded [
+      | inl below ↦ inr (omega arith)
+      | inr above ↦ inr (omega arith)
+    ]
+
+-- a claim ended within the heap
+pub bounded_fits : (words free : ℕ) (stop : Bool) (calls : List (Option Call)) → free ≤ words + 1 →
+    BoundedBy words free stop calls
+bounded_fits words free stop calls fits = inl fits
+
+-- the stop word is set
+pub bounded_stop : (words free : ℕ) (stop : Bool) (calls : List (Option Call)) → BoundedBy words free stop calls →
+    BoundedBy words free true calls
+bounded_stop words free stop calls (inl below) = inl below
+bounded_stop words free stop calls (inr above) =
+    let fewer : claims true calls ≤ claims stop calls = claims_stop stop calls in
+    inr (omega arith)
+
+-- a call is refused, and the stop word is set
+pub bounded_refused : (words free : ℕ) (stop : Bool) (calls : List (Option Call)) (t : ℕ) → t < length calls →
+    BoundedBy words free stop calls → BoundedBy words free true (slice_set calls t None)
+bounded_refused words free stop calls t within bounded =
+    bounded_call words free true calls t None within (omega arith) (bounded_stop words free stop calls bounded)
+
+-- the first free place is a small number
+pub bounded_small : (v : View) → Bounded v → length v.calls ≤ 8 → length v.space.list < 2 ^ 30 → v.free < 2 ^ 31
+bounded_small v (inl below) few small = omega arith
+bounded_small v (inr above) few small = omega arith
+
+-- the next stage may make no more claims
+pub claims_next : (maps : Maps) (s : State) (register : ℕ → ℕ) (stop : Bool) (o : Op) (stage : Option Stage)
+    (next : Stage) → Next maps s register stop o stage next → claims_left stop (Some next) ≤ claims_left stop stage
+claims_next maps s register stop o None next is =
+    let left : claims_left stop (Some next) ≡ 1 = ap (λ (x : Stage). claims_left stop (Some x)) is.3 in
+    let before : claims_left stop None ≡ 1 = ap (λ (b : Bool). claims_left b None) is.2 in
+    omega arith
+claims_next maps s register stop o (Some (Polled task)) next is = claims_one stop (Some next)
+claims_next maps s register stop o (Some (Headed address shape (Load dst i))) next is =
+    let left : claims_left stop (Some next) ≡ claims_left stop (Some (Looked (Field address i) is.0 dst)) =
+    ap (λ (x : Stage). claims_left stop (Some x)) is.2 in
+    omega arith
+claims_next maps s register stop o (Some (Headed address shape access)) next is = absurd is
+claims_next maps s register stop o (Some (Looked place target dst)) next is =
+    let left : claims_left stop (Some next) ≡ claims_left stop (Some (Cleared place target dst)) =
+    ap (λ (x : Stage). claims_left stop (Some x)) is in
+    omega arith
+claims_next maps s register stop o (Some (Cleared place target dst)) next is = absurd is
+claims_next maps s register stop o (Some (Claimed address shape stored dst)) next is =
+    let left : claims_left stop (Some next) ≡ claims_left stop (Some (Claimed address shape (stored + 1) dst)) =
+    ap (λ (x : Stage). claims_left stop (Some x)) is.1 in
+    omega arith
+claims_next maps s register stop o (Some (Lacking need)) next is = absurd is
+
+-- the call is over, which did not lack words
+pub claims_ends : (stop : Bool) (stage : Option Stage) → ((need : ℕ) → stage ≡ Some (Lacking need) → ⊥) →
+    claims_left stop None ≤ claims_left stop stage
+claims_ends stop None enough = omega arith
+claims_ends stop (Some (Polled task)) enough = claims_one stop None
+claims_ends stop (Some (Lacking need)) enough = absurd (enough need refl)
+claims_ends stop (Some (Headed address shape access)) enough = omega arith
+claims_ends stop (Some (Looked place target dst)) enough = omega arith
+claims_ends stop (Some (Cleared place target dst)) enough = omega arith
+claims_ends stop (Some (Claimed address shape stored dst)) enough = omega arith

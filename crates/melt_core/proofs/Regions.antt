@@ -1,0 +1,159 @@
+-- Regions apart, what is claimed, and how a call comes nearer to its end.
+use Rattle.std.proofs.Common.{◌≡◌, ℕ, ◌+◌, ◌<◌, ◌≤◌, refl, sym, ap, subst, arith, ◌-◌, inl, inr}
+use Rattle.std.proofs.lemmas.Bool.{cases_lt}
+use Rattle.std.specs.Prelude.{Bool, false, List, Option, None, Some}
+use Rattle.melt_model.specs.History.{made}
+use Rattle.melt_model.specs.declared.history.Act.TheVariants as act
+use Rattle.melt_model.specs.declared.history.Entry.{Entry}
+use Rattle.melt_model.specs.declared.operations.Op.{Op}
+use Rattle.melt_model.specs.declared.operations.Op.TheVariants as op
+use Rattle.melt_word.specs.Words.{IsShape, header_word, cost_of}
+use Rattle.melt_word.specs.declared.header.Shape.{Shape}
+use Rattle.melt_word.specs.declared.header.Header.{Header}
+use Rattle.melt_scion.specs.State.{Base, State, HeaderAt}
+use Rattle.melt_scion.specs.Placed.{Maps, FormedWords}
+use Rattle.melt_scion.specs.Regions.{Region, no_region, Apart, Owns, HasStored}
+use Rattle.melt_scion.specs.Changes.{WordChanges, FreeMoves, NameAppears}
+use Rattle.melt_scion.specs.Heaps.{register_in}
+use Rattle.melt_scion.proofs.Geometry.{one_header, header_moves}
+use Rattle.melt_core.specs.declared.call.Access.TheVariants.{Load}
+use Rattle.melt_core.specs.declared.call.Task.TheVariants.{Make, Use, LoadGlobal, StoreGlobal}
+use Rattle.melt_core.specs.declared.call.Stage.{Stage}
+use Rattle.melt_core.specs.declared.call.Stage.TheVariants.{Polled, Headed, Looked, Cleared, Claimed, Lacking}
+use Rattle.melt_core.specs.declared.call.Call.{Call}
+use Rattle.melt_core.specs.Known.{region, Known, RegionStays}
+use Rattle.melt_core.specs.Events.{Event}
+use Rattle.melt_core.specs.Stages.{task_of, Fits, Next, events_left}
+use Rattle.melt_core.specs.Views.{View, maps, state, call_of, stage_in, stage_of}
+use Rattle.melt_core.specs.Advances.{InBounds, Continues, MayAdvance}
+use Rattle.melt_core.proofs.Owning.{regions_event}
+
+pub apart_sym : (a b : Region) → Apart a b → Apart b a
+apart_sym a b apart = record {
+  before = apart.behind;
+  behind = apart.before;
+  differ = λ some_b some_a same. apart.differ some_a some_b (sym same);
+}
+
+-- the region of no words is apart from every region
+pub no_region_apart : (r : Region) → Apart no_region r
+no_region_apart r = record {
+  before = λ less. omega arith;
+  behind = λ less. absurd (omega arith);
+  differ = λ none. absurd (omega arith);
+}
+
+-- what is claimed at the first free place is owned
+pub claimed_owned : (maps : Maps) (s t : State) (words : ℕ) → FormedWords maps s → 1 ≤ s.free →
+    s.free + words ≤ s.base.size + 1 → FreeMoves s t (s.free + words) →
+    Owns maps t (record { at = s.free; words = words })
+claimed_owned maps s t words formed first within moves = record {
+  first = first;
+  below = let e : t.free ≡ s.free + words = moves.is in omega arith;
+  within = subst (λ (b : Base). s.free + words ≤ b.size + 1) (sym moves.base) within;
+  outside = λ b n header named starts.
+      let object = formed.objects b n named in
+      let was : HeaderAt s b header = header_moves s t b header (sym (moves.word b)) starts in
+      let same : cost_of object.0.shape ≡ cost_of header.shape =
+      ap (λ (x : Header). cost_of x.shape) (one_header s b object.0 header object.1.starts was) in
+      let below : b + cost_of object.0.shape ≤ s.free = object.1.below in
+      record {
+        before = λ less. omega arith;
+        behind = λ less. absurd (omega arith);
+        differ = λ some_b some. omega arith;
+      };
+}
+
+-- and apart from what was owned before
+pub claimed_apart : (maps : Maps) (s : State) (words : ℕ) (r : Region) → Owns maps s r →
+    Apart r (record { at = s.free; words = words })
+claimed_apart maps s words r owns =
+    let below : r.at + r.words ≤ s.free = owns.below in
+    record {
+      before = λ less. omega arith;
+      behind = λ less. absurd (omega arith);
+      differ = λ some_r some. omega arith;
+    }
+
+-- the regions of other threads stay where one becomes an object
+pub region_publishes : (h : List Entry) (maps new : Maps) (s t : State) (address stored : ℕ) (shape : Shape) →
+    FormedWords maps s → IsShape shape → HasStored maps s (region address shape) (λ k. 0) stored →
+    stored + 1 ≡ cost_of shape → WordChanges s t address (header_word (record { shape = shape; stale = false })) →
+    NameAppears maps new address (made h) → (r : Region) → Owns maps s r → Apart (region address shape) r →
+    RegionStays new s t r
+region_publishes h maps new s t address stored shape formed small stores all changes appears r owns apart =
+    let event : Event false h maps new s t (region address shape) 0 (Some (act.Make shape.refs shape.nums)) =
+    Event.publishes address stored shape small stores all changes appears in
+    regions_event false h maps new s t (region address shape) 0 (Some (act.Make shape.refs shape.nums)) formed event r
+    owns apart
+
+-- what is known where a call is at this stage, if it is at one
+abbrev pub AtStage : Maps → State → (ℕ → ℕ) → Op → Option Stage → Type 0
+AtStage maps s register o None = Unit {0}
+AtStage maps s register o (Some stage) = Known maps s stage × Fits register o stage
+
+-- an object that an operation in bounds makes is small
+made_small : (globals : ℕ) (o : Op) (dst : ℕ) (shape : Shape) → InBounds globals o → task_of o ≡ Some (Make dst shape) →
+    IsShape shape
+made_small globals (op.New d refs nums) dst shape bounds makes =
+    let made : Shape = record { refs = refs; nums = nums } in
+    let is : made ≡ shape = cc in
+    subst IsShape is (record { refs = bounds.1; nums = bounds.2 })
+made_small globals o dst shape bounds makes = absurd (cc)
+
+-- an event that is not the last of its call brings it nearer to its end
+pub Next_nearer : (maps : Maps) (s : State) (register : ℕ → ℕ) (stop : Bool) (globals : ℕ) (o : Op)
+    (stage : Option Stage) (next : Stage) → InBounds globals o → AtStage maps s register o stage →
+    Next maps s register stop o stage next → events_left (Some next) < events_left stage
+Next_nearer maps s register stop globals o None next bounds at is =
+    let left : events_left (Some next) ≡ 130 = ap (λ (x : Stage). events_left (Some x)) is.3 in omega arith
+Next_nearer maps s register stop globals o (Some (Polled (Make dst shape))) next bounds at is =
+    let small : IsShape shape = made_small globals o dst shape bounds at.1.0 in
+    elim (cases_lt (s.base.size + 1) (s.free + cost_of shape)) [
+      | inl past ↦
+          let left : events_left (Some next) ≡ 1 = ap (λ (x : Stage). events_left (Some x)) (is.1 past) in omega arith
+      | inr fits ↦
+          let left : events_left (Some next) ≡ cost_of shape - 0 =
+          ap (λ (x : Stage). events_left (Some x)) (is.0 fits) in
+          omega arith
+    ]
+Next_nearer maps s register stop globals o (Some (Polled (Use r access))) next bounds at is =
+    let left : events_left (Some next) ≡ 4 = ap (λ (x : Stage). events_left (Some x)) is.3 in omega arith
+Next_nearer maps s register stop globals o (Some (Polled (LoadGlobal dst g))) next bounds at is =
+    let left : events_left (Some next) ≡ 3 = ap (λ (x : Stage). events_left (Some x)) is.2 in omega arith
+Next_nearer maps s register stop globals o (Some (Polled (StoreGlobal g src))) next bounds at is = absurd is
+Next_nearer maps s register stop globals o (Some (Headed address shape (Load dst i))) next bounds at is =
+    let left : events_left (Some next) ≡ 3 = ap (λ (x : Stage). events_left (Some x)) is.2 in omega arith
+Next_nearer maps s register stop globals o (Some (Headed address shape access)) next bounds at is = absurd is
+Next_nearer maps s register stop globals o (Some (Looked place target dst)) next bounds at is =
+    let left : events_left (Some next) ≡ 2 = ap (λ (x : Stage). events_left (Some x)) is in omega arith
+Next_nearer maps s register stop globals o (Some (Cleared place target dst)) next bounds at is = absurd is
+Next_nearer maps s register stop globals o (Some (Claimed address shape stored dst)) next bounds at is =
+    let left : events_left (Some next) ≡ cost_of shape - (stored + 1) =
+    ap (λ (x : Stage). events_left (Some x)) is.1 in
+    let below : stored + 1 < cost_of shape = is.0 in
+    omega arith
+Next_nearer maps s register stop globals o (Some (Lacking need)) next bounds at is = absurd is
+
+-- what stands of a view is known of the call of a thread
+at_stage_in : (v : View) (t : ℕ) (o : Op) (call : Option Call) → MayAdvance v t o → call_of v t ≡ call →
+    AtStage (maps v) (state v) (register_in v.held t) o (stage_in call)
+at_stage_in v t o None may is = tt
+at_stage_in v t o (Some c) may is =
+    let continued : o ≡ c.op = subst (λ (x : Option Call). Continues x o) is may.continued in (
+      may.stands.known t c is,
+      subst (λ (x : Op). Fits (register_in v.held t) x c.stage) (sym continued)
+          (may.stands.fits t c is),
+    )
+
+pub at_stage : (v : View) (t : ℕ) (o : Op) → MayAdvance v t o →
+    AtStage (maps v) (state v) (register_in v.held t) o (stage_of v t)
+at_stage v t o may = at_stage_in v t o (call_of v t) may refl
+
+-- and so the next event of a thread does
+pub nearer_in : (v : View) (t : ℕ) (o : Op) (next : Stage) → MayAdvance v t o →
+    Next (maps v) (state v) (register_in v.held t) v.stop o (stage_of v t) next →
+    events_left (Some next) < events_left (stage_of v t)
+nearer_in v t o next may is =
+    Next_nearer (maps v) (state v) (register_in v.held t) v.stop _ o (stage_of v t) next may.bounds
+    (at_stage v t o may) is

@@ -1,0 +1,157 @@
+-- What every event leaves of what is known: of objects, of registers, of values, and of calls.
+use Rattle.std.proofs.Common.{◌≡◌, ℕ, zero, suc, ◌+◌, ◌<◌, ◌≤◌, inl, inr, refl, sym, ◌∙◌, ap, subst, arith}
+use Rattle.std.proofs.lemmas.Bool.Decides.{eqb_tells}
+use Rattle.std.specs.Prelude.{false, Option, None, Some}
+use Rattle.std.specs.Option.{option_map}
+use Rattle.melt_model.specs.declared.history.Value.{Value}
+use Rattle.melt_model.specs.declared.history.Value.TheVariants.{Ref}
+use Rattle.melt_word.specs.declared.header.Shape.{Shape}
+use Rattle.melt_word.specs.declared.header.Header.{Header}
+use Rattle.melt_word.specs.declared.reference.Ref as words
+use Rattle.melt_word.specs.declared.reference.Ref.TheVariants.{Null, Clean, Stale, Disk}
+use Rattle.melt_scion.specs.State.{Base, State, HeaderAt, IsFresh}
+use Rattle.melt_scion.specs.Placed.{Maps, IsNamed, value_of, value_at, MayStand, MayHold, FormedWords}
+use Rattle.melt_scion.specs.Regions.{Region, Owns, HasStored}
+use Rattle.melt_scion.proofs.Geometry.{one_header}
+use Rattle.melt_core.specs.declared.call.Place.{Place}
+use Rattle.melt_core.specs.declared.call.Place.TheVariants.{Field, Global}
+use Rattle.melt_core.specs.declared.call.Stage.{Stage}
+use Rattle.melt_core.specs.declared.call.Stage.TheVariants.{Polled, Headed, Looked, Cleared, Claimed, Lacking}
+use Rattle.melt_core.specs.Known.{IsObjectAt, word_in, IsPlace, IsTagged, HasLooked, region, Known, region_of, Evolves, RegionStays}
+
+-- the header without the stale bit
+abbrev pub cleared_header : Header → Header
+cleared_header header = record { shape = header.shape; stale = false }
+
+-- the value of a number that an address keeps
+named_value : (old new : Option ℕ) (v : Value) → ((n : ℕ) → old ≡ Some n → new ≡ Some n) →
+    option_map Ref old ≡ Some v → option_map Ref new ≡ Some v
+named_value None new v keeps is = absurd (cc)
+named_value (Some n) new v keeps is = ap (option_map Ref) (keeps n refl) ∙ is
+
+module _ (maps new : Maps) (s t : State) (cleared : ℕ) (formed : FormedWords maps s)
+    (evolves : Evolves maps new s t cleared) where
+  -- an object keeps its shape
+  pub headers_stay : (a n : ℕ) (header : Header) → maps.address a ≡ Some n → HeaderAt s a header →
+      (later : Header) × HeaderAt t a later × (later.shape ≡ header.shape)
+  headers_stay a n header named starts = elim (eqb_tells a cleared) [
+    | inl same ↦ (
+      cleared_header header,
+      subst (λ (b : ℕ). HeaderAt t b (cleared_header header)) (sym same.1)
+          (evolves.clears n header (ap maps.address (sym same.1) ∙ named)
+          (subst (λ (b : ℕ). HeaderAt s b header) same.1 starts)),
+      refl,
+    )
+    | inr other ↦ (header, evolves.header a n header named other.1 starts, refl)
+  ]
+
+  -- and it had that shape before, and the stale bit if it has it now
+  pub headers_were : (a n : ℕ) (header : Header) → maps.address a ≡ Some n → HeaderAt t a header →
+      (old : Header) × HeaderAt s a old × (old.shape ≡ header.shape) × (old.stale ≡ false → header.stale ≡ false)
+  headers_were a n header named starts =
+      let object = formed.objects a n named in
+      let was : Header = object.0 in
+      elim (eqb_tells a cleared) [
+        | inl same ↦
+            let later : HeaderAt t cleared (cleared_header was) =
+            evolves.clears n was (ap maps.address (sym same.1) ∙ named)
+            (subst (λ (b : ℕ). HeaderAt s b was) same.1 object.1.starts) in
+            let is : cleared_header was ≡ header =
+            one_header t cleared (cleared_header was) header later
+            (subst (λ (b : ℕ). HeaderAt t b header) same.1 starts) in
+            (was, object.1.starts, ap (λ (x : Header). x.shape) is, λ fresh. ap (λ (x : Header). x.stale) (sym is))
+        | inr other ↦
+            let is : was ≡ header = one_header t a was header (evolves.header a n was named other.1 object.1.starts)
+            starts in (
+              was,
+              object.1.starts,
+              ap (λ (x : Header). x.shape) is,
+              λ fresh. ap (λ (x : Header). x.stale)
+                  (sym is) ∙ fresh,
+            )
+      ]
+
+  -- an object without the stale bit gets none
+  pub fresh_stays : (a : ℕ) → IsNamed maps a → IsFresh s a → IsFresh t a
+  fresh_stays a named fresh header starts =
+      let was = headers_were a named.0 header named.1 starts in
+      was.3 (fresh was.0 was.1)
+
+  pub named_stays : (a : ℕ) → IsNamed maps a → IsNamed new a
+  named_stays a named = (named.0, evolves.names a named.0 named.1)
+
+  -- what a register may hold, it may hold later
+  pub hold_stays : (a : ℕ) → MayHold maps s a → MayHold new t a
+  hold_stays a (inl nothing) = inl nothing
+  hold_stays a (inr holds) = inr (named_stays a holds.0, fresh_stays a holds.0 holds.1)
+
+  -- a value stands for what it stood for
+  pub value_stays : (r : words.Ref) (v : Value) → value_of maps r ≡ Some v → value_of new r ≡ Some v
+  value_stays Null v is = is
+  value_stays (Clean a) v is = named_value (maps.address a) (new.address a) v (evolves.names a) is
+  value_stays (Stale a) v is = named_value (maps.address a) (new.address a) v (evolves.names a) is
+  value_stays (Disk home) v is = ap (option_map Ref) (evolves.homes home) ∙ is
+
+  pub held_value_stays : (a : ℕ) (v : Value) → value_at maps a ≡ Some v → value_at new a ≡ Some v
+  held_value_stays zero v is = is
+  held_value_stays (suc a) v is = named_value (maps.address (suc a)) (new.address (suc a)) v (evolves.names (suc a)) is
+
+  pub object_stays : (address : ℕ) (shape : Shape) → IsObjectAt maps s address shape → IsObjectAt new t address shape
+  object_stays address shape is =
+      let later = headers_stay address is.number is.header is.named is.starts in
+      record {
+        number = is.number;
+        named = evolves.names address is.number is.named;
+        header = later.0;
+        starts = later.1;
+        shape_is = later.2 ∙ is.shape_is;
+      }
+
+  pub place_stays : (place : Place) → IsPlace maps s place → IsPlace new t place
+  place_stays (Field object i) is = (is.0, object_stays object is.0 is.1, is.2)
+  place_stays (Global g) is = subst (λ (b : Base). g < b.globals) (sym evolves.base) is
+
+  pub reference_stays : (r : words.Ref) → MayStand maps s r → MayStand new t r
+  reference_stays Null may = tt
+  reference_stays (Clean a) may = (named_stays a may.0, fresh_stays a may.0 may.1)
+  reference_stays (Stale a) may = named_stays a may
+  reference_stays (Disk home) may = (may.0, subst (λ (b : Base). home < b.end) (sym evolves.base) may.1)
+
+  -- what was found at a place is found there, or a word without a tag
+  pub looked_stays : (place : Place) (found : words.Ref) → HasLooked maps s place found → HasLooked new t place found
+  looked_stays place found looked = record {
+    at = place_stays place looked.at;
+    in_range = looked.in_range;
+    tag = looked.tag;
+    may_stand = reference_stays found looked.may_stand;
+    unless_clean = λ tagged.
+        let same : word_in t place ≡ word_in s place = evolves.places place looked.at tagged in
+        same ∙ looked.unless_clean (subst IsTagged same tagged);
+  }
+
+  -- the words that were stored in a region that stays are there
+  stored_stays : (r : Region) (holds : ℕ → ℕ) (stored : ℕ) → RegionStays new s t r → HasStored maps s r holds stored →
+      HasStored new t r holds stored
+  stored_stays r holds stored stays has = record {
+    owns = stays.owned;
+    few = has.few;
+    are = λ k first to.
+        let few : stored < r.words = has.few in
+        stays.word (r.at + k) (omega arith) (omega arith) ∙ has.are k first to;
+  }
+
+  -- what is known of a call stays
+  pub known_stays : (stage : Stage) → (Owns maps s (region_of stage) → RegionStays new s t (region_of stage)) →
+      Known maps s stage → Known new t stage
+  known_stays (Polled task) stays is = tt
+  known_stays (Headed address shape access) stays is = object_stays address shape is
+  known_stays (Looked place target dst) stays is = looked_stays place (Stale target) is
+  known_stays (Cleared place target dst) stays is =
+      (looked_stays place (Stale target) is.0, fresh_stays target is.0.may_stand is.1)
+  known_stays (Claimed address shape stored dst) stays is =
+      (is.0, stored_stays (region address shape) (λ k. 0) stored (stays is.1.owns) is.1)
+  known_stays (Lacking need) stays is =
+      let above : s.base.size + 1 < s.free = is in
+      let later : s.free ≤ t.free = evolves.free in
+      let size : t.base.size ≡ s.base.size = ap (λ (b : Base). b.size) evolves.base in
+      omega arith
