@@ -35,13 +35,13 @@ new_formed words globals h held small new registers =
       names = subst (λ (o : Option heap.Names). HasNames o maps) (sym new.names) (λ k. sym (none_at words k));
       made = subst (NamesMade (length h.space.list)) (sym new.names) (length-replicate {A = Option ℕ} words None ∙ sym new.space.size);
       formed = Formed_start maps (state_of h held 1) (record { address = λ k. refl; home = λ k. refl }) (record {
-          small = (let size = new.space.size in omega (arith, size, small));
-          forwards = λ p below. refl;
-          scions = λ k. refl;
-          end = refl;
-          homes = refl;
-          free_homes = refl;
-          globals = λ g below. ap (λ (gs : List ℕ). slice_index gs g) new.globals_hold_nothing ∙ nothing_at globals g;
+        small = (let size = new.space.size in omega (arith, size, small));
+        forwards = λ p below. refl;
+        scions = λ k. refl;
+        end = refl;
+        homes = refl;
+        free_homes = refl;
+        globals = λ g below. ap (λ (gs : List ℕ). slice_index gs g) new.globals_hold_nothing ∙ nothing_at globals g;
       }) registers;
     }
 
