@@ -6,7 +6,7 @@ use Rattle.std.proofs.lemmas.Bool.{cases_lt}
 use Rattle.std.proofs.lemmas.Bool.Decides.{eqb_tells}
 use Rattle.melt_word.specs.Words.{cost_of, header_word, ref_word}
 use Rattle.melt_word.specs.declared.header.Header.{Header}
-use Rattle.melt_word.specs.declared.reference.Ref.TheVariants.{Null, Clean, Stale}
+use Rattle.melt_word.specs.declared.reference.Ref.TheVariants.{Clean, Stale}
 use Rattle.melt_space.specs.Space.{SpaceWords, word_at, Makes, SetsWord, IsFresh as IsFreshSpace}
 use Rattle.melt_scion.specs.State.{State, HeaderAt, ObjectAt, IsFresh}
 use Rattle.melt_scion.specs.Placed.{Maps, FormedWords, Formed}
@@ -17,35 +17,12 @@ use Rattle.melt_scion.specs.declared.heap.Names as heap
 use Rattle.melt_scion.specs.declared.heap.Heap.{Heap}
 use Rattle.melt_scion.proofs.Geometry.{one_header}
 use Rattle.melt_scion.proofs.Homeless.{HasNoScions, heap_has_no_scions}
-
-all_null : (n g : ℕ) → slice_index (replicate n 0) g ≡ 0
-all_null n g = elim (cases_lt g n) [ inl below ↦ get_or-replicate n g 0 0 below | inr above ↦ get_or_past (replicate n 0) g 0 (omega (arith, length-replicate {A = ℕ} n 0, above)) ]
+use Rattle.melt_scion.proofs.Starting.{Formed_start}
+use Rattle.melt_copy.proofs.Outs.{nothing_at}
 
 none_at : (n k : ℕ) → name_at (replicate n None) k ≡ None
 none_at n zero = refl
 none_at n (suc k) = elim (cases_lt k n) [ inl below ↦ get_or-replicate n k None None below | inr above ↦ get_or_past (replicate n None) k None (omega (arith, length-replicate {A = Option ℕ} n None, above)) ]
-
--- a state without objects, scions and forwarding words, in which nothing holds anything, is well formed
-empty_formed : (maps : Maps) (s : State) → s.base.size < 2 ^ 30 → s.base.end ≡ 1 → HasNoScions s.base → ((k : ℕ) → maps.address k ≡ None)
-    → ((g : ℕ) → s.global g ≡ 0) → ((t r : ℕ) → s.register t r ≡ 0) → Formed maps s
-empty_formed maps s small end none nowhere globals registers =
-    let not_named : (k n : ℕ) → maps.address k ≡ Some n → ⊥ = λ k n named. let no = nowhere k in cc in
-    record {
-      words = record {
-        small = small;
-        first_end = omega (arith, end);
-        small_end = omega (arith, end);
-        objects = λ a n named. absurd (not_named a n named);
-        apart = λ a b n m header named. absurd (not_named a n named);
-        slots = λ a n i header named. absurd (not_named a n named);
-        home_words = λ a n header named. absurd (not_named a n named);
-        globals = λ g below. record { reference = Null; in_range = tt; is = globals g; stands = tt };
-        scions = λ k x live. absurd (let dead = none.scions k in cc);
-        forwards = λ p below. absurd (omega (arith, below, none.forwards));
-        one_forward = λ p q home a b below. absurd (omega (arith, below, none.forwards));
-      };
-      registers = λ t r. inl (registers t r);
-    }
 
 -- a new heap with names, and registers that hold nothing
 pub new_formed : (words globals : ℕ) (h : Heap) (held : List Registers) → words < 2 ^ 30 → IsNewHeap words globals true h
@@ -57,8 +34,15 @@ new_formed words globals h held small new registers =
       end = 1;
       names = subst (λ (o : Option heap.Names). HasNames o maps) (sym new.names) (λ k. sym (none_at words k));
       made = subst (NamesMade (length h.space.list)) (sym new.names) (length-replicate {A = Option ℕ} words None ∙ sym new.space.size);
-      formed = empty_formed maps (state_of h held 1) (let size = new.space.size in omega (arith, size, small)) refl (heap_has_no_scions h held 1) (λ k. refl)
-          (λ g. ap (λ (gs : List ℕ). slice_index gs g) new.globals_hold_nothing ∙ all_null globals g) registers;
+      formed = Formed_start maps (state_of h held 1) (record { address = λ k. refl; home = λ k. refl }) (record {
+        small = (let size = new.space.size in omega (arith, size, small));
+        forwards = λ p below. refl;
+        scions = λ k. refl;
+        end = refl;
+        homes = refl;
+        free_homes = refl;
+        globals = λ g below. ap (λ (gs : List ℕ). slice_index gs g) new.globals_hold_nothing ∙ nothing_at globals g;
+      }) registers;
     }
 
 abbrev pub no_registers : Registers
@@ -66,7 +50,7 @@ no_registers = record { regs = replicate 16 0 }
 
 -- registers that hold nothing
 pub none_held : (t r : ℕ) → register_in (no_registers ∷ []) t r ≡ 0
-none_held zero r = all_null 16 r
+none_held zero r = nothing_at 16 r
 none_held (suc t) r = refl
 
 -- one register of the second thread holds an address
@@ -74,12 +58,12 @@ abbrev pub second_holds : ℕ → List Registers
 second_holds address = no_registers ∷ record { regs = 0 ∷ 0 ∷ 0 ∷ address ∷ 0 ∷ 0 ∷ 0 ∷ 0 ∷ 0 ∷ 0 ∷ 0 ∷ 0 ∷ 0 ∷ 0 ∷ 0 ∷ 0 ∷ [] } ∷ []
 
 pub fourth_held : (address t r : ℕ) → (register_in (second_holds address) t r ≡ 0) ⊎ (register_in (second_holds address) t r ≡ address)
-fourth_held address zero r = inl (all_null 16 r)
+fourth_held address zero r = inl (nothing_at 16 r)
 fourth_held address (suc zero) zero = inl refl
 fourth_held address (suc zero) (suc zero) = inl refl
 fourth_held address (suc zero) (suc (suc zero)) = inl refl
 fourth_held address (suc zero) (suc (suc (suc zero))) = inr refl
-fourth_held address (suc zero) (suc (suc (suc (suc r)))) = inl (all_null 12 r)
+fourth_held address (suc zero) (suc (suc (suc (suc r)))) = inl (nothing_at 12 r)
 fourth_held address (suc (suc t)) r = inl refl
 
 -- the object in front has one number word, the next one a slot besides, and the last one has no parts

@@ -25,8 +25,12 @@ use Rattle.melt_copy.proofs.Queue.{was_there, words_in-stay}
 pub whole_heap : (maps : Maps) (heap : Heap) (held : List Registers) (end : ℕ) → IsSpace heap.space → Formed maps (state_of heap held end) → IsWhole (state_of heap held end)
 whole_heap maps heap held end space formed = formed_whole maps (state_of heap held end) (omega (arith, space.used)) formed
 
-nowhere : (n a : ℕ) → slice_index (replicate n 0) a ≡ 0
-nowhere n a = elim (cases_lt a n) [ inl below ↦ get_or-replicate n a 0 0 below | inr above ↦ get_or_past (replicate n 0) a 0 (omega (arith, length-replicate {A = ℕ} n 0, above)) ]
+-- words that all are 0
+pub nothing_at : (n a : ℕ) → slice_index (replicate n 0) a ≡ 0
+nothing_at n a = elim (cases_lt a n) [
+  | inl below ↦ get_or-replicate n a 0 0 below
+  | inr above ↦ get_or_past (replicate n 0) a 0 (omega (arith, length-replicate {A = ℕ} n 0, above))
+]
 
 none_there : (ms : List Relocation) (k : ℕ) (m : Relocation) → ms ≡ [] → slice_get ms k ≡ Some m → ⊥
 none_there ms k m empty at = let below = slice_get_within ms k m at in let nought = ap length empty in omega (arith, below, nought)
@@ -35,7 +39,7 @@ pub no_moves : (s : State) (forwarding : Forwarding) (used : ℕ) → forwarding
 no_moves s forwarding used forward moves next = record {
   whole = λ k m at. absurd (none_there forwarding.moves.items k m moves at);
   found = λ k m at. absurd (none_there forwarding.moves.items k m moves at);
-  only = λ a known. absurd (known (ap (λ (fs : List ℕ). slice_index fs a) forward ∙ nowhere (used + 1) a));
+  only = λ a known. absurd (known (ap (λ (fs : List ℕ). slice_index fs a) forward ∙ nothing_at (used + 1) a));
   places = λ k m at. absurd (none_there forwarding.moves.items k m moves at);
   behind = next ∙ ap (λ (ms : List Relocation). 1 + words_in ms) (sym moves);
 }

@@ -1,11 +1,11 @@
 -- The copied objects are a front of those that were found.
-use Rattle.std.proofs.Common.{◌≡◌, ℕ, zero, suc, ◌+◌, ◌<◌, ◌≤◌, List, [], ◌∷◌, length, take, get_or, refl, sym, subst, ap, ◌∙◌, arith, length-append, inl, inr}
+use Rattle.std.proofs.Common.{◌≡◌, ℕ, ◌+◌, ◌<◌, ◌≤◌, List, [], ◌∷◌, length, take, get_or, refl, sym, subst, ap, ◌∙◌, arith, length-append, inl, inr}
 use Rattle.std.specs.Prelude.{nat_lt, slice_get, Some}
 use Rattle.std.specs.List.{sum_by}
 use Rattle.std.proofs.lemmas.List.{take-append-le}
 use Rattle.std.proofs.lemmas.List.Sums.{sum-map, sum_by_more}
 use Rattle.std.proofs.lemmas.Bool.Decides.{eqb_tells}
-use Rattle.std.proofs.lemmas.Option.{slice_get_within, slice_get_read}
+use Rattle.std.proofs.lemmas.Option.{same_Some, slice_get_within, slice_get_read, get_or_from_slice_get}
 use Rattle.melt_model.proofs.Histories.{slice_get-append_left}
 use Rattle.melt_model.specs.declared.reports.Phase.{Phase}
 use Rattle.melt_word.specs.Words.{cost_of}
@@ -30,18 +30,10 @@ count_fits space s forwarding tracks =
     let words = found_words s (goes forwarding) forwarding.moves.items forwarding.next tracks.whole tracks.holds in
     omega (arith, words, tracks.free, count_words forwarding.moves.items)
 
-some_one : {A : Type 0} (x y : A) → Some x ≡ Some y → x ≡ y
-some_one x y same = cc
-
-slice_get_get : {A : Type 0} (xs : List A) (k : ℕ) (x : A) → slice_get xs k ≡ Some x → get_or xs k x ≡ x
-slice_get_get [] k x at = absurd (cc)
-slice_get_get (y ∷ xs) zero x at = some_one y x at
-slice_get_get (y ∷ xs) (suc k) x at = slice_get_get xs k x at
-
 words_in-next : (moves : List Relocation) (k : ℕ) (m : Relocation) → slice_get moves k ≡ Some m → words_in (take (k + 1) moves) ≡ words_in (take k moves) + cost_of m.shape
 words_in-next moves k m at =
     let below : k < length moves = slice_get_within moves k m at in
-    let there : get_or moves k m ≡ m = slice_get_get moves k m at in
+    let there : get_or moves k m ≡ m = get_or_from_slice_get moves k m m at in
     sum-map (λ (x : Relocation). cost_of x.shape) (take (k + 1) moves)
     ∙ (sum_by_more (λ (x : Relocation). cost_of x.shape) moves k m below
     ∙ (ap (λ (x : Relocation). sum_by (λ (y : Relocation). cost_of y.shape) (take k moves) + cost_of x.shape) there
@@ -75,7 +67,7 @@ copied_more phase front space s a b words more done m copied below is grows trac
           let before : slice_get a.moves.items k ≡ Some x = was_there a b k x grows (omega (arith, under, below)) there in
           elim (eqb_tells k done) [
             | inl same ↦
-                let one : x ≡ m = some_one x m (sym before ∙ (ap (slice_get a.moves.items) same.1 ∙ at)) in
+                let one : x ≡ m = same_Some x m (sym before ∙ (ap (slice_get a.moves.items) same.1 ∙ at)) in
                 subst (λ (i : ℕ). ObjectMoves phase (nat_lt i front) (goes b) s (word_in more) x) (sym same.1)
                 (subst (ObjectMoves phase (nat_lt done front) (goes b) s (word_in more)) (sym one)
                 (object (let place = copied.tracks.holds.places done m at in omega (arith, place, copied.size))))
