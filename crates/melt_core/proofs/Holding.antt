@@ -20,14 +20,16 @@ use Rattle.melt_scion.specs.Regions.{Region, HasStored}
 use Rattle.melt_scion.specs.Changes.{WordChanges, NameAppears}
 use Rattle.melt_scion.proofs.Keeping.{NoGaps_stays}
 use Rattle.melt_scion.proofs.Following.{SameValues, same_history, unchanged, quiet_entry, write_entry}
-use Rattle.melt_scion.proofs.Staying.{SameParts, FormedWords_same, Tells_same, NoGaps_same, same_words, free_moves, word_outside, bit_cleared, Tells_reads}
+use Rattle.melt_scion.proofs.Staying.{SameParts, FormedWords_same, Tells_same, NoGaps_same, same_words, free_moves}
+use Rattle.melt_scion.proofs.Staying.{word_outside, bit_cleared, Tells_reads}
 use Rattle.melt_scion.proofs.Writing.{Formed_number, Tells_number}
 use Rattle.melt_scion.proofs.Making.{Formed_made, Tells_made}
 use Rattle.melt_core.specs.declared.call.Place.{Place}
 use Rattle.melt_core.specs.Answering.{entry, with_entry}
 use Rattle.melt_core.specs.Known.{IsPlace, SlotAt, word_in, region}
 use Rattle.melt_core.specs.Events.{PlaceChanges, LastAt, IsNumberWord, number_place, Event}
-use Rattle.melt_core.proofs.Places.{clean_may, held_may, held_stands, untagged_stands, place_stands, Formed_place, NoGaps_place, Tells_place}
+use Rattle.melt_core.proofs.Places.{clean_may, held_may, held_stands, untagged_stands, place_stands, Formed_place}
+use Rattle.melt_core.proofs.Places.{NoGaps_place, Tells_place}
 
 -- where slots, number words and globals stay, and the values of the history do
 holds_same : (told : Bool) (h k : List Entry) (maps : Maps) (s t : State) → SameParts maps s t → SameValues h k →
@@ -77,7 +79,7 @@ module _ (told : Bool) (thread : ℕ) (h : List Entry) (maps : Maps) (s t : Stat
             Tells_number maps s t object n j word o.header holds.formed is.named o.starts below here h
             (with_entry thread h (Some (Write (slot.Cell n j) (Num word))))
             (write_entry h (entry thread (Write (slot.Cell n j) (Num word))) (slot.Cell n j) (Num word) refl)
-                (holds.tells tell);
+            (holds.tells tell);
       }
 
   -- an object is made
@@ -108,54 +110,55 @@ module _ (told : Bool) (thread : ℕ) (h : List Entry) (maps : Maps) (s t : Stat
         Tells_reads h (with_entry thread h (Some (Read at value))) maps t
         (quiet_entry h (entry thread (Read at value)) refl)
         (Tells_place h h maps s t place at (4 * target) (last h at) holds.formed is where_at changes
-            (unchanged h at (last h at) refl)
+        (unchanged h at (last h at) refl)
         (untagged_stands maps s (word_in s place) target found (last h at) holds.formed named range was (same tell)
         (place_stands h maps s place at (holds.tells tell) is where_at))
         (holds.tells tell));
   }
 
--- each event keeps what holds
-pub holds_event : (told : Bool) (thread : ℕ) (h : List Entry) (maps new : Maps) (s t : State) (mine : Region)
-    (cleared : ℕ) (act : Option Act) →
-    Holds told h maps s → (told ≡ true → Legal h s.base.globals) → Event told h maps new s t mine cleared act →
-    Holds told (with_entry thread h act) new t
-holds_event told thread h maps new s t mine cleared act holds legal (Event.quiet is same) =
-    same_maps told h maps new t is (holds_same told h h maps s t (same_words maps s t same) (same_history h) holds)
-holds_event told thread h maps new s t mine cleared act holds legal
-(Event.reads_place place at value is same slot clean lasts) =
-    same_maps told _ maps new t is
-    (holds_same told h _ maps s t (same_words maps s t same) (quiet_entry h (entry thread (Read at value)) refl) holds)
-holds_event told thread h maps new s t mine cleared act holds legal
-(Event.reads_number object n j shape is same number) =
-    same_maps told _ maps new t is
-    (holds_same told h _ maps s t (same_words maps s t same)
-    (quiet_entry h (entry thread (Read (slot.Cell n j) (Num (s.word (number_place object shape j))))) refl) holds)
-holds_event told thread h maps new s t mine cleared act holds legal
-(Event.writes_place place at address value is slot where_at may value_is changes) =
-    same_maps told _ maps new t is
-    (holds_writes_place told thread h maps s t holds place at address value slot where_at may value_is changes)
-holds_event told thread h maps new s t mine cleared act holds legal
-(Event.writes_number object n j word shape is number changes) =
-    same_maps told _ maps new t is
-    (holds_writes_number told thread h maps s t holds object n j word shape number changes)
-holds_event told thread h maps new s t mine cleared act holds legal (Event.claims words is moves) =
-    same_maps told h maps new t is
-    (holds_same told h h maps s t (free_moves maps s t (s.free + words) (omega arith) moves) (same_history h) holds)
-holds_event told thread h maps new s t mine cleared act holds legal
-(Event.stores r at word is owns from below changes) =
-    same_maps told h maps new t is
-    (holds_same told h h maps s t (word_outside maps s t at word r holds.formed changes owns from below)
-        (same_history h) holds)
-holds_event told thread h maps new s t mine cleared act holds legal
-(Event.publishes address stored shape small stores all changes appears) =
-    holds_publishes told thread h maps s t holds new address stored shape legal small stores all changes appears
-holds_event told thread h maps new s t mine cleared act holds legal
-(Event.clears address header is named starts changes) =
-    same_maps told h maps new t is
-    (holds_same told h h maps s t (bit_cleared maps s t address named.0 header holds.formed named.1 starts changes)
-        (same_history h) holds)
-holds_event told thread h maps new s t mine cleared act holds legal
-(Event.untags place at found target value is slot range was named fresh same lasts changes) =
-    same_maps told _ maps new t is
-    (holds_untags told thread h maps s t holds place at found target value slot range was named fresh same lasts
-        changes)
+module _ (told : Bool) (thread : ℕ) (h : List Entry) (maps new : Maps) (s t : State) where
+  -- each event keeps what holds
+  pub holds_event : (mine : Region) (cleared : ℕ) (act : Option Act) → Holds told h maps s →
+      (told ≡ true → Legal h s.base.globals) → Event told h maps new s t mine cleared act →
+      Holds told (with_entry thread h act) new t
+  holds_event mine cleared act holds legal (Event.quiet is same) =
+      same_maps told h maps new t is (holds_same told h h maps s t (same_words maps s t same) (same_history h) holds)
+  holds_event mine cleared act holds legal
+      (Event.reads_place place at value is same slot clean lasts) =
+      same_maps told _ maps new t is
+      (holds_same told h _ maps s t (same_words maps s t same) (quiet_entry h (entry thread (Read at value)) refl)
+          holds)
+  holds_event mine cleared act holds legal
+      (Event.reads_number object n j shape is same number) =
+      same_maps told _ maps new t is
+      (holds_same told h _ maps s t (same_words maps s t same)
+      (quiet_entry h (entry thread (Read (slot.Cell n j) (Num (s.word (number_place object shape j))))) refl) holds)
+  holds_event mine cleared act holds legal
+      (Event.writes_place place at address value is slot where_at may value_is changes) =
+      same_maps told _ maps new t is
+      (holds_writes_place told thread h maps s t holds place at address value slot where_at may value_is changes)
+  holds_event mine cleared act holds legal
+      (Event.writes_number object n j word shape is number changes) =
+      same_maps told _ maps new t is
+      (holds_writes_number told thread h maps s t holds object n j word shape number changes)
+  holds_event mine cleared act holds legal (Event.claims words is moves) =
+      same_maps told h maps new t is
+      (holds_same told h h maps s t (free_moves maps s t (s.free + words) (omega arith) moves) (same_history h) holds)
+  holds_event mine cleared act holds legal
+      (Event.stores r at word is owns from below changes) =
+      same_maps told h maps new t is
+      (holds_same told h h maps s t (word_outside maps s t at word r holds.formed changes owns from below)
+      (same_history h) holds)
+  holds_event mine cleared act holds legal
+      (Event.publishes address stored shape small stores all changes appears) =
+      holds_publishes told thread h maps s t holds new address stored shape legal small stores all changes appears
+  holds_event mine cleared act holds legal
+      (Event.clears address header is named starts changes) =
+      same_maps told h maps new t is
+      (holds_same told h h maps s t (bit_cleared maps s t address named.0 header holds.formed named.1 starts changes)
+      (same_history h) holds)
+  holds_event mine cleared act holds legal
+      (Event.untags place at found target value is slot range was named fresh same lasts changes) =
+      same_maps told _ maps new t is
+      (holds_untags told thread h maps s t holds place at found target value slot range was named fresh same lasts
+      changes)

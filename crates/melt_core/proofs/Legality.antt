@@ -53,22 +53,22 @@ module _ (thread : ℕ) (h : List Entry) (maps : Maps) (s : State) (legal : Lega
   legal_read : (at : Slot) (value : Value) → IsSlot h s.base.globals at → value ≡ last h at →
       Legal (with_entry thread h (Some (Read at value))) s.base.globals
   legal_read at value is lasts = legal_entry (Read at value)
-  (record { read_slot = is; read_last = lasts; write_slot = tt; write_value = tt; small = tt })
+      (record { read_slot = is; read_last = lasts; write_slot = tt; write_value = tt; small = tt })
 
   legal_write : (at : Slot) (value : Value) → IsSlot h s.base.globals at → CanHold h at value →
       Legal (with_entry thread h (Some (Write at value))) s.base.globals
   legal_write at value is can = legal_entry (Write at value)
-  (record { read_slot = tt; read_last = tt; write_slot = is; write_value = can; small = tt })
+      (record { read_slot = tt; read_last = tt; write_slot = is; write_value = can; small = tt })
 
   legal_make : (shape : Shape) → IsShape shape →
       Legal (with_entry thread h (Some (Make shape.refs shape.nums))) s.base.globals
   legal_make shape small = legal_entry (Make shape.refs shape.nums)
-  (record { read_slot = tt; read_last = tt; write_slot = tt; write_value = tt; small = (small.refs, small.nums) })
+      (record { read_slot = tt; read_last = tt; write_slot = tt; write_value = tt; small = (small.refs, small.nums) })
 
   legal_read_place : (place : Place) (at : Slot) (value : Value) → IsPlace maps s place →
       LastAt h maps place at value → Legal (with_entry thread h (Some (Read at value))) s.base.globals
   legal_read_place place at value is lasts = legal_read at value
-  (place_is_slot h maps s place at tells is lasts.slot) lasts.last
+      (place_is_slot h maps s place at tells is lasts.slot) lasts.last
 
 -- the globals stay as many
 same_globals : (k : List Entry) (s t : State) → t.base ≡ s.base → Legal k s.base.globals → Legal k t.base.globals
@@ -88,9 +88,9 @@ module _ (told : Bool) (thread : ℕ) (h : List Entry) (maps new : Maps) (s t : 
       (legal_read thread h maps s (legal tell) (holds.tells tell) (slot.Cell n j)
       (Num (s.word (number_place object shape j)))
       (number_is_slot h maps s object n j shape (holds.tells tell) number)
-          (number_is_last h maps s object n j shape (holds.tells tell) number))
+      (number_is_last h maps s object n j shape (holds.tells tell) number))
   legal_event mine cleared act holds legal
-  (Event.writes_place place at address value is slot where_at may value_is changes) tell =
+      (Event.writes_place place at address value is slot where_at may value_is changes) tell =
       same_globals _ s t (place_base s t place (4 * address) changes)
       (legal_write thread h maps s (legal tell) (holds.tells tell) at value
       (place_is_slot h maps s place at (holds.tells tell) slot where_at)
@@ -100,15 +100,15 @@ module _ (told : Bool) (thread : ℕ) (h : List Entry) (maps new : Maps) (s t : 
       (legal_write thread h maps s (legal tell) (holds.tells tell) (slot.Cell n j) (Num word)
       (number_is_slot h maps s object n j shape (holds.tells tell) number) tt)
   legal_event mine cleared act holds legal (Event.claims words is moves) tell = same_globals h s t moves.base
-  (legal tell)
+      (legal tell)
   legal_event mine cleared act holds legal (Event.stores r at word is owns from below changes) tell =
       same_globals h s t changes.base (legal tell)
   legal_event mine cleared act holds legal
-  (Event.publishes address stored shape small stores all changes appears) tell =
+      (Event.publishes address stored shape small stores all changes appears) tell =
       same_globals _ s t changes.base (legal_make thread h maps s (legal tell) (holds.tells tell) shape small)
   legal_event mine cleared act holds legal (Event.clears address header is named starts changes) tell =
       same_globals h s t changes.base (legal tell)
   legal_event mine cleared act holds legal
-  (Event.untags place at found target value is slot range was named fresh same lasts changes) tell =
+      (Event.untags place at found target value is slot range was named fresh same lasts changes) tell =
       same_globals _ s t (place_base s t place (4 * target) changes)
       (legal_read_place thread h maps s (legal tell) (holds.tells tell) place at value slot (lasts tell))
