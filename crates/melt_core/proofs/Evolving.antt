@@ -11,9 +11,10 @@ use Rattle.melt_word.specs.declared.reference.Ref.{Ref}
 use Rattle.melt_word.specs.declared.reference.Ref.TheVariants.{Null, Clean, Stale, Disk}
 use Rattle.melt_scion.specs.State.{State, HeaderAt}
 use Rattle.melt_scion.specs.Placed.{Maps, FormedWords}
-use Rattle.melt_scion.specs.Regions.{Region, Apart, Owns}
+use Rattle.melt_scion.specs.Regions.{Region, Owns}
 use Rattle.melt_scion.specs.Changes.{SameWords, WordChanges, GlobalChanges, FreeMoves, NameAppears}
-use Rattle.melt_scion.proofs.Geometry.{one_header, header_moves, one_part, behind_header}
+use Rattle.melt_scion.proofs.Geometry.{one_header, header_moves}
+use Rattle.melt_scion.proofs.Parts.{PartAt, head_part, slot_part, number_part, parts_differ, slot_or_number, part_outside}
 use Rattle.melt_core.specs.declared.call.Place.{Place}
 use Rattle.melt_core.specs.declared.call.Place.TheVariants.{Field, Global}
 use Rattle.melt_core.specs.Known.{word_in, IsPlace, HasTag, IsTagged, Settles, region, Evolves}
@@ -44,74 +45,70 @@ null_not_named maps s formed a n named = λ null.
     let first : 1 ≤ a = object.1.first in
     omega arith
 
--- a slot of an object lies within it, behind its header
-slot_not_named : (maps : Maps) (s : State) (object i : ℕ) → FormedWords maps s → IsPlace maps s (Field object i) →
-    NotNamed maps (object + 2 + i)
-slot_not_named maps s object i formed is a n named =
-    let o = is.1 in
-    let shape : o.header.shape ≡ is.0 = o.shape_is in
-    let refs : o.header.shape.refs ≡ is.0.refs = ap (λ (x : Shape). x.refs) shape in
-    let below : i < is.0.refs = is.2 in
-    behind_header maps s a object n o.number (2 + i) (object + 2 + i) o.header formed named o.named o.starts
-    (omega arith) (omega arith) (omega arith)
+module _ (maps : Maps) (s : State) where
+  slot_below : (object i : ℕ) (is : IsPlace maps s (Field object i)) → i < is.1.header.shape.refs
+  slot_below object i is =
+      let refs : is.1.header.shape.refs ≡ is.0.refs = ap (λ (x : Shape). x.refs) is.1.shape_is in
+      let below : i < is.0.refs = is.2 in
+      omega arith
 
--- a number word is no header and no slot
-number_not_named : (maps : Maps) (s : State) (object n j : ℕ) (shape : Shape) → FormedWords maps s →
-    IsNumberWord maps s object shape n j → NotNamed maps (number_place object shape j)
-number_not_named maps s object n j shape formed is a m named =
-    let o = is.object_is in
-    let same : o.header.shape ≡ shape = o.shape_is in
-    let cost : cost_of o.header.shape ≡ cost_of shape = ap cost_of same in
-    let below : j < shape.nums = is.below in
-    behind_header maps s a object m o.number (2 + shape.refs + j) (number_place object shape j)
-    o.header formed named o.named o.starts (omega arith) (omega arith) (omega arith)
+  -- a place in an object is one of its slots
+  pub place_part : (object i : ℕ) (is : IsPlace maps s (Field object i)) →
+      PartAt maps s object is.1.number (2 + i) (object + 2 + i) is.1.header
+  place_part object i is =
+      slot_part maps s object is.1.number i is.1.header is.1.named is.1.starts (slot_below object i is)
 
-number_no_slot : (maps : Maps) (s : State) (object n j : ℕ) (shape : Shape) → FormedWords maps s →
-    IsNumberWord maps s object shape n j → NoSlot maps s (number_place object shape j)
-number_no_slot maps s object n j shape formed is b i place =
-    let o = is.object_is in
-    let p = place.1 in
-    let same : o.header.shape ≡ shape = o.shape_is in
-    let cost : cost_of o.header.shape ≡ cost_of shape = ap cost_of same in
-    let refs : o.header.shape.refs ≡ shape.refs = ap (λ (x : Shape). x.refs) same in
-    let theirs : p.header.shape.refs ≡ place.0.refs = ap (λ (x : Shape). x.refs) p.shape_is in
-    let below : j < shape.nums = is.below in
-    let slot : i < place.0.refs = place.2 in
-    elim (one_part maps s object b o.number p.number (2 + shape.refs + j) (2 + i) (number_place object shape j)
-    (b + 2 + i) o.header p.header formed o.named p.named o.starts p.starts
-    (omega arith) (omega arith) (omega arith) (omega arith)) [
-      | inl one ↦
-          let e : p.header.shape.refs ≡ o.header.shape.refs = ap (λ (x : Header). x.shape.refs) one.1 in
-          let q : 2 + i ≡ 2 + shape.refs + j = one.2 in
-          absurd (omega arith)
-      | inr other ↦ other
-    ]
+  pub number_word_part : (object n j : ℕ) (shape : Shape) (is : IsNumberWord maps s object shape n j) →
+      PartAt maps s object is.object_is.number (2 + shape.refs + j) (number_place object shape j) is.object_is.header
+  number_word_part object n j shape is =
+      let o = is.object_is in
+      let cost : cost_of o.header.shape ≡ cost_of shape = ap cost_of o.shape_is in
+      let below : j < shape.nums = is.below in
+      record { named = o.named; starts = o.starts; within = omega arith; is = omega arith }
 
--- what happens in the first of two stretches apart is not where the second begins, and not in it
-pub in_first : (a b : Region) (at k : ℕ) → Apart a b → a.at ≤ at → at < a.at + a.words → b.at ≤ k → k < b.at + b.words →
-    k ≢ at
-in_first a b at k apart from to from_b to_b = λ same.
-    let differ : 0 < a.words → 0 < b.words → a.at ≢ b.at = apart.differ in
-    let before : a.at < b.at → a.at + a.words ≤ b.at = apart.before in
-    let behind : b.at < a.at → b.at + b.words ≤ a.at = apart.behind in
-    grind arith
+  -- behind the header of an object no object stands
+  behind_not_named : (b m q y : ℕ) (k : Header) → FormedWords maps s → PartAt maps s b m q y k → 1 ≤ q → NotNamed maps y
+  behind_not_named b m q y k formed part behind a n named = λ same.
+      let object = formed.objects a n named in
+      parts_differ maps s a b n m 0 q a y object.0 k formed (head_part maps s a n object.0 named object.1.starts) part
+      (λ (first : q ≡ 0). omega arith) (sym same)
 
--- a word of a region is in no object
-owned_not_named : (maps : Maps) (s : State) (r : Region) (at : ℕ) → FormedWords maps s → Owns maps s r → r.at ≤ at →
-    at < r.at + r.words → NotNamed maps at
-owned_not_named maps s r at formed owns from to a n named = λ same.
-    let object = formed.objects a n named in
-    in_first (record { at = a; words = cost_of object.0.shape }) r a at
-    (owns.outside a n object.0 named object.1.starts) (omega arith) (omega arith) from to (sym same)
+  slot_not_named : (object i : ℕ) → FormedWords maps s → IsPlace maps s (Field object i) →
+      NotNamed maps (object + 2 + i)
+  slot_not_named object i formed is =
+      behind_not_named object is.1.number (2 + i) (object + 2 + i) is.1.header formed (place_part object i is)
+      (omega arith)
 
-owned_no_slot : (maps : Maps) (s : State) (r : Region) (at : ℕ) → Owns maps s r → r.at ≤ at → at < r.at + r.words →
-    NoSlot maps s at
-owned_no_slot maps s r at owns from to object i place = λ same.
-    let p = place.1 in
-    let refs : p.header.shape.refs ≡ place.0.refs = ap (λ (x : Shape). x.refs) p.shape_is in
-    let slot : i < place.0.refs = place.2 in
-    in_first (record { at = object; words = cost_of p.header.shape }) r (object + 2 + i) at
-    (owns.outside object p.number p.header p.named p.starts) (omega arith) (omega arith) from to (sym same)
+  number_not_named : (object n j : ℕ) (shape : Shape) → FormedWords maps s → IsNumberWord maps s object shape n j →
+      NotNamed maps (number_place object shape j)
+  number_not_named object n j shape formed is =
+      behind_not_named object is.object_is.number (2 + shape.refs + j) (number_place object shape j)
+      is.object_is.header formed (number_word_part object n j shape is) (omega arith)
+
+  -- a number word is no slot
+  number_no_slot : (object n j : ℕ) (shape : Shape) → FormedWords maps s → IsNumberWord maps s object shape n j →
+      NoSlot maps s (number_place object shape j)
+  number_no_slot object n j shape formed is b i place = λ same.
+      let o = is.object_is in
+      let p = place.1 in
+      let part : PartAt maps s b p.number (2 + i) (b + 2 + i) p.header = place_part b i place in
+      let slot : i < p.header.shape.refs = slot_below b i place in
+      let refs : o.header.shape.refs ≡ shape.refs = ap (λ (x : Shape). x.refs) o.shape_is in
+      let below : j < o.header.shape.nums = omega (arith, is.below, ap (λ (x : Shape). x.nums) o.shape_is) in
+      slot_or_number maps s b object p.number o.number i j p.header o.header formed part
+      (number_part maps s object o.number j o.header o.named o.starts below) slot (omega arith)
+
+  -- a word of a region is in no object
+  owned_not_named : (r : Region) (at : ℕ) → FormedWords maps s → Owns maps s r → r.at ≤ at → at < r.at + r.words →
+      NotNamed maps at
+  owned_not_named r at formed owns from to a n named =
+      let object = formed.objects a n named in
+      part_outside maps s r a n 0 a at object.0 owns (head_part maps s a n object.0 named object.1.starts) from to
+
+  owned_no_slot : (r : Region) (at : ℕ) → Owns maps s r → r.at ≤ at → at < r.at + r.words → NoSlot maps s at
+  owned_no_slot r at owns from to object i place =
+      part_outside maps s r object place.1.number (2 + i) (object + 2 + i) at place.1.header owns
+      (place_part object i place) from to
 
 -- a word changes: no tag is put on a slot
 settles_word : (maps : Maps) (s t : State) (at word : ℕ) → WordChanges s t at word →

@@ -7,3 +7,4 @@ pub mod Regions
 pub mod Places
 pub mod Holding
 pub mod Legality
+pub mod Keeping

@@ -12,12 +12,13 @@ use Rattle.melt_scion.specs.Placed.{Maps, FormedWords}
 use Rattle.melt_scion.specs.Regions.{Region, Apart, Owns}
 use Rattle.melt_scion.specs.Changes.{NameAppears}
 use Rattle.melt_scion.proofs.Geometry.{one_header}
+use Rattle.melt_scion.proofs.Parts.{head_part, part_outside}
 use Rattle.melt_core.specs.declared.call.Place.{Place}
 use Rattle.melt_core.specs.declared.call.Place.TheVariants.{Field, Global}
-use Rattle.melt_core.specs.Known.{IsObjectAt, IsPlace, region, Evolves, RegionStays}
+use Rattle.melt_core.specs.Known.{IsPlace, region, Evolves, RegionStays}
 use Rattle.melt_core.specs.Events.{PlaceChanges, number_place, Event}
 use Rattle.melt_core.proofs.Staying.{headers_were}
-use Rattle.melt_core.proofs.Evolving.{in_first, evolves_event}
+use Rattle.melt_core.proofs.Evolving.{place_part, number_word_part, evolves_event}
 
 -- an object that was there before, or one apart from the region
 abbrev pub OldOrApart : Maps → ℕ → ℕ → Header → Region → Type 0
@@ -48,23 +49,22 @@ region_stays maps new s t cleared r formed evolves owns word old = record {
   };
 }
 
--- a word of an object is not in a region
-object_outside : (maps : Maps) (s : State) (r : Region) (object at k : ℕ) (shape : Shape) → Owns maps s r →
-    IsObjectAt maps s object shape → object ≤ at → at < object + cost_of shape →
-    r.at ≤ k → k < r.at + r.words → k ≢ at
-object_outside maps s r object at k shape owns is from to from_r to_r =
-    let cost : cost_of is.header.shape ≡ cost_of shape = ap cost_of is.shape_is in
-    in_first (record { at = object; words = cost_of is.header.shape }) r at k
-    (owns.outside object is.number is.header is.named is.starts) from (omega arith) from_r to_r
+-- what happens in one of two stretches apart happens outside the other
+in_first : (a b : Region) (at k : ℕ) → Apart a b → a.at ≤ at → at < a.at + a.words → b.at ≤ k → k < b.at + b.words →
+    k ≢ at
+in_first a b at k apart from to from_b to_b = λ same.
+    let differ : 0 < a.words → 0 < b.words → a.at ≢ b.at = apart.differ in
+    let before : a.at < b.at → a.at + a.words ≤ b.at = apart.before in
+    let behind : b.at < a.at → b.at + b.words ≤ a.at = apart.behind in
+    grind arith
 
 -- where a place changes, the words of a region stay
 place_outside : (maps : Maps) (s t : State) (r : Region) (place : Place) (word : ℕ) → Owns maps s r →
     IsPlace maps s place → PlaceChanges s t place word →
     (k : ℕ) → r.at ≤ k → k < r.at + r.words → t.word k ≡ s.word k
 place_outside maps s t r (Field object i) word owns is changes k from to =
-    let below : i < is.0.refs = is.2 in
-    changes.others k
-    (object_outside maps s r object (object + 2 + i) k is.0 owns is.1 (omega arith) (omega arith) from to)
+    changes.others k (λ same. part_outside maps s r object is.1.number (2 + i) (object + 2 + i) k is.1.header owns
+    (place_part maps s object i is) from to (sym same))
 place_outside maps s t r (Global g) word owns is changes k from to = changes.word_stays k
 
 -- the object that a region becomes is the one object that is new, and apart from the regions of others
@@ -99,10 +99,9 @@ module _ (told : Bool) (h : List Entry) (maps new : Maps) (s t : State) where
       place_outside maps s t r place (4 * address) owns slot changes k from to
   words_event mine cleared act r owns apart
       (Event.writes_number object n j word shape is number changes) k from to =
-      let below : j < shape.nums = number.below in
-      changes.others k
-      (object_outside maps s r object (number_place object shape j) k shape owns number.object_is
-      (omega arith) (omega arith) from to)
+      let o = number.object_is in
+      changes.others k (λ same. part_outside maps s r object o.number (2 + shape.refs + j) (number_place object shape j)
+      k o.header owns (number_word_part maps s object n j shape number) from to (sym same))
   words_event mine cleared act r owns apart (Event.claims words is moves) k from to = moves.word k
   words_event mine cleared act r owns apart (Event.stores own at word is owned first last changes) k from to =
       changes.others k (in_first own r at k apart first last from to)
@@ -110,9 +109,8 @@ module _ (told : Bool) (h : List Entry) (maps new : Maps) (s t : State) where
       (Event.publishes address stored shape small stores all changes appears) k from to =
       changes.others k (in_first (region address shape) r address k apart (omega arith) (omega arith) from to)
   words_event mine cleared act r owns apart (Event.clears address header is named starts changes) k from to =
-      changes.others k
-      (in_first (record { at = address; words = cost_of header.shape }) r address k
-      (owns.outside address named.0 header named.1 starts) (omega arith) (omega arith) from to)
+      changes.others k (λ same. part_outside maps s r address named.0 0 address k header owns
+      (head_part maps s address named.0 header named.1 starts) from to (sym same))
   words_event mine cleared act r owns apart
       (Event.untags place at found target value is slot range was named fresh same last changes) k from to =
       place_outside maps s t r place (4 * target) owns slot changes k from to
