@@ -16,7 +16,8 @@ use Rattle.melt_word.specs.declared.reference.Ref as words
 use Rattle.melt_word.specs.declared.reference.Ref.TheVariants.{Null, Clean}
 use Rattle.melt_word.proofs.OneToOne.{same_ref}
 use Rattle.melt_scion.specs.State.{State, HeaderAt, IsFresh, NoGaps}
-use Rattle.melt_scion.specs.Placed.{Maps, IsNamed, IsReferenceWord, MayHold, value_of, value_at, Stands, FormedWords, Tells}
+use Rattle.melt_scion.specs.Placed.{Maps, IsNamed, IsReferenceWord, MayHold, value_of, value_at, Stands, FormedWords}
+use Rattle.melt_scion.specs.Placed.{Tells}
 use Rattle.melt_scion.specs.Changes.{WordChanges, GlobalChanges}
 use Rattle.melt_scion.proofs.Keeping.{NoGaps_stays}
 use Rattle.melt_scion.proofs.Following.{ValueChanges}
@@ -103,7 +104,7 @@ place_is_slot h maps s (Field object i) at tells is where_at =
     let below : i < o.header.shape.refs = below_refs i o.header.shape is.0 o.shape_is is.2 in
     subst (IsSlot h s.base.globals) (sym where_at.2)
     (subst (λ (z : Option model.Shape). IsSomeAnd z (λ y. i < y.refs))
-        (sym (tells.shapes object where_at.0 o.header where_at.1 o.starts)) below)
+    (sym (tells.shapes object where_at.0 o.header where_at.1 o.starts)) below)
 place_is_slot h maps s (Global g) at tells is where_at = subst (IsSlot h s.base.globals) (sym where_at) is
 
 -- what a register holds was made

@@ -8,7 +8,7 @@ use Rattle.melt_word.specs.declared.header.Header.{Header}
 use Rattle.melt_forward.specs.Forwarding.{Sends}
 use Rattle.melt_scion.specs.State.{Base, State, HeaderAt, ObjectAt, Forwards}
 use Rattle.melt_scion.specs.Placed.{Maps, IsReferenceWord, IsHomeWord, ForwardMayStand, FormedWords}
-use Rattle.melt_scion.specs.Regions.{Region, Apart, Owns}
+use Rattle.melt_scion.specs.Regions.{Region, Owns}
 use Rattle.melt_scion.specs.Changes.{NameAppears}
 use Rattle.melt_scion.proofs.Geometry.{one_header, header_moves}
 use Rattle.melt_scion.proofs.Keeping.{KeepsObjects, IsReferenceWord_stays}

@@ -1,7 +1,7 @@
 -- What the words tell when a stretch outside all objects becomes an object.
-use Rattle.std.proofs.Common.{◌≡◌, ◌≢◌, ℕ, ◌+◌, ◌<◌, ◌≤◌, refl, sym, ◌∙◌, ap, subst, arith, ◌⊎◌, inl, inr, List}
+use Rattle.std.proofs.Common.{◌≡◌, ◌≢◌, ℕ, ◌+◌, ◌<◌, sym, ◌∙◌, ap, subst, arith, ◌⊎◌, inl, inr, List}
 use Rattle.std.proofs.lemmas.Bool.Decides.{eqb_tells}
-use Rattle.std.specs.Prelude.{Some, false, Contains}
+use Rattle.std.specs.Prelude.{Some, Contains}
 use Rattle.melt_model.specs.History as model
 use Rattle.melt_model.specs.History.{shape, last}
 use Rattle.melt_model.specs.declared.history.Entry.{Entry}
@@ -10,13 +10,11 @@ use Rattle.melt_model.specs.declared.history.Slot.TheVariants.{Field, Cell, Glob
 use Rattle.melt_word.specs.Words.{IsHomeAndScion, home_word}
 use Rattle.melt_word.specs.declared.header.Shape.{Shape}
 use Rattle.melt_word.specs.declared.header.Header.{Header}
-use Rattle.melt_word.specs.declared.home.HomeWord.{HomeWord}
-use Rattle.melt_record.specs.declared.head.Head.{Head}
 use Rattle.melt_record.specs.declared.head.Kind.TheVariants.{Stub}
-use Rattle.melt_scion.specs.State.{Base, Scion, State, HeaderAt, Follow}
+use Rattle.melt_scion.specs.State.{Base, State, HeaderAt, Follow}
 use Rattle.melt_scion.specs.Placed.{Maps, HeadIs, IsFreeHome, Stands, HomeStands, FormedWords, Tells}
 use Rattle.melt_scion.proofs.Keeping.{KeepsObjects, Stands_stays}
-use Rattle.melt_scion.proofs.Parts.{PartAt, home_part, slot_part, number_part}
+use Rattle.melt_scion.proofs.Parts.{PartAt, slot_part, number_part}
 use Rattle.melt_scion.proofs.Following.{SameValues}
 use Rattle.melt_scion.proofs.Homes.{IsNowhere, BodyKeeps, HomeStands_stays}
 use Rattle.melt_scion.proofs.Frame.{taken_stays}

@@ -1,5 +1,5 @@
 -- How the values of one history follow from those of another.
-use Rattle.std.proofs.Common.{◌≡◌, ℕ, refl, ap, List, [], ◌∷◌, ◌++◌}
+use Rattle.std.proofs.Common.{◌≡◌, ℕ, refl, List, [], ◌∷◌, ◌++◌}
 use Rattle.std.specs.Prelude.{None, Some, false}
 use Rattle.melt_model.specs.History.{Shape, shape, write_of, slot_eq, last}
 use Rattle.melt_model.specs.declared.history.Entry.{Entry}

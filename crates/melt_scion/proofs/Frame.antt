@@ -10,10 +10,11 @@ use Rattle.melt_word.specs.declared.header.Shape as words
 use Rattle.melt_word.specs.declared.header.Header.{Header}
 use Rattle.melt_forward.specs.Forwarding.{Sends}
 use Rattle.melt_scion.specs.State.{Base, Scion, State, HeaderAt, ObjectAt, Follow}
-use Rattle.melt_record.specs.declared.head.Head.{Head}
 use Rattle.melt_record.specs.declared.head.Kind.TheVariants.{Stub}
-use Rattle.melt_scion.specs.Placed.{Maps, HasObject, HeadIs, IsFreeHome, IsReferenceWord, IsHomeWord, ScionStands, ForwardMayStand, Stands, IsTaken, FormedWords, Tells}
-use Rattle.melt_scion.proofs.Keeping.{KeepsObjects, IsReferenceWord_stays, IsHomeWord_stays, ScionStands_stays, ForwardMayStand_stays}
+use Rattle.melt_scion.specs.Placed.{Maps, HasObject, HeadIs, IsFreeHome, IsReferenceWord, IsHomeWord, ScionStands}
+use Rattle.melt_scion.specs.Placed.{ForwardMayStand, Stands, IsTaken, FormedWords, Tells}
+use Rattle.melt_scion.proofs.Keeping.{KeepsObjects, IsReferenceWord_stays, IsHomeWord_stays, ScionStands_stays}
+use Rattle.melt_scion.proofs.Keeping.{ForwardMayStand_stays}
 use Rattle.melt_scion.proofs.Homes.{BodyKeeps, HomeStands_stays}
 
 -- the words of the later state may stand in the earlier one

@@ -1,11 +1,11 @@
 -- What registers hold, and what they stand for.
-use Rattle.std.proofs.Common.{◌≡◌, ℕ, Bool, true, false, cond, eqb, ◌&&◌, refl, sym, ◌∙◌, ap, subst, List}
+use Rattle.std.proofs.Common.{◌≡◌, ℕ, Bool, true, false, cond, eqb, ◌&&◌, sym, ◌∙◌, ap, subst, List}
 use Rattle.std.proofs.lemmas.Bool.{cond_both}
 use Rattle.std.specs.Prelude.{Some}
 use Rattle.melt_model.specs.declared.history.Entry.{Entry}
 use Rattle.melt_model.specs.declared.history.Value.{Value}
 use Rattle.melt_scion.specs.State.{State}
-use Rattle.melt_scion.specs.Placed.{Maps, MayHold, FormedWords, Formed, value_at, Placed}
+use Rattle.melt_scion.specs.Placed.{Maps, MayHold, Formed, value_at, Placed}
 use Rattle.melt_scion.specs.Changes.{RegisterChanges, with_value}
 use Rattle.melt_scion.proofs.Keeping.{MayHold_stays}
 use Rattle.melt_scion.proofs.Following.{same_history}

@@ -1,17 +1,16 @@
 -- What a change that keeps each object where it is keeps of references, home words, scions and forwarding words.
 use Rattle.std.proofs.Common.{◌≡◌, ℕ, zero, suc, ◌+◌, ◌<◌, ◌≤◌, refl, sym, ◌∙◌, ap, subst, arith, inl, inr}
-use Rattle.std.specs.Prelude.{◌↔◌, ◌≢◌, Option, None, Some, false}
+use Rattle.std.specs.Prelude.{◌↔◌, Option, None, Some, false}
 use Rattle.std.specs.Option.{option_map}
 use Rattle.melt_model.specs.declared.history.Value.{Value}
 use Rattle.melt_model.specs.declared.history.Value.TheVariants.{Ref}
-use Rattle.melt_word.specs.Words.{home_word}
 use Rattle.melt_word.specs.declared.header.Header.{Header}
-use Rattle.melt_word.specs.declared.home.HomeWord.{HomeWord}
 use Rattle.melt_word.specs.declared.reference.Ref as reference
 use Rattle.melt_word.specs.declared.reference.Ref.TheVariants.{Null, Clean, Stale, Disk}
 use Rattle.melt_forward.specs.Forwarding.{Sends, probe}
 use Rattle.melt_scion.specs.State.{Base, Scion, State, HeaderAt, IsFresh, Forwards, NoGaps}
-use Rattle.melt_scion.specs.Placed.{Maps, IsNamed, HasObject, MayStand, IsReferenceWord, MayHold, HasHome, IsHomeWord, ScionStands, ForwardStands, ForwardMayStand, value_of, value_at, Stands}
+use Rattle.melt_scion.specs.Placed.{Maps, IsNamed, HasObject, MayStand, IsReferenceWord, MayHold, HasHome, IsHomeWord}
+use Rattle.melt_scion.specs.Placed.{ScionStands, ForwardStands, ForwardMayStand, value_of, value_at, Stands}
 
 -- Objects keep their addresses, their shapes and their home words, and none gets the stale bit. New ones may appear.
 pub record KeepsObjects (maps new : Maps) (s t : State) : Type 0 where

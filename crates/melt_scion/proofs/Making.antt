@@ -1,8 +1,7 @@
 -- An object without a home appears, in words that its thread set to 0.
-use Rattle.std.proofs.Common.{◌≡◌, ◌≢◌, ℕ, ◌+◌, ◌<◌, ◌≤◌, refl, sym, ◌∙◌, ap, subst, arith, inl, inr, List, [], ◌∷◌, ◌++◌}
+use Rattle.std.proofs.Common.{◌≡◌, ◌≢◌, ℕ, ◌+◌, ◌<◌, ◌≤◌, refl, sym, ◌∙◌, ap, subst, arith, inl, List, [], ◌∷◌, ◌++◌}
 use Rattle.std.specs.Prelude.{Some, false}
-use Rattle.melt_model.specs.History as model
-use Rattle.melt_model.specs.History.{shape, made, write_of, last, Legal}
+use Rattle.melt_model.specs.History.{shape, made, write_of, Legal}
 use Rattle.melt_model.specs.declared.history.Entry.{Entry}
 use Rattle.melt_model.specs.declared.history.Act.TheVariants.{Make}
 use Rattle.melt_model.specs.declared.history.Value.TheVariants.{Nil, Num}
@@ -10,8 +9,6 @@ use Rattle.melt_model.specs.declared.history.Slot.TheVariants.{Field, Cell}
 use Rattle.melt_model.proofs.Histories.{last_unmade, last_unmade_cell}
 use Rattle.melt_word.specs.Words.{IsShape, IsHomeAndScion, header_word, home_word, cost_of}
 use Rattle.melt_word.specs.declared.header.Shape.{Shape}
-use Rattle.melt_word.specs.declared.header.Header.{Header}
-use Rattle.melt_word.specs.declared.home.HomeWord.{HomeWord}
 use Rattle.melt_word.specs.declared.reference.Ref.TheVariants.{Null}
 use Rattle.melt_forward.specs.Forwarding.{Sends}
 use Rattle.melt_scion.specs.State.{Base, State}
@@ -23,7 +20,7 @@ use Rattle.melt_scion.proofs.Entries.{was_made, made_shape}
 use Rattle.melt_scion.proofs.Following.{quiet_entry}
 use Rattle.melt_scion.proofs.Homes.{IsNowhere}
 use Rattle.melt_scion.proofs.Entering.{stretch, ObjectAppears, NewWords, keeps_appears, Formed_enters}
-use Rattle.melt_scion.proofs.EnteringTells.{NewTells, Tells_enters}
+use Rattle.melt_scion.proofs.EnteringTells.{Tells_enters}
 
 -- the word of Null may stand anywhere
 pub null_may : (maps : Maps) (s : State) (word : ℕ) → word ≡ 0 → IsReferenceWord maps s word

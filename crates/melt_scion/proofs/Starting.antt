@@ -1,14 +1,13 @@
 -- A state without objects and homes stands for the empty history.
-use Rattle.std.proofs.Common.{◌≡◌, ◌≢◌, ℕ, zero, suc, ◌+◌, ◌<◌, ◌≤◌, refl, sym, ◌∙◌, ap, subst, arith, inl, List, [], length, replicate, Bool}
+use Rattle.std.proofs.Common.{◌≡◌, ◌≢◌, ℕ, zero, suc, ◌<◌, refl, sym, ◌∙◌, ap, subst, arith, inl, List, [], length}
+use Rattle.std.proofs.Common.{replicate, Bool}
 use Rattle.std.proofs.lemmas.List.{get_or-replicate, length-replicate}
 use Rattle.std.specs.Prelude.{◌^◌, Option, None, Some, Contains, slice_index}
-use Rattle.melt_model.specs.History.{last}
-use Rattle.melt_model.specs.declared.history.Value.{Value}
 use Rattle.melt_model.specs.declared.history.Value.TheVariants.{Nil}
 use Rattle.melt_word.specs.declared.header.Shape.{Shape}
 use Rattle.melt_forward.specs.Forwarding.{Sends, forward_word, probe}
-use Rattle.melt_scion.specs.State.{Base, State, NoGaps, IsReserved, Follow}
-use Rattle.melt_scion.specs.Placed.{Maps, HasObject, IsTaken, FormedWords, Formed, Tells, Placed, value_at}
+use Rattle.melt_scion.specs.State.{State, NoGaps, IsReserved, Follow}
+use Rattle.melt_scion.specs.Placed.{Maps, FormedWords, Formed, Tells, Placed, value_at}
 use Rattle.melt_scion.specs.Heaps.{state_of, IsNewHeap}
 use Rattle.melt_scion.specs.declared.registers.Registers.{Registers}
 use Rattle.melt_scion.specs.declared.heap.Heap.{Heap}

@@ -13,7 +13,7 @@ use Rattle.melt_scion.specs.Regions.{Region, Owns}
 use Rattle.melt_scion.specs.Changes.{SameWords, WordChanges, FreeMoves}
 use Rattle.melt_scion.proofs.Keeping.{KeepsObjects, NoGaps_stays}
 use Rattle.melt_scion.proofs.Parts.{PartAt, slot_part, number_part, part_outside}
-use Rattle.melt_scion.proofs.Following.{SameValues, same_history}
+use Rattle.melt_scion.proofs.Following.{SameValues}
 use Rattle.melt_scion.proofs.Homes.{BodyKeeps}
 use Rattle.melt_scion.proofs.Frame.{WordsMayStand, WordsTell, FormedWords_stay, Tells_stay}
 use Rattle.melt_scion.proofs.Changing.{keeps_words, keeps_free, keeps_ends, keeps_outside, behind_cleared, keeps_cleared}

@@ -1,5 +1,5 @@
 -- One slot, one number word or one global is replaced.
-use Rattle.std.proofs.Common.{◌≡◌, ◌≢◌, ℕ, ◌+◌, ◌<◌, ◌≤◌, refl, sym, ◌∙◌, ap, subst, arith, inl, inr, List}
+use Rattle.std.proofs.Common.{◌≡◌, ◌≢◌, ℕ, ◌+◌, ◌<◌, refl, sym, ◌∙◌, ap, subst, arith, inl, inr, List}
 use Rattle.std.proofs.lemmas.Bool.Decides.{eqb_tells}
 use Rattle.std.specs.Prelude.{Some, false}
 use Rattle.melt_model.specs.History.{last, slot_eq}
@@ -15,8 +15,7 @@ use Rattle.melt_scion.proofs.Geometry.{one_header}
 use Rattle.melt_scion.proofs.Parts.{PartAt, slot_part, number_part, same_slot, same_number, slot_or_number}
 use Rattle.melt_scion.proofs.Entries.{fields_differ, cells_differ}
 use Rattle.melt_scion.proofs.Following.{ValueChanges}
-use Rattle.melt_scion.proofs.Homes.{BodyKeeps}
-use Rattle.melt_scion.proofs.Frame.{WordsMayStand, WordsTell, FormedWords_stay, Tells_stay}
+use Rattle.melt_scion.proofs.Frame.{FormedWords_stay, Tells_stay}
 use Rattle.melt_scion.proofs.Changing.{keeps_part, keeps_global}
 
 -- what holds of a word that was replaced, or of one that stays
