@@ -163,6 +163,9 @@ has_run script config run heap rest report stands ended at_rest finished count t
       reported = reported;
       is_there = refl;
       left = record {
+        globals = ap length finished.globals ∙ table.globals;
+        words = ap length finished.words ∙ table.words;
+        named = at_rest.stands.named;
         maps = maps_of heap.names;
         names = names_are heap.names;
         placed = subst (λ (h : List Entry). Placed h (λ t r. Nil) (maps_of heap.names) (state_of heap [] 1)) (sym log) (placed_left heap rest at_rest);

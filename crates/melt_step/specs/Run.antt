@@ -129,8 +129,12 @@ pub record IsStepReport (script : Script) (config : Config) (report : Report) : 
   pub no_moves : All (λ j. j.phase ≢ Move) report.journal
   pub collected : collections script (replies_in report) (length report.threads) ≤ length report.journal
 
--- the heap stands for the history when all threads have ended
-pub record IsLeft (report : Report) (heap : Heap) : Type 0 where
+-- The heap that is left has the globals of the script, the words of the configuration, and names of its objects. It
+-- stands for the history when all threads have ended.
+pub record IsLeft (script : Script) (config : Config) (report : Report) (heap : Heap) : Type 0 where
+  pub globals : length heap.globals ≡ script.globals
+  pub words : length heap.space.list ≡ config.heap
+  pub named : IsSome heap.names
   pub maps : Maps
   pub names : HasNames heap.names maps
   pub placed : Placed report.log (λ t r. Nil) maps (state_of heap [] 1)
@@ -139,4 +143,4 @@ pub record IsLeft (report : Report) (heap : Heap) : Type 0 where
 pub record HasRun (script : Script) (config : Config) (report : Report) (heap : Option Heap) : Type 0 where
   pub reported : IsStepReport script config report
   pub is_there : IsSome heap
-  pub left : IfSome heap (IsLeft report)
+  pub left : IfSome heap (IsLeft script config report)
