@@ -1,7 +1,8 @@
 -- The collections that a run makes, and those that its threads wait for.
-use Rattle.std.proofs.Common.{◌≡◌, ℕ, ◌+◌, ◌<◌, ◌≤◌, suc, List, length, replicate, refl, sym, ◌∙◌, ap, subst, arith, ◌⊎◌, inl, inr}
+use Rattle.std.proofs.Common.{◌≡◌, ℕ, ◌+◌, ◌<◌, ◌≤◌, suc, true, false, List, [], ◌∷◌, length, length-append, replicate, refl, sym, ◌∙◌, ap, subst, arith, ◌⊎◌, inl, inr}
 use Rattle.std.proofs.Math.ListN.{set}
 use Rattle.std.specs.Prelude.{Option, None, Some, IsSome, slice_get, vec_capacity}
+use Rattle.melt_model.specs.declared.config.Config.{Config}
 use Rattle.melt_model.specs.declared.history.Value.TheVariants.{Nil}
 use Rattle.melt_model.specs.declared.operations.Op.{Op}
 use Rattle.melt_model.specs.declared.operations.Op.TheVariants.{Collect}
@@ -17,26 +18,27 @@ use Rattle.melt_step.specs.declared.seat.Seat.{Seat}
 use Rattle.melt_step.specs.declared.seat.Mode.{Mode}
 use Rattle.melt_step.specs.declared.seat.Mode.TheVariants.{Running, Due, Silent, Collecting, Asked, Lacking, Ended}
 use Rattle.melt_step.specs.Run.{collections}
-use Rattle.melt_step.specs.Seats.{with_first, left, MayGo, IsEnded, FitsMode, IsPlanning, replies_of, TableStands, TakesReply, DropsIfEnded, SeatTold, SeatStep, Collected, Notes, RunStands, ForCollection, jobs, jobs_of, CollectedFor}
+use Rattle.melt_step.specs.Seats.{DueBy, IsPaused, owes_silent, with_first, left, MayGo, IsEnded, FitsMode, IsPlanning, replies_of, TableStands, TakesReply, DropsIfEnded, SeatTold, SeatStep, Collected, Notes, RunStands, ForCollection, jobs, jobs_of, CollectedFor}
 use Rattle.melt_step.proofs.Tables.{Table_collected, Table_step, table_ready, collections_grow}
 use Rattle.melt_step.proofs.Modes.{nothing_keeps, dropped_keeps, Table_runs, ends_done, Table_gone, collections_mode}
 
 -- a collection was made, and written down
-pub Run_collected : (script : Script) (heap : ℕ) (old new : Run) → RunStands script heap old → Collected (view old.core) (view new.core) → Notes old.collector new.collector → new.seats.items ≡ old.seats.items → RunStands script heap new
-Run_collected script heap old new stands collected notes same = record {
-  table = subst (TableStands script heap (view new.core)) (sym same) (Table_collected script heap (view old.core) (view new.core) old.seats.items stands.table collected);
+pub Run_collected : (script : Script) (config : Config) (old new : Run) → RunStands script config old → Collected (view old.core) (view new.core) → Notes old.collector new.collector → new.every ≡ old.every → new.seats.items ≡ old.seats.items → RunStands script config new
+Run_collected script config old new stands collected notes every same = record {
+  table = subst (TableStands script config (view new.core)) (sym same) (Table_collected script config (view old.core) (view new.core) old.seats.items stands.table collected);
+  every = every ∙ stands.every;
   planning = notes.planning;
   collected = omega (arith, notes.count, stands.collected, ap (λ (seats : List Seat). collections script (replies_of seats) (length script.programs)) same);
 }
 
 -- the next operation of a thread that waits for its own collection is that
-pub collecting_op : (script : Script) (heap : ℕ) (run : Run) (t : ℕ) (s : Seat) → RunStands script heap run → slice_get run.seats.items t ≡ Some s → s.mode ≡ Collecting → s.op ≡ Some Collect
-collecting_op script heap run t s stands at is = subst (λ (m : Mode). FitsMode m s.op) is (stands.table.each t s at).fits
+pub collecting_op : (script : Script) (config : Config) (run : Run) (t : ℕ) (s : Seat) → RunStands script config run → slice_get run.seats.items t ≡ Some s → s.mode ≡ Collecting → s.op ≡ Some Collect
+collecting_op script config run t s stands at is = subst (λ (m : Mode). FitsMode m s.op) is (stands.table.each t s at).fits
 
 -- it has room for the reply
-pub collecting_room : (script : Script) (heap : ℕ) (run : Run) (t : ℕ) (s : Seat) → RunStands script heap run → slice_get run.seats.items t ≡ Some s → s.mode ≡ Collecting → length s.replies.items < vec_capacity s.replies
-collecting_room script heap run t s stands at is =
-    (table_ready script heap (view run.core) run.seats.items t s stands.table at).room (subst IsSome (sym (collecting_op script heap run t s stands at is)) refl)
+pub collecting_room : (script : Script) (config : Config) (run : Run) (t : ℕ) (s : Seat) → RunStands script config run → slice_get run.seats.items t ≡ Some s → s.mode ≡ Collecting → length s.replies.items < vec_capacity s.replies
+collecting_room script config run t s stands at is =
+    (table_ready script config (view run.core) run.seats.items t s stands.table at).room (subst IsSome (sym (collecting_op script config run t s stands at is)) refl)
 
 -- a thread that has ended has dropped its registers, and else nothing has changed
 drops_cases : (v w : View) (t : ℕ) (mode : Mode) → DropsIfEnded v w t mode → (IsEnded mode × HasDropped v w t) ⊎ ((IsEnded mode → ⊥) × (w ≡ v))
@@ -80,17 +82,18 @@ collect_step v w t s after stands no_call mode next takes drops = elim (drops_ca
 ]
 
 -- the collection that is the next operation of a thread was made, and the thread got its reply
-pub Run_answered : (script : Script) (heap : ℕ) (old new : Run) (core : Core) (t : ℕ) (s after : Seat) → RunStands script heap old → slice_get old.seats.items t ≡ Some s → s.mode ≡ Collecting → Collected (view old.core) (view core) → Notes old.collector new.collector → TakesReply s after reply.Done → DropsIfEnded (view core) (view new.core) t after.mode → new.seats.items ≡ set old.seats.items t after → RunStands script heap new
-Run_answered script heap old new core t s after stands at mode collected notes takes drops same =
+pub Run_answered : (script : Script) (config : Config) (old new : Run) (core : Core) (t : ℕ) (s after : Seat) → RunStands script config old → slice_get old.seats.items t ≡ Some s → s.mode ≡ Collecting → Collected (view old.core) (view core) → Notes old.collector new.collector → TakesReply s after reply.Done → DropsIfEnded (view core) (view new.core) t after.mode → DueBy old.every s after → new.every ≡ old.every → new.seats.items ≡ set old.seats.items t after → RunStands script config new
+Run_answered script config old new core t s after stands at mode collected notes takes drops due every same =
     let seats : List Seat = old.seats.items in
-    let table : TableStands script heap (view core) seats = Table_collected script heap (view old.core) (view core) seats stands.table collected in
+    let table : TableStands script config (view core) seats = Table_collected script config (view old.core) (view core) seats stands.table collected in
     let step : SeatStep (view core) (view new.core) t s after =
-    collect_step (view core) (view new.core) t s after collected.stands (collected.quiet t) mode (collecting_op script heap old t s stands at mode) takes drops in
+    collect_step (view core) (view new.core) t s after collected.stands (collected.quiet t) mode (collecting_op script config old t s stands at mode) takes drops in
     let grown : collections script (replies_of (set seats t after)) (length script.programs) ≤ collections script (replies_of seats) (length script.programs) + 1 =
-    collections_grow script heap (view core) (view new.core) seats t s after table at step in
+    collections_grow script config (view core) (view new.core) seats t s after table at step in
     record {
-      table = subst (TableStands script heap (view new.core)) (sym same)
-          (Table_step script heap (view core) (view new.core) seats t s after table at (λ over. subst IsEnded mode over) step);
+      table = subst (TableStands script config (view new.core)) (sym same)
+          (Table_step script config (view core) (view new.core) seats t s after table at (λ over. subst IsEnded mode over) step (subst (λ (n : ℕ). DueBy n s after) stands.every due));
+      every = every ∙ stands.every;
       planning = notes.planning;
       collected = omega (arith, grown, notes.count, stands.collected, ap (λ (xs : List Seat). collections script (replies_of xs) (length script.programs)) same);
     }
@@ -134,16 +137,16 @@ drops_nothing v t Lacking goes = refl
 drops_nothing v t (Ended e) goes = absurd (goes tt)
 
 -- all threads stand where one goes on
-Table_goes_on : (script : Script) (heap : ℕ) (v w : View) (seats : List Seat) (t : ℕ) (s after : Seat) → TableStands script heap v seats → slice_get seats t ≡ Some s → (IsEnded s.mode → ⊥) → call_of v t ≡ None → GoesOn s after → DropsIfEnded v w t after.mode → TableStands script heap w (set seats t after)
-Table_goes_on script heap v w seats t s after table at goes no_call on drops = elim on [
+Table_goes_on : (script : Script) (config : Config) (v w : View) (seats : List Seat) (t : ℕ) (s after : Seat) → TableStands script config v seats → slice_get seats t ≡ Some s → (IsEnded s.mode → ⊥) → call_of v t ≡ None → GoesOn s after → DropsIfEnded v w t after.mode → TableStands script config w (set seats t after)
+Table_goes_on script config v w seats t s after table at goes no_call on drops = elim on [
   | inl runs ↦
       let same : w ≡ v = subst (λ (x : Seat). DropsIfEnded v w t x.mode) runs.1 drops in
-      subst (λ (x : Seat). TableStands script heap w (set seats t x)) (sym runs.1)
-      (subst (λ (x : View). TableStands script heap x (set seats t (record s { mode = Running }))) (sym same) (Table_runs script heap v seats t s table at goes runs.0 no_call))
+      subst (λ (x : Seat). TableStands script config w (set seats t x)) (sym runs.1)
+      (subst (λ (x : View). TableStands script config x (set seats t (record s { mode = Running }))) (sym same) (Table_runs script config v seats t s table at goes runs.0 no_call))
   | inr ended ↦
       let dropped : HasDropped v w t = subst (λ (x : Seat). DropsIfEnded v w t x.mode) ended.1 drops in
-      subst (λ (x : Seat). TableStands script heap w (set seats t x)) (sym ended.1)
-      (Table_gone script heap v w seats t s end.Done table at goes dropped no_call (ends_done script heap v seats t s table at ended.0))
+      subst (λ (x : Seat). TableStands script config w (set seats t x)) (sym ended.1)
+      (Table_gone script config v w seats t s end.Done table at goes dropped no_call (ends_done script config v seats t s table at ended.0))
 ]
 
 -- it got no reply
@@ -154,21 +157,23 @@ goes_on_collections script seats t n s after at on =
     elim on [ inl runs ↦ by_mode Running runs.1 | inr ended ↦ by_mode (Ended end.Done) ended.1 ]
 
 -- the silent collection for which a thread waits was made, and the thread goes on
-pub Run_goes_on : (script : Script) (heap : ℕ) (old new : Run) (core : Core) (t : ℕ) (s after : Seat) → RunStands script heap old → slice_get old.seats.items t ≡ Some s → s.mode ≡ Silent → Collected (view old.core) (view core) → Notes old.collector new.collector → GoesOn s after → DropsIfEnded (view core) (view new.core) t after.mode → new.seats.items ≡ set old.seats.items t after → RunStands script heap new
-Run_goes_on script heap old new core t s after stands at mode collected notes on drops same =
+pub Run_goes_on : (script : Script) (config : Config) (old new : Run) (core : Core) (t : ℕ) (s after : Seat) → RunStands script config old → slice_get old.seats.items t ≡ Some s → s.mode ≡ Silent → Collected (view old.core) (view core) → Notes old.collector new.collector → GoesOn s after → DropsIfEnded (view core) (view new.core) t after.mode → new.every ≡ old.every → new.seats.items ≡ set old.seats.items t after → RunStands script config new
+Run_goes_on script config old new core t s after stands at mode collected notes on drops every same =
     let seats : List Seat = old.seats.items in
-    let table : TableStands script heap (view core) seats = Table_collected script heap (view old.core) (view core) seats stands.table collected in
+    let table : TableStands script config (view core) seats = Table_collected script config (view old.core) (view core) seats stands.table collected in
     record {
-      table = subst (TableStands script heap (view new.core)) (sym same)
-          (Table_goes_on script heap (view core) (view new.core) seats t s after table at (λ over. subst IsEnded mode over) (collected.quiet t) on drops);
+      table = subst (TableStands script config (view new.core)) (sym same)
+          (Table_goes_on script config (view core) (view new.core) seats t s after table at (λ over. subst IsEnded mode over) (collected.quiet t) on drops);
+      every = every ∙ stands.every;
       planning = notes.planning;
       collected = omega (arith, goes_on_collections script seats t (length script.programs) s after at on, notes.count, stands.collected, ap (λ (xs : List Seat). collections script (replies_of xs) (length script.programs)) same);
     }
 
 -- a run of the same core, collector and threads
-pub Run_same : (script : Script) (heap : ℕ) (old new : Run) → RunStands script heap old → new.core ≡ old.core → new.collector ≡ old.collector → new.seats.items ≡ old.seats.items → RunStands script heap new
-Run_same script heap old new stands core collector same = record {
-  table = subst (λ (x : Core). TableStands script heap (view x) new.seats.items) (sym core) (subst (TableStands script heap (view old.core)) (sym same) stands.table);
+pub Run_same : (script : Script) (config : Config) (old new : Run) → RunStands script config old → new.core ≡ old.core → new.collector ≡ old.collector → new.every ≡ old.every → new.seats.items ≡ old.seats.items → RunStands script config new
+Run_same script config old new stands core collector every same = record {
+  table = subst (λ (x : Core). TableStands script config (view x) new.seats.items) (sym core) (subst (TableStands script config (view old.core)) (sym same) stands.table);
+  every = every ∙ stands.every;
   planning = subst IsPlanning (sym collector) stands.planning;
   collected = omega (arith, stands.collected, ap (λ (x : Collector). length x.journal.items) collector, ap (λ (xs : List Seat). collections script (replies_of xs) (length script.programs)) same);
 }
@@ -190,7 +195,15 @@ answered_fewer s after mode next takes =
         | inr ended ↦ omega (arith, had, jobs_by after (Ended end.Done) n ended.0 to_come)
       ]
     ] in
-    record { fewer = λ waits. less; same = λ never. absurd (never (subst ForCollection (sym mode) tt)) }
+    record {
+      fewer = λ waits. less;
+      goes = λ waits paused. elim takes.fits [
+        | inl runs ↦ subst IsPaused runs.0 paused
+        | inr rest ↦ elim rest [ inl due ↦ subst IsPaused due paused | inr ended ↦ subst IsPaused ended.0 paused ]
+      ];
+      owes = λ waits owes. (next, omega (arith, ap length takes.replies, length-append s.replies.items (reply.Done ∷ [])));
+      same = λ never. absurd (never (subst ForCollection (sym mode) tt));
+    }
 
 -- and so has one that goes on
 pub goes_on_fewer : (s after : Seat) → s.mode ≡ Silent → GoesOn s after → CollectedFor s after
@@ -201,7 +214,18 @@ goes_on_fewer s after mode on =
       | inl runs ↦ omega (arith, had, ap jobs_of runs.1)
       | inr ended ↦ omega (arith, had, ap jobs_of ended.1)
     ] in
-    record { fewer = λ waits. less; same = λ never. absurd (never (subst ForCollection (sym mode) tt)) }
+    record {
+      fewer = λ waits. less;
+      goes = λ waits paused. elim on [
+        | inl runs ↦ subst (λ (x : Seat). IsPaused x.mode) runs.1 paused
+        | inr ended ↦ subst (λ (x : Seat). IsPaused x.mode) ended.1 paused
+      ];
+      owes = λ waits owes. absurd (elim on [
+        | inl runs ↦ let wrong : false ≡ true = sym (ap (λ (x : Seat). owes_silent x.mode) runs.1) ∙ owes in cc
+        | inr ended ↦ let wrong : false ≡ true = sym (ap (λ (x : Seat). owes_silent x.mode) ended.1) ∙ owes in cc
+      ]);
+      same = λ never. absurd (never (subst ForCollection (sym mode) tt));
+    }
 
 -- a thread that waits for a collection waits for its own or for a silent one
 waits_for : (mode : Mode) → (mode ≡ Silent → ⊥) → (mode ≡ Collecting → ⊥) → ForCollection mode → ⊥
@@ -215,4 +239,11 @@ waits_for (Ended e) silent own waits = waits
 
 -- a thread that waits for no collection stays as it is
 pub other_stays : (s : Seat) (mode : Mode) → s.mode ≡ mode → (mode ≡ Silent → ⊥) → (mode ≡ Collecting → ⊥) → CollectedFor s s
-other_stays s mode is silent own = record { fewer = λ waits. absurd (waits_for mode silent own (subst ForCollection is waits)); same = λ never. refl }
+other_stays s mode is silent own =
+    let never : ForCollection s.mode → ⊥ = λ waits. waits_for mode silent own (subst ForCollection is waits) in
+    record {
+      fewer = λ waits. absurd (never waits);
+      goes = λ waits. absurd (never waits);
+      owes = λ waits. absurd (never waits);
+      same = λ stays. refl;
+    }

@@ -36,23 +36,25 @@ use Rattle.melt_step.proofs.Collecting.{names_are}
 use Rattle.melt_step.proofs.Cuts.{replies_here, replies_past, told_now}
 
 -- a moment, by other lists of the same replies
-IsCut_same : (script : Script) (log : List Entry) (a b : ℕ → List Reply) (cut : Cut) → ((t : ℕ) → a t ≡ b t) → IsCut script log a cut → IsCut script log b cut
-IsCut_same script log a b cut same is = record {
+IsCut_same : (script : Script) (log : List Entry) (a b : ℕ → List Reply) (config : Config) (cut : Cut) → ((t : ℕ) → a t ≡ b t) → IsCut script log a config cut → IsCut script log b config cut
+IsCut_same script log a b config cut same is = record {
   within = is.within;
   few = λ t. subst (λ (rs : List Reply). cut.replies t ≤ length rs) (same t) (is.few t);
   told = λ t. subst (λ (rs : List Reply). Transcript (take cut.entries log) t (operations script t) (take (cut.replies t) rs)) (same t) (is.told t);
   last = λ t ended. is.last t ended ∙ ap length (same t);
+  over = is.over;
 }
 
 -- the next operation had no room, by other lists of the same replies
-LacksRoom_same : (script : Script) (log : List Entry) (a b : ℕ → List Reply) (heap t held need : ℕ) → ((u : ℕ) → a u ≡ b u) → LacksRoom script log a heap t held need → LacksRoom script log b heap t held need
-LacksRoom_same script log a b heap t held need same lacks = record {
+LacksRoom_same : (script : Script) (log : List Entry) (a b : ℕ → List Reply) (config : Config) (t held need : ℕ) → ((u : ℕ) → a u ≡ b u) → LacksRoom script log a config t held need → LacksRoom script log b config t held need
+LacksRoom_same script log a b config t held need same lacks = record {
   cut = lacks.cut;
   is_cut = record {
-    is = IsCut_same script log a b lacks.cut same lacks.is_cut.is;
+    is = IsCut_same script log a b config lacks.cut same lacks.is_cut.is;
     count = lacks.is_cut.count ∙ ap length (same t);
     alive = lacks.is_cut.alive;
   };
+  over = lacks.over;
   dst = lacks.dst;
   refs = lacks.refs;
   nums = lacks.nums;
@@ -63,10 +65,10 @@ LacksRoom_same script log a b heap t held need same lacks = record {
 }
 
 -- an object had room, by other lists of the same replies
-HadRoom_same : (script : Script) (log : List Entry) (a b : ℕ → List Reply) (heap t k need : ℕ) → ((u : ℕ) → a u ≡ b u) → HadRoom script log a heap t k need → HadRoom script log b heap t k need
-HadRoom_same script log a b heap t k need same had = record {
+HadRoom_same : (script : Script) (log : List Entry) (a b : ℕ → List Reply) (config : Config) (t k need : ℕ) → ((u : ℕ) → a u ≡ b u) → HadRoom script log a config t k need → HadRoom script log b config t k need
+HadRoom_same script log a b config t k need same had = record {
   cut = had.cut;
-  is_cut = record { is = IsCut_same script log a b had.cut same had.is_cut.is; count = had.is_cut.count; alive = had.is_cut.alive };
+  is_cut = record { is = IsCut_same script log a b config had.cut same had.is_cut.is; count = had.is_cut.count; alive = had.is_cut.alive };
   fits = had.fits;
 }
 
@@ -93,10 +95,10 @@ replies_same seats report count threads t =
     ]
 
 -- why a thread may end so
-may_end : (script : Script) (config : Config) (report : Report) (seats : List Seat) (t : ℕ) (e : ThreadEnd) → ((u : ℕ) → replies_of seats u ≡ replies_in report u) → EndsSo script report.log seats config.heap t (Ended e) → MayEnd script config report t e
+may_end : (script : Script) (config : Config) (report : Report) (seats : List Seat) (t : ℕ) (e : ThreadEnd) → ((u : ℕ) → replies_of seats u ≡ replies_in report u) → EndsSo script report.log seats config t (Ended e) → MayEnd script config report t e
 may_end script config report seats t end.Done same ends = ap length (sym (same t)) ∙ ends
 may_end script config report seats t (end.OutOfHeap held need) same ends =
-    LacksRoom_same script report.log (replies_of seats) (replies_in report) config.heap t held need same ends.0
+    LacksRoom_same script report.log (replies_of seats) (replies_in report) config t held need same ends.0
 may_end script config report seats t end.DiskFault same ends = ends
 may_end script config report seats t (end.Damaged home at word) same ends = ends
 may_end script config report seats t end.Halted same ends = ends
@@ -116,7 +118,7 @@ placed_left heap rest at_rest =
 
 -- the report has the replies and the end of each thread, the journal and the history
 pub has_run : (script : Script) (config : Config) (run : Run) (heap : Heap) (rest : Rest) (report : Report)
-    → RunStands script config.heap run → ((t : ℕ) (s : Seat) → slice_get run.seats.items t ≡ Some s → IsEnded s.mode)
+    → RunStands script config run → ((t : ℕ) (s : Seat) → slice_get run.seats.items t ≡ Some s → IsEnded s.mode)
     → AtRest heap rest → HasFinished (view run.core) (view (core_of heap rest))
     → length report.threads ≡ length run.seats.items
     → ((t : ℕ) (s : Seat) (r : ThreadReport) → slice_get run.seats.items t ≡ Some s → slice_get report.threads t ≡ Some r → (r.replies ≡ s.replies.items) × (s.mode ≡ Ended r.end))
@@ -125,7 +127,7 @@ pub has_run : (script : Script) (config : Config) (run : Run) (heap : Heap) (res
 has_run script config run heap rest report stands ended at_rest finished count threads journal halt log =
     let seats : List Seat = run.seats.items in
     let v : View = view run.core in
-    let table : TableStands script config.heap v seats = stands.table in
+    let table : TableStands script config v seats = stands.table in
     let history : v.log ≡ report.log = sym finished.log ∙ sym log in
     let same : (t : ℕ) → replies_of seats t ≡ replies_in report t = replies_same seats report count threads in
     let there : (t : ℕ) (r : ThreadReport) → slice_get report.threads t ≡ Some r → (s : Seat) × (slice_get seats t ≡ Some s) =
@@ -139,19 +141,19 @@ has_run script config run heap rest report stands ended at_rest finished count t
             let seat = there t r at in
             let replies : replies_of seats t ≡ r.replies = replies_here seats t seat.0 seat.1 ∙ sym (threads t seat.0 r seat.1 at).0 in
             subst (λ (h : List Entry). Transcript h t (operations script t) r.replies) history
-            (subst (λ (rs : List Reply). Transcript v.log t (operations script t) rs) replies (told_now script config.heap v seats t table));
+            (subst (λ (rs : List Reply). Transcript v.log t (operations script t) rs) replies (told_now script config v seats t table));
         own_threads = subst (λ (h : List Entry). All (λ (e : Entry). e.thread < length script.programs) h) history table.own;
       };
       ends = λ t r at.
           let seat = there t r at in
-          let ends : EndsSo script v.log seats config.heap t (Ended r.end) =
-          subst (λ (m : Mode). EndsSo script v.log seats config.heap t m) (threads t seat.0 r seat.1 at).1 (table.ends t seat.0 seat.1) in
-          may_end script config report seats t r.end same (subst (λ (h : List Entry). EndsSo script h seats config.heap t (Ended r.end)) history ends);
+          let ends : EndsSo script v.log seats config t (Ended r.end) =
+          subst (λ (m : Mode). EndsSo script v.log seats config t m) (threads t seat.0 r seat.1 at).1 (table.ends t seat.0 seat.1) in
+          may_end script config report seats t r.end same (subst (λ (h : List Entry). EndsSo script h seats config t (Ended r.end)) history ends);
       room = λ t k below dst refs nums is.
           let before : k < length (replies_of seats t) = subst (λ (rs : List Reply). k < length rs) (sym (same t)) below in
-          let had : HadNow script v.log seats config.heap t k (2 + refs + nums) = table.made t k before dst refs nums is in
-          HadRoom_same script report.log (replies_of seats) (replies_in report) config.heap t k (2 + refs + nums) same
-          (subst (λ (h : List Entry). HadRoom script h (replies_of seats) config.heap t k (2 + refs + nums)) history had.0);
+          let had : HadNow script v.log seats config t k (2 + refs + nums) = table.made t k before dst refs nums is in
+          HadRoom_same script report.log (replies_of seats) (replies_in report) config t k (2 + refs + nums) same
+          (subst (λ (h : List Entry). HadRoom script h (replies_of seats) config t k (2 + refs + nums)) history had.0);
       no_halt = halt;
       no_moves = subst (All (λ (j : Journal). j.phase ≢ Move)) (sym journal) moves;
       collected =

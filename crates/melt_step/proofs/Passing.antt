@@ -1,11 +1,13 @@
 -- What a safepoint does to all threads.
-use Rattle.std.proofs.Common.{◌≡◌, ℕ, ◌+◌, ◌<◌, ◌≤◌, true, false, List, length, refl, sym, ◌∙◌, ap, subst, arith, inl, inr}
+use Rattle.std.proofs.Common.{◌≡◌, ℕ, ◌+◌, ◌<◌, ◌≤◌, true, false, suc, List, ◌∷◌, length, drop, refl, sym, ◌∙◌, ap, subst, arith, inl, inr}
 use Rattle.std.proofs.Math.ListN.{set, length-set}
 use Rattle.std.proofs.lemmas.Bool.{cases_eq}
 use Rattle.std.proofs.lemmas.Option.{same_Some, slice_get_within, slice_get_cases}
 use Rattle.std.specs.Prelude.{Option, Some, IsSome, slice_get, slice_set, ◌⊎◌}
+use Rattle.melt_model.specs.declared.config.Config.{Config}
 use Rattle.melt_model.specs.declared.operations.Op.{Op}
-use Rattle.melt_trace.specs.Script.{Script}
+use Rattle.melt_model.specs.declared.operations.Op.TheVariants.{Collect}
+use Rattle.melt_trace.specs.Script.{Script, operations}
 use Rattle.melt_scion.specs.declared.heap.Heap.{Heap}
 use Rattle.melt_scion.specs.declared.heap.Names as names_of
 use Rattle.melt_scion.specs.declared.registers.Registers.{Registers}
@@ -16,7 +18,8 @@ use Rattle.melt_step.specs.declared.seat.Seat.{Seat}
 use Rattle.melt_step.specs.declared.seat.Mode.{Mode}
 use Rattle.melt_step.specs.declared.seat.Mode.TheVariants.{Running, Due, Silent, Collecting, Asked, Lacking, Ended}
 use Rattle.melt_step.specs.Run.{collections}
-use Rattle.melt_step.specs.Seats.{IsEnded, FitsMode, replies_of, TableStands, CallsAgain, ForCollection, Waits, KnowsStop, jobs, jobs_of, left, CollectedFor, CollectedAt, CollectedAll, CalledAt, Resumed, Passed, Renewed}
+use Rattle.melt_step.specs.Seats.{AllWait, MayGo, OweBehindCollects, SeatStands, owes_silent, with_first, IsEnded, FitsMode, replies_of, TableStands, CallsAgain, ForCollection, Waits, KnowsStop, jobs, jobs_of, left, CollectedFor, CollectedAt, CollectedAll, CalledAt, Resumed, Passed, Renewed}
+use Rattle.melt_step.proofs.Cuts.{first_left}
 use Rattle.melt_step.proofs.Modes.{Table_runs, collections_mode}
 use Rattle.melt_step.proofs.Tables.{set_got, Table_renewed}
 use Rattle.melt_step.proofs.Tables.{get_set_same, get_set_other}
@@ -71,7 +74,7 @@ pub record AgainBelow (seats after : List Seat) (n : ℕ) : Type 0 where
   pub count : length after ≡ length seats
   pub done : (t : ℕ) (s : Seat) → t < n → slice_get seats t ≡ Some s → (x : Seat) × (slice_get after t ≡ Some x) × MadeAgain s x
   pub rest : (t : ℕ) → n ≤ t → slice_get after t ≡ slice_get seats t
-  pub table : (script : Script) (heap : ℕ) (v : View) → TableStands script heap v seats → IsQuiet v → TableStands script heap v after
+  pub table : (script : Script) (config : Config) (v : View) → TableStands script config v seats → IsQuiet v → TableStands script config v after
   pub collected : (script : Script) (k : ℕ) → collections script (replies_of after) k ≡ collections script (replies_of seats) k
 
 -- none of them does so yet
@@ -80,7 +83,7 @@ again_none seats = record {
   count = refl;
   done = λ t s below at. absurd (omega (arith, below));
   rest = λ t above. refl;
-  table = λ script heap v table quiet. table;
+  table = λ script config v table quiet. table;
   collected = λ script k. refl;
 }
 
@@ -97,13 +100,13 @@ again_more seats after n s x so_far at made = record {
         (w.0, get_set_other after n t x other ∙ w.1, w.2)
   ];
   rest = λ t above. get_set_other after n t x (λ same. omega (arith, same, above)) ∙ so_far.rest t (omega (arith, above));
-  table = λ script heap v table quiet.
-      let before : TableStands script heap v after = so_far.table script heap v table quiet in
+  table = λ script config v table quiet.
+      let before : TableStands script config v after = so_far.table script config v table quiet in
       elim (calls_again s.mode) [
         | inl again ↦
-            subst (λ (z : Seat). TableStands script heap v (set after n z)) (sym (made.again again))
-            (Table_runs script heap v after n s before at (again_open s.mode again) (again_some s.mode s.op again (before.each n s at).fits) (quiet n))
-        | inr not ↦ subst (TableStands script heap v) (sym (ap (set after n) (made.same not) ∙ set_got after n s at)) before
+            subst (λ (z : Seat). TableStands script config v (set after n z)) (sym (made.again again))
+            (Table_runs script config v after n s before at (again_open s.mode again) (again_some s.mode s.op again (before.each n s at).fits) (quiet n))
+        | inr not ↦ subst (TableStands script config v) (sym (ap (set after n) (made.same not) ∙ set_got after n s at)) before
       ];
   collected = λ script k.
       elim (calls_again s.mode) [
@@ -225,6 +228,16 @@ for_collection Asked = inr (λ is. is)
 for_collection Lacking = inr (λ is. is)
 for_collection (Ended e) = inr (λ is. is)
 
+-- one that can not go on and waits for no collection has no silent one to come
+no_due : (mode : Mode) → (MayGo mode → ⊥) → (ForCollection mode → ⊥) → owes_silent mode ≡ true → ⊥
+no_due Running waits not owes = waits tt
+no_due Due waits not owes = waits tt
+no_due Silent waits not owes = not tt
+no_due Collecting waits not owes = not tt
+no_due Asked waits not owes = let wrong : false ≡ true = owes in cc
+no_due Lacking waits not owes = let wrong : false ≡ true = owes in cc
+no_due (Ended e) waits not owes = let wrong : false ≡ true = owes in cc
+
 -- one that waits does so for a collection or for room
 waits_for : (mode : Mode) → Waits mode → ForCollection mode ⊎ ((mode ≡ Lacking) × (ForCollection mode → ⊥))
 waits_for Running waits = absurd waits
@@ -240,6 +253,26 @@ collected_jobs : (s x : Seat) → CollectedFor s x → jobs_of x ≤ jobs_of s
 collected_jobs s x collected = elim (for_collection s.mode) [
   | inl for ↦ omega (arith, collected.fewer for)
   | inr not ↦ omega (arith, ap jobs_of (collected.same not))
+]
+
+-- behind the collections, silent ones are still to come only where a `collect` was answered just now
+pub owe_behind : (script : Script) (config : Config) (v : View) (seats mid : List Seat) → TableStands script config v seats → AllWait seats → CollectedAll seats mid → OweBehindCollects script mid
+owe_behind script config v seats mid table waits all = λ t x at owes. elim (slice_get_cases seats t).1 [
+  | inl w ↦
+      let s : Seat = w.0 in
+      let st : SeatStands script v t s = table.each t s w.2 in
+      let y : (y : Seat) × (slice_get mid t ≡ Some y) × CollectedFor s y = all.each t s w.2 in
+      let is : y.0 ≡ x = same_Some y.0 x (sym y.1 ∙ at) in
+      let made : CollectedFor s x = subst (CollectedFor s) is y.2 in
+      elim (for_collection s.mode) [
+        | inl for ↦
+            let by = made.owes for owes in
+            let first : Collect ∷ s.rest.operations ≡ drop (length s.replies.items) (operations script t) =
+            ap (λ (o : Option Op). with_first o s.rest.operations) (sym by.0) ∙ st.to_come in
+            (length s.replies.items, by.1, first_left (operations script t) (length s.replies.items) Collect s.rest.operations first)
+        | inr not ↦ absurd (no_due s.mode (waits t s w.2) not (ap (λ (z : Seat). owes_silent z.mode) (sym (made.same not)) ∙ owes))
+      ]
+  | inr w ↦ absurd (let within : t < length mid = slice_get_within mid t x at in omega (arith, within, all.count, w.0))
 ]
 
 -- a safepoint at which no thread lacks room behind the collections
@@ -296,11 +329,11 @@ passed_called seats mid called after t s all at calls resumed =
 -- The run goes on with the stop word not set, in the same epoch or in a new one, and all threads stand there as before.
 pub record Begun (v w : View) : Type 0 where
   pub no_stop : w.stop ≡ false
-  pub table : (script : Script) (heap : ℕ) (seats : List Seat) → TableStands script heap v seats → TableStands script heap w seats
+  pub table : (script : Script) (config : Config) (seats : List Seat) → TableStands script config v seats → TableStands script config w seats
 
 -- in the same epoch
 pub begun_same : (v : View) → v.stop ≡ false → Begun v v
-begun_same v none = record { no_stop = none; table = λ script heap seats table. table }
+begun_same v none = record { no_stop = none; table = λ script config seats table. table }
 
 -- in a new epoch
 pub begun_new : (v : View) (heap : Heap) (rest : Rest) → AtRest heap rest → HasFinished v (view (core_of heap rest)) → Begun v (view (core_of heap rest))

@@ -3,6 +3,7 @@ use Rattle.std.proofs.Common.{◌≡◌, ◌≢◌, ℕ, zero, suc, ◌+◌, ◌
 use Rattle.std.proofs.Math.ListN.{set}
 use Rattle.std.proofs.lemmas.Option.{same_Some}
 use Rattle.std.specs.Prelude.{Option, None, Some, IsSome, slice_get}
+use Rattle.melt_model.specs.declared.config.Config.{Config}
 use Rattle.melt_model.specs.declared.operations.Op.{Op}
 use Rattle.melt_model.specs.declared.reports.ThreadEnd.TheVariants as end
 use Rattle.melt_trace.specs.Script.{Script}
@@ -119,8 +120,8 @@ told_less v w t s after goes x =
     ]
 
 -- an event of a thread that can go on
-pub step_nearer : (script : Script) (heap : ℕ) (v w : View) (seats : List Seat) (t : ℕ) (s after : Seat) → TableStands script heap v seats → slice_get seats t ≡ Some s → MayGo s.mode → SeatStep v w t s after → length w.calls ≡ length v.calls → potential (set seats t after) w.calls < potential seats v.calls
-step_nearer script heap v w seats t s after table at goes step same = potential-less seats v.calls w.calls t s after at step.others.calls (elim step.what [
+pub step_nearer : (script : Script) (config : Config) (v w : View) (seats : List Seat) (t : ℕ) (s after : Seat) → TableStands script config v seats → slice_get seats t ≡ Some s → MayGo s.mode → SeatStep v w t s after → length w.calls ≡ length v.calls → potential (set seats t after) w.calls < potential seats v.calls
+step_nearer script config v w seats t s after table at goes step same = potential-less seats v.calls w.calls t s after at step.others.calls (elim step.what [
   | inl waits ↦ waits_less v w t s after waits.0 waits.1
   | inr a ↦ elim a [
     | inl going ↦ goes_less v w t s after going

@@ -63,16 +63,17 @@ new_all script k amount seats all eight so_far = record {
 -- a run before its first event
 pub Run_new : (script : Script) (config : Config) (entries globals threads : ℕ) (heap : Heap) (rest : Rest) (run : Run)
     → InRanges config → globals ≡ script.globals → threads ≡ length script.programs → threads ≤ 8
-    → IsNewHeap config.heap globals true heap → IsNewRest threads entries rest → AreNewSeats script run.seats.items entries → run.core ≡ core_of heap rest → IsPlanning run.collector
-    → RunStands script config.heap run
-Run_new script config entries globals threads heap rest run ranges all_globals all_threads eight is_heap is_rest new_seats begins planning =
+    → IsNewHeap config.heap globals true heap → IsNewRest threads entries rest → AreNewSeats script run.seats.items entries → run.core ≡ core_of heap rest → run.every ≡ config.every → IsPlanning run.collector
+    → RunStands script config run
+Run_new script config entries globals threads heap rest run ranges all_globals all_threads eight is_heap is_rest new_seats begins every planning =
     let seats : List Seat = run.seats.items in
     let new_heap : IsNewHeap config.heap script.globals true heap = subst (λ (n : ℕ). IsNewHeap config.heap n true heap) all_globals is_heap in
     let new_rest : IsNewRest (length script.programs) entries rest = subst (λ (n : ℕ). IsNewRest n entries rest) all_threads is_rest in
-    let table : TableStands script config.heap (view (core_of heap rest)) seats =
-    Table_new script config.heap entries heap rest seats (omega (arith, ranges.heap_most)) (omega (arith, all_threads, eight)) new_heap new_rest new_seats in
+    let table : TableStands script config (view (core_of heap rest)) seats =
+    Table_new script config entries heap rest seats (omega (arith, ranges.heap_most)) (omega (arith, all_threads, eight)) new_heap new_rest new_seats in
     record {
-      table = subst (λ (core : Core). TableStands script config.heap (view core) seats) (sym begins) table;
+      table = subst (λ (core : Core). TableStands script config (view core) seats) (sym begins) table;
+      every = every;
       planning = planning;
       collected = omega (arith, collections_new script entries (length script.programs) seats new_seats);
     }
@@ -88,8 +89,8 @@ ended_so Lacking over = absurd over
 ended_so (Ended e) over = (e, refl)
 
 -- where all threads have ended, no call is in flight
-pub ended_quiet : (script : Script) (heap : ℕ) (run : Run) → RunStands script heap run → ((t : ℕ) (s : Seat) → slice_get run.seats.items t ≡ Some s → IsEnded s.mode) → IsQuiet (view run.core)
-ended_quiet script heap run stands ended = waiting_quiet script heap (view run.core) run.seats.items stands.table (λ t s at goes. goes_on s.mode goes (ended t s at))
+pub ended_quiet : (script : Script) (config : Config) (run : Run) → RunStands script config run → ((t : ℕ) (s : Seat) → slice_get run.seats.items t ≡ Some s → IsEnded s.mode) → IsQuiet (view run.core)
+ended_quiet script config run stands ended = waiting_quiet script config (view run.core) run.seats.items stands.table (λ t s at goes. goes_on s.mode goes (ended t s at))
 
 -- a thread that a list has behind others has ended
 pub ended_next : (seats before behind : List Seat) (s : Seat) → before ++ s ∷ behind ≡ seats → ((t : ℕ) (x : Seat) → slice_get seats t ≡ Some x → IsEnded x.mode) → IsEnded s.mode

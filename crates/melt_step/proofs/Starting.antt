@@ -7,6 +7,7 @@ use Rattle.std.specs.Prelude.{None, Some, All, slice_get, replicate}
 use Rattle.std.specs.List.{count_by}
 use Rattle.melt_model.specs.History.{IsReference}
 use Rattle.melt_model.specs.Standing.{Stands}
+use Rattle.melt_model.specs.declared.config.Config.{Config}
 use Rattle.melt_model.specs.declared.history.Entry.{Entry}
 use Rattle.melt_model.specs.declared.history.Value.TheVariants.{Nil}
 use Rattle.melt_model.specs.declared.operations.Op.{Op}
@@ -25,7 +26,7 @@ use Rattle.melt_step.specs.declared.seat.Seat.{Seat}
 use Rattle.melt_step.specs.declared.seat.Mode.{Mode}
 use Rattle.melt_step.specs.declared.seat.Mode.TheVariants.{Running, Asked, Ended}
 use Rattle.melt_step.specs.Run.{is_collect, collections, collections_of}
-use Rattle.melt_step.specs.Seats.{AreNewSeats, IsNewSeat, FitsMode, KnowsStop, SeatStands, EndsSo, TableStands, replies_of}
+use Rattle.melt_step.specs.Seats.{owes_silent, AreNewSeats, IsNewSeat, FitsMode, KnowsStop, SeatStands, EndsSo, TableStands, replies_of}
 use Rattle.melt_step.proofs.Cuts.{replies_here, replies_past}
 
 -- no thread has a reply
@@ -79,19 +80,19 @@ Seat_new script entries t heap rest s at_rest new_rest below new =
     }
 
 -- a thread that has ended at once has no operations
-ends_new : (script : Script) (log : List Entry) (entries words t : ℕ) (seats : List Seat) (s : Seat) → AreNewSeats script seats entries → slice_get seats t ≡ Some s → EndsSo script log seats words t s.mode
-ends_new script log entries words t seats s new_seats at =
+ends_new : (script : Script) (log : List Entry) (config : Config) (entries t : ℕ) (seats : List Seat) (s : Seat) → AreNewSeats script seats entries → slice_get seats t ≡ Some s → EndsSo script log seats config t s.mode
+ends_new script log config entries t seats s new_seats at =
     let new : IsNewSeat (operations script t) script.globals s = new_seats.each t s at in
     elim new.mode [
-      | inl runs ↦ subst (EndsSo script log seats words t) (sym runs.0) tt
-      | inr over ↦ subst (EndsSo script log seats words t) (sym over.0) (ap length (no_replies script entries t seats new_seats) ∙ ap length (sym over.1 ∙ new.to_come))
+      | inl runs ↦ subst (EndsSo script log seats config t) (sym runs.0) tt
+      | inr over ↦ subst (EndsSo script log seats config t) (sym over.0) (ap length (no_replies script entries t seats new_seats) ∙ ap length (sym over.1 ∙ new.to_come))
     ]
 
 -- all threads stand before their first events
-pub Table_new : (script : Script) (words entries : ℕ) (heap : Heap) (rest : Rest) (seats : List Seat) → words < 2 ^ 30 → length script.programs ≤ 8 → IsNewHeap words script.globals true heap → IsNewRest (length script.programs) entries rest → AreNewSeats script seats entries → TableStands script words (view (core_of heap rest)) seats
-Table_new script words entries heap rest seats small few new_heap new_rest new_seats =
+pub Table_new : (script : Script) (config : Config) (entries : ℕ) (heap : Heap) (rest : Rest) (seats : List Seat) → config.heap < 2 ^ 30 → length script.programs ≤ 8 → IsNewHeap config.heap script.globals true heap → IsNewRest (length script.programs) entries rest → AreNewSeats script seats entries → TableStands script config (view (core_of heap rest)) seats
+Table_new script config entries heap rest seats small few new_heap new_rest new_seats =
     let n : ℕ = length script.programs in
-    let at_rest : AtRest heap rest = start_at_rest words script.globals n entries heap rest small few new_heap new_rest in
+    let at_rest : AtRest heap rest = start_at_rest config.heap script.globals n entries heap rest small few new_heap new_rest in
     record {
       stands = at_rest.stands;
       count = new_seats.count;
@@ -100,7 +101,11 @@ Table_new script words entries heap rest seats small few new_heap new_rest new_s
       words = new_heap.space.size;
       each = λ t s at. Seat_new script entries t heap rest s at_rest new_rest (let below : t < length seats = slice_get_within seats t s at in omega (arith, new_seats.count)) (new_seats.each t s at);
       own = subst (All (λ (e : Entry). e.thread < n)) (sym new_rest.history) (All-nil (λ (e : Entry). e.thread < n));
-      ends = λ t s at. ends_new script rest.log.items entries words t seats s new_seats at;
+      ends = λ t s at. ends_new script rest.log.items config entries t seats s new_seats at;
+      due = λ t s at owes. absurd (elim (new_seats.each t s at).mode [
+        | inl runs ↦ let wrong : false ≡ true = ap owes_silent (sym runs.0) ∙ owes in cc
+        | inr over ↦ let wrong : false ≡ true = ap owes_silent (sym over.0) ∙ owes in cc
+      ]);
       made = λ t k below. absurd (omega (arith, ap length (no_replies script entries t seats new_seats)));
       entries = omega (arith, ap length new_rest.history, new_seats.entries, new_rest.room);
       few = omega (arith, ap length new_rest.history, new_seats.few);

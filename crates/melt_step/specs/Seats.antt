@@ -1,7 +1,8 @@
 -- The threads of a run between two events.
-use Rattle.std.specs.Prelude.{◌≡◌, ◌≢◌, ℕ, zero, suc, ◌+◌, ◌*◌, ◌^◌, ◌%◌, ◌<◌, ◌≤◌, true, false, List, [], ◌∷◌, ◌++◌, length, map, sum, take, drop, replicate, slice_get, slice_set, vec_capacity, All, Option, None, Some, IfSome, IsSome, ◌⊎◌, ◌↔◌}
+use Rattle.std.specs.Prelude.{◌≡◌, ◌≢◌, ℕ, zero, suc, ◌+◌, ◌*◌, ◌^◌, ◌%◌, ◌<◌, ◌≤◌, Bool, true, false, List, [], ◌∷◌, ◌++◌, length, map, sum, take, drop, replicate, slice_get, slice_set, vec_capacity, All, Option, None, Some, IfSome, IsSome, ◌⊎◌, ◌↔◌}
 use Rattle.melt_model.specs.Standing.{Stands}
 use Rattle.melt_model.specs.Alive.{Alive, words_of, CostsSum}
+use Rattle.melt_model.specs.declared.config.Config.{Config}
 use Rattle.melt_model.specs.declared.history.Entry.{Entry}
 use Rattle.melt_model.specs.declared.history.Value.{Value}
 use Rattle.melt_model.specs.declared.history.Value.TheVariants.{Nil}
@@ -24,7 +25,7 @@ use Rattle.melt_step.specs.declared.collector.Collector.{Collector}
 use Rattle.melt_step.specs.declared.run.Run.{Run}
 use Rattle.melt_core.specs.Changed.{stopped, HasRoomForEntry}
 use Rattle.melt_core.specs.Epochs.{HasDropped}
-use Rattle.melt_step.specs.Run.{Cut, LacksRoom, HadRoom, collections}
+use Rattle.melt_step.specs.Run.{Cut, IsDue, LacksRoom, HadRoom, collections}
 use Rattle.melt_step.specs.declared.seat.Mode.{Mode}
 use Rattle.melt_step.specs.declared.seat.Mode.TheVariants.{Running, Due, Silent, Collecting, Asked, Lacking, Ended}
 use Rattle.melt_step.specs.declared.seat.Seat.{Seat}
@@ -86,24 +87,38 @@ abbrev pub GoneIn : List Seat → Cut → Type 0
 GoneIn seats cut = (u : ℕ) (s : Seat) → slice_get seats u ≡ Some s → cut.ended u ≡ true → IsEnded s.mode
 
 -- as in the report of a run, while it goes on
-abbrev pub LacksNow : Script → List Entry → List Seat → ℕ → ℕ → ℕ → ℕ → Type 0
-LacksNow script log seats heap t held need = (x : LacksRoom script log (replies_of seats) heap t held need) × GoneIn seats x.cut
+abbrev pub LacksNow : Script → List Entry → List Seat → Config → ℕ → ℕ → ℕ → Type 0
+LacksNow script log seats config t held need = (x : LacksRoom script log (replies_of seats) config t held need) × GoneIn seats x.cut
 
-abbrev pub HadNow : Script → List Entry → List Seat → ℕ → ℕ → ℕ → ℕ → Type 0
-HadNow script log seats heap t k need = (x : HadRoom script log (replies_of seats) heap t k need) × GoneIn seats x.cut
+abbrev pub HadNow : Script → List Entry → List Seat → Config → ℕ → ℕ → ℕ → Type 0
+HadNow script log seats config t k need = (x : HadRoom script log (replies_of seats) config t k need) × GoneIn seats x.cut
 
-abbrev pub MadeSo : Script → List Entry → List Seat → ℕ → ℕ → ℕ → Type 0
-MadeSo script log seats heap t k =
-    (dst refs nums : ℕ) → slice_get (operations script t) k ≡ Some (New dst refs nums) → HadNow script log seats heap t k (2 + refs + nums)
+abbrev pub MadeSo : Script → List Entry → List Seat → Config → ℕ → ℕ → Type 0
+MadeSo script log seats config t k =
+    (dst refs nums : ℕ) → slice_get (operations script t) k ≡ Some (New dst refs nums) → HadNow script log seats config t k (2 + refs + nums)
 
 -- why a thread may have ended
-abbrev pub EndsSo : Script → List Entry → List Seat → ℕ → ℕ → Mode → Type 0
-EndsSo script log seats heap t (Ended end.Done) = length (replies_of seats t) ≡ length (operations script t)
-EndsSo script log seats heap t (Ended (end.OutOfHeap held need)) = LacksNow script log seats heap t held need
-EndsSo script log seats heap t (Ended end.DiskFault) = ⊥
-EndsSo script log seats heap t (Ended (end.Damaged home at word)) = ⊥
-EndsSo script log seats heap t (Ended end.Halted) = ⊥
-EndsSo script log seats heap t mode = Unit {0}
+abbrev pub EndsSo : Script → List Entry → List Seat → Config → ℕ → Mode → Type 0
+EndsSo script log seats config t (Ended end.Done) = length (replies_of seats t) ≡ length (operations script t)
+EndsSo script log seats config t (Ended (end.OutOfHeap held need)) = LacksNow script log seats config t held need
+EndsSo script log seats config t (Ended end.DiskFault) = ⊥
+EndsSo script log seats config t (Ended (end.Damaged home at word)) = ⊥
+EndsSo script log seats config t (Ended end.Halted) = ⊥
+EndsSo script log seats config t mode = Unit {0}
+
+-- a thread has a silent collection still to come
+abbrev pub owes_silent : Mode → Bool
+owes_silent Due = true
+owes_silent Silent = true
+owes_silent mode = false
+
+-- the last reply of a thread was that to a collection
+abbrev pub HadCollect : Script → ℕ → Seat → Type 0
+HadCollect script t s = (k : ℕ) × (length s.replies.items ≡ suc k) × (slice_get (operations script t) k ≡ Some Collect)
+
+-- a thread has a silent collection still to come only where its last reply was that to a collection
+abbrev pub OweBehindCollects : Script → List Seat → Type 0
+OweBehindCollects script seats = (t : ℕ) (s : Seat) → slice_get seats t ≡ Some s → owes_silent s.mode ≡ true → HadCollect script t s
 
 -- how many replies all threads are still to get
 abbrev pub to_reply : List Seat → ℕ
@@ -116,16 +131,17 @@ pub record Later (seats after : List Seat) : Type 0 where
   pub ended : (t : ℕ) (s : Seat) → slice_get seats t ≡ Some s → IsEnded s.mode → slice_get after t ≡ Some s
 
 -- All threads stand in the history, for which the core stands; it has room for the entries to come.
-pub record TableStands (script : Script) (heap : ℕ) (v : View) (seats : List Seat) : Type 0 where
+pub record TableStands (script : Script) (config : Config) (v : View) (seats : List Seat) : Type 0 where
   pub stands : Standing v
   pub count : length seats ≡ length script.programs
   pub threads : length v.held ≡ length script.programs
   pub globals : length v.globals ≡ script.globals
-  pub words : length v.space.list ≡ heap
+  pub words : length v.space.list ≡ config.heap
   pub each : (t : ℕ) (s : Seat) → slice_get seats t ≡ Some s → SeatStands script v t s
   pub own : All (λ (e : Entry). e.thread < length script.programs) v.log
-  pub ends : (t : ℕ) (s : Seat) → slice_get seats t ≡ Some s → EndsSo script v.log seats heap t s.mode
-  pub made : (t k : ℕ) → k < length (replies_of seats t) → MadeSo script v.log seats heap t k
+  pub due : (t : ℕ) (s : Seat) → slice_get seats t ≡ Some s → owes_silent s.mode ≡ true → IsDue config (length s.replies.items)
+  pub ends : (t : ℕ) (s : Seat) → slice_get seats t ≡ Some s → EndsSo script v.log seats config t s.mode
+  pub made : (t k : ℕ) → k < length (replies_of seats t) → MadeSo script v.log seats config t k
   pub entries : length v.log + to_reply seats ≤ v.capacity
   pub few : length v.log + to_reply seats ≤ 8388608
 
@@ -295,10 +311,16 @@ pub record PlansBy (old new : Collector) (phase : Phase) : Type 0 where
   pub config : new.config ≡ old.config
 
 -- A run between two events.
-pub record RunStands (script : Script) (heap : ℕ) (run : Run) : Type 0 where
-  pub table : TableStands script heap (view run.core) run.seats.items
+pub record RunStands (script : Script) (config : Config) (run : Run) : Type 0 where
+  pub table : TableStands script config (view run.core) run.seats.items
+  pub every : run.every ≡ config.every
   pub planning : IsPlanning run.collector
   pub collected : collections script (replies_of run.seats.items) (length script.programs) ≤ length run.collector.journal.items
+
+-- A run at a safepoint, behind the collections for which threads waited.
+pub record StandsCollected (script : Script) (config : Config) (run : Run) : Type 0 where
+  pub stands : RunStands script config run
+  pub owed : OweBehindCollects script run.seats.items
 
 -- a thread waits for a collection of its own
 abbrev pub ForCollection : Mode → Type 0
@@ -317,6 +339,11 @@ CallsAgain Asked = Unit {0}
 CallsAgain Lacking = Unit {0}
 CallsAgain mode = ⊥
 
+-- a thread waits, for whatever
+abbrev pub IsPaused : Mode → Type 0
+IsPaused Asked = Unit {0}
+IsPaused mode = Waits mode
+
 -- What a run knows of the stop word: where it is set, a thread waits, and only there calls are refused for it.
 pub record KnowsStop (v : View) (seats : List Seat) : Type 0 where
   pub stop : v.stop ≡ true → (t : ℕ) × ((s : Seat) × (slice_get seats t ≡ Some s) × Waits s.mode)
@@ -334,7 +361,7 @@ SomeGoesOn seats = (t : ℕ) × ((s : Seat) × (slice_get seats t ≡ Some s) ×
 
 -- what a part of a safepoint keeps: for each script that the run stands for
 abbrev pub KeepsRun : Run → Run → Type 0
-KeepsRun old new = (script : Script) (heap : ℕ) → RunStands script heap old → RunStands script heap new
+KeepsRun old new = (script : Script) (config : Config) → RunStands script config old → RunStands script config new
 
 -- no thread can go on
 abbrev pub AllWait : List Seat → Type 0
@@ -357,9 +384,12 @@ jobs mode count = 1 + 2 * count
 abbrev pub jobs_of : Seat → ℕ
 jobs_of s = jobs s.mode (length (left s))
 
--- the collection of a thread was made, if it waited for one
+-- The collection of a thread was made, if it waited for one, and it waits no longer. A silent collection is due then only
+-- behind the `collect` that was answered.
 pub record CollectedFor (s after : Seat) : Type 0 where
   pub fewer : ForCollection s.mode → jobs_of after < jobs_of s
+  pub goes : ForCollection s.mode → IsPaused after.mode → ⊥
+  pub owes : ForCollection s.mode → owes_silent after.mode ≡ true → (s.op ≡ Some Collect) × (length after.replies.items ≡ suc (length s.replies.items))
   pub same : (ForCollection s.mode → ⊥) → after ≡ s
 
 -- at most this thread changed, for whose collection it was

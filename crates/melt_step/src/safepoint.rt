@@ -1,9 +1,10 @@
 //! What is done when no thread can go on.
 ghost use Rattle.std.specs.Prelude.{◌≡◌, ℕ, ◌<◌, length, slice_get, false, Some, IfOk, IfSome, IfNone};
+ghost use Rattle.melt_model.specs.declared.config.Config.{Config};
 ghost use Rattle.melt_trace.specs.Script.{Script};
 ghost use Rattle.melt_core.specs.Views.{IsQuiet, view};
 ghost use Rattle.melt_step.specs.declared.seat.Seat.{Seat};
-ghost use Rattle.melt_step.specs.Seats.{AllWait, CalledAt, CollectedAll, CollectedAt, KeepsRun, KnowsStop, Passed, Resumed, RunStands, SomeGoesOn};
+ghost use Rattle.melt_step.specs.Seats.{AllWait, CalledAt, CollectedAll, CollectedAt, KeepsRun, KnowsStop, Passed, Resumed, RunStands, SomeGoesOn, StandsCollected};
 
 use crate::events::{answered, call_alone};
 use crate::run::Run;
@@ -15,7 +16,7 @@ use std::alloc::Global;
 impl<'a> Run<'a> {
     /// Makes the collection for which a thread waits, if it waits for one of its own.
     fn collect_for(self, alloc: Global, thread: u32) -> Result<Run<'a>, NoMemory>
-        requires stands { (script : Script) × ((heap : ℕ) × RunStands script heap self) }
+        requires stands { (script : Script) × ((config : Config) × RunStands script config self) }
         requires thread { thread < length self.seats.items }
         requires quiet { IsQuiet (view self.core) }
         ensures keeps { IfOk result (KeepsRun self.entry) }
@@ -53,7 +54,7 @@ impl<'a> Run<'a> {
 
     /// Makes the collections for which threads wait, in ascending order.
     fn collect_for_all(self, alloc: Global) -> Result<Run<'a>, NoMemory>
-        requires stands { (script : Script) × ((heap : ℕ) × RunStands script heap self) }
+        requires stands { (script : Script) × ((config : Config) × RunStands script config self) }
         requires quiet { IsQuiet (view self.core) }
         ensures keeps { IfOk result (KeepsRun self.entry) }
         ensures quiet { IfOk result (λ run. IsQuiet (view run.core)) }
@@ -68,7 +69,7 @@ impl<'a> Run<'a> {
 
     /// Makes the collection that is planned, though no thread waits for one.
     fn collect_once(self, alloc: Global) -> Result<Run<'a>, NoMemory>
-        requires stands { (script : Script) × ((heap : ℕ) × RunStands script heap self) }
+        requires stands { (script : Script) × ((config : Config) × RunStands script config self) }
         requires quiet { IsQuiet (view self.core) }
         ensures keeps { IfOk result (KeepsRun self.entry) }
         ensures quiet { IfOk result (λ run. IsQuiet (view run.core)) }
@@ -92,7 +93,7 @@ impl<'a> Run<'a> {
 
     /// The lowest thread that waits for room.
     fn lacking(&self) -> Option<u32>
-        requires stands { (script : Script) × ((heap : ℕ) × RunStands script heap self.now) }
+        requires stands { (script : Script) × ((config : Config) × RunStands script config self.now) }
         ensures some { IfSome result (λ t. (s : Seat) × (slice_get self.now.seats.items t ≡ Some s) × (s.mode ≡ Mode.Lacking)) }
         ensures none { IfNone result ((t : ℕ) (s : Seat) → slice_get self.now.seats.items t ≡ Some s → s.mode ≡ Mode.Lacking → ⊥) }
     {
@@ -107,11 +108,11 @@ impl<'a> Run<'a> {
     /// Makes the call of a thread that lacked room, after a collection. If it lacks room even after a forced one, the
     /// thread ends.
     fn call_first(self, alloc: Global, thread: u32) -> Result<Run<'a>, NoMemory>
-        requires stands { (script : Script) × ((heap : ℕ) × RunStands script heap self) }
+        requires stands { (script : Script) × ((config : Config) × StandsCollected script config self) }
         requires waits { (s : Seat) × (slice_get self.seats.items thread ≡ Some s) × (s.mode ≡ Mode.Lacking) }
         requires quiet { IsQuiet (view self.core) }
         requires no_stop { (view self.core).stop ≡ false }
-        ensures keeps { IfOk result (KeepsRun self.entry) }
+        ensures keeps { IfOk result (λ run. (script : Script) (config : Config) → StandsCollected script config self.entry → RunStands script config run) }
         ensures quiet { IfOk result (λ run. IsQuiet (view run.core)) }
         ensures only { IfOk result (λ run. CalledAt self.entry.seats.items run.seats.items thread) }
     {
@@ -142,7 +143,7 @@ impl<'a> Run<'a> {
 
     /// The threads that wait go on, in a new epoch where the stop word is set.
     fn resume(self) -> Run<'a>
-        requires stands { (script : Script) × ((heap : ℕ) × RunStands script heap self) }
+        requires stands { (script : Script) × ((config : Config) × RunStands script config self) }
         requires quiet { IsQuiet (view self.core) }
         ensures keeps { KeepsRun self.entry result }
         ensures quiet { IsQuiet (view result.core) }
@@ -173,7 +174,7 @@ impl<'a> Run<'a> {
     /// What is done when no thread can go on: collections for those that wait for one, then the call of the first that
     /// lacked room, after a collection if there was none; then all that wait go on.
     pub fn pass_safepoint(self, alloc: Global) -> Result<Run<'a>, NoMemory>
-        requires stands { (script : Script) × ((heap : ℕ) × RunStands script heap self) }
+        requires stands { (script : Script) × ((config : Config) × RunStands script config self) }
         requires waits { AllWait self.seats.items }
         requires stop { KnowsStop (view self.core) self.seats.items }
         requires some { SomeGoesOn self.seats.items }

@@ -24,28 +24,28 @@ answered-requires-clause-room c =
     collecting_room c.requires.stands.0 c.requires.stands.1.0 c.args.self c.args.thread s c.requires.stands.1.1 at c.in-Collecting.is
 
 pub returns-clause-keeps : goal.returns-clause-keeps
-returns-clause-keeps c = λ script heap stands.
+returns-clause-keeps c = λ script config stands.
     let s : Seat = c.index_mut-seat.result.now in
     let seats : List Seat = c.args.self.seats.items in
     let at : slice_get seats c.args.thread ≡ Some s = slice_get_read seats (length seats) c.args.thread s refl c.requires.thread c.index_mut-seat.ensures.value in
     elim c.match-seat.branch [
       | in-Collecting+in_ok-core-in-Collecting w ↦ rw (w.core-is, w.seats-is, w.collector-is)
-          (Run_answered script heap c.args.self _ w.in_ok-core-in-Collecting.core c.args.thread s w.answered.new.seat stands at w.in-Collecting.is w.in_ok-core-in-Collecting.ensures.collected w.in_ok-core-in-Collecting.ensures.notes w.answered.ensures.takes w.answered.ensures.drops refl)
+          (Run_answered script config c.args.self _ w.in_ok-core-in-Collecting.core c.args.thread s w.answered.new.seat stands at w.in-Collecting.is w.in_ok-core-in-Collecting.ensures.collected w.in_ok-core-in-Collecting.ensures.notes w.answered.ensures.takes w.answered.ensures.drops w.answered.ensures.due refl refl)
       | in-Silent+in_ok-core-in-Silent+then-has_ended w ↦
           let on : GoesOn s w.go_on.new.self = goes_on_by s w.go_on.new.self w.go_on.ensures.only w.go_on.ensures.runs w.go_on.ensures.ended in
           let drops : DropsIfEnded (view w.in_ok-core-in-Silent.core) (view w.drop_all.new.self) c.args.thread w.go_on.new.self.mode =
           drops_ended (view w.in_ok-core-in-Silent.core) (view w.drop_all.new.self) c.args.thread w.go_on.new.self.mode (w.has_ended.ensures.0 w.if-has_ended.true) w.drop_all.ensures in
           rw (w.core-is, w.seats-is, w.collector-is)
-          (Run_goes_on script heap c.args.self _ w.in_ok-core-in-Silent.core c.args.thread s w.go_on.new.self stands at w.in-Silent.is w.in_ok-core-in-Silent.ensures.collected w.in_ok-core-in-Silent.ensures.notes on drops refl)
+          (Run_goes_on script config c.args.self _ w.in_ok-core-in-Silent.core c.args.thread s w.go_on.new.self stands at w.in-Silent.is w.in_ok-core-in-Silent.ensures.collected w.in_ok-core-in-Silent.ensures.notes on drops refl refl)
       | in-Silent+in_ok-core-in-Silent+else-has_ended w ↦
           let on : GoesOn s w.go_on.new.self = goes_on_by s w.go_on.new.self w.go_on.ensures.only w.go_on.ensures.runs w.go_on.ensures.ended in
           let drops : DropsIfEnded (view w.in_ok-core-in-Silent.core) (view w.in_ok-core-in-Silent.core) c.args.thread w.go_on.new.self.mode =
           drops_nothing (view w.in_ok-core-in-Silent.core) c.args.thread w.go_on.new.self.mode (λ over. absurd (let yes : w.has_ended.result ≡ true = w.has_ended.ensures.1 over in let no : w.has_ended.result ≡ false = w.if-has_ended.false in cc)) in
           rw (w.core-is, w.seats-is, w.collector-is)
-          (Run_goes_on script heap c.args.self _ w.in_ok-core-in-Silent.core c.args.thread s w.go_on.new.self stands at w.in-Silent.is w.in_ok-core-in-Silent.ensures.collected w.in_ok-core-in-Silent.ensures.notes on drops refl)
+          (Run_goes_on script config c.args.self _ w.in_ok-core-in-Silent.core c.args.thread s w.go_on.new.self stands at w.in-Silent.is w.in_ok-core-in-Silent.ensures.collected w.in_ok-core-in-Silent.ensures.notes on drops refl refl)
       | in_default w ↦
           let kept : c.match-seat.seats.items ≡ seats = rw w.seats-is (set_same seats c.args.thread s c.index_mut-seat.ensures.value) in
-          Run_same script heap c.args.self _ stands w.core-is w.collector-is kept
+          Run_same script config c.args.self _ stands w.core-is w.collector-is refl kept
     ]
 
 pub returns-clause-only : goal.returns-clause-only

@@ -10,7 +10,7 @@ pub loop-t-preserved : goal.loop-t-preserved
 loop-t-preserved c =
     let below : CollectedBelow c.args.self.seats.items c.loop-t.run.seats.items c.loop-t.t = c.loop-t.invariant.below in
     record {
-      keeps = λ script heap stands. c.in_ok-run.ensures.keeps script heap (c.loop-t.invariant.keeps script heap stands);
+      keeps = λ script config stands. c.in_ok-run.ensures.keeps script config (c.loop-t.invariant.keeps script config stands);
       quiet = c.in_ok-run.ensures.quiet;
       below = collected_more c.args.self.seats.items c.loop-t.run.seats.items c.in_ok-run.run'.seats.items c.loop-t.t below
           (omega (arith, c.loop-t-test.true, c.len-t-end.ensures, c.args.self.seats.ok.0, below.count)) c.in_ok-run.ensures.only;

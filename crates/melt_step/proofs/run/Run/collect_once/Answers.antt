@@ -4,5 +4,5 @@ use Rattle.melt_step.proofs.Collections.{Run_collected}
 use Rattle.melt_step.proofs.run.Run.collect_once.Goals as goal
 
 pub returns-clause-keeps : goal.returns-clause-keeps
-returns-clause-keeps c = λ script heap stands.
-    Run_collected script heap c.args.self _ stands c.in_ok-core.ensures.collected c.in_ok-core.ensures.notes refl
+returns-clause-keeps c = λ script config stands.
+    Run_collected script config c.args.self _ stands c.in_ok-core.ensures.collected c.in_ok-core.ensures.notes refl refl

@@ -2,12 +2,14 @@
 use Rattle.std.proofs.Common.{◌≡◌, List, refl, sym, subst}
 use Rattle.std.specs.Prelude.{Some, slice_get}
 use Rattle.melt_core.specs.Views.{view}
-use Rattle.melt_step.specs.Seats.{CalledAt, KeepsRun}
+use Rattle.melt_model.specs.declared.config.Config.{Config}
+use Rattle.melt_trace.specs.Script.{Script}
+use Rattle.melt_step.specs.Seats.{CalledAt, KeepsRun, OweBehindCollects, RunStands, StandsCollected}
 use Rattle.melt_step.specs.declared.run.Run.{Run}
 use Rattle.melt_step.specs.declared.seat.Mode.TheVariants.{Lacking}
 use Rattle.melt_step.specs.declared.seat.Seat.{Seat}
 use Rattle.melt_step.proofs.Modes.{someone_waits}
-use Rattle.melt_step.proofs.Passing.{passed_collected, passed_called}
+use Rattle.melt_step.proofs.Passing.{owe_behind, passed_collected, passed_called}
 use Rattle.melt_step.proofs.Tables.{waiting_quiet}
 use Rattle.melt_step.proofs.run.Run.pass_safepoint.Goals as goal
 use Rattle.melt_step.proofs.run.Run.pass_safepoint.Goals.{Joined-is_stopped, then-is_stopped+in_ok-run-2, else-is_stopped}
@@ -23,7 +25,7 @@ pub resume-requires-clause-stands : goal.resume-requires-clause-stands
 resume-requires-clause-stands c = (c.requires.stands.0, (c.requires.stands.1.0, c.in_ok-run.ensures.keeps c.requires.stands.0 c.requires.stands.1.0 c.requires.stands.1.1))
 
 pub returns-in_default-clause-keeps : goal.returns-in_default-clause-keeps
-returns-in_default-clause-keeps c = λ script heap stands. c.resume.ensures.keeps script heap (c.in_ok-run.ensures.keeps script heap stands)
+returns-in_default-clause-keeps c = λ script config stands. c.resume.ensures.keeps script config (c.in_ok-run.ensures.keeps script config stands)
 
 pub returns-in_default-clause-passed : goal.returns-in_default-clause-passed
 returns-in_default-clause-passed c =
@@ -41,12 +43,16 @@ before_call c =
       | then-is_stopped+in_ok-run-2 w ↦
           subst (λ (run : Run). KeepsRun old run × (run.seats.items ≡ old.seats.items)) (sym w.run-is) (w.in_ok-run-2.ensures.keeps, w.in_ok-run-2.ensures.same)
       | else-is_stopped w ↦
-          subst (λ (run : Run). KeepsRun old run × (run.seats.items ≡ old.seats.items)) (sym w.run-is) ((λ script heap stands. stands), refl)
+          subst (λ (run : Run). KeepsRun old run × (run.seats.items ≡ old.seats.items)) (sym w.run-is) ((λ script config stands. stands), refl)
     ]
 
 -- the run stands before the call
-keeps_before : (c : Joined-is_stopped) → KeepsRun c.args.self c.if-is_stopped.run
-keeps_before c = λ script heap stands. (before_call c).0 script heap (c.in_ok-run.ensures.keeps script heap stands)
+keeps_before : (c : Joined-is_stopped) (script : Script) (config : Config) → RunStands script config c.args.self → StandsCollected script config c.if-is_stopped.run
+keeps_before c = λ script config stands. record {
+  stands = (before_call c).0 script config (c.in_ok-run.ensures.keeps script config stands);
+  owed = subst (OweBehindCollects script) (sym (before_call c).1)
+      (owe_behind script config (view c.args.self.core) c.args.self.seats.items c.in_ok-run.run'.seats.items stands.table c.requires.waits c.in_ok-run.ensures.all);
+}
 
 pub call_first-requires-clause-stands : goal.call_first-requires-clause-stands
 call_first-requires-clause-stands c = (c.requires.stands.0, (c.requires.stands.1.0, keeps_before c c.requires.stands.0 c.requires.stands.1.0 c.requires.stands.1.1))
@@ -63,7 +69,7 @@ resume-requires-2-clause-stands c =
 pub returns-clause-keeps : goal.returns-clause-keeps
 returns-clause-keeps c =
     let joined : Joined-is_stopped = (goal.at.returns-clause-keeps c).Joined-is_stopped in
-    λ script heap stands. c.resume-2.ensures.keeps script heap (c.in_ok-call_first.ensures.keeps script heap (keeps_before joined script heap stands))
+    λ script config stands. c.resume-2.ensures.keeps script config (c.in_ok-call_first.ensures.keeps script config (keeps_before joined script config stands))
 
 pub returns-clause-passed : goal.returns-clause-passed
 returns-clause-passed c =

@@ -38,9 +38,10 @@ returns-clause-keeps c =
     let after : List Seat = c.loop-seat.seat-items in
     let again : AgainBelow seats after c.loop-seat.seat-index = c.loop-seat.invariant in
     let items : (with_items c.args.self.seats after).items ≡ after = with_items_is c.args.self.seats after (again.count ∙ sym c.args.self.seats.ok.0) in
-    λ script heap stands. record {
-      table = (begun c).table script heap (with_items c.args.self.seats after).items
-          (subst (TableStands script heap (view c.args.self.core)) (sym items) (again.table script heap (view c.args.self.core) stands.table c.requires.quiet));
+    λ script config stands. record {
+      table = (begun c).table script config (with_items c.args.self.seats after).items
+          (subst (TableStands script config (view c.args.self.core)) (sym items) (again.table script config (view c.args.self.core) stands.table c.requires.quiet));
+      every = stands.every;
       planning = stands.planning;
       collected =
           let same : collections script (replies_of (with_items c.args.self.seats after).items) (length script.programs) ≡ collections script (replies_of seats) (length script.programs) =
