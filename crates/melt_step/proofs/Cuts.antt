@@ -2,7 +2,7 @@
 use Rattle.std.proofs.Common.{◌≡◌, ℕ, ◌+◌, ◌<◌, ◌≤◌, zero, suc, true, false, cond, List, [], ◌∷◌, ◌++◌, length, take, drop, refl, sym, ◌∙◌, ap, subst, arith, length-append, ◌⊎◌, inl, inr}
 use Rattle.std.proofs.Math.ListN.{length-map}
 use Rattle.std.proofs.Math.Seq.{take-length}
-use Rattle.std.proofs.lemmas.Bool.{ne_eqb}
+use Rattle.std.proofs.lemmas.Bool.{cases_lt, ne_eqb}
 use Rattle.std.proofs.lemmas.List.{take-append-le, take-append-drop, get_or_past}
 use Rattle.std.proofs.lemmas.List.Elements.{recursion_from_All}
 use Rattle.std.proofs.lemmas.Option.{slice_get_cases, slice_get_within, same_Some}
@@ -13,7 +13,7 @@ use Rattle.melt_model.specs.Thread.{own_from, own, registers_after, value_in, Tr
 use Rattle.melt_model.specs.declared.config.Config.{Config}
 use Rattle.melt_model.specs.declared.history.Entry.{Entry}
 use Rattle.melt_model.specs.declared.history.Value.{Value}
-use Rattle.melt_model.specs.declared.history.Value.TheVariants.{Nil}
+use Rattle.melt_model.specs.declared.history.Value.TheVariants.{Nil, Ref}
 use Rattle.melt_model.specs.declared.operations.Op.{Op}
 use Rattle.melt_model.specs.declared.operations.Op.TheVariants.{New, Collect}
 use Rattle.melt_model.specs.declared.operations.Reply.{Reply}
@@ -24,6 +24,7 @@ use Rattle.melt_scion.specs.declared.registers.Registers.{Registers}
 use Rattle.melt_core.specs.Views.{View, value, values_of, held_values}
 use Rattle.melt_core.specs.Events.{HasRoom}
 use Rattle.melt_core.proofs.Values.{get_or_replicate}
+use Rattle.melt_step.proofs.Sums.{alive_sum}
 use Rattle.melt_step.specs.declared.seat.Seat.{Seat}
 use Rattle.melt_step.specs.declared.seat.Mode.{Mode}
 use Rattle.melt_step.specs.declared.seat.Mode.TheVariants.{Running, Due, Silent, Collecting, Asked, Lacking, Ended}
@@ -125,7 +126,9 @@ HadNow_later script log more seats after config t k need later had =
         count = x.is_cut.count;
         alive = x.is_cut.alive;
       };
-      fits = λ held reach. x.fits held (subst (WordsBy script x.cut held) history reach);
+      held = x.held;
+      reach = subst (WordsBy script x.cut x.held) (sym history) x.reach;
+      fits = x.fits;
     } in
     (next, GoneIn_later seats after x.cut later had.1)
 
@@ -313,19 +316,28 @@ words_same : (h : List Entry) (a b : ℕ → ℕ → Value) (held : ℕ) → ((t
 words_same h a b held same reach =
     CostsSum-same (words_of h) (Alive h a) (Alive h b) held (λ n. (alive_same h a b n same, alive_same h b a n (λ t r. sym (same t r)))) reach
 
+-- the words of what registers and globals reach have a sum
+alive_now : (v : View) → (held : ℕ) × CostsSum (words_of v.log) (Alive v.log (value v)) held
+alive_now v =
+    alive_sum v.log (values_of v) (length v.held) (λ t r n is. elim (cases_lt t (length v.held)) [
+      | inl below ↦ below
+      | inr past ↦ absurd (let wrong : Nil ≡ Ref n = sym (nothing_past v t r past) ∙ is in cc)
+    ])
+
 -- now: the next operation of a thread has so many words beside all that is alive
 pub had_room : (script : Script) (config : Config) (v : View) (seats : List Seat) (t need : ℕ) (s : Seat) → TableStands script config v seats → slice_get seats t ≡ Some s → (IsEnded s.mode → ⊥) → HasRoom v need → HadNow script v.log seats config t (length (replies_of seats t)) need
 had_room script config v seats t need s table at goes room =
     let cut : Cut = now v.log seats in
+    let alive : (held : ℕ) × CostsSum (words_of v.log) (Alive v.log (value v)) held = alive_now v in
+    let by_history : WordsBy script cut alive.0 v.log =
+    words_same v.log (value v) (registers_by script cut v.log) alive.0 (λ u r. sym (registers_now script config v seats u r table)) alive.1 in
+    let fits : alive.0 + need ≤ length v.space.list = room alive.0 alive.1 in
     let had : HadRoom script v.log (replies_of seats) config t (length (replies_of seats t)) need = record {
       cut = cut;
       is_cut = IsCutAt_now script config v seats t s table at goes;
-      fits = λ held reach.
-          let by_history : WordsBy script cut held v.log = subst (WordsBy script cut held) (take-length v.log) reach in
-          let by_registers : CostsSum (words_of v.log) (Alive v.log (value v)) held =
-          words_same v.log (registers_by script cut v.log) (value v) held (λ u r. registers_now script config v seats u r table) by_history in
-          let fits : held + need ≤ length v.space.list = room held by_registers in
-          omega (arith, fits, table.words);
+      held = alive.0;
+      reach = subst (WordsBy script cut alive.0) (sym (take-length v.log)) by_history;
+      fits = omega (arith, fits, table.words);
     } in
     (had, gone_now v.log seats)
 

@@ -69,6 +69,8 @@ HadRoom_same : (script : Script) (log : List Entry) (a b : ℕ → List Reply) (
 HadRoom_same script log a b config t k need same had = record {
   cut = had.cut;
   is_cut = record { is = IsCut_same script log a b config had.cut same had.is_cut.is; count = had.is_cut.count; alive = had.is_cut.alive };
+  held = had.held;
+  reach = had.reach;
   fits = had.fits;
 }
 

@@ -1,3 +1,4 @@
+pub mod Sums
 pub mod Cuts
 pub mod Tables
 pub mod Modes

@@ -109,11 +109,13 @@ pub record LacksRoom (script : Script) (log : List Entry) (replies : ℕ → Lis
   pub above : config.heap < held + need
 
 -- At some moment at which the thread had got k replies, the heap had so many words beside those of the objects that
--- registers and globals reach.
+-- registers and globals reached.
 pub record HadRoom (script : Script) (log : List Entry) (replies : ℕ → List Reply) (config : Config) (t k need : ℕ) : Type 0 where
   pub cut : Cut
   pub is_cut : IsCutAt script log replies config t k cut
-  pub fits : (held : ℕ) → ReachesWords script log cut held → held + need ≤ config.heap
+  pub held : ℕ
+  pub reach : ReachesWords script log cut held
+  pub fits : held + need ≤ config.heap
 
 -- If operation k of the thread makes an object, there was room for it.
 abbrev pub HasRoom : Script → List Entry → (ℕ → List Reply) → Config → ℕ → ℕ → Type 0
