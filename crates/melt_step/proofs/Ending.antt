@@ -1,5 +1,6 @@
 -- What a run reports when all its threads have ended.
-use Rattle.std.proofs.Common.{◌≡◌, ℕ, ◌+◌, ◌<◌, ◌≤◌, zero, suc, List, [], length, refl, sym, ◌∙◌, ap, subst, arith, inl, inr}
+use Rattle.std.proofs.Common.{◌≡◌, ℕ, ◌+◌, ◌<◌, ◌≤◌, zero, suc, List, [], ◌∷◌, length, refl, sym, ◌∙◌, ap, subst, arith, inl, inr}
+use Rattle.std.proofs.lemmas.List.Sums.{sum-map, sum_by-cons}
 use Rattle.std.proofs.lemmas.Option.{slice_get_cases, slice_get_within}
 use Rattle.std.specs.Prelude.{Option, None, Some, slice_get, take, All, ◌≢◌}
 use Rattle.std.specs.List.{count_by}
@@ -28,10 +29,11 @@ use Rattle.melt_core.specs.Views.{View, view, maps, maps_of, value, state}
 use Rattle.melt_core.specs.Epochs.{AtRest, HasFinished, core_of}
 use Rattle.melt_step.specs.declared.seat.Seat.{Seat}
 use Rattle.melt_step.specs.declared.seat.Mode.{Mode}
-use Rattle.melt_step.specs.declared.seat.Mode.TheVariants.{Ended}
+use Rattle.melt_step.specs.declared.seat.Mode.TheVariants.{Running, Due, Silent, Collecting, Asked, Lacking, Ended}
 use Rattle.melt_step.specs.declared.run.Run.{Run}
-use Rattle.melt_step.specs.Run.{is_collect, replies_in, Cut, IsCut, LacksRoom, HadRoom, MayEnd, collections_of, collections, IsStepReport, HasRun}
-use Rattle.melt_step.specs.Seats.{IsEnded, replies_of, EndsSo, HadNow, TableStands, RunStands}
+use Rattle.melt_step.specs.Journals.{IsJournalOf}
+use Rattle.melt_step.specs.Run.{silent_in, is_collect, replies_in, Cut, IsCut, LacksRoom, HadRoom, MayEnd, collections_of, collections, IsStepReport, HasRun}
+use Rattle.melt_step.specs.Seats.{owes, owing, IsEnded, replies_of, EndsSo, HadNow, TableStands, RunStands}
 use Rattle.melt_step.proofs.Collecting.{names_are}
 use Rattle.melt_step.proofs.Cuts.{replies_here, replies_past, told_now}
 
@@ -74,15 +76,34 @@ HadRoom_same script log a b config t k need same had = record {
   fits = had.fits;
 }
 
+-- a thread that has ended has none
+none_owes : (mode : Mode) → IsEnded mode → owes mode ≡ 0
+none_owes Running over = absurd over
+none_owes Due over = absurd over
+none_owes Silent over = absurd over
+none_owes Collecting over = absurd over
+none_owes Asked over = absurd over
+none_owes Lacking over = absurd over
+none_owes (Ended e) over = refl
+
 -- the collections that threads got, by other lists of the same replies
-collections_same : (script : Script) (a b : ℕ → List Reply) → ((t : ℕ) → a t ≡ b t) → (n : ℕ) → collections script a n ≡ collections script b n
-collections_same script a b same zero = refl
-collections_same script a b same (suc n) =
-    ap (λ (k : ℕ). k + collections_of script a n) (collections_same script a b same n)
-    ∙ ap (λ (rs : List Reply). collections script b n + count_by is_collect (take (length rs) (operations script n))) (same n)
+collections_same : (script : Script) (config : Config) (a b : ℕ → List Reply) → ((t : ℕ) → a t ≡ b t) → (n : ℕ) → collections script config a n ≡ collections script config b n
+collections_same script config a b same zero = refl
+collections_same script config a b same (suc n) =
+    ap (λ (k : ℕ). k + collections_of script config a n) (collections_same script config a b same n)
+    ∙ ap (λ (rs : List Reply). collections script config b n + (count_by is_collect (take (length rs) (operations script n)) + silent_in config.every (length rs))) (same n)
+
+-- where all threads have ended, no silent collection is still to come
+none_owing : (seats : List Seat) → ((t : ℕ) (s : Seat) → slice_get seats t ≡ Some s → IsEnded s.mode) → owing seats ≡ 0
+none_owing [] ended = refl
+none_owing (s ∷ seats) ended =
+    let here : owes s.mode ≡ 0 = none_owes s.mode (ended 0 s refl) in
+    let others : owing seats ≡ 0 = none_owing seats (λ t x at. ended (suc t) x at) in
+    let f : Seat → ℕ = λ (x : Seat). owes x.mode in
+    omega (arith, here, others, sum-map f seats, sum-map f (s ∷ seats), sum_by-cons f s seats)
 
 -- a thread of the run
-seat_at : (seats : List Seat) (t : ℕ) → t < length seats → (s : Seat) × (slice_get seats t ≡ Some s)
+pub seat_at : (seats : List Seat) (t : ℕ) → t < length seats → (s : Seat) × (slice_get seats t ≡ Some s)
 seat_at seats t below = elim (slice_get_cases seats t).1 [ inl w ↦ (w.0, w.2) | inr w ↦ absurd (omega (arith, w.0)) ]
 
 -- the replies in a report are those of the threads
@@ -134,7 +155,7 @@ has_run script config run heap rest report stands ended at_rest finished count t
     let same : (t : ℕ) → replies_of seats t ≡ replies_in report t = replies_same seats report count threads in
     let there : (t : ℕ) (r : ThreadReport) → slice_get report.threads t ≡ Some r → (s : Seat) × (slice_get seats t ≡ Some s) =
     λ t r at. seat_at seats t (let below : t < length report.threads = slice_get_within report.threads t r at in omega arith) in
-    let moves : All (λ (j : Journal). j.phase ≢ Move) run.collector.journal.items = stands.planning.moves in
+    let moves : All (λ (j : Journal). j.phase ≢ Move) run.collector.journal.items = stands.collector.planning.moves in
     let reported : IsStepReport script config report = record {
       history = record {
         legal = subst (λ (h : List Entry). Legal h script.globals) history (subst (Legal v.log) table.globals table.stands.legal);
@@ -158,10 +179,11 @@ has_run script config run heap rest report stands ended at_rest finished count t
           (subst (λ (h : List Entry). HadRoom script h (replies_of seats) config t k (2 + refs + nums)) history had.0);
       no_halt = halt;
       no_moves = subst (All (λ (j : Journal). j.phase ≢ Move)) (sym journal) moves;
+      journal = subst (IsJournalOf config) (sym journal) stands.collector.journal;
       collected =
-          let all : collections script (replies_in report) (length script.programs) ≤ length report.journal =
-          omega (arith, stands.collected, collections_same script (replies_of seats) (replies_in report) same (length script.programs), ap length journal) in
-          subst (λ (n : ℕ). collections script (replies_in report) n ≤ length report.journal) (sym (count ∙ table.count)) all;
+          let all : collections script config (replies_in report) (length script.programs) ≤ length report.journal =
+          omega (arith, stands.collected, none_owing seats ended, collections_same script config (replies_of seats) (replies_in report) same (length script.programs), ap length journal) in
+          subst (λ (n : ℕ). collections script config (replies_in report) n ≤ length report.journal) (sym (count ∙ table.count)) all;
     } in
     record {
       reported = reported;

@@ -6,11 +6,11 @@ use Rattle.melt_model.specs.declared.config.Config.{Config}
 use Rattle.melt_model.specs.declared.operations.Op.TheVariants.{Collect}
 use Rattle.melt_trace.specs.Script.{Script}
 use Rattle.melt_core.specs.Views.{View, view, IsQuiet, Standing}
-use Rattle.melt_step.specs.Run.{collections}
 use Rattle.melt_step.specs.declared.run.Run.{Run}
 use Rattle.melt_step.specs.declared.seat.Seat.{Seat}
-use Rattle.melt_step.specs.Seats.{DueBy, KeepsRun, MayGo, Passed, RunStands, SeatStep, SeatTold, TableStands, potential, replies_of}
-use Rattle.melt_step.proofs.Tables.{Table_step, collections_step, goes_on}
+use Rattle.melt_step.specs.declared.collector.Collector.{Collector}
+use Rattle.melt_step.specs.Seats.{CollectorStands, DueBy, KeepsRun, MayGo, Passed, RunStands, SeatStep, SeatTold, TableStands, potential, replies_of}
+use Rattle.melt_step.proofs.Tables.{Adds, Table_step, collections_step, goes_on}
 use Rattle.melt_step.proofs.Potentials.{step_nearer, safepoint_nearer}
 
 -- a run stands on behind an event of a thread that can go on
@@ -19,15 +19,14 @@ step_keeps old new t s after at goes step seats due every collector = λ script 
     let had : List Seat = old.seats.items in
     let table : TableStands script config (view old.core) had = stands.table in
     let other : (told : SeatTold (view old.core) (view new.core) t s after) → told.op ≢ Collect = λ told. told.no_collect goes in
-    let same : collections script (replies_of (set had t after)) (length script.programs) ≡ collections script (replies_of had) (length script.programs) =
-    collections_step script config (view old.core) (view new.core) had t s after table at step other in
-    let now : collections script (replies_of new.seats.items) (length script.programs) ≡ collections script (replies_of had) (length script.programs) =
-    ap (λ (xs : List Seat). collections script (replies_of xs) (length script.programs)) seats ∙ same in
+    let by : DueBy config.every s after = subst (λ (n : ℕ). DueBy n s after) stands.every due in
+    let adds : Adds script config had new.seats.items 0 =
+    subst (λ (xs : List Seat). Adds script config had xs 0) (sym seats) (collections_step script config (view old.core) (view new.core) had t s after table at step by other) in
     record {
-      table = subst (TableStands script config (view new.core)) (sym seats) (Table_step script config (view old.core) (view new.core) had t s after table at (goes_on s.mode goes) step (subst (λ (n : ℕ). DueBy n s after) stands.every due));
+      table = subst (TableStands script config (view new.core)) (sym seats) (Table_step script config (view old.core) (view new.core) had t s after table at (goes_on s.mode goes) step by);
       every = every ∙ stands.every;
-      planning = rw collector stands.planning;
-      collected = rw (now, collector) stands.collected;
+      collector = subst (CollectorStands config) (sym collector) stands.collector;
+      collected = omega (arith, adds, stands.collected, ap (λ (x : Collector). length x.journal.items) collector);
     }
 
 -- it has less to do than before

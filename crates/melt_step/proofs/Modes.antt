@@ -18,10 +18,9 @@ use Rattle.melt_core.specs.Epochs.{HasDropped, no_registers}
 use Rattle.melt_step.specs.declared.seat.Seat.{Seat}
 use Rattle.melt_step.specs.declared.seat.Mode.{Mode}
 use Rattle.melt_step.specs.declared.seat.Mode.TheVariants.{Running, Due, Silent, Collecting, Asked, Lacking, Ended}
-use Rattle.melt_step.specs.Run.{collections, collections_of}
 use Rattle.melt_step.specs.Seats.{with_first, left, MayGo, IsEnded, SeatStands, replies_of, EndsSo, LacksNow, Later, TableStands, AllWait, Waits, KnowsStop, SetsStop, SomeGoesOn}
 use Rattle.melt_step.proofs.Cuts.{replies_here, LacksNow_same}
-use Rattle.melt_step.proofs.Tables.{get_set_same, get_set_other, replies_same, later_set, Moves, Table_moves, mode_stands, same_moves, collections_same, collections_other, silent_collections}
+use Rattle.melt_step.proofs.Tables.{get_set_same, get_set_other, replies_same, later_set, Moves, Table_moves, mode_stands, same_moves}
 
 -- where nothing changes, the others are as they were
 pub nothing_keeps : (v : View) (t : ℕ) → KeepsOthers v v t
@@ -99,16 +98,6 @@ Table_gone script config v w seats t s e table at goes dropped no_call ends =
     } in
     Table_moves script config v w seats t s after table at goes dropped.stands (dropped_keeps v w t dropped) moves
 
--- the collections that were answered, where a thread got no reply
-pub collections_mode : (script : Script) (seats : List Seat) (t n : ℕ) (s : Seat) (mode : Mode) → slice_get seats t ≡ Some s → collections script (replies_of (set seats t (record s { mode = mode }))) n ≡ collections script (replies_of seats) n
-collections_mode script seats t n s mode at =
-    let after : Seat = record s { mode = mode } in
-    collections_same script (replies_of (set seats t after)) (replies_of seats) n
-    (λ u below. elim (cases_eq u t) [
-      | inl same ↦ subst (λ (k : ℕ). collections_of script (replies_of (set seats t after)) k ≡ collections_of script (replies_of seats) k) (sym same) (silent_collections script seats t s after at refl)
-      | inr differ ↦ collections_other script seats t u after differ
-    ])
-
 -- a thread that can go on does not wait
 goes_waits : (mode : Mode) → MayGo mode → Waits mode → ⊥
 goes_waits Running goes waits = waits
@@ -126,6 +115,12 @@ SomeWaits seats = (t : ℕ) × ((s : Seat) × (slice_get seats t ≡ Some s) × 
 -- what is known of the stop word stays known
 pub stop_known : (v w : View) (seats : List Seat) (t : ℕ) (s after : Seat) → KnowsStop v seats → slice_get seats t ≡ Some s → MayGo s.mode → SetsStop v w after → KnowsStop w (set seats t after)
 stop_known v w seats t s after known at goes sets = record {
+  waits = λ u x is waits. elim (cases_eq u t) [
+    | inl same ↦
+        let is_after : after ≡ x = same_Some after x (sym (get_set_same seats t s after at) ∙ (ap (λ (k : ℕ). slice_get (set seats t after) k) (sym same) ∙ is)) in
+        sets.waits (subst (λ (y : Seat). Waits y.mode) (sym is_after) waits)
+    | inr differ ↦ sets.stays (known.waits u x (sym (get_set_other seats t u after differ) ∙ is) waits)
+  ];
   stop = λ is. elim (sets.stop is) [
     | inl was ↦
         let waits : SomeWaits seats = known.stop was in

@@ -1,5 +1,7 @@
 -- A run begins.
-use Rattle.std.proofs.Common.{◌≡◌, ℕ, ◌^◌, ◌<◌, ◌≤◌, zero, suc, true, false, List, [], length, take, drop, refl, sym, ◌∙◌, ap, subst, arith, inl, inr}
+use Rattle.std.proofs.Common.{◌≡◌, ℕ, ◌+◌, ◌*◌, ◌/◌, ◌%◌, ◌^◌, ◌<◌, ◌≤◌, zero, suc, true, false, List, [], length, take, drop, refl, sym, ◌∙◌, ap, subst, arith, inl, inr}
+use Rattle.std.proofs.Math.Nat.{div-add-mod, mul-le-mul_left}
+use Rattle.std.proofs.lemmas.Bool.{cases_lt}
 use Rattle.std.proofs.lemmas.List.{length-replicate}
 use Rattle.std.proofs.lemmas.List.Elements.{All-nil}
 use Rattle.std.proofs.lemmas.Option.{slice_get_cases, slice_get_within}
@@ -25,8 +27,8 @@ use Rattle.melt_core.proofs.Values.{get_or_replicate}
 use Rattle.melt_step.specs.declared.seat.Seat.{Seat}
 use Rattle.melt_step.specs.declared.seat.Mode.{Mode}
 use Rattle.melt_step.specs.declared.seat.Mode.TheVariants.{Running, Asked, Ended}
-use Rattle.melt_step.specs.Run.{is_collect, collections, collections_of}
-use Rattle.melt_step.specs.Seats.{owes_silent, AreNewSeats, IsNewSeat, FitsMode, KnowsStop, SeatStands, EndsSo, TableStands, replies_of}
+use Rattle.melt_step.specs.Run.{is_collect, silent_in, collections, collections_of}
+use Rattle.melt_step.specs.Seats.{owes_silent, Waits, AreNewSeats, IsNewSeat, FitsMode, KnowsStop, SeatStands, EndsSo, TableStands, replies_of}
 use Rattle.melt_step.proofs.Cuts.{replies_here, replies_past}
 
 -- no thread has a reply
@@ -114,6 +116,10 @@ Table_new script config entries heap rest seats small few new_heap new_rest new_
 -- no thread waits
 pub stop_new : (script : Script) (entries : ℕ) (heap : Heap) (rest : Rest) (seats : List Seat) → AreNewSeats script seats entries → KnowsStop (view (core_of heap rest)) seats
 stop_new script entries heap rest seats new_seats = record {
+  waits = λ t s at waits. absurd (elim (new_seats.each t s at).mode [
+    | inl runs ↦ subst Waits runs.0 waits
+    | inr over ↦ subst Waits over.0 waits
+  ]);
   stop = λ is. absurd (let not : false ≡ true = is in cc);
   asked = λ t s at is. absurd (elim (new_seats.each t s at).mode [
     | inl runs ↦ let wrong : Running ≡ Asked = sym runs.0 ∙ is in cc
@@ -121,9 +127,21 @@ stop_new script entries heap rest seats new_seats = record {
   ]);
 }
 
+-- no silent collection comes without a reply
+silent_none : (every : ℕ) → silent_in every 0 ≡ 0
+silent_none zero = refl
+silent_none (suc e) =
+    let some : 0 < suc e = omega arith in
+    let by : suc e * (0 / suc e) + 0 % suc e ≡ 0 = div-add-mod 0 (suc e) in
+    elim (cases_lt 0 (0 / suc e)) [
+      | inl more ↦ absurd (let one : 1 ≤ 0 / suc e = omega (arith, more) in let large : suc e * 1 ≤ suc e * (0 / suc e) = mul-le-mul_left (suc e) one in omega (arith, large, by))
+      | inr none ↦ omega (arith, none)
+    ]
+
 -- no collection was answered
-pub collections_new : (script : Script) (entries n : ℕ) (seats : List Seat) → AreNewSeats script seats entries → collections script (replies_of seats) n ≡ 0
-collections_new script entries zero seats new_seats = refl
-collections_new script entries (suc n) seats new_seats =
-    let here : collections_of script (replies_of seats) n ≡ 0 = ap (λ (rs : List Reply). count_by is_collect (take (length rs) (operations script n))) (no_replies script entries n seats new_seats) in
-    omega (arith, collections_new script entries n seats new_seats, here)
+pub collections_new : (script : Script) (config : Config) (entries n : ℕ) (seats : List Seat) → AreNewSeats script seats entries → collections script config (replies_of seats) n ≡ 0
+collections_new script config entries zero seats new_seats = refl
+collections_new script config entries (suc n) seats new_seats =
+    let none : length (replies_of seats n) ≡ 0 = ap length (no_replies script entries n seats new_seats) in
+    let own : count_by is_collect (take (length (replies_of seats n)) (operations script n)) ≡ 0 = ap (λ (k : ℕ). count_by is_collect (take k (operations script n))) none in
+    omega (arith, collections_new script config entries n seats new_seats, own, ap (silent_in config.every) none, silent_none config.every)

@@ -1,6 +1,7 @@
 -- What each step of a run keeps.
-use Rattle.std.proofs.Common.{◌≡◌, ◌≢◌, ℕ, ◌+◌, ◌<◌, ◌≤◌, zero, suc, true, false, List, [], ◌∷◌, ◌++◌, length, take, refl, sym, ◌∙◌, ap, subst, arith, length-append, inl, inr}
+use Rattle.std.proofs.Common.{◌≡◌, ◌≢◌, ℕ, ◌+◌, ◌*◌, ◌/◌, ◌%◌, ◌<◌, ◌≤◌, zero, suc, true, false, List, [], ◌∷◌, ◌++◌, length, take, refl, sym, ◌∙◌, ap, subst, arith, length-append, inl, inr}
 use Rattle.std.proofs.Math.ListN.{set, length-set}
+use Rattle.std.proofs.Math.Nat.{div-add-mod, mod-lt, mul-le-mul_left}
 use Rattle.std.proofs.Math.Seq.{take-append_seam}
 use Rattle.std.proofs.lemmas.Bool.{cases_eq, cases_lt, cond_both}
 use Rattle.std.proofs.lemmas.List.{append-nil, get_or_past, set-get_or}
@@ -35,13 +36,15 @@ use Rattle.melt_core.specs.declared.call.Call.{Call}
 use Rattle.melt_core.specs.Answering.{entry, with_entry, gives, Answers}
 use Rattle.melt_core.specs.Changed.{stopped}
 use Rattle.melt_core.specs.Views.{View, values_of, call_of, IsQuiet, Standing}
-use Rattle.melt_core.specs.Events.{KeepsOthers, HasRoom, HasRoomFor}
+use Rattle.melt_core.specs.declared.answer.Pause.{Pause}
+use Rattle.melt_core.specs.declared.answer.Pause.TheVariants as pause
+use Rattle.melt_core.specs.Events.{KeepsOthers, HasRoom, HasRoomFor, Pauses}
 use Rattle.melt_core.proofs.Values.{get_or_set_keeps}
 use Rattle.melt_step.specs.declared.seat.Seat.{Seat}
 use Rattle.melt_step.specs.declared.seat.Mode.{Mode}
 use Rattle.melt_step.specs.declared.seat.Mode.TheVariants.{Running, Due, Silent, Collecting, Asked, Lacking, Ended}
-use Rattle.melt_step.specs.Run.{IsDue, is_collect, collections, collections_of}
-use Rattle.melt_step.specs.Seats.{DueBy, owes_silent, with_first, left, MayGo, IsEnded, FitsMode, SeatStands, replies_of, HadNow, MadeSo, EndsSo, to_reply, Later, TableStands, SeatWaits, SeatGoes, SeatRefused, TakesReply, SeatTold, IsReady, SeatStep, Renewed, Collected, AllWait}
+use Rattle.melt_step.specs.Run.{IsDue, is_collect, silent_in, collections, collections_of}
+use Rattle.melt_step.specs.Seats.{DueBy, owes_silent, owes, owing, paused_as, with_first, left, MayGo, IsEnded, FitsMode, SeatStands, replies_of, HadNow, MadeSo, EndsSo, to_reply, Later, TableStands, SeatWaits, SeatGoes, SeatRefused, TakesReply, SeatTold, IsReady, SeatStep, Renewed, Collected, AllWait}
 use Rattle.melt_step.proofs.Cuts.{replies_here, LacksNow_later, HadNow_later, had_room}
 
 -- an element of a list in which one was set
@@ -411,22 +414,53 @@ goes_moves script config v w seats t s after due st runs goes =
     (goes.running, goes.op ∙ ap (λ (x : Call). Some x.op) same, subst (λ (x : Call). x.op ≢ Collect) same goes.no_collect)) in
     subst (λ (y : Seat). Moves script config v w seats t s y) (sym goes.same) (same_moves script config v w seats t s s.mode due runs goes.history stands)
 
--- a thread whose call was refused
-refused_moves : (script : Script) (config : Config) (v w : View) (seats : List Seat) (t : ℕ) (s after : Seat) (mode : Mode) → SeatStands script v t s → (IsEnded s.mode → ⊥) → SeatRefused v w t s after mode → Moves script config v w seats t s after
-refused_moves script config v w seats t s after mode st runs refused =
-    let waiting : IsEnded mode → ⊥ = λ over. elim refused.waits [ inl asked ↦ subst IsEnded asked over | inr lacking ↦ subst IsEnded lacking over ] in
-    let owes : owes_silent mode ≡ true → IsDue config (length s.replies.items) = λ is. absurd (elim refused.waits [
+-- what a call that paused leaves of the view
+pub paused_view : (v w : View) (t : ℕ) (o : Op) (cause : Pause) → Pauses v w t o cause → (call_of w t ≡ None) × (w.log ≡ v.log) × (values_of w t ≡ values_of v t)
+paused_view v w t o pause.Asked pauses = (ap (λ (x : View). call_of x t) pauses.same ∙ pauses.first, ap (λ (x : View). x.log) pauses.same, ap (λ (x : View). values_of x t) pauses.same)
+paused_view v w t o (pause.Space need) pauses = (pauses.call, pauses.history, pauses.values)
+paused_view v w t o pause.Forward pauses = absurd pauses
+
+-- how a thread whose call paused waits
+pub paused_cases : (cause : Pause) → (paused_as cause ≡ Asked) ⊎ (paused_as cause ≡ Lacking)
+paused_cases pause.Asked = inl refl
+paused_cases (pause.Space need) = inr refl
+paused_cases pause.Forward = inr refl
+
+-- a thread that waits for its call to be made again
+again_moves : (script : Script) (config : Config) (v w : View) (seats : List Seat) (t : ℕ) (s : Seat) (mode : Mode) → SeatStands script v t s → (IsEnded s.mode → ⊥) → (mode ≡ Asked) ⊎ (mode ≡ Lacking) → IsSome s.op → s.op ≢ Some Collect → (call_of w t ≡ None) × (w.log ≡ v.log) × (values_of w t ≡ values_of v t) → Moves script config v w seats t s (record s { mode = mode })
+again_moves script config v w seats t s mode st runs waits some no_collect behind =
+    let waiting : IsEnded mode → ⊥ = λ over. elim waits [ inl asked ↦ subst IsEnded asked over | inr lacking ↦ subst IsEnded lacking over ] in
+    let owes : owes_silent mode ≡ true → IsDue config (length s.replies.items) = λ is. absurd (elim waits [
       | inl asked ↦ let wrong : false ≡ true = sym (ap owes_silent asked) ∙ is in cc
       | inr lacking ↦ let wrong : false ≡ true = sym (ap owes_silent lacking) ∙ is in cc
     ]) in
-    let fits : FitsMode mode s.op = elim refused.waits [
-      | inl asked ↦ subst (λ (m : Mode). FitsMode m s.op) (sym asked) (refused.op, refused.no_collect)
-      | inr lacking ↦ subst (λ (m : Mode). FitsMode m s.op) (sym lacking) (refused.op, refused.no_collect)
+    let fits : FitsMode mode s.op = elim waits [
+      | inl asked ↦ subst (λ (m : Mode). FitsMode m s.op) (sym asked) (some, no_collect)
+      | inr lacking ↦ subst (λ (m : Mode). FitsMode m s.op) (sym lacking) (some, no_collect)
     ] in
     let stands : SeatStands script w t (record s { mode = mode }) =
-    mode_stands script v w t s mode st runs waiting refused.history refused.values fits
-    (λ c is. absurd (let none : call_of w t ≡ None = refused.call in cc)) in
-    subst (λ (y : Seat). Moves script config v w seats t s y) (sym refused.only) (same_moves script config v w seats t s mode owes waiting refused.history stands)
+    mode_stands script v w t s mode st runs waiting behind.1 behind.2 fits
+    (λ c is. absurd (let none : call_of w t ≡ None = behind.0 in cc)) in
+    same_moves script config v w seats t s mode owes waiting behind.1 stands
+
+-- a thread whose call was refused
+refused_moves : (script : Script) (config : Config) (v w : View) (seats : List Seat) (t : ℕ) (s after : Seat) → SeatStands script v t s → (IsEnded s.mode → ⊥) → SeatRefused v w t s after → Moves script config v w seats t s after
+refused_moves script config v w seats t s after st runs refused =
+    subst (λ (y : Seat). Moves script config v w seats t s y) (sym refused.only)
+    (again_moves script config v w seats t s (paused_as refused.cause) st runs (paused_cases refused.cause) (rw refused.next refl)
+    (λ is. refused.no_collect (same_Some refused.op Collect (sym refused.next ∙ is))) (paused_view v w t refused.op refused.cause refused.pauses))
+
+-- a thread that still lacks room stands as before
+pub Table_lacks : (script : Script) (config : Config) (v w : View) (seats : List Seat) (t : ℕ) (s : Seat) → TableStands script config v seats → slice_get seats t ≡ Some s → s.mode ≡ Lacking → Standing w → KeepsOthers v w t → (call_of w t ≡ None) × (w.log ≡ v.log) × (values_of w t ≡ values_of v t) → TableStands script config w seats
+Table_lacks script config v w seats t s table at lacking stands others behind =
+    let st : SeatStands script v t s = table.each t s at in
+    let runs : IsEnded s.mode → ⊥ = λ over. subst IsEnded lacking over in
+    let fits : FitsMode Lacking s.op = subst (λ (m : Mode). FitsMode m s.op) lacking st.fits in
+    let same : record s { mode = Lacking } ≡ s = ap {B = Seat} (λ (m : Mode). record s { mode = m }) (sym lacking) in
+    let moves : Moves script config v w seats t s (record s { mode = Lacking }) = again_moves script config v w seats t s Lacking st runs (inr refl) fits.0 fits.1 behind in
+    subst (TableStands script config w) (set_got seats t s at)
+    (subst (λ (y : Seat). TableStands script config w (set seats t y)) same
+    (Table_moves script config v w seats t s (record s { mode = Lacking }) table at runs stands others moves))
 
 -- A thread that got the reply to its next operation: what was left began with it.
 told_left : (v w : View) (t : ℕ) (s after : Seat) (told : SeatTold v w t s after) → left s ≡ told.op ∷ s.rest.operations
@@ -560,7 +594,7 @@ Table_step script config v w seats t s after table at runs step due =
       | inr rest ↦ elim rest [
         | inl goes ↦ goes_moves script config v w seats t s after (table.due t s at) st runs goes
         | inr further ↦ elim further [
-          | inl refused ↦ refused_moves script config v w seats t s after refused.0 st runs refused.1
+          | inl refused ↦ refused_moves script config v w seats t s after st runs refused
           | inr told ↦ told_moves script config v w seats t s after due table at runs step.stands step.others.globals told
         ]
       ]
@@ -659,31 +693,34 @@ Table_collected script config v w seats table collected = Table_renewed script c
   values = collected.values;
 })
 
--- the collections of all threads, where no thread but one differs
-pub collections_same : (script : Script) (a b : ℕ → List Reply) (n : ℕ) → ((u : ℕ) → u < n → collections_of script a u ≡ collections_of script b u) → collections script a n ≡ collections script b n
-collections_same script a b zero same = refl
-collections_same script a b (suc n) same =
-    let front : collections script a n ≡ collections script b n = collections_same script a b n (λ u below. same u (omega arith)) in
-    let here : collections_of script a n ≡ collections_of script b n = same n (omega arith) in
+-- the collections of all threads, where those of each are the same
+pub collections_same : (script : Script) (config : Config) (a b : ℕ → List Reply) (n : ℕ) → ((u : ℕ) → u < n → collections_of script config a u ≡ collections_of script config b u) → collections script config a n ≡ collections script config b n
+collections_same script config a b zero same = refl
+collections_same script config a b (suc n) same =
+    let front : collections script config a n ≡ collections script config b n = collections_same script config a b n (λ u below. same u (omega arith)) in
+    let here : collections_of script config a n ≡ collections_of script config b n = same n (omega arith) in
     cc
 
--- the collections of all threads, where one thread has one more at most
-collections_more : (script : Script) (a b : ℕ → List Reply) (t n : ℕ) → ((u : ℕ) → u ≢ t → collections_of script a u ≡ collections_of script b u) → collections_of script a t ≤ collections_of script b t + 1 → collections script a n ≤ collections script b n + 1
-collections_more script a b t zero same more = omega arith
-collections_more script a b t (suc n) same more =
-    elim (cases_eq n t) [
-      | inl here ↦
-          let front : collections script a n ≡ collections script b n = collections_same script a b n (λ u below. same u (λ is. absurd (omega arith))) in
-          let last : collections_of script a n ≤ collections_of script b n + 1 = subst (λ (k : ℕ). collections_of script a k ≤ collections_of script b k + 1) (sym here) more in
-          omega (arith, front, last)
-      | inr differ ↦
-          let front : collections script a n ≤ collections script b n + 1 = collections_more script a b t n same more in
-          omega (arith, front, same n differ)
-    ]
+-- the collections of all threads, where those of no thread but one differ
+collections_at : (script : Script) (config : Config) (a b : ℕ → List Reply) (t n : ℕ) → t < n → ((u : ℕ) → u ≢ t → collections_of script config a u ≡ collections_of script config b u) → collections script config a n + collections_of script config b t ≡ collections script config b n + collections_of script config a t
+collections_at script config a b t zero below same = absurd (omega arith)
+collections_at script config a b t (suc n) below same = elim (cases_eq n t) [
+  | inl here ↦
+      let front : collections script config a n ≡ collections script config b n = collections_same script config a b n (λ u under. same u (λ is. absurd (omega arith))) in
+      omega (arith, front, ap (collections_of script config a) here, ap (collections_of script config b) here)
+  | inr differ ↦
+      let front : collections script config a n + collections_of script config b t ≡ collections script config b n + collections_of script config a t = collections_at script config a b t n (omega arith) same in
+      omega (arith, front, same n differ)
+]
+
+-- the collections by the replies of a thread
+by_replies : Script → Config → ℕ → List Reply → ℕ
+by_replies script config u rs = count_by is_collect (take (length rs) (operations script u)) + silent_in config.every (length rs)
 
 -- those of another thread stay
-pub collections_other : (script : Script) (seats : List Seat) (t u : ℕ) (after : Seat) → u ≢ t → collections_of script (replies_of (set seats t after)) u ≡ collections_of script (replies_of seats) u
-collections_other script seats t u after differ = ap (λ (rs : List Reply). count_by is_collect (take (length rs) (operations script u))) (replies_other seats t u after differ)
+collections_other : (script : Script) (config : Config) (seats : List Seat) (t u : ℕ) (after : Seat) → u ≢ t → collections_of script config (replies_of (set seats t after)) u ≡ collections_of script config (replies_of seats) u
+unfolding by_replies
+collections_other script config seats t u after differ = ap (by_replies script config u) (replies_other seats t u after differ)
 
 -- an operation that is no collection does not count as one
 is_no_collect : (o : Op) → o ≢ Collect → is_collect o ≡ false
@@ -704,58 +741,166 @@ one_at_most : (b : Bool) → (if b then 1 else 0) ≤ 1
 one_at_most true = omega arith
 one_at_most false = omega arith
 
+-- behind a reply whose number is a multiple one silent collection more
+silent_due : (every n : ℕ) → every ≢ 0 → (n + 1) % every ≡ 0 → silent_in every (n + 1) ≡ silent_in every n + 1
+silent_due zero n some divides = absurd (some refl)
+silent_due (suc e) n some divides =
+    let m : ℕ = suc e in
+    let q : ℕ = n / m in
+    let p : ℕ = (n + 1) / m in
+    let now : m * p + (n + 1) % m ≡ n + 1 = div-add-mod (n + 1) m in
+    let was : m * q + n % m ≡ n = div-add-mod n m in
+    let some_m : 0 < m = omega arith in
+    let rest : n % m < m = mod-lt n some_m in
+    elim (cases_lt q p) [
+      | inl more ↦ elim (cases_lt (q + 1) p) [
+        | inl far ↦ absurd (let more_q : q + 2 ≤ p = omega (arith, far) in let large : m * (q + 2) ≤ m * p = mul-le-mul_left m more_q in omega (arith, large, now, was, rest, divides))
+        | inr one ↦ omega (arith, more, one)
+      ]
+      | inr less ↦ absurd (let large : m * p ≤ m * q = mul-le-mul_left m less in omega (arith, large, now, was, rest, divides))
+    ]
+
+-- and none behind another
+silent_not : (every n : ℕ) → (every ≢ 0 → (n + 1) % every ≡ 0 → ⊥) → silent_in every (n + 1) ≡ silent_in every n
+silent_not zero n not = refl
+silent_not (suc e) n not =
+    let m : ℕ = suc e in
+    let q : ℕ = n / m in
+    let p : ℕ = (n + 1) / m in
+    let now : m * p + (n + 1) % m ≡ n + 1 = div-add-mod (n + 1) m in
+    let was : m * q + n % m ≡ n = div-add-mod n m in
+    let some_m : 0 < m = omega arith in
+    let rest : n % m < m = mod-lt n some_m in
+    let over : (n + 1) % m < m = mod-lt (n + 1) some_m in
+    let some : 0 < (n + 1) % m = elim (cases_lt 0 ((n + 1) % m)) [ inl is ↦ is | inr none ↦ absurd (not (λ is. omega (arith, is)) (omega (arith, none))) ] in
+    elim (cases_lt q p) [
+      | inl more ↦ absurd (let more_q : q + 1 ≤ p = omega (arith, more) in let large : m * (q + 1) ≤ m * p = mul-le-mul_left m more_q in omega (arith, large, now, was, rest, some))
+      | inr less ↦ elim (cases_lt p q) [
+        | inl far ↦ absurd (let more_p : p + 1 ≤ q = omega (arith, far) in let large : m * (p + 1) ≤ m * q = mul-le-mul_left m more_p in omega (arith, large, now, was, over))
+        | inr one ↦ omega (arith, less, one)
+      ]
+    ]
+
+-- a mode is that of a thread with a silent collection to come or is not
+due_cases : (mode : Mode) → (mode ≡ Due) ⊎ (mode ≡ Due → ⊥)
+due_cases Running = inr (λ is. cc)
+due_cases Due = inl refl
+due_cases Silent = inr (λ is. cc)
+due_cases Collecting = inr (λ is. cc)
+due_cases Asked = inr (λ is. cc)
+due_cases Lacking = inr (λ is. cc)
+due_cases (Ended e) = inr (λ is. cc)
+
+-- a reply brings a silent collection exactly where one is due behind it
+silent_told : (config : Config) (s after : Seat) (reply : Reply) → DueBy config.every s after → TakesReply s after reply → silent_in config.every (length s.replies.items + 1) ≡ silent_in config.every (length s.replies.items) + owes after.mode
+silent_told config s after reply due takes =
+    let k : ℕ = length s.replies.items in
+    let count : length after.replies.items ≡ k + 1 = ap length takes.replies ∙ length-append s.replies.items (reply ∷ []) in
+    let more : after.replies.items ≢ s.replies.items = λ same. omega (arith, ap length same, count) in
+    let by = due more in
+    elim (due_cases after.mode) [
+      | inl is ↦
+          let divides = by.0 is in
+          omega (arith, silent_due config.every k divides.0 (ap (λ (n : ℕ). n % config.every) (sym count) ∙ divides.1), ap owes is)
+      | inr not ↦
+          let none : owes after.mode ≡ 0 = elim takes.fits [
+            | inl runs ↦ ap owes runs.0
+            | inr rest ↦ elim rest [ inl is ↦ absurd (not is) | inr ended ↦ ap owes ended.0 ]
+          ] in
+          omega (arith, none, silent_not config.every k (λ some divides. not (by.1 (some, ap (λ (n : ℕ). n % config.every) count ∙ divides))))
+    ]
+
 -- the collections of a thread that got a reply
-told_collections : (script : Script) (v w : View) (seats : List Seat) (t : ℕ) (s after : Seat) → SeatStands script v t s → slice_get seats t ≡ Some s → (told : SeatTold v w t s after) → collections_of script (replies_of (set seats t after)) t ≡ collections_of script (replies_of seats) t + (if is_collect told.op then 1 else 0)
-told_collections script v w seats t s after st at told =
+told_collections : (script : Script) (config : Config) (v w : View) (seats : List Seat) (t : ℕ) (s after : Seat) → SeatStands script v t s → slice_get seats t ≡ Some s → DueBy config.every s after → (told : SeatTold v w t s after) → collections_of script config (replies_of (set seats t after)) t ≡ collections_of script config (replies_of seats) t + owes after.mode + (if is_collect told.op then 1 else 0)
+told_collections script config v w seats t s after st at due told =
     let ops : List Op = operations script t in
     let k : ℕ = length s.replies.items in
     let C : ℕ → ℕ = λ (n : ℕ). count_by is_collect (take n ops) in
     let count : length after.replies.items ≡ k + 1 = ap length told.takes.replies ∙ length-append s.replies.items (told.reply ∷ []) in
-    let now : length (replies_of (set seats t after) t) ≡ suc k = omega (arith, count, ap length (replies_same seats t s after at)) in
+    let now : length (replies_of (set seats t after) t) ≡ k + 1 = omega (arith, count, ap length (replies_same seats t s after at)) in
     let was : length (replies_of seats t) ≡ k = ap length (replies_here seats t s at) in
     let taken : take (suc k) ops ≡ take k ops ++ told.op ∷ [] = take_next ops s.rest.operations k told.op (sym st.to_come ∙ told_left v w t s after told) in
-    ap C now ∙ (ap (count_by is_collect) taken ∙ (sum_by_push (λ (o : Op). if is_collect o then 1 else 0) (take k ops) told.op ∙ ap (λ (n : ℕ). n + (if is_collect told.op then 1 else 0)) (ap C (sym was))))
+    let next : C (suc k) ≡ C k + (if is_collect told.op then 1 else 0) = ap (count_by is_collect) taken ∙ sum_by_push (λ (o : Op). if is_collect o then 1 else 0) (take k ops) told.op in
+    let suc_k : k + 1 ≡ suc k = omega arith in
+    omega (arith, next, ap C was, ap C (now ∙ suc_k), ap (silent_in config.every) was, ap (silent_in config.every) now, silent_told config s after told.reply due told.takes)
 
 -- the collections of a thread that got no reply
-pub silent_collections : (script : Script) (seats : List Seat) (t : ℕ) (s after : Seat) → slice_get seats t ≡ Some s → after.replies.items ≡ s.replies.items → collections_of script (replies_of (set seats t after)) t ≡ collections_of script (replies_of seats) t
-silent_collections script seats t s after at same =
-    ap (λ (rs : List Reply). count_by is_collect (take (length rs) (operations script t))) (replies_same seats t s after at ∙ (same ∙ sym (replies_here seats t s at)))
+silent_collections : (script : Script) (config : Config) (seats : List Seat) (t : ℕ) (s after : Seat) → slice_get seats t ≡ Some s → after.replies.items ≡ s.replies.items → collections_of script config (replies_of (set seats t after)) t ≡ collections_of script config (replies_of seats) t
+unfolding by_replies
+silent_collections script config seats t s after at same =
+    ap (by_replies script config t) (replies_same seats t s after at ∙ (same ∙ sym (replies_here seats t s at)))
 
--- An event of a thread adds one at most to the collections that were answered, and none where its reply was to another
--- operation.
-here_step : (script : Script) (config : Config) (v w : View) (seats : List Seat) (t : ℕ) (s after : Seat) → TableStands script config v seats → slice_get seats t ≡ Some s → SeatStep v w t s after → (collections_of script (replies_of (set seats t after)) t ≡ collections_of script (replies_of seats) t) ⊎ ((told : SeatTold v w t s after) × (collections_of script (replies_of (set seats t after)) t ≡ collections_of script (replies_of seats) t + (if is_collect told.op then 1 else 0)))
-here_step script config v w seats t s after table at step =
+-- how many threads have a silent collection still to come, where a seat was set
+pub owing_set : (seats : List Seat) (t : ℕ) (s after : Seat) → slice_get seats t ≡ Some s → owing (set seats t after) + owes s.mode ≡ owing seats + owes after.mode
+owing_set seats t s after at =
+    let f : Seat → ℕ = λ (x : Seat). owes x.mode in
+    omega (arith, sum-map f seats, sum-map f (set seats t after), sum_by-set f seats t after s (slice_get_within seats t s at), ap f (get_or_from_slice_get seats t s s at))
+
+-- So many collections more were made for the replies that threads got, and for those that are no longer to come.
+abbrev pub Adds : Script → Config → List Seat → List Seat → ℕ → Type 0
+Adds script config seats after c =
+    collections script config (replies_of after) (length script.programs) + owing seats ≡ collections script config (replies_of seats) (length script.programs) + owing after + c
+
+-- where the replies of one thread change alone
+adds_at : (script : Script) (config : Config) (seats : List Seat) (t c : ℕ) (s after : Seat) → slice_get seats t ≡ Some s → length seats ≡ length script.programs → collections_of script config (replies_of (set seats t after)) t + owes s.mode ≡ collections_of script config (replies_of seats) t + owes after.mode + c → Adds script config seats (set seats t after) c
+adds_at script config seats t c s after at count here =
+    let below : t < length seats = slice_get_within seats t s at in
+    omega (
+      arith,
+      here,
+      owing_set seats t s after at,
+      collections_at script config (replies_of (set seats t after)) (replies_of seats) t (length script.programs) (omega (arith, below, count)) (λ u differ. collections_other script config seats t u after differ),
+    )
+
+-- no reply and the same silent collections to come
+pub adds_mode : (script : Script) (config : Config) (seats : List Seat) (t : ℕ) (s : Seat) (mode : Mode) → slice_get seats t ≡ Some s → length seats ≡ length script.programs → owes s.mode ≡ owes mode → Adds script config seats (set seats t (record s { mode = mode })) 0
+adds_mode script config seats t s mode at count same =
+    adds_at script config seats t 0 s (record s { mode = mode }) at count (omega (arith, same, silent_collections script config seats t s (record s { mode = mode }) at refl))
+
+-- a silent collection that was made for a thread
+pub adds_silent : (script : Script) (config : Config) (seats : List Seat) (t : ℕ) (s : Seat) (mode : Mode) → slice_get seats t ≡ Some s → length seats ≡ length script.programs → owes s.mode ≡ owes mode + 1 → Adds script config seats (set seats t (record s { mode = mode })) 1
+adds_silent script config seats t s mode at count same =
+    adds_at script config seats t 1 s (record s { mode = mode }) at count (omega (arith, same, silent_collections script config seats t s (record s { mode = mode }) at refl))
+
+-- a thread that waits for its call to be made again has no silent collection to come
+paused_owes : (cause : Pause) → owes (paused_as cause) ≡ 0
+paused_owes pause.Asked = refl
+paused_owes (pause.Space need) = refl
+paused_owes pause.Forward = refl
+
+-- An event of a thread adds its silent collection to those that are to come, and one at most that was answered.
+here_step : (script : Script) (config : Config) (v w : View) (seats : List Seat) (t : ℕ) (s after : Seat) → TableStands script config v seats → slice_get seats t ≡ Some s → SeatStep v w t s after → DueBy config.every s after → Adds script config seats (set seats t after) 0 ⊎ ((told : SeatTold v w t s after) × Adds script config seats (set seats t after) (if is_collect told.op then 1 else 0))
+here_step script config v w seats t s after table at step due =
+    let by_mode : (mode : Mode) → after ≡ record s { mode = mode } → owes s.mode ≡ owes mode → Adds script config seats (set seats t after) 0 = λ mode is same.
+    subst (λ (y : Seat). Adds script config seats (set seats t y) 0) (sym is) (adds_mode script config seats t s mode at table.count same) in
     elim step.what [
-      | inl waits ↦ inl (silent_collections script seats t s after at (ap (λ (x : Seat). x.replies.items) waits.1.only))
+      | inl waits ↦ inl (by_mode waits.0 waits.1.only (elim waits.1.before [ inl own ↦ ap owes own.0 ∙ ap owes (sym own.2) | inr silent ↦ ap owes silent.0 ∙ ap owes (sym silent.1) ]))
       | inr rest ↦ elim rest [
-        | inl goes ↦ inl (silent_collections script seats t s after at (ap (λ (x : Seat). x.replies.items) goes.same))
+        | inl goes ↦ inl (by_mode s.mode goes.same refl)
         | inr further ↦ elim further [
-          | inl refused ↦ inl (silent_collections script seats t s after at (ap (λ (x : Seat). x.replies.items) refused.1.only))
-          | inr told ↦ inr (told, told_collections script v w seats t s after (table.each t s at) at told)
+          | inl refused ↦ inl (by_mode (paused_as refused.cause) refused.only (ap owes refused.running ∙ sym (paused_owes refused.cause)))
+          | inr told ↦ inr (
+            told,
+            adds_at script config seats t (if is_collect told.op then 1 else 0) s after at table.count
+                (let none : owes s.mode ≡ 0 = ap {B = ℕ} (λ (b : Bool). if b then 1 else 0) told.not_due in
+                omega (arith, none, told_collections script config v w seats t s after (table.each t s at) at due told)),
+          )
         ]
       ]
     ]
 
--- the collections that were answered, when a thread got one reply more
-pub collections_grow : (script : Script) (config : Config) (v w : View) (seats : List Seat) (t : ℕ) (s after : Seat) → TableStands script config v seats → slice_get seats t ≡ Some s → SeatStep v w t s after → collections script (replies_of (set seats t after)) (length script.programs) ≤ collections script (replies_of seats) (length script.programs) + 1
-collections_grow script config v w seats t s after table at step =
-    collections_more script (replies_of (set seats t after)) (replies_of seats) t (length script.programs)
-    (λ u differ. collections_other script seats t u after differ)
-    (elim (here_step script config v w seats t s after table at step) [
-      | inl same ↦ omega (arith, same)
-      | inr more ↦ omega (arith, more.1, one_at_most (is_collect more.0.op))
-    ])
+-- one collection at most was answered
+pub collections_grow : (script : Script) (config : Config) (v w : View) (seats : List Seat) (t : ℕ) (s after : Seat) → TableStands script config v seats → slice_get seats t ≡ Some s → SeatStep v w t s after → DueBy config.every s after → (c : ℕ) × (c ≤ 1) × Adds script config seats (set seats t after) c
+collections_grow script config v w seats t s after table at step due =
+    elim (here_step script config v w seats t s after table at step due) [
+      | inl same ↦ (0, omega arith, same)
+      | inr more ↦ ((if is_collect more.0.op then 1 else 0), one_at_most (is_collect more.0.op), more.1)
+    ]
 
--- and when the reply was not to a collection
-pub collections_step : (script : Script) (config : Config) (v w : View) (seats : List Seat) (t : ℕ) (s after : Seat) → TableStands script config v seats → slice_get seats t ≡ Some s → SeatStep v w t s after → ((told : SeatTold v w t s after) → told.op ≢ Collect) → collections script (replies_of (set seats t after)) (length script.programs) ≡ collections script (replies_of seats) (length script.programs)
-collections_step script config v w seats t s after table at step other =
-    let here : collections_of script (replies_of (set seats t after)) t ≡ collections_of script (replies_of seats) t =
-    elim (here_step script config v w seats t s after table at step) [
+-- and none where the reply was to another operation
+pub collections_step : (script : Script) (config : Config) (v w : View) (seats : List Seat) (t : ℕ) (s after : Seat) → TableStands script config v seats → slice_get seats t ≡ Some s → SeatStep v w t s after → DueBy config.every s after → ((told : SeatTold v w t s after) → told.op ≢ Collect) → Adds script config seats (set seats t after) 0
+collections_step script config v w seats t s after table at step due other =
+    elim (here_step script config v w seats t s after table at step due) [
       | inl same ↦ same
-      | inr more ↦ omega (arith, more.1, ap {B = ℕ} (λ (b : Bool). if b then 1 else 0) (is_no_collect more.0.op (other more.0)))
-    ] in
-    collections_same script (replies_of (set seats t after)) (replies_of seats) (length script.programs)
-    (λ u below. elim (cases_eq u t) [
-      | inl same ↦ subst (λ (k : ℕ). collections_of script (replies_of (set seats t after)) k ≡ collections_of script (replies_of seats) k) (sym same) here
-      | inr differ ↦ collections_other script seats t u after differ
-    ])
+      | inr more ↦ subst (Adds script config seats (set seats t after)) (ap {B = ℕ} (λ (b : Bool). if b then 1 else 0) (is_no_collect more.0.op (other more.0))) more.1
+    ]

@@ -21,6 +21,7 @@ use Rattle.melt_trace.specs.Script.{Script, operations}
 use Rattle.melt_scion.specs.Placed.{Maps, Placed}
 use Rattle.melt_scion.specs.Heaps.{state_of, HasNames}
 use Rattle.melt_scion.specs.declared.heap.Heap.{Heap}
+use Rattle.melt_step.specs.Journals.{IsJournalOf}
 
 -- whether an operation asks for a collection
 abbrev pub is_collect : Op → Bool
@@ -130,23 +131,32 @@ MayEnd script config report t end.DiskFault = ⊥
 MayEnd script config report t (end.Damaged home at word) = ⊥
 MayEnd script config report t end.Halted = ⊥
 
--- how many of its replies a thread got for collections, and the first n threads together
-abbrev pub collections_of : Script → (ℕ → List Reply) → ℕ → ℕ
-collections_of script replies t = count_by is_collect (take (length (replies t)) (operations script t))
+-- how many silent collections come with so many replies of a thread: one behind each that is a multiple of the number
+abbrev pub silent_in : (every count : ℕ) → ℕ
+silent_in zero count = 0
+silent_in (suc every) count = count / suc every
 
-abbrev pub collections : Script → (ℕ → List Reply) → ℕ → ℕ
-collections script replies zero = 0
-collections script replies (suc n) = collections script replies n + collections_of script replies n
+-- how many collections the replies of a thread brought, its `collect`s and the silent ones, and those of the first n
+-- threads together
+abbrev pub collections_of : Script → Config → (ℕ → List Reply) → ℕ → ℕ
+collections_of script config replies t =
+    count_by is_collect (take (length (replies t)) (operations script t)) + silent_in config.every (length (replies t))
 
--- What a run reports of a trace. Its history is the one that it stored. An object was made only where there was room,
--- and each collection that a thread asked for is in the journal. Nothing is moved to disk yet.
+abbrev pub collections : Script → Config → (ℕ → List Reply) → ℕ → ℕ
+collections script config replies zero = 0
+collections script config replies (suc n) = collections script config replies n + collections_of script config replies n
+
+-- What a run reports of a trace. Its history is the one that it stored. An object was made only where there was room.
+-- The journal has the collections, each of its phase: those that threads asked for, the silent ones, and those that
+-- were made for room. Nothing is moved to disk yet.
 pub record IsStepReport (script : Script) (config : Config) (report : Report) : Type 0 where
   pub history : HasHistory script report.log report
   pub ends : (t : ℕ) (r : ThreadReport) → slice_get report.threads t ≡ Some r → MayEnd script config report t r.end
   pub room : (t k : ℕ) → k < answered report t → HasRoom script report.log (replies_in report) config t k
   pub no_halt : report.halt ≡ None
   pub no_moves : All (λ j. j.phase ≢ Move) report.journal
-  pub collected : collections script (replies_in report) (length report.threads) ≤ length report.journal
+  pub journal : IsJournalOf config report.journal
+  pub collected : collections script config (replies_in report) (length report.threads) ≤ length report.journal
 
 -- The heap that is left has the globals of the script, the words of the configuration, and names of its objects. It
 -- stands for the history when all threads have ended.
