@@ -15,7 +15,8 @@ use Rattle.melt_core.specs.Calls.{AtStage}
 use Rattle.melt_core.specs.Views.{View, values_of, call_of, maps, state, Standing}
 use Rattle.melt_core.specs.Events.{Advances, Continues, KeepsOthers, IsAnswered, Goes, stage_in, events_left}
 use Rattle.melt_step.specs.declared.seat.Seat.{Seat}
-use Rattle.melt_step.specs.Seats.{TakesReply, DropsIfEnded, CalledAlone}
+use Rattle.melt_step.specs.declared.seat.Mode.TheVariants.{Lacking}
+use Rattle.melt_step.specs.Seats.{owes_silent, TakesReply, DropsIfEnded, CalledAlone}
 use Rattle.melt_step.proofs.Calling.{KeepsOthers_both, told_seat, told_stands}
 
 -- a call that has claimed nothing yet
@@ -104,8 +105,8 @@ call_goes v w x t o on advances =
     }
 
 -- the call was answered
-pub call_told : (v w x y : View) (t : ℕ) (o : Op) (reply : Reply) (s after : Seat) → s.op ≡ Some o → o ≢ Collect → OnCall v w t o → Standing x → KeepsOthers w x t → IsAnswered w x t o reply → TakesReply s after reply → DropsIfEnded x y t after.mode → CalledAlone v y t s after None
-call_told v w x y t o reply s after next no_collect on stands others answered takes drops =
+pub call_told : (v w x y : View) (t : ℕ) (o : Op) (reply : Reply) (s after : Seat) → s.mode ≡ Lacking → s.op ≡ Some o → o ≢ Collect → OnCall v w t o → Standing x → KeepsOthers w x t → IsAnswered w x t o reply → TakesReply s after reply → DropsIfEnded x y t after.mode → CalledAlone v y t s after None
+call_told v w x y t o reply s after lacking next no_collect on stands others answered takes drops =
     let behind = told_stands x y t after.mode stands drops in
     let values : (u : ℕ) → values_of w u ≡ values_of v u = λ u. elim (cases_eq u t) [
       | inl here ↦ subst (λ (k : ℕ). values_of w k ≡ values_of v k) (sym here) on.values
@@ -114,5 +115,5 @@ call_told v w x y t o reply s after next no_collect on stands others answered ta
     record {
       stands = behind.0;
       others = KeepsOthers_both v w y t on.others (KeepsOthers_both w x y t others behind.1);
-      what = inl (refl, told_seat v w x y t o reply s after next no_collect on.history values on.others.words answered takes drops);
+      what = inl (refl, told_seat v w x y t o reply s after next no_collect on.history values on.others.words answered (ap owes_silent lacking) takes drops);
     }

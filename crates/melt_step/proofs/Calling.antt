@@ -1,5 +1,5 @@
 -- What an event or a reply makes of a thread.
-use Rattle.std.proofs.Common.{◌≡◌, ◌≢◌, ℕ, ◌+◌, ◌≤◌, List, length, refl, sym, ◌∙◌, ap, subst, arith, inl, inr}
+use Rattle.std.proofs.Common.{◌≡◌, ◌≢◌, ℕ, ◌+◌, ◌≤◌, false, List, length, refl, sym, ◌∙◌, ap, subst, arith, inl, inr}
 use Rattle.std.specs.Prelude.{Some, ◌⊎◌}
 use Rattle.melt_model.specs.Alive.{Alive, words_of, CostsSum}
 use Rattle.melt_model.specs.declared.history.Entry.{Entry}
@@ -20,7 +20,7 @@ use Rattle.melt_core.proofs.Changing.{Standing_stopped}
 use Rattle.melt_step.specs.declared.seat.Seat.{Seat}
 use Rattle.melt_step.specs.declared.seat.Mode.{Mode}
 use Rattle.melt_step.specs.declared.seat.Mode.TheVariants.{Running, Due, Silent, Collecting, Asked, Lacking, Ended}
-use Rattle.melt_step.specs.Seats.{IsEnded, TakesReply, DropsIfEnded, SeatTold, SeatStep, SetsStop}
+use Rattle.melt_step.specs.Seats.{owes_silent, Waits, IsEnded, TakesReply, DropsIfEnded, SeatTold, SeatStep, SetsStop}
 use Rattle.melt_step.proofs.Cuts.{alive_same}
 use Rattle.melt_step.proofs.Modes.{dropped_keeps}
 
@@ -74,8 +74,8 @@ KeepsOthers_both v u w t first then = record {
 }
 
 -- a thread got its reply, by the last event of a call that the others saw nothing of
-pub told_seat : (v u w x : View) (t : ℕ) (o : Op) (reply : Reply) (s after : Seat) → s.op ≡ Some o → o ≢ Collect → u.log ≡ v.log → ((y : ℕ) → values_of u y ≡ values_of v y) → length u.space.list ≡ length v.space.list → IsAnswered u w t o reply → TakesReply s after reply → DropsIfEnded w x t after.mode → SeatTold v x t s after
-told_seat v u w x t o reply s after next no_collect log values words answered takes drops =
+pub told_seat : (v u w x : View) (t : ℕ) (o : Op) (reply : Reply) (s after : Seat) → s.op ≡ Some o → o ≢ Collect → u.log ≡ v.log → ((y : ℕ) → values_of u y ≡ values_of v y) → length u.space.list ≡ length v.space.list → IsAnswered u w t o reply → owes_silent s.mode ≡ false → TakesReply s after reply → DropsIfEnded w x t after.mode → SeatTold v x t s after
+told_seat v u w x t o reply s after next no_collect log values words answered open_ takes drops =
     let here : Answers t u.log (values_of u t) o reply w.log (values_of w t) = answered.answers in
     let answers : Answers t v.log (values_of v t) o reply w.log (values_of w t) =
     subst (λ (h : List Entry). Answers t h (values_of v t) o reply w.log (values_of w t)) log
@@ -96,6 +96,7 @@ told_seat v u w x t o reply s after next no_collect log values words answered ta
             dropped = λ over. dropped.here;
             call = ap (λ (y : View). call_of y t) dropped.only ∙ answered.call;
             room = room;
+            not_due = open_;
             no_collect = λ goes. no_collect;
           }
       | inr goes ↦ record {
@@ -109,6 +110,7 @@ told_seat v u w x t o reply s after next no_collect log values words answered ta
         dropped = λ over. absurd (goes.0 over);
         call = ap (λ (y : View). call_of y t) goes.1 ∙ answered.call;
         room = room;
+        not_due = open_;
         no_collect = λ can. no_collect;
       }
     ]
@@ -133,17 +135,25 @@ told_runs s after reply takes asked = elim takes.fits [
   ]
 ]
 
+-- nor for anything else
+told_goes : (s after : Seat) (reply : Reply) → TakesReply s after reply → Waits after.mode → ⊥
+told_goes s after reply takes waits = elim takes.fits [
+  | inl runs ↦ subst Waits runs.0 waits
+  | inr rest ↦ elim rest [ inl due ↦ subst Waits due waits | inr ended ↦ subst Waits ended.0 waits ]
+]
+
 -- an event by which a thread got its reply
-pub told_step : (v w x : View) (t : ℕ) (o : Op) (reply : Reply) (s after : Seat) → s.op ≡ Some o → o ≢ Collect → Standing w → KeepsOthers v w t → IsAnswered v w t o reply → TakesReply s after reply → DropsIfEnded w x t after.mode → SeatStep v x t s after × SetsStop v x after
-told_step v w x t o reply s after next no_collect stands others answered takes drops =
+pub told_step : (v w x : View) (t : ℕ) (o : Op) (reply : Reply) (s after : Seat) → s.mode ≡ Running → s.op ≡ Some o → o ≢ Collect → Standing w → KeepsOthers v w t → IsAnswered v w t o reply → TakesReply s after reply → DropsIfEnded w x t after.mode → SeatStep v x t s after × SetsStop v x after
+told_step v w x t o reply s after running next no_collect stands others answered takes drops =
     let behind = told_stands w x t after.mode stands drops in
     let stop : x.stop ≡ v.stop = behind.2 ∙ answered.stop in
     let step : SeatStep v x t s after = record {
       stands = behind.0;
       others = KeepsOthers_both v w x t others behind.1;
-      what = inr (inr (inr (told_seat v v w x t o reply s after next no_collect refl (λ y. refl) refl answered takes drops)));
+      what = inr (inr (inr (told_seat v v w x t o reply s after next no_collect refl (λ y. refl) refl answered (ap owes_silent running) takes drops)));
     } in
     let sets : SetsStop v x after = record {
+      waits = λ waits. absurd (told_goes s after reply takes waits);
       stop = λ is. inl (sym stop ∙ is);
       stays = λ is. stop ∙ is;
       asked = λ asked. absurd (told_runs s after reply takes asked);

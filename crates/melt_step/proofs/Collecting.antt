@@ -1,5 +1,5 @@
 -- A collection between two epochs.
-use Rattle.std.proofs.Common.{◌≡◌, ℕ, ◌^◌, ◌<◌, ◌≤◌, suc, List, [], ◌∷◌, ◌++◌, length, get_or, ◌⊎◌, inl, inr, refl, sym, ◌∙◌, ap, subst, arith, length-append}
+use Rattle.std.proofs.Common.{◌≡◌, ℕ, ◌+◌, ◌^◌, ◌<◌, ◌≤◌, suc, List, [], ◌∷◌, ◌++◌, length, get_or, ◌⊎◌, inl, inr, refl, sym, ◌∙◌, ap, subst, arith, length-append}
 use Rattle.std.proofs.Math.Path.{fun_ext}
 use Rattle.std.proofs.Math.ListN.{get_or-map}
 use Rattle.std.proofs.lemmas.Bool.{cases_lt}
@@ -9,7 +9,7 @@ use Rattle.std.proofs.lemmas.List.Sums.{sum-map, sum_by-cons}
 use Rattle.std.proofs.lemmas.List.Elements.{All-append, All-from_recursion}
 use Rattle.melt_model.specs.History.{Legal}
 use Rattle.melt_model.specs.Thread.{value_in}
-use Rattle.melt_model.specs.Alive.{Alive, words_of, CostsSum}
+use Rattle.melt_model.specs.Alive.{Held, Alive, words_of, CostsSum}
 use Rattle.melt_model.specs.declared.history.Entry.{Entry}
 use Rattle.melt_model.specs.declared.history.Value.{Value}
 use Rattle.melt_model.specs.declared.reports.Phase.{Phase}
@@ -32,7 +32,8 @@ use Rattle.melt_core.specs.Views.{View, view, maps, maps_of, state, value, value
 use Rattle.melt_core.specs.Epochs.{AtRest, core_of, HasFinished}
 use Rattle.melt_core.proofs.Values.{same_values}
 use Rattle.melt_policy.specs.Policy.{planned}
-use Rattle.melt_step.specs.Seats.{Collected, IsPlanning, Notes, PlansBy, made_as}
+use Rattle.melt_step.specs.Journals.{made_as}
+use Rattle.melt_step.specs.Seats.{Collected, IsPlanning, PlansBy}
 use Rattle.melt_step.specs.declared.collector.Collector.{Collector}
 
 -- the names of a heap are those of its map
@@ -201,26 +202,47 @@ no_move Inactive copying is = absurd (cc)
 no_move Mark copying is = absurd (cc)
 no_move Move copying is = absurd copying
 
--- a collection of the phase was written down, and the next one is planned
-pub noted : (old planned new : Collector) (phase : Phase) (journal : Journal) → IsPlanning old → IsPlanning planned → planned.journal ≡ old.journal → IsCopying phase → journal.phase ≡ phase → new.journal.items ≡ planned.journal.items ++ journal ∷ [] → new.planned ≡ planned.planned → Notes old new
-noted old planned new phase journal before plans same copying of_phase pushed keeps =
+-- the words that a collection left, as its entry has them
+pub record LeavesWords (w : View) (journal : Journal) : Type 0 where
+  pub held : journal.held ≤ journal.live
+  pub live : w.free ≡ journal.live + 1
+  pub within : journal.live ≤ length w.space.list
+
+-- they are those of what is in use, and what registers hold is a part of that
+pub left_words : (heap new : Heap) (rest after : Rest) (phase : Phase) (journal : Journal) → AtRest heap rest → Collects heap rest.held.items new after.held.items phase journal → LeavesWords (view (core_of new after)) journal
+left_words heap new rest after phase journal at_rest collects =
+    let v : View = view (core_of heap rest) in
+    let s : Standing v = at_rest.stands in
+    let has : HasCollected (maps v) 1 heap new rest.held.items after.held.items phase journal = collects (maps v) 1 (names_are heap.names) s.placed.formed in
+    let live : CostsSum (words_of v.log) (InUse has.after) journal.live = has.counts.live_words v.log (value v) s.placed in
+    let held : CostsSum (words_of v.log) (Held (value v)) journal.held = has.counts.held_words v.log (value v) s.placed in
+    let fewer : journal.live ≤ s.counts.in_use =
+    CostsSum-part (words_of v.log) (InUse has.after) (InUse (maps v)) journal.live s.counts.in_use (λ n is. let reached = (has.collected.in_use n).0 is in (reached.0, reached.1)) live s.counts.adds_up in
+    let size : length new.space.list ≡ length heap.space.list = has.collected.size in
+    record {
+      held = CostsSum-part (words_of v.log) (Held (value v)) (InUse has.after) journal.held journal.live
+          (λ n is. (alive_in_use v.log (value v) (maps v) has.after (state v) n s.legal s.placed (has.collected.in_use n)).1 (Alive.in_register n is)) held live;
+      live = omega (arith, has.told.live_words);
+      within = omega (arith, fewer, size, s.counts.within);
+    }
+
+-- a collection of the phase was written down, and what it left is what the next one is planned by
+pub planned_by : (old plans new : Collector) (w : View) (phase : Phase) (journal : Journal) → IsPlanning old → IsPlanning plans → plans.journal ≡ old.journal → IsCopying phase → journal.phase ≡ phase → new.journal.items ≡ plans.journal.items ++ journal ∷ [] → new.planned ≡ plans.planned → plans.planned ≡ made_as (planned journal.live old.config.heap phase old.config.mark old.config.move_) → new.config ≡ plans.config → plans.config ≡ old.config → LeavesWords w journal → PlansBy old new w phase
+planned_by old plans new w phase journal before planning same copying of_phase pushed keeps next config kept left =
     let stays : journal.phase ≢ Move = λ is. no_move phase copying (sym of_phase ∙ is) in
     let items : new.journal.items ≡ old.journal.items ++ journal ∷ [] = cc in
     record {
       planning = record {
         moves = subst (All (λ (j : Journal). j.phase ≢ Move)) (sym items)
             (All-append (λ (j : Journal). j.phase ≢ Move) old.journal.items (journal ∷ []) before.moves (All-from_recursion (λ (j : Journal). j.phase ≢ Move) (journal ∷ []) (stays, tt)));
-        planned = subst IsCopying (sym keeps) plans.planned;
+        planned = subst IsCopying (sym keeps) planning.planned;
       };
-      count = ap length items ∙ length-append old.journal.items (journal ∷ []);
+      config = config ∙ kept;
+      entry = journal;
+      journal = items;
+      of_phase = of_phase;
+      held = left.held;
+      live = left.live;
+      within = left.within;
+      next = keeps ∙ (next ∙ ap (λ (p : Phase). made_as (planned journal.live old.config.heap p old.config.mark old.config.move_)) (sym of_phase));
     }
-
--- what the collection left is what the next one is planned by
-pub planned_by : (old plans new : Collector) (phase : Phase) (journal : Journal) → plans.journal ≡ old.journal → journal.phase ≡ phase → new.journal.items ≡ plans.journal.items ++ journal ∷ [] → new.planned ≡ plans.planned → plans.planned ≡ made_as (planned journal.live old.config.heap phase old.config.mark old.config.move_) → new.config ≡ plans.config → plans.config ≡ old.config → PlansBy old new phase
-planned_by old plans new phase journal same of_phase pushed keeps next config before = record {
-  entry = journal;
-  journal = cc;
-  of_phase = of_phase;
-  next = keeps ∙ next;
-  config = config ∙ before;
-}

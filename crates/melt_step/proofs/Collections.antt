@@ -1,14 +1,15 @@
 -- The collections that a run makes, and those that its threads wait for.
-use Rattle.std.proofs.Common.{◌≡◌, ℕ, ◌+◌, ◌<◌, ◌≤◌, suc, List, length, replicate, refl, sym, ◌∙◌, ap, subst, arith, ◌⊎◌, inl, inr}
+use Rattle.std.proofs.Common.{◌≡◌, ℕ, ◌+◌, ◌<◌, ◌≤◌, suc, true, false, List, [], ◌∷◌, length, get_or, length-append, replicate, refl, sym, ◌∙◌, ap, subst, arith, ◌⊎◌, inl, inr}
 use Rattle.std.proofs.Math.ListN.{set}
 use Rattle.std.specs.Prelude.{Option, None, Some, IsSome, slice_get, vec_capacity}
+use Rattle.melt_model.specs.declared.config.Config.{Config}
 use Rattle.melt_model.specs.declared.history.Value.TheVariants.{Nil}
 use Rattle.melt_model.specs.declared.operations.Op.{Op}
 use Rattle.melt_model.specs.declared.operations.Op.TheVariants.{Collect}
 use Rattle.melt_model.specs.declared.operations.Reply.TheVariants as reply
 use Rattle.melt_model.specs.declared.reports.ThreadEnd.TheVariants as end
 use Rattle.melt_trace.specs.Script.{Script}
-use Rattle.melt_core.specs.Views.{View, view, values_of, call_of, Standing}
+use Rattle.melt_core.specs.Views.{View, view, values_of, call_of, IsQuiet, Standing}
 use Rattle.melt_core.specs.Epochs.{HasDropped}
 use Rattle.melt_core.specs.declared.machine.Core.{Core}
 use Rattle.melt_step.specs.declared.collector.Collector.{Collector}
@@ -17,26 +18,46 @@ use Rattle.melt_step.specs.declared.seat.Seat.{Seat}
 use Rattle.melt_step.specs.declared.seat.Mode.{Mode}
 use Rattle.melt_step.specs.declared.seat.Mode.TheVariants.{Running, Due, Silent, Collecting, Asked, Lacking, Ended}
 use Rattle.melt_step.specs.Run.{collections}
-use Rattle.melt_step.specs.Seats.{with_first, left, MayGo, IsEnded, FitsMode, IsPlanning, replies_of, TableStands, TakesReply, DropsIfEnded, SeatTold, SeatStep, Collected, Notes, RunStands, ForCollection, jobs, jobs_of, CollectedFor}
-use Rattle.melt_step.proofs.Tables.{Table_collected, Table_step, table_ready, collections_grow}
-use Rattle.melt_step.proofs.Modes.{nothing_keeps, dropped_keeps, Table_runs, ends_done, Table_gone, collections_mode}
+use Rattle.std.proofs.lemmas.Option.{get_or_from_slice_get}
+use Rattle.melt_step.specs.Seats.{MakesFor, Planned, collections_for, DueBy, IsPaused, owes_silent, with_first, left, MayGo, IsEnded, FitsMode, replies_of, TableStands, TakesReply, DropsIfEnded, SeatTold, SeatStep, owes, owing, CollectorStands, JustCollected, MakesPlanned, RunStands, ForCollection, jobs, jobs_of, CollectedFor}
+use Rattle.melt_step.proofs.Journals.{collector_planned, planned_one, plans_count}
+use Rattle.melt_step.proofs.Tables.{Adds, adds_silent, Table_collected, Table_step, table_ready, collections_grow}
+use Rattle.melt_step.proofs.Modes.{nothing_keeps, dropped_keeps, Table_runs, ends_done, Table_gone}
 
--- a collection was made, and written down
-pub Run_collected : (script : Script) (heap : ℕ) (old new : Run) → RunStands script heap old → Collected (view old.core) (view new.core) → Notes old.collector new.collector → new.seats.items ≡ old.seats.items → RunStands script heap new
-Run_collected script heap old new stands collected notes same = record {
-  table = subst (TableStands script heap (view new.core)) (sym same) (Table_collected script heap (view old.core) (view new.core) old.seats.items stands.table collected);
-  planning = notes.planning;
-  collected = omega (arith, notes.count, stands.collected, ap (λ (seats : List Seat). collections script (replies_of seats) (length script.programs)) same);
+-- behind a planned collection all threads stand, and there is one entry to spare
+made_table : (script : Script) (config : Config) (old mid : Run) → RunStands script config old → MakesPlanned old mid → TableStands script config (view mid.core) mid.seats.items
+made_table script config old mid stands made =
+    subst (TableStands script config (view mid.core)) (sym made.seats)
+    (Table_collected script config (view old.core) (view mid.core) old.seats.items stands.table made.collected)
+
+made_collector : (script : Script) (config : Config) (old mid : Run) → RunStands script config old → MakesPlanned old mid → CollectorStands config mid.collector
+made_collector script config old mid stands made =
+    collector_planned config old.collector mid.collector (view mid.core) stands.collector made.plans (made.collected.words ∙ stands.table.words)
+
+made_spare : (script : Script) (config : Config) (old mid : Run) → RunStands script config old → MakesPlanned old mid → collections script config (replies_of mid.seats.items) (length script.programs) + 1 ≤ length mid.collector.journal.items + owing mid.seats.items
+made_spare script config old mid stands made =
+    let C : List Seat → ℕ = λ (xs : List Seat). collections script config (replies_of xs) (length script.programs) in
+    let same : mid.seats.items ≡ old.seats.items = made.seats in
+    omega (arith, stands.collected, plans_count old.collector mid.collector (view mid.core) old.collector.planned made.plans, ap C same, ap owing same)
+
+-- the planned collection was made
+pub Run_collected : (script : Script) (config : Config) (old new : Run) → RunStands script config old → MakesPlanned old new → RunStands script config new
+Run_collected script config old new stands made = record {
+  table = made_table script config old new stands made;
+  every = made.every ∙ stands.every;
+  collector = made_collector script config old new stands made;
+  collected = omega (arith, made_spare script config old new stands made);
 }
 
--- the next operation of a thread that waits for its own collection is that
-pub collecting_op : (script : Script) (heap : ℕ) (run : Run) (t : ℕ) (s : Seat) → RunStands script heap run → slice_get run.seats.items t ≡ Some s → s.mode ≡ Collecting → s.op ≡ Some Collect
-collecting_op script heap run t s stands at is = subst (λ (m : Mode). FitsMode m s.op) is (stands.table.each t s at).fits
-
--- it has room for the reply
-pub collecting_room : (script : Script) (heap : ℕ) (run : Run) (t : ℕ) (s : Seat) → RunStands script heap run → slice_get run.seats.items t ≡ Some s → s.mode ≡ Collecting → length s.replies.items < vec_capacity s.replies
-collecting_room script heap run t s stands at is =
-    (table_ready script heap (view run.core) run.seats.items t s stands.table at).room (subst IsSome (sym (collecting_op script heap run t s stands at is)) refl)
+-- it was just made, also behind a thread that dropped its registers
+pub just_made : (old mid new : Run) → MakesPlanned old mid → new.collector ≡ mid.collector → (view new.core).free ≡ (view mid.core).free → (view new.core).stop ≡ (view mid.core).stop → JustCollected new
+just_made old mid new made collector free stop = record {
+  stop = stop ∙ made.collected.stop;
+  front = old.collector.journal.items;
+  last = made.plans.entry;
+  journal = ap (λ (c : Collector). c.journal.items) collector ∙ made.plans.journal;
+  free = free ∙ made.plans.live;
+}
 
 -- a thread that has ended has dropped its registers, and else nothing has changed
 drops_cases : (v w : View) (t : ℕ) (mode : Mode) → DropsIfEnded v w t mode → (IsEnded mode × HasDropped v w t) ⊎ ((IsEnded mode → ⊥) × (w ≡ v))
@@ -47,6 +68,29 @@ drops_cases v w t Collecting drops = inr (λ is. is, drops)
 drops_cases v w t Asked drops = inr (λ is. is, drops)
 drops_cases v w t Lacking drops = inr (λ is. is, drops)
 drops_cases v w t (Ended e) drops = inl (tt, drops)
+
+-- a thread that drops its registers leaves the words as they are
+pub drops_words : (v w : View) (t : ℕ) (mode : Mode) → DropsIfEnded v w t mode → (w.free ≡ v.free) × (w.stop ≡ v.stop)
+drops_words v w t mode drops = elim (drops_cases v w t mode drops) [
+  | inl gone ↦ (ap (λ (x : View). x.free) gone.1.only, ap (λ (x : View). x.stop) gone.1.only)
+  | inr goes ↦ (ap (λ (x : View). x.free) goes.1, ap (λ (x : View). x.stop) goes.1)
+]
+
+-- no call is in flight behind it
+pub drops_quiet : (v w : View) (t : ℕ) (mode : Mode) → DropsIfEnded v w t mode → IsQuiet v → IsQuiet w
+drops_quiet v w t mode drops quiet = λ u. elim (drops_cases v w t mode drops) [
+  | inl gone ↦ ap (λ (x : View). call_of x u) gone.1.only ∙ quiet u
+  | inr goes ↦ ap (λ (x : View). call_of x u) goes.1 ∙ quiet u
+]
+
+-- the next operation of a thread that waits for its own collection is that
+pub collecting_op : (script : Script) (config : Config) (run : Run) (t : ℕ) (s : Seat) → RunStands script config run → slice_get run.seats.items t ≡ Some s → s.mode ≡ Collecting → s.op ≡ Some Collect
+collecting_op script config run t s stands at is = subst (λ (m : Mode). FitsMode m s.op) is (stands.table.each t s at).fits
+
+-- it has room for the reply
+pub collecting_room : (script : Script) (config : Config) (run : Run) (t : ℕ) (s : Seat) → RunStands script config run → slice_get run.seats.items t ≡ Some s → s.mode ≡ Collecting → length s.replies.items < vec_capacity s.replies
+collecting_room script config run t s stands at is =
+    (table_ready script config (view run.core) run.seats.items t s stands.table at).room (subst IsSome (sym (collecting_op script config run t s stands at is)) refl)
 
 -- the reply to a collection, where the thread has ended with it or has not
 collect_told : (v w : View) (t : ℕ) (s after : Seat) → s.mode ≡ Collecting → s.op ≡ Some Collect → TakesReply s after reply.Done → w.log ≡ v.log → IsEnded after.mode ⊎ (values_of v t ≡ values_of w t) → (IsEnded after.mode → values_of w t ≡ replicate 16 Nil) → call_of w t ≡ None → SeatTold v w t s after
@@ -61,6 +105,7 @@ collect_told v w t s after mode next takes history held dropped call = record {
   dropped = dropped;
   call = call;
   room = tt;
+  not_due = ap owes_silent mode;
   no_collect = λ goes. absurd (subst MayGo mode goes);
 }
 
@@ -80,19 +125,22 @@ collect_step v w t s after stands no_call mode next takes drops = elim (drops_ca
 ]
 
 -- the collection that is the next operation of a thread was made, and the thread got its reply
-pub Run_answered : (script : Script) (heap : ℕ) (old new : Run) (core : Core) (t : ℕ) (s after : Seat) → RunStands script heap old → slice_get old.seats.items t ≡ Some s → s.mode ≡ Collecting → Collected (view old.core) (view core) → Notes old.collector new.collector → TakesReply s after reply.Done → DropsIfEnded (view core) (view new.core) t after.mode → new.seats.items ≡ set old.seats.items t after → RunStands script heap new
-Run_answered script heap old new core t s after stands at mode collected notes takes drops same =
-    let seats : List Seat = old.seats.items in
-    let table : TableStands script heap (view core) seats = Table_collected script heap (view old.core) (view core) seats stands.table collected in
-    let step : SeatStep (view core) (view new.core) t s after =
-    collect_step (view core) (view new.core) t s after collected.stands (collected.quiet t) mode (collecting_op script heap old t s stands at mode) takes drops in
-    let grown : collections script (replies_of (set seats t after)) (length script.programs) ≤ collections script (replies_of seats) (length script.programs) + 1 =
-    collections_grow script heap (view core) (view new.core) seats t s after table at step in
+pub Run_answered : (script : Script) (config : Config) (old mid new : Run) (t : ℕ) (s after : Seat) → RunStands script config old → MakesPlanned old mid → slice_get old.seats.items t ≡ Some s → s.mode ≡ Collecting → TakesReply s after reply.Done → DropsIfEnded (view mid.core) (view new.core) t after.mode → DueBy mid.every s after → new.every ≡ mid.every → new.collector ≡ mid.collector → new.seats.items ≡ set mid.seats.items t after → RunStands script config new
+Run_answered script config old mid new t s after stands made at mode takes drops due every collector same =
+    let seats : List Seat = mid.seats.items in
+    let here : slice_get seats t ≡ Some s = ap (λ (xs : List Seat). slice_get xs t) made.seats ∙ at in
+    let table : TableStands script config (view mid.core) seats = made_table script config old mid stands made in
+    let by : DueBy config.every s after = subst (λ (n : ℕ). DueBy n s after) (made.every ∙ stands.every) due in
+    let step : SeatStep (view mid.core) (view new.core) t s after =
+    collect_step (view mid.core) (view new.core) t s after made.collected.stands (made.collected.quiet t) mode (collecting_op script config old t s stands at mode) takes drops in
+    let grown = collections_grow script config (view mid.core) (view new.core) seats t s after table here step by in
+    let adds : Adds script config seats new.seats.items grown.0 = subst (λ (xs : List Seat). Adds script config seats xs grown.0) (sym same) grown.2 in
     record {
-      table = subst (TableStands script heap (view new.core)) (sym same)
-          (Table_step script heap (view core) (view new.core) seats t s after table at (λ over. subst IsEnded mode over) step);
-      planning = notes.planning;
-      collected = omega (arith, grown, notes.count, stands.collected, ap (λ (xs : List Seat). collections script (replies_of xs) (length script.programs)) same);
+      table = subst (TableStands script config (view new.core)) (sym same)
+          (Table_step script config (view mid.core) (view new.core) seats t s after table here (λ over. subst IsEnded mode over) step by);
+      every = every ∙ (made.every ∙ stands.every);
+      collector = subst (CollectorStands config) (sym collector) (made_collector script config old mid stands made);
+      collected = omega (arith, adds, grown.1, made_spare script config old mid stands made, ap (λ (c : Collector). length c.journal.items) collector);
     }
 
 -- A thread goes on with its next operation, or has ended without one.
@@ -134,44 +182,37 @@ drops_nothing v t Lacking goes = refl
 drops_nothing v t (Ended e) goes = absurd (goes tt)
 
 -- all threads stand where one goes on
-Table_goes_on : (script : Script) (heap : ℕ) (v w : View) (seats : List Seat) (t : ℕ) (s after : Seat) → TableStands script heap v seats → slice_get seats t ≡ Some s → (IsEnded s.mode → ⊥) → call_of v t ≡ None → GoesOn s after → DropsIfEnded v w t after.mode → TableStands script heap w (set seats t after)
-Table_goes_on script heap v w seats t s after table at goes no_call on drops = elim on [
+Table_goes_on : (script : Script) (config : Config) (v w : View) (seats : List Seat) (t : ℕ) (s after : Seat) → TableStands script config v seats → slice_get seats t ≡ Some s → (IsEnded s.mode → ⊥) → call_of v t ≡ None → GoesOn s after → DropsIfEnded v w t after.mode → TableStands script config w (set seats t after)
+Table_goes_on script config v w seats t s after table at goes no_call on drops = elim on [
   | inl runs ↦
       let same : w ≡ v = subst (λ (x : Seat). DropsIfEnded v w t x.mode) runs.1 drops in
-      subst (λ (x : Seat). TableStands script heap w (set seats t x)) (sym runs.1)
-      (subst (λ (x : View). TableStands script heap x (set seats t (record s { mode = Running }))) (sym same) (Table_runs script heap v seats t s table at goes runs.0 no_call))
+      subst (λ (x : Seat). TableStands script config w (set seats t x)) (sym runs.1)
+      (subst (λ (x : View). TableStands script config x (set seats t (record s { mode = Running }))) (sym same) (Table_runs script config v seats t s table at goes runs.0 no_call))
   | inr ended ↦
       let dropped : HasDropped v w t = subst (λ (x : Seat). DropsIfEnded v w t x.mode) ended.1 drops in
-      subst (λ (x : Seat). TableStands script heap w (set seats t x)) (sym ended.1)
-      (Table_gone script heap v w seats t s end.Done table at goes dropped no_call (ends_done script heap v seats t s table at ended.0))
+      subst (λ (x : Seat). TableStands script config w (set seats t x)) (sym ended.1)
+      (Table_gone script config v w seats t s end.Done table at goes dropped no_call (ends_done script config v seats t s table at ended.0))
 ]
 
--- it got no reply
-goes_on_collections : (script : Script) (seats : List Seat) (t n : ℕ) (s after : Seat) → slice_get seats t ≡ Some s → GoesOn s after → collections script (replies_of (set seats t after)) n ≡ collections script (replies_of seats) n
-goes_on_collections script seats t n s after at on =
-    let by_mode : (mode : Mode) → after ≡ record s { mode = mode } → collections script (replies_of (set seats t after)) n ≡ collections script (replies_of seats) n =
-    λ mode is. subst (λ (x : Seat). collections script (replies_of (set seats t x)) n ≡ collections script (replies_of seats) n) (sym is) (collections_mode script seats t n s mode at) in
-    elim on [ inl runs ↦ by_mode Running runs.1 | inr ended ↦ by_mode (Ended end.Done) ended.1 ]
-
 -- the silent collection for which a thread waits was made, and the thread goes on
-pub Run_goes_on : (script : Script) (heap : ℕ) (old new : Run) (core : Core) (t : ℕ) (s after : Seat) → RunStands script heap old → slice_get old.seats.items t ≡ Some s → s.mode ≡ Silent → Collected (view old.core) (view core) → Notes old.collector new.collector → GoesOn s after → DropsIfEnded (view core) (view new.core) t after.mode → new.seats.items ≡ set old.seats.items t after → RunStands script heap new
-Run_goes_on script heap old new core t s after stands at mode collected notes on drops same =
-    let seats : List Seat = old.seats.items in
-    let table : TableStands script heap (view core) seats = Table_collected script heap (view old.core) (view core) seats stands.table collected in
+pub Run_goes_on : (script : Script) (config : Config) (old mid new : Run) (t : ℕ) (s after : Seat) → RunStands script config old → MakesPlanned old mid → slice_get old.seats.items t ≡ Some s → s.mode ≡ Silent → GoesOn s after → DropsIfEnded (view mid.core) (view new.core) t after.mode → new.every ≡ mid.every → new.collector ≡ mid.collector → new.seats.items ≡ set mid.seats.items t after → RunStands script config new
+Run_goes_on script config old mid new t s after stands made at mode on drops every collector same =
+    let seats : List Seat = mid.seats.items in
+    let here : slice_get seats t ≡ Some s = ap (λ (xs : List Seat). slice_get xs t) made.seats ∙ at in
+    let table : TableStands script config (view mid.core) seats = made_table script config old mid stands made in
+    let one : owes s.mode ≡ 1 = ap owes mode in
+    let adds : Adds script config seats (set seats t after) 1 = elim on [
+      | inl runs ↦ subst (λ (x : Seat). Adds script config seats (set seats t x) 1) (sym runs.1) (adds_silent script config seats t s Running here table.count one)
+      | inr ended ↦ subst (λ (x : Seat). Adds script config seats (set seats t x) 1) (sym ended.1) (adds_silent script config seats t s (Ended end.Done) here table.count one)
+    ] in
+    let all : Adds script config seats new.seats.items 1 = subst (λ (xs : List Seat). Adds script config seats xs 1) (sym same) adds in
     record {
-      table = subst (TableStands script heap (view new.core)) (sym same)
-          (Table_goes_on script heap (view core) (view new.core) seats t s after table at (λ over. subst IsEnded mode over) (collected.quiet t) on drops);
-      planning = notes.planning;
-      collected = omega (arith, goes_on_collections script seats t (length script.programs) s after at on, notes.count, stands.collected, ap (λ (xs : List Seat). collections script (replies_of xs) (length script.programs)) same);
+      table = subst (TableStands script config (view new.core)) (sym same)
+          (Table_goes_on script config (view mid.core) (view new.core) seats t s after table here (λ over. subst IsEnded mode over) (made.collected.quiet t) on drops);
+      every = every ∙ (made.every ∙ stands.every);
+      collector = subst (CollectorStands config) (sym collector) (made_collector script config old mid stands made);
+      collected = omega (arith, all, made_spare script config old mid stands made, ap (λ (c : Collector). length c.journal.items) collector);
     }
-
--- a run of the same core, collector and threads
-pub Run_same : (script : Script) (heap : ℕ) (old new : Run) → RunStands script heap old → new.core ≡ old.core → new.collector ≡ old.collector → new.seats.items ≡ old.seats.items → RunStands script heap new
-Run_same script heap old new stands core collector same = record {
-  table = subst (λ (x : Core). TableStands script heap (view x) new.seats.items) (sym core) (subst (TableStands script heap (view old.core)) (sym same) stands.table);
-  planning = subst IsPlanning (sym collector) stands.planning;
-  collected = omega (arith, stands.collected, ap (λ (x : Collector). length x.journal.items) collector, ap (λ (xs : List Seat). collections script (replies_of xs) (length script.programs)) same);
-}
 
 -- what a thread has to do, told by its mode and its operations
 jobs_by : (s : Seat) (mode : Mode) (n : ℕ) → s.mode ≡ mode → length (left s) ≡ n → jobs_of s ≡ jobs mode n
@@ -190,7 +231,15 @@ answered_fewer s after mode next takes =
         | inr ended ↦ omega (arith, had, jobs_by after (Ended end.Done) n ended.0 to_come)
       ]
     ] in
-    record { fewer = λ waits. less; same = λ never. absurd (never (subst ForCollection (sym mode) tt)) }
+    record {
+      fewer = λ waits. less;
+      goes = λ waits paused. elim takes.fits [
+        | inl runs ↦ subst IsPaused runs.0 paused
+        | inr rest ↦ elim rest [ inl due ↦ subst IsPaused due paused | inr ended ↦ subst IsPaused ended.0 paused ]
+      ];
+      owes = λ waits owes. (next, omega (arith, ap length takes.replies, length-append s.replies.items (reply.Done ∷ [])));
+      same = λ never. absurd (never (subst ForCollection (sym mode) tt));
+    }
 
 -- and so has one that goes on
 pub goes_on_fewer : (s after : Seat) → s.mode ≡ Silent → GoesOn s after → CollectedFor s after
@@ -201,7 +250,18 @@ goes_on_fewer s after mode on =
       | inl runs ↦ omega (arith, had, ap jobs_of runs.1)
       | inr ended ↦ omega (arith, had, ap jobs_of ended.1)
     ] in
-    record { fewer = λ waits. less; same = λ never. absurd (never (subst ForCollection (sym mode) tt)) }
+    record {
+      fewer = λ waits. less;
+      goes = λ waits paused. elim on [
+        | inl runs ↦ subst (λ (x : Seat). IsPaused x.mode) runs.1 paused
+        | inr ended ↦ subst (λ (x : Seat). IsPaused x.mode) ended.1 paused
+      ];
+      owes = λ waits owes. absurd (elim on [
+        | inl runs ↦ let wrong : false ≡ true = sym (ap (λ (x : Seat). owes_silent x.mode) runs.1) ∙ owes in cc
+        | inr ended ↦ let wrong : false ≡ true = sym (ap (λ (x : Seat). owes_silent x.mode) ended.1) ∙ owes in cc
+      ]);
+      same = λ never. absurd (never (subst ForCollection (sym mode) tt));
+    }
 
 -- a thread that waits for a collection waits for its own or for a silent one
 waits_for : (mode : Mode) → (mode ≡ Silent → ⊥) → (mode ≡ Collecting → ⊥) → ForCollection mode → ⊥
@@ -213,6 +273,44 @@ waits_for Asked silent own waits = waits
 waits_for Lacking silent own waits = waits
 waits_for (Ended e) silent own waits = waits
 
+-- it waits for none
+none_for : (mode : Mode) → (mode ≡ Silent → ⊥) → (mode ≡ Collecting → ⊥) → collections_for mode ≡ 0
+none_for Running silent own = refl
+none_for Due silent own = refl
+none_for Silent silent own = absurd (silent refl)
+none_for Collecting silent own = absurd (own refl)
+none_for Asked silent own = refl
+none_for Lacking silent own = refl
+none_for (Ended e) silent own = refl
+
 -- a thread that waits for no collection stays as it is
 pub other_stays : (s : Seat) (mode : Mode) → s.mode ≡ mode → (mode ≡ Silent → ⊥) → (mode ≡ Collecting → ⊥) → CollectedFor s s
-other_stays s mode is silent own = record { fewer = λ waits. absurd (waits_for mode silent own (subst ForCollection is waits)); same = λ never. refl }
+other_stays s mode is silent own =
+    let never : ForCollection s.mode → ⊥ = λ waits. waits_for mode silent own (subst ForCollection is waits) in
+    record {
+      fewer = λ waits. absurd (never waits);
+      goes = λ waits. absurd (never waits);
+      owes = λ waits. absurd (never waits);
+      same = λ stays. refl;
+    }
+
+-- the seat that was read is that of the thread
+pub seat_read : (seats items : List Seat) (t : ℕ) (s x d : Seat) → slice_get seats t ≡ Some s → items ≡ seats → x ≡ get_or items t d → x ≡ s
+seat_read seats items t s x d at same is = is ∙ (ap (λ (xs : List Seat). get_or xs t d) same ∙ get_or_from_slice_get seats t s d at)
+
+-- a collection was made for a thread that waits for one
+pub made_for : (old mid new : Run) (s : Seat) → MakesPlanned old mid → collections_for s.mode ≡ 1 → ForCollection s.mode → new.collector ≡ mid.collector → (view new.core).free ≡ (view mid.core).free → (view new.core).stop ≡ (view mid.core).stop → MakesFor s old new
+made_for old mid new s made one for collector free stop = record {
+  planned = subst (λ (c : Collector). Planned (collections_for s.mode) old.collector c) (sym collector)
+      (subst (λ (n : ℕ). Planned n old.collector mid.collector) (sym one) (planned_one old.collector mid.collector (view mid.core) made.plans));
+  made = λ waits. just_made old mid new made collector free stop;
+  none = λ never. absurd (never for);
+}
+
+-- and none for another
+pub made_none : (old : Run) (s : Seat) (mode : Mode) → s.mode ≡ mode → (mode ≡ Silent → ⊥) → (mode ≡ Collecting → ⊥) → MakesFor s old old
+made_none old s mode is silent own = record {
+  planned = subst (λ (n : ℕ). Planned n old.collector old.collector) (sym (ap collections_for is ∙ none_for mode silent own)) (Planned.none old.collector);
+  made = λ waits. absurd (waits_for mode silent own (subst ForCollection is waits));
+  none = λ never. refl;
+}

@@ -2,19 +2,20 @@
 use Rattle.std.proofs.Common.{◌≡◌, ℕ, ◌+◌, ◌<◌, ◌≤◌, zero, suc, true, false, cond, List, [], ◌∷◌, ◌++◌, length, take, drop, refl, sym, ◌∙◌, ap, subst, arith, length-append, ◌⊎◌, inl, inr}
 use Rattle.std.proofs.Math.ListN.{length-map}
 use Rattle.std.proofs.Math.Seq.{take-length}
-use Rattle.std.proofs.lemmas.Bool.{ne_eqb}
+use Rattle.std.proofs.lemmas.Bool.{cases_lt, ne_eqb}
 use Rattle.std.proofs.lemmas.List.{take-append-le, take-append-drop, get_or_past}
 use Rattle.std.proofs.lemmas.List.Elements.{recursion_from_All}
 use Rattle.std.proofs.lemmas.Option.{slice_get_cases, slice_get_within, same_Some}
-use Rattle.std.specs.Prelude.{Bool, map, if◌then◌else◌, Option, Some, slice_get}
+use Rattle.std.specs.Prelude.{Bool, map, if◌then◌else◌, Option, None, Some, IsSome, slice_get}
 use Rattle.std.specs.List.{AllByRecursion}
 use Rattle.melt_model.specs.Alive.{Alive, words_of, CostsSum}
 use Rattle.melt_model.specs.Thread.{own_from, own, registers_after, value_in, Transcript}
+use Rattle.melt_model.specs.declared.config.Config.{Config}
 use Rattle.melt_model.specs.declared.history.Entry.{Entry}
 use Rattle.melt_model.specs.declared.history.Value.{Value}
-use Rattle.melt_model.specs.declared.history.Value.TheVariants.{Nil}
+use Rattle.melt_model.specs.declared.history.Value.TheVariants.{Nil, Ref}
 use Rattle.melt_model.specs.declared.operations.Op.{Op}
-use Rattle.melt_model.specs.declared.operations.Op.TheVariants.{New}
+use Rattle.melt_model.specs.declared.operations.Op.TheVariants.{New, Collect}
 use Rattle.melt_model.specs.declared.operations.Reply.{Reply}
 use Rattle.melt_model.proofs.Sums.{CostsSum-same}
 use Rattle.melt_model.proofs.Transcripts.{Transcript_so_far, registers_so_far, one_reply_each}
@@ -23,11 +24,12 @@ use Rattle.melt_scion.specs.declared.registers.Registers.{Registers}
 use Rattle.melt_core.specs.Views.{View, value, values_of, held_values}
 use Rattle.melt_core.specs.Events.{HasRoom}
 use Rattle.melt_core.proofs.Values.{get_or_replicate}
+use Rattle.melt_step.proofs.Sums.{alive_sum}
 use Rattle.melt_step.specs.declared.seat.Seat.{Seat}
 use Rattle.melt_step.specs.declared.seat.Mode.{Mode}
 use Rattle.melt_step.specs.declared.seat.Mode.TheVariants.{Running, Due, Silent, Collecting, Asked, Lacking, Ended}
-use Rattle.melt_step.specs.Run.{Cut, IsCut, IsCutAt, LacksRoom, HadRoom}
-use Rattle.melt_step.specs.Seats.{with_first, IsEnded, SeatStands, replies_of, GoneIn, LacksNow, HadNow, Later, TableStands}
+use Rattle.melt_step.specs.Run.{Cut, IsDue, IsCut, IsCutAt, EndsWithCollect, LacksRoom, HadRoom}
+use Rattle.melt_step.specs.Seats.{with_first, owes_silent, FitsMode, HadCollect, OweBehindCollects, IsEnded, SeatStands, replies_of, GoneIn, LacksNow, HadNow, Later, TableStands}
 
 -- the replies of a thread of the run
 pub replies_here : (seats : List Seat) (u : ℕ) (s : Seat) → slice_get seats u ≡ Some s → replies_of seats u ≡ s.replies.items
@@ -49,8 +51,8 @@ same_replies seats after cut u later gone ended = elim (slice_get_cases seats u)
 ]
 
 -- a moment is one of the longer run
-IsCut_later : (script : Script) (log more : List Entry) (seats after : List Seat) (cut : Cut) → Later seats after → GoneIn seats cut → IsCut script log (replies_of seats) cut → IsCut script (log ++ more) (replies_of after) cut
-IsCut_later script log more seats after cut later gone is = record {
+IsCut_later : (script : Script) (log more : List Entry) (seats after : List Seat) (config : Config) (cut : Cut) → Later seats after → GoneIn seats cut → IsCut script log (replies_of seats) config cut → IsCut script (log ++ more) (replies_of after) config cut
+IsCut_later script log more seats after config cut later gone is = record {
   within = omega (arith, is.within, length-append log more);
   few = λ u.
       let extra : (rs : List Reply) × (replies_of after u ≡ replies_of seats u ++ rs) = later.replies u in
@@ -63,6 +65,7 @@ IsCut_later script log more seats after cut later gone is = record {
       subst (λ (h : List Entry). Transcript h u (operations script u) (take (cut.replies u) (replies_of after u))) (sym history)
       (subst (λ (rs : List Reply). Transcript (take cut.entries log) u (operations script u) rs) (sym replies) (is.told u));
   last = λ u ended. is.last u ended ∙ ap length (sym (same_replies seats after cut u later gone ended));
+  over = is.over;
 }
 
 -- the threads that had ended at the moment have ended later too
@@ -84,17 +87,18 @@ abbrev WordsBy : Script → Cut → ℕ → List Entry → Type 0
 WordsBy script cut words h = CostsSum (words_of h) (Alive h (registers_by script cut h)) words
 
 -- a thread that lacks room, and gets no further reply
-pub LacksNow_same : (script : Script) (log more : List Entry) (seats after : List Seat) (heap t held need : ℕ) → Later seats after → replies_of after t ≡ replies_of seats t → LacksNow script log seats heap t held need → LacksNow script (log ++ more) after heap t held need
-LacksNow_same script log more seats after heap t held need later same lacks =
-    let x : LacksRoom script log (replies_of seats) heap t held need = lacks.0 in
+pub LacksNow_same : (script : Script) (log more : List Entry) (seats after : List Seat) (config : Config) (t held need : ℕ) → Later seats after → replies_of after t ≡ replies_of seats t → LacksNow script log seats config t held need → LacksNow script (log ++ more) after config t held need
+LacksNow_same script log more seats after config t held need later same lacks =
+    let x : LacksRoom script log (replies_of seats) config t held need = lacks.0 in
     let history : take x.cut.entries (log ++ more) ≡ take x.cut.entries log = take-append-le x.cut.entries log more x.is_cut.is.within in
-    let next : LacksRoom script (log ++ more) (replies_of after) heap t held need = record {
+    let next : LacksRoom script (log ++ more) (replies_of after) config t held need = record {
       cut = x.cut;
       is_cut = record {
-        is = IsCut_later script log more seats after x.cut later lacks.1 x.is_cut.is;
+        is = IsCut_later script log more seats after config x.cut later lacks.1 x.is_cut.is;
         count = x.is_cut.count ∙ ap length (sym same);
         alive = x.is_cut.alive;
       };
+      over = x.over;
       dst = x.dst;
       refs = x.refs;
       nums = x.nums;
@@ -106,23 +110,25 @@ LacksNow_same script log more seats after heap t held need later same lacks =
     (next, GoneIn_later seats after x.cut later lacks.1)
 
 -- a thread that ended for want of room
-pub LacksNow_later : (script : Script) (log more : List Entry) (seats after : List Seat) (heap t held need : ℕ) (s : Seat) → Later seats after → slice_get seats t ≡ Some s → IsEnded s.mode → LacksNow script log seats heap t held need → LacksNow script (log ++ more) after heap t held need
-LacksNow_later script log more seats after heap t held need s later at ended lacks =
-    LacksNow_same script log more seats after heap t held need later (replies_here after t s (later.ended t s at ended) ∙ sym (replies_here seats t s at)) lacks
+pub LacksNow_later : (script : Script) (log more : List Entry) (seats after : List Seat) (config : Config) (t held need : ℕ) (s : Seat) → Later seats after → slice_get seats t ≡ Some s → IsEnded s.mode → LacksNow script log seats config t held need → LacksNow script (log ++ more) after config t held need
+LacksNow_later script log more seats after config t held need s later at ended lacks =
+    LacksNow_same script log more seats after config t held need later (replies_here after t s (later.ended t s at ended) ∙ sym (replies_here seats t s at)) lacks
 
 -- an object that had room
-pub HadNow_later : (script : Script) (log more : List Entry) (seats after : List Seat) (heap t k need : ℕ) → Later seats after → HadNow script log seats heap t k need → HadNow script (log ++ more) after heap t k need
-HadNow_later script log more seats after heap t k need later had =
-    let x : HadRoom script log (replies_of seats) heap t k need = had.0 in
+pub HadNow_later : (script : Script) (log more : List Entry) (seats after : List Seat) (config : Config) (t k need : ℕ) → Later seats after → HadNow script log seats config t k need → HadNow script (log ++ more) after config t k need
+HadNow_later script log more seats after config t k need later had =
+    let x : HadRoom script log (replies_of seats) config t k need = had.0 in
     let history : take x.cut.entries (log ++ more) ≡ take x.cut.entries log = take-append-le x.cut.entries log more x.is_cut.is.within in
-    let next : HadRoom script (log ++ more) (replies_of after) heap t k need = record {
+    let next : HadRoom script (log ++ more) (replies_of after) config t k need = record {
       cut = x.cut;
       is_cut = record {
-        is = IsCut_later script log more seats after x.cut later had.1 x.is_cut.is;
+        is = IsCut_later script log more seats after config x.cut later had.1 x.is_cut.is;
         count = x.is_cut.count;
         alive = x.is_cut.alive;
       };
-      fits = λ held reach. x.fits held (subst (WordsBy script x.cut held) history reach);
+      held = x.held;
+      reach = subst (WordsBy script x.cut x.held) (sym history) x.reach;
+      fits = x.fits;
     } in
     (next, GoneIn_later seats after x.cut later had.1)
 
@@ -131,9 +137,9 @@ abbrev has_gone : Mode → Bool
 has_gone (Ended e) = true
 has_gone mode = false
 
--- the threads of the run that have ended
+-- the threads of the run that have ended, and those that it lacks
 abbrev gone_in : List Seat → ℕ → Bool
-gone_in [] u = false
+gone_in [] u = true
 gone_in (s ∷ seats) zero = has_gone s.mode
 gone_in (s ∷ seats) (suc u) = gone_in seats u
 
@@ -157,8 +163,8 @@ gone_here [] u s at = absurd (cc)
 gone_here (x ∷ seats) zero s at = let same : x ≡ s = same_Some x s at in ap (λ (y : Seat). has_gone y.mode) same
 gone_here (x ∷ seats) (suc u) s at = gone_here seats u s at
 
--- a thread that the run lacks has not ended
-gone_past : (seats : List Seat) (u : ℕ) → length seats ≤ u → gone_in seats u ≡ false
+-- a thread that the run lacks counts as one of them
+gone_past : (seats : List Seat) (u : ℕ) → length seats ≤ u → gone_in seats u ≡ true
 gone_past [] u past = refl
 gone_past (x ∷ seats) zero past = absurd (omega arith)
 gone_past (x ∷ seats) (suc u) past = gone_past seats u (omega arith)
@@ -179,8 +185,8 @@ own_none p (e ∷ h) n u above own =
     ∙ own_none (p + 1) h n u above own.1
 
 -- the replies of each thread are those that the history gives it
-pub told_now : (script : Script) (heap : ℕ) (v : View) (seats : List Seat) (u : ℕ) → TableStands script heap v seats → Transcript v.log u (operations script u) (replies_of seats u)
-told_now script heap v seats u table =
+pub told_now : (script : Script) (config : Config) (v : View) (seats : List Seat) (u : ℕ) → TableStands script config v seats → Transcript v.log u (operations script u) (replies_of seats u)
+told_now script config v seats u table =
     let ops : List Op = operations script u in
     elim (slice_get_cases seats u).1 [
       | inl w ↦
@@ -194,21 +200,69 @@ told_now script heap v seats u table =
           subst (λ (rs : List Reply). Transcript v.log u ops rs) (sym (replies_past seats u w.0)) none
     ]
 
+-- a thread without operations that has not ended has a silent collection still to come
+owes_last : (mode : Mode) → FitsMode mode None → (IsEnded mode → ⊥) → owes_silent mode ≡ true
+owes_last Running fits open_ = absurd (cc)
+owes_last Due fits open_ = refl
+owes_last Silent fits open_ = refl
+owes_last Collecting fits open_ = absurd (cc)
+owes_last Asked fits open_ = absurd (let none = fits.0 in cc)
+owes_last Lacking fits open_ = absurd (let none = fits.0 in cc)
+owes_last (Ended e) fits open_ = absurd (open_ tt)
+
+-- a thread with all its replies has no next operation
+none_next : (op : Option Op) (ops : List Op) → length (with_first op ops) ≡ 0 → op ≡ None
+none_next None ops none = refl
+none_next (Some o) ops none = absurd (omega (arith, none))
+
+-- so it has ended, or has its last silent collection still to come
+over_now : (script : Script) (config : Config) (v : View) (seats : List Seat) (u : ℕ) (s : Seat) → TableStands script config v seats → slice_get seats u ≡ Some s → length s.replies.items ≡ length (operations script u) → (has_gone s.mode ≡ true) ⊎ (owes_silent s.mode ≡ true)
+over_now script config v seats u s table at all = elim (gone_cases s.mode) [
+  | inl gone ↦ inl gone.1
+  | inr goes ↦
+      let st : SeatStands script v u s = table.each u s at in
+      let none : s.op ≡ None = none_next s.op s.rest.operations (omega (arith, st.within, all)) in
+      inr (owes_last s.mode (subst (FitsMode s.mode) none st.fits) goes.0)
+]
+
 -- now is a moment of the run
-IsCut_now : (script : Script) (heap : ℕ) (v : View) (seats : List Seat) → TableStands script heap v seats → IsCut script v.log (replies_of seats) (now v.log seats)
-IsCut_now script heap v seats table = record {
+IsCut_now : (script : Script) (config : Config) (v : View) (seats : List Seat) → TableStands script config v seats → IsCut script v.log (replies_of seats) config (now v.log seats)
+IsCut_now script config v seats table = record {
   within = omega arith;
   few = λ u. omega arith;
   told = λ u.
       subst (λ (h : List Entry). Transcript h u (operations script u) (take (length (replies_of seats u)) (replies_of seats u))) (sym (take-length v.log))
-      (subst (λ (rs : List Reply). Transcript v.log u (operations script u) rs) (sym (take-length (replies_of seats u))) (told_now script heap v seats u table));
+      (subst (λ (rs : List Reply). Transcript v.log u (operations script u) rs) (sym (take-length (replies_of seats u))) (told_now script config v seats u table));
   last = λ u ended. refl;
+  over = λ u all. elim (slice_get_cases seats u).1 [
+    | inl w ↦
+        let count : length w.0.replies.items ≡ length (operations script u) = ap length (sym (replies_here seats u w.0 w.2)) ∙ all in
+        elim (over_now script config v seats u w.0 table w.2 count) [
+          | inl gone ↦ inl (gone_here seats u w.0 w.2 ∙ gone)
+          | inr owes ↦ inr (subst (IsDue config) count (table.due u w.0 w.2 owes))
+        ]
+    | inr w ↦ inl (gone_past seats u w.0)
+  ];
 }
 
+-- where silent collections are still to come only behind a collection, so are those behind the last operations
+over_alone : (script : Script) (config : Config) (v : View) (seats : List Seat) (u : ℕ) → TableStands script config v seats → OweBehindCollects script seats → length (replies_of seats u) ≡ length (operations script u) → ((now v.log seats).ended u ≡ true) ⊎ (IsDue config (length (operations script u)) × EndsWithCollect (operations script u))
+over_alone script config v seats u table owe all = elim (slice_get_cases seats u).1 [
+  | inl w ↦
+      let count : length w.0.replies.items ≡ length (operations script u) = ap length (sym (replies_here seats u w.0 w.2)) ∙ all in
+      elim (over_now script config v seats u w.0 table w.2 count) [
+        | inl gone ↦ inl (gone_here seats u w.0 w.2 ∙ gone)
+        | inr owes ↦
+            let had : HadCollect script u w.0 = owe u w.0 w.2 owes in
+            inr (subst (IsDue config) count (table.due u w.0 w.2 owes), (had.0, sym count ∙ had.1, had.2))
+      ]
+  | inr w ↦ inl (gone_past seats u w.0)
+]
+
 -- the thread has not ended now
-IsCutAt_now : (script : Script) (heap : ℕ) (v : View) (seats : List Seat) (t : ℕ) (s : Seat) → TableStands script heap v seats → slice_get seats t ≡ Some s → (IsEnded s.mode → ⊥) → IsCutAt script v.log (replies_of seats) t (length (replies_of seats t)) (now v.log seats)
-IsCutAt_now script heap v seats t s table at goes = record {
-  is = IsCut_now script heap v seats table;
+IsCutAt_now : (script : Script) (config : Config) (v : View) (seats : List Seat) (t : ℕ) (s : Seat) → TableStands script config v seats → slice_get seats t ≡ Some s → (IsEnded s.mode → ⊥) → IsCutAt script v.log (replies_of seats) config t (length (replies_of seats t)) (now v.log seats)
+IsCutAt_now script config v seats t s table at goes = record {
+  is = IsCut_now script config v seats table;
   count = refl;
   alive = gone_here seats t s at ∙ elim (gone_cases s.mode) [ inl gone ↦ absurd (goes gone.0) | inr not ↦ not.1 ];
 }
@@ -238,8 +292,8 @@ nothing_past v u r past =
     (get_or_past (map (λ (x : Registers). x.regs) v.held) u [] (omega (arith, length-map v.held (λ (x : Registers). x.regs))))
 
 -- the registers of all threads by the history are those that they have
-registers_now : (script : Script) (heap : ℕ) (v : View) (seats : List Seat) (u r : ℕ) → TableStands script heap v seats → registers_by script (now v.log seats) v.log u r ≡ value v u r
-registers_now script heap v seats u r table =
+registers_now : (script : Script) (config : Config) (v : View) (seats : List Seat) (u r : ℕ) → TableStands script config v seats → registers_by script (now v.log seats) v.log u r ≡ value v u r
+registers_now script config v seats u r table =
     let at : Bool → List Reply → Value = λ b rs. if b then Nil else value_in (registers_after v.log u (operations script u) (length rs)) r in
     elim (slice_get_cases seats u).1 [
       | inl w ↦
@@ -247,8 +301,7 @@ registers_now script heap v seats u r table =
           ∙ (ap (at (has_gone w.0.mode)) (replies_here seats u w.0 w.2) ∙ seat_value script v u r w.0 (table.each u w.0 w.2))
       | inr w ↦
           ap (λ (b : Bool). at b (replies_of seats u)) (gone_past seats u w.0)
-          ∙ (ap (at false) (replies_past seats u w.0)
-          ∙ (get_or_replicate 16 r Nil ∙ sym (nothing_past v u r (omega (arith, table.count, table.threads, w.0)))))
+          ∙ sym (nothing_past v u r (omega (arith, table.count, table.threads, w.0)))
     ]
 
 -- objects that are alive, where registers hold the same
@@ -263,41 +316,51 @@ words_same : (h : List Entry) (a b : ℕ → ℕ → Value) (held : ℕ) → ((t
 words_same h a b held same reach =
     CostsSum-same (words_of h) (Alive h a) (Alive h b) held (λ n. (alive_same h a b n same, alive_same h b a n (λ t r. sym (same t r)))) reach
 
+-- the words of what registers and globals reach have a sum
+alive_now : (v : View) → (held : ℕ) × CostsSum (words_of v.log) (Alive v.log (value v)) held
+alive_now v =
+    alive_sum v.log (values_of v) (length v.held) (λ t r n is. elim (cases_lt t (length v.held)) [
+      | inl below ↦ below
+      | inr past ↦ absurd (let wrong : Nil ≡ Ref n = sym (nothing_past v t r past) ∙ is in cc)
+    ])
+
 -- now: the next operation of a thread has so many words beside all that is alive
-pub had_room : (script : Script) (heap : ℕ) (v : View) (seats : List Seat) (t need : ℕ) (s : Seat) → TableStands script heap v seats → slice_get seats t ≡ Some s → (IsEnded s.mode → ⊥) → HasRoom v need → HadNow script v.log seats heap t (length (replies_of seats t)) need
-had_room script heap v seats t need s table at goes room =
+pub had_room : (script : Script) (config : Config) (v : View) (seats : List Seat) (t need : ℕ) (s : Seat) → TableStands script config v seats → slice_get seats t ≡ Some s → (IsEnded s.mode → ⊥) → HasRoom v need → HadNow script v.log seats config t (length (replies_of seats t)) need
+had_room script config v seats t need s table at goes room =
     let cut : Cut = now v.log seats in
-    let had : HadRoom script v.log (replies_of seats) heap t (length (replies_of seats t)) need = record {
+    let alive : (held : ℕ) × CostsSum (words_of v.log) (Alive v.log (value v)) held = alive_now v in
+    let by_history : WordsBy script cut alive.0 v.log =
+    words_same v.log (value v) (registers_by script cut v.log) alive.0 (λ u r. sym (registers_now script config v seats u r table)) alive.1 in
+    let fits : alive.0 + need ≤ length v.space.list = room alive.0 alive.1 in
+    let had : HadRoom script v.log (replies_of seats) config t (length (replies_of seats t)) need = record {
       cut = cut;
-      is_cut = IsCutAt_now script heap v seats t s table at goes;
-      fits = λ held reach.
-          let by_history : WordsBy script cut held v.log = subst (WordsBy script cut held) (take-length v.log) reach in
-          let by_registers : CostsSum (words_of v.log) (Alive v.log (value v)) held =
-          words_same v.log (registers_by script cut v.log) (value v) held (λ u r. registers_now script heap v seats u r table) by_history in
-          let fits : held + need ≤ length v.space.list = room held by_registers in
-          omega (arith, fits, table.words);
+      is_cut = IsCutAt_now script config v seats t s table at goes;
+      held = alive.0;
+      reach = subst (WordsBy script cut alive.0) (sym (take-length v.log)) by_history;
+      fits = omega (arith, fits, table.words);
     } in
     (had, gone_now v.log seats)
 
 -- the first of the operations that are left
-first_left : (ops : List Op) (k : ℕ) (o : Op) (rest : List Op) → o ∷ rest ≡ drop k ops → slice_get ops k ≡ Some o
+pub first_left : (ops : List Op) (k : ℕ) (o : Op) (rest : List Op) → o ∷ rest ≡ drop k ops → slice_get ops k ≡ Some o
 first_left [] zero o rest is = absurd (cc)
 first_left [] (suc k) o rest is = absurd (cc)
 first_left (x ∷ ops) zero o rest is = let same : o ≡ x = cc in ap Some (sym same)
 first_left (x ∷ ops) (suc k) o rest is = first_left ops k o rest is
 
 -- now: the next operation of a thread makes an object that has no room beside all that is alive
-pub lacks_room : (script : Script) (heap : ℕ) (v : View) (seats : List Seat) (t dst refs nums held : ℕ) (s : Seat) → TableStands script heap v seats → slice_get seats t ≡ Some s → (IsEnded s.mode → ⊥) → s.op ≡ Some (New dst refs nums) → CostsSum (words_of v.log) (Alive v.log (value v)) held → heap < held + (2 + refs + nums) → LacksNow script v.log seats heap t held (2 + refs + nums)
-lacks_room script heap v seats t dst refs nums held s table at goes next alive above =
+pub lacks_room : (script : Script) (config : Config) (v : View) (seats : List Seat) (t dst refs nums held : ℕ) (s : Seat) → TableStands script config v seats → slice_get seats t ≡ Some s → (IsEnded s.mode → ⊥) → OweBehindCollects script seats → s.op ≡ Some (New dst refs nums) → CostsSum (words_of v.log) (Alive v.log (value v)) held → config.heap < held + (2 + refs + nums) → LacksNow script v.log seats config t held (2 + refs + nums)
+lacks_room script config v seats t dst refs nums held s table at goes owe next alive above =
     let cut : Cut = now v.log seats in
     let stands : SeatStands script v t s = table.each t s at in
     let by_history : WordsBy script cut held v.log =
-    words_same v.log (value v) (registers_by script cut v.log) held (λ u r. sym (registers_now script heap v seats u r table)) alive in
+    words_same v.log (value v) (registers_by script cut v.log) held (λ u r. sym (registers_now script config v seats u r table)) alive in
     let to_come : New dst refs nums ∷ s.rest.operations ≡ drop (length s.replies.items) (operations script t) =
     ap (λ (o : Option Op). with_first o s.rest.operations) (sym next) ∙ stands.to_come in
-    let lacks : LacksRoom script v.log (replies_of seats) heap t held (2 + refs + nums) = record {
+    let lacks : LacksRoom script v.log (replies_of seats) config t held (2 + refs + nums) = record {
       cut = cut;
-      is_cut = IsCutAt_now script heap v seats t s table at goes;
+      is_cut = IsCutAt_now script config v seats t s table at goes;
+      over = λ u all. over_alone script config v seats u table owe all;
       dst = dst;
       refs = refs;
       nums = nums;

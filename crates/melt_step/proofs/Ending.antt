@@ -1,5 +1,6 @@
 -- What a run reports when all its threads have ended.
-use Rattle.std.proofs.Common.{◌≡◌, ℕ, ◌+◌, ◌<◌, ◌≤◌, zero, suc, List, [], length, refl, sym, ◌∙◌, ap, subst, arith, inl, inr}
+use Rattle.std.proofs.Common.{◌≡◌, ℕ, ◌+◌, ◌<◌, ◌≤◌, zero, suc, List, [], ◌∷◌, length, refl, sym, ◌∙◌, ap, subst, arith, inl, inr}
+use Rattle.std.proofs.lemmas.List.Sums.{sum-map, sum_by-cons}
 use Rattle.std.proofs.lemmas.Option.{slice_get_cases, slice_get_within}
 use Rattle.std.specs.Prelude.{Option, None, Some, slice_get, take, All, ◌≢◌}
 use Rattle.std.specs.List.{count_by}
@@ -28,31 +29,34 @@ use Rattle.melt_core.specs.Views.{View, view, maps, maps_of, value, state}
 use Rattle.melt_core.specs.Epochs.{AtRest, HasFinished, core_of}
 use Rattle.melt_step.specs.declared.seat.Seat.{Seat}
 use Rattle.melt_step.specs.declared.seat.Mode.{Mode}
-use Rattle.melt_step.specs.declared.seat.Mode.TheVariants.{Ended}
+use Rattle.melt_step.specs.declared.seat.Mode.TheVariants.{Running, Due, Silent, Collecting, Asked, Lacking, Ended}
 use Rattle.melt_step.specs.declared.run.Run.{Run}
-use Rattle.melt_step.specs.Run.{is_collect, replies_in, Cut, IsCut, LacksRoom, HadRoom, MayEnd, collections_of, collections, IsStepReport, HasRun}
-use Rattle.melt_step.specs.Seats.{IsEnded, replies_of, EndsSo, HadNow, TableStands, RunStands}
+use Rattle.melt_step.specs.Journals.{IsJournalOf}
+use Rattle.melt_step.specs.Run.{silent_in, is_collect, replies_in, Cut, IsCut, LacksRoom, HadRoom, MayEnd, collections_of, collections, IsStepReport, HasRun}
+use Rattle.melt_step.specs.Seats.{owes, owing, IsEnded, replies_of, EndsSo, HadNow, TableStands, RunStands}
 use Rattle.melt_step.proofs.Collecting.{names_are}
 use Rattle.melt_step.proofs.Cuts.{replies_here, replies_past, told_now}
 
 -- a moment, by other lists of the same replies
-IsCut_same : (script : Script) (log : List Entry) (a b : ℕ → List Reply) (cut : Cut) → ((t : ℕ) → a t ≡ b t) → IsCut script log a cut → IsCut script log b cut
-IsCut_same script log a b cut same is = record {
+IsCut_same : (script : Script) (log : List Entry) (a b : ℕ → List Reply) (config : Config) (cut : Cut) → ((t : ℕ) → a t ≡ b t) → IsCut script log a config cut → IsCut script log b config cut
+IsCut_same script log a b config cut same is = record {
   within = is.within;
   few = λ t. subst (λ (rs : List Reply). cut.replies t ≤ length rs) (same t) (is.few t);
   told = λ t. subst (λ (rs : List Reply). Transcript (take cut.entries log) t (operations script t) (take (cut.replies t) rs)) (same t) (is.told t);
   last = λ t ended. is.last t ended ∙ ap length (same t);
+  over = is.over;
 }
 
 -- the next operation had no room, by other lists of the same replies
-LacksRoom_same : (script : Script) (log : List Entry) (a b : ℕ → List Reply) (heap t held need : ℕ) → ((u : ℕ) → a u ≡ b u) → LacksRoom script log a heap t held need → LacksRoom script log b heap t held need
-LacksRoom_same script log a b heap t held need same lacks = record {
+LacksRoom_same : (script : Script) (log : List Entry) (a b : ℕ → List Reply) (config : Config) (t held need : ℕ) → ((u : ℕ) → a u ≡ b u) → LacksRoom script log a config t held need → LacksRoom script log b config t held need
+LacksRoom_same script log a b config t held need same lacks = record {
   cut = lacks.cut;
   is_cut = record {
-    is = IsCut_same script log a b lacks.cut same lacks.is_cut.is;
+    is = IsCut_same script log a b config lacks.cut same lacks.is_cut.is;
     count = lacks.is_cut.count ∙ ap length (same t);
     alive = lacks.is_cut.alive;
   };
+  over = lacks.over;
   dst = lacks.dst;
   refs = lacks.refs;
   nums = lacks.nums;
@@ -63,22 +67,43 @@ LacksRoom_same script log a b heap t held need same lacks = record {
 }
 
 -- an object had room, by other lists of the same replies
-HadRoom_same : (script : Script) (log : List Entry) (a b : ℕ → List Reply) (heap t k need : ℕ) → ((u : ℕ) → a u ≡ b u) → HadRoom script log a heap t k need → HadRoom script log b heap t k need
-HadRoom_same script log a b heap t k need same had = record {
+HadRoom_same : (script : Script) (log : List Entry) (a b : ℕ → List Reply) (config : Config) (t k need : ℕ) → ((u : ℕ) → a u ≡ b u) → HadRoom script log a config t k need → HadRoom script log b config t k need
+HadRoom_same script log a b config t k need same had = record {
   cut = had.cut;
-  is_cut = record { is = IsCut_same script log a b had.cut same had.is_cut.is; count = had.is_cut.count; alive = had.is_cut.alive };
+  is_cut = record { is = IsCut_same script log a b config had.cut same had.is_cut.is; count = had.is_cut.count; alive = had.is_cut.alive };
+  held = had.held;
+  reach = had.reach;
   fits = had.fits;
 }
 
+-- a thread that has ended has none
+none_owes : (mode : Mode) → IsEnded mode → owes mode ≡ 0
+none_owes Running over = absurd over
+none_owes Due over = absurd over
+none_owes Silent over = absurd over
+none_owes Collecting over = absurd over
+none_owes Asked over = absurd over
+none_owes Lacking over = absurd over
+none_owes (Ended e) over = refl
+
 -- the collections that threads got, by other lists of the same replies
-collections_same : (script : Script) (a b : ℕ → List Reply) → ((t : ℕ) → a t ≡ b t) → (n : ℕ) → collections script a n ≡ collections script b n
-collections_same script a b same zero = refl
-collections_same script a b same (suc n) =
-    ap (λ (k : ℕ). k + collections_of script a n) (collections_same script a b same n)
-    ∙ ap (λ (rs : List Reply). collections script b n + count_by is_collect (take (length rs) (operations script n))) (same n)
+collections_same : (script : Script) (config : Config) (a b : ℕ → List Reply) → ((t : ℕ) → a t ≡ b t) → (n : ℕ) → collections script config a n ≡ collections script config b n
+collections_same script config a b same zero = refl
+collections_same script config a b same (suc n) =
+    ap (λ (k : ℕ). k + collections_of script config a n) (collections_same script config a b same n)
+    ∙ ap (λ (rs : List Reply). collections script config b n + (count_by is_collect (take (length rs) (operations script n)) + silent_in config.every (length rs))) (same n)
+
+-- where all threads have ended, no silent collection is still to come
+none_owing : (seats : List Seat) → ((t : ℕ) (s : Seat) → slice_get seats t ≡ Some s → IsEnded s.mode) → owing seats ≡ 0
+none_owing [] ended = refl
+none_owing (s ∷ seats) ended =
+    let here : owes s.mode ≡ 0 = none_owes s.mode (ended 0 s refl) in
+    let others : owing seats ≡ 0 = none_owing seats (λ t x at. ended (suc t) x at) in
+    let f : Seat → ℕ = λ (x : Seat). owes x.mode in
+    omega (arith, here, others, sum-map f seats, sum-map f (s ∷ seats), sum_by-cons f s seats)
 
 -- a thread of the run
-seat_at : (seats : List Seat) (t : ℕ) → t < length seats → (s : Seat) × (slice_get seats t ≡ Some s)
+pub seat_at : (seats : List Seat) (t : ℕ) → t < length seats → (s : Seat) × (slice_get seats t ≡ Some s)
 seat_at seats t below = elim (slice_get_cases seats t).1 [ inl w ↦ (w.0, w.2) | inr w ↦ absurd (omega (arith, w.0)) ]
 
 -- the replies in a report are those of the threads
@@ -93,10 +118,10 @@ replies_same seats report count threads t =
     ]
 
 -- why a thread may end so
-may_end : (script : Script) (config : Config) (report : Report) (seats : List Seat) (t : ℕ) (e : ThreadEnd) → ((u : ℕ) → replies_of seats u ≡ replies_in report u) → EndsSo script report.log seats config.heap t (Ended e) → MayEnd script config report t e
+may_end : (script : Script) (config : Config) (report : Report) (seats : List Seat) (t : ℕ) (e : ThreadEnd) → ((u : ℕ) → replies_of seats u ≡ replies_in report u) → EndsSo script report.log seats config t (Ended e) → MayEnd script config report t e
 may_end script config report seats t end.Done same ends = ap length (sym (same t)) ∙ ends
 may_end script config report seats t (end.OutOfHeap held need) same ends =
-    LacksRoom_same script report.log (replies_of seats) (replies_in report) config.heap t held need same ends.0
+    LacksRoom_same script report.log (replies_of seats) (replies_in report) config t held need same ends.0
 may_end script config report seats t end.DiskFault same ends = ends
 may_end script config report seats t (end.Damaged home at word) same ends = ends
 may_end script config report seats t end.Halted same ends = ends
@@ -116,7 +141,7 @@ placed_left heap rest at_rest =
 
 -- the report has the replies and the end of each thread, the journal and the history
 pub has_run : (script : Script) (config : Config) (run : Run) (heap : Heap) (rest : Rest) (report : Report)
-    → RunStands script config.heap run → ((t : ℕ) (s : Seat) → slice_get run.seats.items t ≡ Some s → IsEnded s.mode)
+    → RunStands script config run → ((t : ℕ) (s : Seat) → slice_get run.seats.items t ≡ Some s → IsEnded s.mode)
     → AtRest heap rest → HasFinished (view run.core) (view (core_of heap rest))
     → length report.threads ≡ length run.seats.items
     → ((t : ℕ) (s : Seat) (r : ThreadReport) → slice_get run.seats.items t ≡ Some s → slice_get report.threads t ≡ Some r → (r.replies ≡ s.replies.items) × (s.mode ≡ Ended r.end))
@@ -125,12 +150,12 @@ pub has_run : (script : Script) (config : Config) (run : Run) (heap : Heap) (res
 has_run script config run heap rest report stands ended at_rest finished count threads journal halt log =
     let seats : List Seat = run.seats.items in
     let v : View = view run.core in
-    let table : TableStands script config.heap v seats = stands.table in
+    let table : TableStands script config v seats = stands.table in
     let history : v.log ≡ report.log = sym finished.log ∙ sym log in
     let same : (t : ℕ) → replies_of seats t ≡ replies_in report t = replies_same seats report count threads in
     let there : (t : ℕ) (r : ThreadReport) → slice_get report.threads t ≡ Some r → (s : Seat) × (slice_get seats t ≡ Some s) =
     λ t r at. seat_at seats t (let below : t < length report.threads = slice_get_within report.threads t r at in omega arith) in
-    let moves : All (λ (j : Journal). j.phase ≢ Move) run.collector.journal.items = stands.planning.moves in
+    let moves : All (λ (j : Journal). j.phase ≢ Move) run.collector.journal.items = stands.collector.planning.moves in
     let reported : IsStepReport script config report = record {
       history = record {
         legal = subst (λ (h : List Entry). Legal h script.globals) history (subst (Legal v.log) table.globals table.stands.legal);
@@ -139,30 +164,34 @@ has_run script config run heap rest report stands ended at_rest finished count t
             let seat = there t r at in
             let replies : replies_of seats t ≡ r.replies = replies_here seats t seat.0 seat.1 ∙ sym (threads t seat.0 r seat.1 at).0 in
             subst (λ (h : List Entry). Transcript h t (operations script t) r.replies) history
-            (subst (λ (rs : List Reply). Transcript v.log t (operations script t) rs) replies (told_now script config.heap v seats t table));
+            (subst (λ (rs : List Reply). Transcript v.log t (operations script t) rs) replies (told_now script config v seats t table));
         own_threads = subst (λ (h : List Entry). All (λ (e : Entry). e.thread < length script.programs) h) history table.own;
       };
       ends = λ t r at.
           let seat = there t r at in
-          let ends : EndsSo script v.log seats config.heap t (Ended r.end) =
-          subst (λ (m : Mode). EndsSo script v.log seats config.heap t m) (threads t seat.0 r seat.1 at).1 (table.ends t seat.0 seat.1) in
-          may_end script config report seats t r.end same (subst (λ (h : List Entry). EndsSo script h seats config.heap t (Ended r.end)) history ends);
+          let ends : EndsSo script v.log seats config t (Ended r.end) =
+          subst (λ (m : Mode). EndsSo script v.log seats config t m) (threads t seat.0 r seat.1 at).1 (table.ends t seat.0 seat.1) in
+          may_end script config report seats t r.end same (subst (λ (h : List Entry). EndsSo script h seats config t (Ended r.end)) history ends);
       room = λ t k below dst refs nums is.
           let before : k < length (replies_of seats t) = subst (λ (rs : List Reply). k < length rs) (sym (same t)) below in
-          let had : HadNow script v.log seats config.heap t k (2 + refs + nums) = table.made t k before dst refs nums is in
-          HadRoom_same script report.log (replies_of seats) (replies_in report) config.heap t k (2 + refs + nums) same
-          (subst (λ (h : List Entry). HadRoom script h (replies_of seats) config.heap t k (2 + refs + nums)) history had.0);
+          let had : HadNow script v.log seats config t k (2 + refs + nums) = table.made t k before dst refs nums is in
+          HadRoom_same script report.log (replies_of seats) (replies_in report) config t k (2 + refs + nums) same
+          (subst (λ (h : List Entry). HadRoom script h (replies_of seats) config t k (2 + refs + nums)) history had.0);
       no_halt = halt;
       no_moves = subst (All (λ (j : Journal). j.phase ≢ Move)) (sym journal) moves;
+      journal = subst (IsJournalOf config) (sym journal) stands.collector.journal;
       collected =
-          let all : collections script (replies_in report) (length script.programs) ≤ length report.journal =
-          omega (arith, stands.collected, collections_same script (replies_of seats) (replies_in report) same (length script.programs), ap length journal) in
-          subst (λ (n : ℕ). collections script (replies_in report) n ≤ length report.journal) (sym (count ∙ table.count)) all;
+          let all : collections script config (replies_in report) (length script.programs) ≤ length report.journal =
+          omega (arith, stands.collected, none_owing seats ended, collections_same script config (replies_of seats) (replies_in report) same (length script.programs), ap length journal) in
+          subst (λ (n : ℕ). collections script config (replies_in report) n ≤ length report.journal) (sym (count ∙ table.count)) all;
     } in
     record {
       reported = reported;
       is_there = refl;
       left = record {
+        globals = ap length finished.globals ∙ table.globals;
+        words = ap length finished.words ∙ table.words;
+        named = at_rest.stands.named;
         maps = maps_of heap.names;
         names = names_are heap.names;
         placed = subst (λ (h : List Entry). Placed h (λ t r. Nil) (maps_of heap.names) (state_of heap [] 1)) (sym log) (placed_left heap rest at_rest);

@@ -1,3 +1,5 @@
+pub mod Sums
+pub mod Journals
 pub mod Cuts
 pub mod Tables
 pub mod Modes
@@ -10,6 +12,7 @@ pub mod Collections
 pub mod First
 pub mod Going
 pub mod Passing
+pub mod Safepoints
 pub mod Reporting
 pub mod Collecting
 pub mod Ending

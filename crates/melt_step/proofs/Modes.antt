@@ -1,11 +1,12 @@
 -- What a run keeps where the mode of a thread changes, and what it knows of the stop word.
-use Rattle.std.proofs.Common.{◌≡◌, ◌≢◌, ℕ, List, [], length, take, refl, sym, ◌∙◌, ap, subst, arith, inl, inr}
+use Rattle.std.proofs.Common.{◌≡◌, ◌≢◌, ℕ, true, false, List, [], length, take, refl, sym, ◌∙◌, ap, subst, arith, inl, inr}
 use Rattle.std.proofs.Math.ListN.{set, length-set}
 use Rattle.std.proofs.lemmas.Bool.{cases_eq}
 use Rattle.std.proofs.lemmas.List.{append-nil}
 use Rattle.std.proofs.lemmas.Option.{same_Some}
 use Rattle.std.specs.Prelude.{Option, None, Some, IsSome, slice_get}
 use Rattle.melt_model.specs.Standing.{Stands}
+use Rattle.melt_model.specs.declared.config.Config.{Config}
 use Rattle.melt_model.specs.declared.history.Entry.{Entry}
 use Rattle.melt_model.specs.declared.operations.Op.{Op}
 use Rattle.melt_model.specs.declared.reports.ThreadEnd.{ThreadEnd}
@@ -17,25 +18,24 @@ use Rattle.melt_core.specs.Epochs.{HasDropped, no_registers}
 use Rattle.melt_step.specs.declared.seat.Seat.{Seat}
 use Rattle.melt_step.specs.declared.seat.Mode.{Mode}
 use Rattle.melt_step.specs.declared.seat.Mode.TheVariants.{Running, Due, Silent, Collecting, Asked, Lacking, Ended}
-use Rattle.melt_step.specs.Run.{collections, collections_of}
 use Rattle.melt_step.specs.Seats.{with_first, left, MayGo, IsEnded, SeatStands, replies_of, EndsSo, LacksNow, Later, TableStands, AllWait, Waits, KnowsStop, SetsStop, SomeGoesOn}
 use Rattle.melt_step.proofs.Cuts.{replies_here, LacksNow_same}
-use Rattle.melt_step.proofs.Tables.{get_set_same, get_set_other, replies_same, later_set, Moves, Table_moves, mode_stands, same_moves, collections_same, collections_other, silent_collections}
+use Rattle.melt_step.proofs.Tables.{get_set_same, get_set_other, replies_same, later_set, Moves, Table_moves, mode_stands, same_moves}
 
 -- where nothing changes, the others are as they were
 pub nothing_keeps : (v : View) (t : ℕ) → KeepsOthers v v t
 nothing_keeps v t = record { globals = refl; words = refl; threads = refl; capacity = refl; calls = λ u differ. refl; values = λ u differ. refl }
 
 -- a thread without a call in flight runs on with its next operation
-pub Table_runs : (script : Script) (heap : ℕ) (v : View) (seats : List Seat) (t : ℕ) (s : Seat) → TableStands script heap v seats → slice_get seats t ≡ Some s → (IsEnded s.mode → ⊥) → IsSome s.op → call_of v t ≡ None → TableStands script heap v (set seats t (record s { mode = Running }))
-Table_runs script heap v seats t s table at goes op no_call =
+pub Table_runs : (script : Script) (config : Config) (v : View) (seats : List Seat) (t : ℕ) (s : Seat) → TableStands script config v seats → slice_get seats t ≡ Some s → (IsEnded s.mode → ⊥) → IsSome s.op → call_of v t ≡ None → TableStands script config v (set seats t (record s { mode = Running }))
+Table_runs script config v seats t s table at goes op no_call =
     let runs : SeatStands script v t (record s { mode = Running }) =
     mode_stands script v v t s Running (table.each t s at) goes (λ over. over) refl refl op (λ c is. absurd (cc)) in
-    Table_moves script heap v v seats t s (record s { mode = Running }) table at goes table.stands (nothing_keeps v t) (same_moves script heap v v seats t s Running (λ over. over) refl runs)
+    Table_moves script config v v seats t s (record s { mode = Running }) table at goes table.stands (nothing_keeps v t) (same_moves script config v v seats t s Running (λ owes. absurd (let wrong : false ≡ true = owes in cc)) (λ over. over) refl runs)
 
 -- a thread that has no operation left has its replies
-pub ends_done : (script : Script) (heap : ℕ) (v : View) (seats : List Seat) (t : ℕ) (s : Seat) → TableStands script heap v seats → slice_get seats t ≡ Some s → s.op ≡ None → EndsSo script v.log seats heap t (Ended end.Done)
-ends_done script heap v seats t s table at none =
+pub ends_done : (script : Script) (config : Config) (v : View) (seats : List Seat) (t : ℕ) (s : Seat) → TableStands script config v seats → slice_get seats t ≡ Some s → s.op ≡ None → EndsSo script v.log seats config t (Ended end.Done)
+ends_done script config v seats t s table at none =
     let st : SeatStands script v t s = table.each t s at in
     let nothing : left s ≡ [] = ap (λ (o : Option Op). with_first o s.rest.operations) none ∙ st.none_left none in
     omega (arith, ap length (replies_here seats t s at), st.within, ap length nothing)
@@ -52,22 +52,22 @@ dropped_keeps v w t dropped = record {
 }
 
 -- why a thread ends is so when it has ended
-ends_gone : (script : Script) (log : List Entry) (seats : List Seat) (heap t : ℕ) (s : Seat) (e : ThreadEnd) → slice_get seats t ≡ Some s → (IsEnded s.mode → ⊥) → EndsSo script log seats heap t (Ended e) → EndsSo script log (set seats t (record s { mode = Ended e })) heap t (Ended e)
-ends_gone script log seats heap t s end.Done at goes ends =
+ends_gone : (script : Script) (log : List Entry) (seats : List Seat) (config : Config) (t : ℕ) (s : Seat) (e : ThreadEnd) → slice_get seats t ≡ Some s → (IsEnded s.mode → ⊥) → EndsSo script log seats config t (Ended e) → EndsSo script log (set seats t (record s { mode = Ended e })) config t (Ended e)
+ends_gone script log seats config t s end.Done at goes ends =
     let after : Seat = record s { mode = Ended end.Done } in
     ap length (replies_same seats t s after at ∙ sym (replies_here seats t s at)) ∙ ends
-ends_gone script log seats heap t s (end.OutOfHeap held need) at goes ends =
+ends_gone script log seats config t s (end.OutOfHeap held need) at goes ends =
     let after : Seat = record s { mode = Ended (end.OutOfHeap held need) } in
     let later : Later seats (set seats t after) = later_set seats t s after [] at goes (sym (append-nil s.replies.items)) in
-    subst (λ (h : List Entry). LacksNow script h (set seats t after) heap t held need) (append-nil log)
-    (LacksNow_same script log [] seats (set seats t after) heap t held need later (replies_same seats t s after at ∙ sym (replies_here seats t s at)) ends)
-ends_gone script log seats heap t s end.DiskFault at goes ends = absurd ends
-ends_gone script log seats heap t s (end.Damaged home place word) at goes ends = absurd ends
-ends_gone script log seats heap t s end.Halted at goes ends = absurd ends
+    subst (λ (h : List Entry). LacksNow script h (set seats t after) config t held need) (append-nil log)
+    (LacksNow_same script log [] seats (set seats t after) config t held need later (replies_same seats t s after at ∙ sym (replies_here seats t s at)) ends)
+ends_gone script log seats config t s end.DiskFault at goes ends = absurd ends
+ends_gone script log seats config t s (end.Damaged home place word) at goes ends = absurd ends
+ends_gone script log seats config t s end.Halted at goes ends = absurd ends
 
 -- a thread ends, and its registers are dropped
-pub Table_gone : (script : Script) (heap : ℕ) (v w : View) (seats : List Seat) (t : ℕ) (s : Seat) (e : ThreadEnd) → TableStands script heap v seats → slice_get seats t ≡ Some s → (IsEnded s.mode → ⊥) → HasDropped v w t → call_of v t ≡ None → EndsSo script v.log seats heap t (Ended e) → TableStands script heap w (set seats t (record s { mode = Ended e }))
-Table_gone script heap v w seats t s e table at goes dropped no_call ends =
+pub Table_gone : (script : Script) (config : Config) (v w : View) (seats : List Seat) (t : ℕ) (s : Seat) (e : ThreadEnd) → TableStands script config v seats → slice_get seats t ≡ Some s → (IsEnded s.mode → ⊥) → HasDropped v w t → call_of v t ≡ None → EndsSo script v.log seats config t (Ended e) → TableStands script config w (set seats t (record s { mode = Ended e }))
+Table_gone script config v w seats t s e table at goes dropped no_call ends =
     let st : SeatStands script v t s = table.each t s at in
     let after : Seat = record s { mode = Ended e } in
     let history : w.log ≡ v.log = ap (λ (x : View). x.log) dropped.only in
@@ -85,27 +85,18 @@ Table_gone script heap v w seats t s e table at goes dropped no_call ends =
       globals = st.globals;
       room = st.room;
     } in
-    let moves : Moves script heap v w seats t s after = record {
+    let moves : Moves script config v w seats t s after = record {
       act = None;
       extra = [];
       grown = history;
       replies = sym (append-nil s.replies.items);
       stands = gone;
-      ends = subst (λ (h : List Entry). EndsSo script h (set seats t after) heap t (Ended e)) (sym history) (ends_gone script v.log seats heap t s e at goes ends);
+      due = λ owes. absurd (let wrong : false ≡ true = owes in cc);
+      ends = subst (λ (h : List Entry). EndsSo script h (set seats t after) config t (Ended e)) (sym history) (ends_gone script v.log seats config t s e at goes ends);
       made_last = λ k below last. absurd (omega arith);
       entries = let same : length w.log ≡ length v.log = ap length history in omega arith;
     } in
-    Table_moves script heap v w seats t s after table at goes dropped.stands (dropped_keeps v w t dropped) moves
-
--- the collections that were answered, where a thread got no reply
-pub collections_mode : (script : Script) (seats : List Seat) (t n : ℕ) (s : Seat) (mode : Mode) → slice_get seats t ≡ Some s → collections script (replies_of (set seats t (record s { mode = mode }))) n ≡ collections script (replies_of seats) n
-collections_mode script seats t n s mode at =
-    let after : Seat = record s { mode = mode } in
-    collections_same script (replies_of (set seats t after)) (replies_of seats) n
-    (λ u below. elim (cases_eq u t) [
-      | inl same ↦ subst (λ (k : ℕ). collections_of script (replies_of (set seats t after)) k ≡ collections_of script (replies_of seats) k) (sym same) (silent_collections script seats t s after at refl)
-      | inr differ ↦ collections_other script seats t u after differ
-    ])
+    Table_moves script config v w seats t s after table at goes dropped.stands (dropped_keeps v w t dropped) moves
 
 -- a thread that can go on does not wait
 goes_waits : (mode : Mode) → MayGo mode → Waits mode → ⊥
@@ -124,6 +115,12 @@ SomeWaits seats = (t : ℕ) × ((s : Seat) × (slice_get seats t ≡ Some s) × 
 -- what is known of the stop word stays known
 pub stop_known : (v w : View) (seats : List Seat) (t : ℕ) (s after : Seat) → KnowsStop v seats → slice_get seats t ≡ Some s → MayGo s.mode → SetsStop v w after → KnowsStop w (set seats t after)
 stop_known v w seats t s after known at goes sets = record {
+  waits = λ u x is waits. elim (cases_eq u t) [
+    | inl same ↦
+        let is_after : after ≡ x = same_Some after x (sym (get_set_same seats t s after at) ∙ (ap (λ (k : ℕ). slice_get (set seats t after) k) (sym same) ∙ is)) in
+        sets.waits (subst (λ (y : Seat). Waits y.mode) (sym is_after) waits)
+    | inr differ ↦ sets.stays (known.waits u x (sym (get_set_other seats t u after differ) ∙ is) waits)
+  ];
   stop = λ is. elim (sets.stop is) [
     | inl was ↦
         let waits : SomeWaits seats = known.stop was in

@@ -1,24 +1,28 @@
 -- What a safepoint does to all threads.
-use Rattle.std.proofs.Common.{◌≡◌, ℕ, ◌+◌, ◌<◌, ◌≤◌, true, false, List, length, refl, sym, ◌∙◌, ap, subst, arith, inl, inr}
+use Rattle.std.proofs.Common.{◌≡◌, ℕ, ◌+◌, ◌<◌, ◌≤◌, true, false, suc, List, ◌∷◌, length, drop, refl, sym, ◌∙◌, ap, subst, arith, inl, inr}
 use Rattle.std.proofs.Math.ListN.{set, length-set}
 use Rattle.std.proofs.lemmas.Bool.{cases_eq}
 use Rattle.std.proofs.lemmas.Option.{same_Some, slice_get_within, slice_get_cases}
 use Rattle.std.specs.Prelude.{Option, Some, IsSome, slice_get, slice_set, ◌⊎◌}
+use Rattle.melt_model.specs.declared.config.Config.{Config}
 use Rattle.melt_model.specs.declared.operations.Op.{Op}
-use Rattle.melt_trace.specs.Script.{Script}
+use Rattle.melt_model.specs.declared.operations.Op.TheVariants.{Collect}
+use Rattle.melt_trace.specs.Script.{Script, operations}
 use Rattle.melt_scion.specs.declared.heap.Heap.{Heap}
 use Rattle.melt_scion.specs.declared.heap.Names as names_of
 use Rattle.melt_scion.specs.declared.registers.Registers.{Registers}
 use Rattle.melt_core.specs.declared.machine.Rest.{Rest}
 use Rattle.melt_core.specs.Views.{View, view, IsQuiet, registers_in, held_values}
 use Rattle.melt_core.specs.Epochs.{AtRest, HasFinished, core_of}
+use Rattle.melt_step.specs.declared.collector.Collector.{Collector}
+use Rattle.melt_step.specs.declared.run.Run.{Run}
 use Rattle.melt_step.specs.declared.seat.Seat.{Seat}
 use Rattle.melt_step.specs.declared.seat.Mode.{Mode}
 use Rattle.melt_step.specs.declared.seat.Mode.TheVariants.{Running, Due, Silent, Collecting, Asked, Lacking, Ended}
-use Rattle.melt_step.specs.Run.{collections}
-use Rattle.melt_step.specs.Seats.{IsEnded, FitsMode, replies_of, TableStands, CallsAgain, ForCollection, Waits, KnowsStop, jobs, jobs_of, left, CollectedFor, CollectedAt, CollectedAll, CalledAt, Resumed, Passed, Renewed}
-use Rattle.melt_step.proofs.Modes.{Table_runs, collections_mode}
-use Rattle.melt_step.proofs.Tables.{set_got, Table_renewed}
+use Rattle.melt_step.specs.Seats.{CollectorStands, KeepsRun, owes, IsPaused, NoneWaits, AllWait, MayGo, OweBehindCollects, SeatStands, owes_silent, with_first, IsEnded, FitsMode, replies_of, TableStands, CallsAgain, ForCollection, Waits, KnowsStop, jobs, jobs_of, left, CollectedFor, CollectedAt, CollectedAll, CalledAt, Resumed, Passed, Renewed}
+use Rattle.melt_step.proofs.Cuts.{first_left}
+use Rattle.melt_step.proofs.Modes.{Table_runs}
+use Rattle.melt_step.proofs.Tables.{Adds, adds_mode, set_got, Table_renewed}
 use Rattle.melt_step.proofs.Tables.{get_set_same, get_set_other}
 
 -- a call was refused or was not
@@ -61,6 +65,16 @@ again_jobs Asked count again = refl
 again_jobs Lacking count again = refl
 again_jobs (Ended e) count again = absurd again
 
+-- it has no silent collection to come
+again_owes : (mode : Mode) → CallsAgain mode → owes mode ≡ owes Running
+again_owes Running again = refl
+again_owes Due again = absurd again
+again_owes Silent again = absurd again
+again_owes Collecting again = absurd again
+again_owes Asked again = refl
+again_owes Lacking again = refl
+again_owes (Ended e) again = absurd again
+
 -- the call of a thread is made again, if it was refused
 pub record MadeAgain (s after : Seat) : Type 0 where
   pub again : CallsAgain s.mode → after ≡ record s { mode = Running }
@@ -71,8 +85,8 @@ pub record AgainBelow (seats after : List Seat) (n : ℕ) : Type 0 where
   pub count : length after ≡ length seats
   pub done : (t : ℕ) (s : Seat) → t < n → slice_get seats t ≡ Some s → (x : Seat) × (slice_get after t ≡ Some x) × MadeAgain s x
   pub rest : (t : ℕ) → n ≤ t → slice_get after t ≡ slice_get seats t
-  pub table : (script : Script) (heap : ℕ) (v : View) → TableStands script heap v seats → IsQuiet v → TableStands script heap v after
-  pub collected : (script : Script) (k : ℕ) → collections script (replies_of after) k ≡ collections script (replies_of seats) k
+  pub table : (script : Script) (config : Config) (v : View) → TableStands script config v seats → IsQuiet v → TableStands script config v after
+  pub collected : (script : Script) (config : Config) (v : View) → TableStands script config v seats → IsQuiet v → Adds script config seats after 0
 
 -- none of them does so yet
 pub again_none : (seats : List Seat) → AgainBelow seats seats 0
@@ -80,8 +94,8 @@ again_none seats = record {
   count = refl;
   done = λ t s below at. absurd (omega (arith, below));
   rest = λ t above. refl;
-  table = λ script heap v table quiet. table;
-  collected = λ script k. refl;
+  table = λ script config v table quiet. table;
+  collected = λ script config v table quiet. omega arith;
 }
 
 -- one thread more makes its call again
@@ -97,23 +111,22 @@ again_more seats after n s x so_far at made = record {
         (w.0, get_set_other after n t x other ∙ w.1, w.2)
   ];
   rest = λ t above. get_set_other after n t x (λ same. omega (arith, same, above)) ∙ so_far.rest t (omega (arith, above));
-  table = λ script heap v table quiet.
-      let before : TableStands script heap v after = so_far.table script heap v table quiet in
+  table = λ script config v table quiet.
+      let before : TableStands script config v after = so_far.table script config v table quiet in
       elim (calls_again s.mode) [
         | inl again ↦
-            subst (λ (z : Seat). TableStands script heap v (set after n z)) (sym (made.again again))
-            (Table_runs script heap v after n s before at (again_open s.mode again) (again_some s.mode s.op again (before.each n s at).fits) (quiet n))
-        | inr not ↦ subst (TableStands script heap v) (sym (ap (set after n) (made.same not) ∙ set_got after n s at)) before
+            subst (λ (z : Seat). TableStands script config v (set after n z)) (sym (made.again again))
+            (Table_runs script config v after n s before at (again_open s.mode again) (again_some s.mode s.op again (before.each n s at).fits) (quiet n))
+        | inr not ↦ subst (TableStands script config v) (sym (ap (set after n) (made.same not) ∙ set_got after n s at)) before
       ];
-  collected = λ script k.
-      elim (calls_again s.mode) [
-        | inl again ↦
-            ap (λ (z : Seat). collections script (replies_of (set after n z)) k) (made.again again)
-            ∙ (collections_mode script after n k s Running at ∙ so_far.collected script k)
-        | inr not ↦
-            ap (λ (ss : List Seat). collections script (replies_of ss) k) (ap (set after n) (made.same not) ∙ set_got after n s at)
-            ∙ so_far.collected script k
-      ];
+  collected = λ script config v table quiet.
+      let before : Adds script config seats after 0 = so_far.collected script config v table quiet in
+      let stands : TableStands script config v after = so_far.table script config v table quiet in
+      let one : Adds script config after (set after n x) 0 = elim (calls_again s.mode) [
+        | inl again ↦ subst (λ (z : Seat). Adds script config after (set after n z) 0) (sym (made.again again)) (adds_mode script config after n s Running at stands.count (again_owes s.mode again))
+        | inr not ↦ subst (λ (xs : List Seat). Adds script config after xs 0) (sym (ap (set after n) (made.same not) ∙ set_got after n s at)) (omega arith)
+      ] in
+      omega (arith, before, one);
 }
 
 -- a thread whose call is made again has as much to do as before
@@ -123,15 +136,58 @@ made_again_jobs s x made = elim (calls_again s.mode) [
   | inr not ↦ ap jobs_of (made.same not)
 ]
 
--- so all threads have as much to do as before
-pub again_resumed : (seats after : List Seat) (n : ℕ) → AgainBelow seats after n → length seats ≤ n → Resumed seats after
-again_resumed seats after n again all = record {
+-- a thread that waits does so for a collection of its own, or its call is made again
+paused_for : (mode : Mode) → IsPaused mode → ForCollection mode ⊎ CallsAgain mode
+paused_for Running paused = absurd paused
+paused_for Due paused = absurd paused
+paused_for Silent paused = inl tt
+paused_for Collecting paused = inl tt
+paused_for Asked paused = inr tt
+paused_for Lacking paused = inr tt
+paused_for (Ended e) paused = absurd paused
+
+-- one that makes its call again does not wait
+made_again_goes : (s x : Seat) → (ForCollection s.mode → ⊥) → MadeAgain s x → IsPaused x.mode → ⊥
+made_again_goes s x own made paused = elim (calls_again s.mode) [
+  | inl again ↦ subst (λ (z : Seat). IsPaused z.mode) (made.again again) paused
+  | inr not ↦ elim (paused_for s.mode (subst (λ (z : Seat). IsPaused z.mode) (made.same not) paused)) [ inl for ↦ own for | inr again ↦ not again ]
+]
+
+-- no thread waits for a collection of its own
+abbrev pub NoneOwn : List Seat → Type 0
+NoneOwn seats = (t : ℕ) (s : Seat) → slice_get seats t ≡ Some s → ForCollection s.mode → ⊥
+
+-- so no thread waits any more
+pub again_goes : (seats after : List Seat) (n : ℕ) → AgainBelow seats after n → length seats ≤ n → NoneOwn seats → NoneWaits after
+again_goes seats after n again all own = λ t x at paused.
+    let below : t < length after = slice_get_within after t x at in
+    elim (slice_get_cases seats t).1 [
+      | inl w ↦
+          let z : (z : Seat) × (slice_get after t ≡ Some z) × MadeAgain w.0 z = again.done t w.0 (omega (arith, all, w.1)) w.2 in
+          made_again_goes w.0 x (own t w.0 w.2) (subst (MadeAgain w.0) (same_Some z.0 x (sym z.1 ∙ at)) z.2) paused
+      | inr w ↦ absurd (omega (arith, below, again.count, w.0))
+    ]
+
+-- and all threads have as much to do as before
+pub again_resumed : (seats after : List Seat) (n : ℕ) → AgainBelow seats after n → length seats ≤ n → NoneOwn seats → Resumed seats after
+again_resumed seats after n again all own = record {
+  goes = again_goes seats after n again all own;
   count = again.count;
   each = λ t s at.
       let below : t < length seats = slice_get_within seats t s at in
       let w : (x : Seat) × (slice_get after t ≡ Some x) × MadeAgain s x = again.done t s (omega (arith, all, below)) at in
       (w.0, w.1, made_again_jobs s w.0 w.2);
 }
+
+-- what waits for a collection or for room waits
+pub waits_paused : (mode : Mode) → Waits mode → IsPaused mode
+waits_paused Running waits = waits
+waits_paused Due waits = waits
+waits_paused Silent waits = waits
+waits_paused Collecting waits = waits
+waits_paused Asked waits = tt
+waits_paused Lacking waits = waits
+waits_paused (Ended e) waits = waits
 
 -- its call is not refused any more
 made_again_asked : (s x : Seat) → MadeAgain s x → x.mode ≡ Asked → ⊥
@@ -142,8 +198,9 @@ made_again_asked s x made asked = elim (calls_again s.mode) [
 ]
 
 -- what is known of a stop word that is not set, once all threads made their calls again
-pub again_knows : (seats after : List Seat) (n : ℕ) (v : View) → AgainBelow seats after n → length seats ≤ n → v.stop ≡ false → KnowsStop v after
-again_knows seats after n v again all none = record {
+pub again_knows : (seats after : List Seat) (n : ℕ) (v : View) → AgainBelow seats after n → length seats ≤ n → NoneOwn seats → v.stop ≡ false → KnowsStop v after
+again_knows seats after n v again all own none = record {
+  waits = λ t x at waits. absurd (again_goes seats after n again all own t x at (waits_paused x.mode waits));
   stop = λ is. absurd (let wrong : true ≡ false = sym is ∙ none in cc);
   asked = λ t x at is.
       let below : t < length after = slice_get_within after t x at in
@@ -216,7 +273,7 @@ collected_all seats after n below all = record {
 }
 
 -- a thread waits for a collection or does not
-for_collection : (mode : Mode) → ForCollection mode ⊎ (ForCollection mode → ⊥)
+pub for_collection : (mode : Mode) → ForCollection mode ⊎ (ForCollection mode → ⊥)
 for_collection Running = inr (λ is. is)
 for_collection Due = inr (λ is. is)
 for_collection Silent = inl tt
@@ -225,8 +282,18 @@ for_collection Asked = inr (λ is. is)
 for_collection Lacking = inr (λ is. is)
 for_collection (Ended e) = inr (λ is. is)
 
+-- one that can not go on and waits for no collection has no silent one to come
+no_due : (mode : Mode) → (MayGo mode → ⊥) → (ForCollection mode → ⊥) → owes_silent mode ≡ true → ⊥
+no_due Running waits not owes = waits tt
+no_due Due waits not owes = waits tt
+no_due Silent waits not owes = not tt
+no_due Collecting waits not owes = not tt
+no_due Asked waits not owes = let wrong : false ≡ true = owes in cc
+no_due Lacking waits not owes = let wrong : false ≡ true = owes in cc
+no_due (Ended e) waits not owes = let wrong : false ≡ true = owes in cc
+
 -- one that waits does so for a collection or for room
-waits_for : (mode : Mode) → Waits mode → ForCollection mode ⊎ ((mode ≡ Lacking) × (ForCollection mode → ⊥))
+pub waits_for : (mode : Mode) → Waits mode → ForCollection mode ⊎ ((mode ≡ Lacking) × (ForCollection mode → ⊥))
 waits_for Running waits = absurd waits
 waits_for Due waits = absurd waits
 waits_for Silent waits = inl tt
@@ -242,10 +309,31 @@ collected_jobs s x collected = elim (for_collection s.mode) [
   | inr not ↦ omega (arith, ap jobs_of (collected.same not))
 ]
 
+-- behind the collections, silent ones are still to come only where a `collect` was answered just now
+pub owe_behind : (script : Script) (config : Config) (v : View) (seats mid : List Seat) → TableStands script config v seats → AllWait seats → CollectedAll seats mid → OweBehindCollects script mid
+owe_behind script config v seats mid table waits all = λ t x at owes. elim (slice_get_cases seats t).1 [
+  | inl w ↦
+      let s : Seat = w.0 in
+      let st : SeatStands script v t s = table.each t s w.2 in
+      let y : (y : Seat) × (slice_get mid t ≡ Some y) × CollectedFor s y = all.each t s w.2 in
+      let is : y.0 ≡ x = same_Some y.0 x (sym y.1 ∙ at) in
+      let made : CollectedFor s x = subst (CollectedFor s) is y.2 in
+      elim (for_collection s.mode) [
+        | inl for ↦
+            let by = made.owes for owes in
+            let first : Collect ∷ s.rest.operations ≡ drop (length s.replies.items) (operations script t) =
+            ap (λ (o : Option Op). with_first o s.rest.operations) (sym by.0) ∙ st.to_come in
+            (length s.replies.items, by.1, first_left (operations script t) (length s.replies.items) Collect s.rest.operations first)
+        | inr not ↦ absurd (no_due s.mode (waits t s w.2) not (ap (λ (z : Seat). owes_silent z.mode) (sym (made.same not)) ∙ owes))
+      ]
+  | inr w ↦ absurd (let within : t < length mid = slice_get_within mid t x at in omega (arith, within, all.count, w.0))
+]
+
 -- a safepoint at which no thread lacks room behind the collections
 pub passed_collected : (seats mid after : List Seat) → CollectedAll seats mid → ((t : ℕ) (s : Seat) → slice_get mid t ≡ Some s → s.mode ≡ Lacking → ⊥) → Resumed mid after
     → ((t : ℕ) × ((s : Seat) × (slice_get seats t ≡ Some s) × Waits s.mode)) → Passed seats after
 passed_collected seats mid after all none resumed waits = record {
+  goes = resumed.goes;
   count = resumed.count ∙ all.count;
   each = λ t s at.
       let x : (x : Seat) × (slice_get mid t ≡ Some x) × CollectedFor s x = all.each t s at in
@@ -266,11 +354,12 @@ passed_collected seats mid after all none resumed waits = record {
 -- a safepoint at which the call of a thread was made behind the collections
 pub passed_called : (seats mid called after : List Seat) (t : ℕ) (s : Seat) → CollectedAll seats mid → slice_get mid t ≡ Some s → CalledAt mid called t → Resumed called after → Passed seats after
 passed_called seats mid called after t s all at calls resumed =
-    let one : (x : Seat) × (called ≡ slice_set mid t x) × (jobs_of x < jobs_of s) = calls s at in
+    let one : (x : Seat) × (called ≡ slice_set mid t x) × (jobs_of x < jobs_of s) × (IsPaused x.mode → ⊥) = calls s at in
     let here : slice_get called t ≡ Some one.0 = ap (λ (ss : List Seat). slice_get ss t) one.1 ∙ get_set_same mid t s one.0 at in
     let last : (y : Seat) × (slice_get after t ≡ Some y) × (jobs_of y ≡ jobs_of one.0) = resumed.each t one.0 here in
     let below : t < length mid = slice_get_within mid t s at in
     record {
+      goes = resumed.goes;
       count = resumed.count ∙ (ap length one.1 ∙ (length-set mid t one.0 ∙ all.count));
       each = λ u r there.
           let x : (x : Seat) × (slice_get mid u ≡ Some x) × CollectedFor r x = all.each u r there in
@@ -296,11 +385,11 @@ passed_called seats mid called after t s all at calls resumed =
 -- The run goes on with the stop word not set, in the same epoch or in a new one, and all threads stand there as before.
 pub record Begun (v w : View) : Type 0 where
   pub no_stop : w.stop ≡ false
-  pub table : (script : Script) (heap : ℕ) (seats : List Seat) → TableStands script heap v seats → TableStands script heap w seats
+  pub table : (script : Script) (config : Config) (seats : List Seat) → TableStands script config v seats → TableStands script config w seats
 
 -- in the same epoch
 pub begun_same : (v : View) → v.stop ≡ false → Begun v v
-begun_same v none = record { no_stop = none; table = λ script heap seats table. table }
+begun_same v none = record { no_stop = none; table = λ script config seats table. table }
 
 -- in a new epoch
 pub begun_new : (v : View) (heap : Heap) (rest : Rest) → AtRest heap rest → HasFinished v (view (core_of heap rest)) → Begun v (view (core_of heap rest))
@@ -308,3 +397,15 @@ begun_new v heap rest at_rest finished = record {
   no_stop = refl;
   table = λ script words seats table. Table_renewed script words v (view (core_of heap rest)) seats table (finished_renewed v heap rest at_rest finished);
 }
+
+-- a run whose threads made their calls again, and that goes on so
+pub resumed_keeps : (old new : Run) (v : View) (n : ℕ) → AgainBelow old.seats.items new.seats.items n → IsQuiet (view old.core) → Begun (view old.core) v → view new.core ≡ v → new.collector ≡ old.collector → new.every ≡ old.every → KeepsRun old new
+resumed_keeps old new v n again quiet begun core collector every = λ script config stands.
+    let adds : Adds script config old.seats.items new.seats.items 0 = again.collected script config (view old.core) stands.table quiet in
+    record {
+      table = subst (λ (w : View). TableStands script config w new.seats.items) (sym core)
+          (begun.table script config new.seats.items (again.table script config (view old.core) stands.table quiet));
+      every = every ∙ stands.every;
+      collector = subst (CollectorStands config) (sym collector) stands.collector;
+      collected = omega (arith, adds, stands.collected, ap (λ (c : Collector). length c.journal.items) collector);
+    }

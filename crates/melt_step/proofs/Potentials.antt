@@ -3,6 +3,7 @@ use Rattle.std.proofs.Common.{◌≡◌, ◌≢◌, ℕ, zero, suc, ◌+◌, ◌
 use Rattle.std.proofs.Math.ListN.{set}
 use Rattle.std.proofs.lemmas.Option.{same_Some}
 use Rattle.std.specs.Prelude.{Option, None, Some, IsSome, slice_get}
+use Rattle.melt_model.specs.declared.config.Config.{Config}
 use Rattle.melt_model.specs.declared.operations.Op.{Op}
 use Rattle.melt_model.specs.declared.reports.ThreadEnd.TheVariants as end
 use Rattle.melt_trace.specs.Script.{Script}
@@ -11,7 +12,8 @@ use Rattle.melt_core.specs.Views.{View, call_of}
 use Rattle.melt_step.specs.declared.seat.Mode.{Mode}
 use Rattle.melt_step.specs.declared.seat.Mode.TheVariants.{Running, Due, Silent, Collecting, Asked, Lacking, Ended}
 use Rattle.melt_step.specs.declared.seat.Seat.{Seat}
-use Rattle.melt_step.specs.Seats.{Passed, jobs_of, MayGo, SeatWaits, SeatGoes, SeatRefused, SeatTold, SeatStep, TableStands, left, with_first, jobs, turn_left, potential}
+use Rattle.melt_step.specs.Seats.{paused_as, Passed, jobs_of, MayGo, SeatWaits, SeatGoes, SeatRefused, SeatTold, SeatStep, TableStands, left, with_first, jobs, turn_left, potential}
+use Rattle.melt_step.proofs.Tables.{paused_cases}
 
 -- what a thread in this mode with so many operations to come has still to do
 abbrev amount : Mode → ℕ → Option Call → ℕ
@@ -83,19 +85,14 @@ goes_less v w t s after x =
     part_less s after (call_of v t) (call_of w t) Running Running (length (left s)) (length (left s)) x.running refl (ap (λ (y : Seat). y.mode) x.same ∙ x.running) (ap (λ (y : Seat). length (left y)) x.same) (omega (arith, x.nearer))
 
 -- a call that was refused
-refused_less : (v w : View) (t : ℕ) (s after : Seat) (mode : Mode) → MayGo s.mode → SeatRefused v w t s after mode → part after (call_of w t) < part s (call_of v t)
-refused_less v w t s after mode goes x =
+refused_less : (v w : View) (t : ℕ) (s after : Seat) → SeatRefused v w t s after → part after (call_of w t) < part s (call_of v t)
+refused_less v w t s after x =
     let to_come : length (left after) ≡ length (left s) = ap (λ (y : Seat). length (left y)) x.only in
-    let now : after.mode ≡ mode = ap (λ (y : Seat). y.mode) x.only in
-    elim (running_or_due s.mode goes) [
-      | inl runs ↦ elim x.waits [
-        | inl asked ↦ part_less s after (call_of v t) (call_of w t) Running Asked (length (left s)) (length (left s)) runs refl (now ∙ asked) to_come (omega arith)
-        | inr lacks ↦ part_less s after (call_of v t) (call_of w t) Running Lacking (length (left s)) (length (left s)) runs refl (now ∙ lacks) to_come (omega arith)
-      ]
-      | inr due ↦ elim x.waits [
-        | inl asked ↦ part_less s after (call_of v t) (call_of w t) Due Asked (length (left s)) (length (left s)) due refl (now ∙ asked) to_come (omega arith)
-        | inr lacks ↦ part_less s after (call_of v t) (call_of w t) Due Lacking (length (left s)) (length (left s)) due refl (now ∙ lacks) to_come (omega arith)
-      ]
+    let now : after.mode ≡ paused_as x.cause = ap (λ (y : Seat). y.mode) x.only in
+    let n : ℕ = length (left s) in
+    elim (paused_cases x.cause) [
+      | inl asked ↦ part_less s after (call_of v t) (call_of w t) Running Asked n n x.running refl (now ∙ asked) to_come (omega arith)
+      | inr lacks ↦ part_less s after (call_of v t) (call_of w t) Running Lacking n n x.running refl (now ∙ lacks) to_come (omega arith)
     ]
 
 -- One operation less. The next one takes at most 136 events.
@@ -119,13 +116,13 @@ told_less v w t s after goes x =
     ]
 
 -- an event of a thread that can go on
-pub step_nearer : (script : Script) (heap : ℕ) (v w : View) (seats : List Seat) (t : ℕ) (s after : Seat) → TableStands script heap v seats → slice_get seats t ≡ Some s → MayGo s.mode → SeatStep v w t s after → length w.calls ≡ length v.calls → potential (set seats t after) w.calls < potential seats v.calls
-step_nearer script heap v w seats t s after table at goes step same = potential-less seats v.calls w.calls t s after at step.others.calls (elim step.what [
+pub step_nearer : (script : Script) (config : Config) (v w : View) (seats : List Seat) (t : ℕ) (s after : Seat) → TableStands script config v seats → slice_get seats t ≡ Some s → MayGo s.mode → SeatStep v w t s after → length w.calls ≡ length v.calls → potential (set seats t after) w.calls < potential seats v.calls
+step_nearer script config v w seats t s after table at goes step same = potential-less seats v.calls w.calls t s after at step.others.calls (elim step.what [
   | inl waits ↦ waits_less v w t s after waits.0 waits.1
   | inr a ↦ elim a [
     | inl going ↦ goes_less v w t s after going
     | inr b ↦ elim b [
-      | inl refused ↦ refused_less v w t s after refused.0 goes refused.1
+      | inl refused ↦ refused_less v w t s after refused
       | inr told ↦ told_less v w t s after goes told
     ]
   ]

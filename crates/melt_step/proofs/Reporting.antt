@@ -1,9 +1,12 @@
 -- A run begins with the threads of its script, and reports when all of them have ended.
 use Rattle.std.proofs.Common.{◌≡◌, ℕ, ◌+◌, ◌*◌, ◌≤◌, List, [], ◌∷◌, ◌++◌, length, refl, sym, ◌∙◌, ap, subst, arith, length-append, inl, inr}
+use Rattle.std.proofs.lemmas.List.Elements.{All-nil}
 use Rattle.std.proofs.lemmas.List.Sums.{sum-map, sum_by_push}
 use Rattle.std.specs.Prelude.{true, Some, slice_get}
 use Rattle.melt_model.specs.Config.{InRanges}
 use Rattle.melt_model.specs.declared.config.Config.{Config}
+use Rattle.melt_model.specs.declared.reports.Journal.{Journal}
+use Rattle.melt_model.specs.declared.reports.Phase.TheVariants.{Inactive}
 use Rattle.melt_model.specs.declared.reports.ThreadEnd.{ThreadEnd}
 use Rattle.melt_model.specs.declared.reports.ThreadReport.{ThreadReport}
 use Rattle.melt_model.proofs.Histories.{last_place, slice_get-append_seam}
@@ -18,6 +21,7 @@ use Rattle.melt_step.specs.declared.run.Run.{Run}
 use Rattle.melt_step.specs.declared.seat.Seat.{Seat}
 use Rattle.melt_step.specs.declared.seat.Mode.{Mode}
 use Rattle.melt_step.specs.declared.seat.Mode.TheVariants.{Running, Due, Silent, Collecting, Asked, Lacking, Ended}
+use Rattle.melt_step.specs.Journals.{before, next_of, IsJournalOf}
 use Rattle.melt_step.specs.Seats.{left, to_reply, IsEnded, IsNewSeat, AreNewSeats, TableStands, IsPlanning, RunStands}
 use Rattle.melt_step.proofs.Starting.{Table_new, collections_new}
 use Rattle.melt_step.proofs.Tables.{goes_on, waiting_quiet}
@@ -63,18 +67,24 @@ new_all script k amount seats all eight so_far = record {
 -- a run before its first event
 pub Run_new : (script : Script) (config : Config) (entries globals threads : ℕ) (heap : Heap) (rest : Rest) (run : Run)
     → InRanges config → globals ≡ script.globals → threads ≡ length script.programs → threads ≤ 8
-    → IsNewHeap config.heap globals true heap → IsNewRest threads entries rest → AreNewSeats script run.seats.items entries → run.core ≡ core_of heap rest → IsPlanning run.collector
-    → RunStands script config.heap run
-Run_new script config entries globals threads heap rest run ranges all_globals all_threads eight is_heap is_rest new_seats begins planning =
+    → IsNewHeap config.heap globals true heap → IsNewRest threads entries rest → AreNewSeats script run.seats.items entries → run.core ≡ core_of heap rest → run.every ≡ config.every → IsPlanning run.collector → run.collector.journal.items ≡ [] → run.collector.planned ≡ Inactive → run.collector.config ≡ config
+    → RunStands script config run
+Run_new script config entries globals threads heap rest run ranges all_globals all_threads eight is_heap is_rest new_seats begins every planning none planned numbers =
     let seats : List Seat = run.seats.items in
     let new_heap : IsNewHeap config.heap script.globals true heap = subst (λ (n : ℕ). IsNewHeap config.heap n true heap) all_globals is_heap in
     let new_rest : IsNewRest (length script.programs) entries rest = subst (λ (n : ℕ). IsNewRest n entries rest) all_threads is_rest in
-    let table : TableStands script config.heap (view (core_of heap rest)) seats =
-    Table_new script config.heap entries heap rest seats (omega (arith, ranges.heap_most)) (omega (arith, all_threads, eight)) new_heap new_rest new_seats in
+    let table : TableStands script config (view (core_of heap rest)) seats =
+    Table_new script config entries heap rest seats (omega (arith, ranges.heap_most)) (omega (arith, all_threads, eight)) new_heap new_rest new_seats in
     record {
-      table = subst (λ (core : Core). TableStands script config.heap (view core) seats) (sym begins) table;
-      planning = planning;
-      collected = omega (arith, collections_new script entries (length script.programs) seats new_seats);
+      table = subst (λ (core : Core). TableStands script config (view core) seats) (sym begins) table;
+      every = every;
+      collector = record {
+        planning = planning;
+        numbers = numbers;
+        journal = subst (IsJournalOf config) (sym none) (record { phases = λ k j at. absurd (let wrong : slice_get [] k ≡ Some j = at in cc); words = All-nil (λ (j : Journal). (j.held ≤ j.live) × (j.live ≤ config.heap)) });
+        next = planned ∙ ap (λ (js : List Journal). next_of config (before js (length js))) (sym none);
+      };
+      collected = omega (arith, collections_new script config entries (length script.programs) seats new_seats);
     }
 
 -- how a thread has ended
@@ -88,8 +98,8 @@ ended_so Lacking over = absurd over
 ended_so (Ended e) over = (e, refl)
 
 -- where all threads have ended, no call is in flight
-pub ended_quiet : (script : Script) (heap : ℕ) (run : Run) → RunStands script heap run → ((t : ℕ) (s : Seat) → slice_get run.seats.items t ≡ Some s → IsEnded s.mode) → IsQuiet (view run.core)
-ended_quiet script heap run stands ended = waiting_quiet script heap (view run.core) run.seats.items stands.table (λ t s at goes. goes_on s.mode goes (ended t s at))
+pub ended_quiet : (script : Script) (config : Config) (run : Run) → RunStands script config run → ((t : ℕ) (s : Seat) → slice_get run.seats.items t ≡ Some s → IsEnded s.mode) → IsQuiet (view run.core)
+ended_quiet script config run stands ended = waiting_quiet script config (view run.core) run.seats.items stands.table (λ t s at goes. goes_on s.mode goes (ended t s at))
 
 -- a thread that a list has behind others has ended
 pub ended_next : (seats before behind : List Seat) (s : Seat) → before ++ s ∷ behind ≡ seats → ((t : ℕ) (x : Seat) → slice_get seats t ≡ Some x → IsEnded x.mode) → IsEnded s.mode

@@ -1,5 +1,7 @@
 -- A run begins.
-use Rattle.std.proofs.Common.{◌≡◌, ℕ, ◌^◌, ◌<◌, ◌≤◌, zero, suc, true, false, List, [], length, take, drop, refl, sym, ◌∙◌, ap, subst, arith, inl, inr}
+use Rattle.std.proofs.Common.{◌≡◌, ℕ, ◌+◌, ◌*◌, ◌/◌, ◌%◌, ◌^◌, ◌<◌, ◌≤◌, zero, suc, true, false, List, [], length, take, drop, refl, sym, ◌∙◌, ap, subst, arith, inl, inr}
+use Rattle.std.proofs.Math.Nat.{div-add-mod, mul-le-mul_left}
+use Rattle.std.proofs.lemmas.Bool.{cases_lt}
 use Rattle.std.proofs.lemmas.List.{length-replicate}
 use Rattle.std.proofs.lemmas.List.Elements.{All-nil}
 use Rattle.std.proofs.lemmas.Option.{slice_get_cases, slice_get_within}
@@ -7,6 +9,7 @@ use Rattle.std.specs.Prelude.{None, Some, All, slice_get, replicate}
 use Rattle.std.specs.List.{count_by}
 use Rattle.melt_model.specs.History.{IsReference}
 use Rattle.melt_model.specs.Standing.{Stands}
+use Rattle.melt_model.specs.declared.config.Config.{Config}
 use Rattle.melt_model.specs.declared.history.Entry.{Entry}
 use Rattle.melt_model.specs.declared.history.Value.TheVariants.{Nil}
 use Rattle.melt_model.specs.declared.operations.Op.{Op}
@@ -24,8 +27,8 @@ use Rattle.melt_core.proofs.Values.{get_or_replicate}
 use Rattle.melt_step.specs.declared.seat.Seat.{Seat}
 use Rattle.melt_step.specs.declared.seat.Mode.{Mode}
 use Rattle.melt_step.specs.declared.seat.Mode.TheVariants.{Running, Asked, Ended}
-use Rattle.melt_step.specs.Run.{is_collect, collections, collections_of}
-use Rattle.melt_step.specs.Seats.{AreNewSeats, IsNewSeat, FitsMode, KnowsStop, SeatStands, EndsSo, TableStands, replies_of}
+use Rattle.melt_step.specs.Run.{is_collect, silent_in, collections, collections_of}
+use Rattle.melt_step.specs.Seats.{owes_silent, Waits, AreNewSeats, IsNewSeat, FitsMode, KnowsStop, SeatStands, EndsSo, TableStands, replies_of}
 use Rattle.melt_step.proofs.Cuts.{replies_here, replies_past}
 
 -- no thread has a reply
@@ -79,19 +82,19 @@ Seat_new script entries t heap rest s at_rest new_rest below new =
     }
 
 -- a thread that has ended at once has no operations
-ends_new : (script : Script) (log : List Entry) (entries words t : ℕ) (seats : List Seat) (s : Seat) → AreNewSeats script seats entries → slice_get seats t ≡ Some s → EndsSo script log seats words t s.mode
-ends_new script log entries words t seats s new_seats at =
+ends_new : (script : Script) (log : List Entry) (config : Config) (entries t : ℕ) (seats : List Seat) (s : Seat) → AreNewSeats script seats entries → slice_get seats t ≡ Some s → EndsSo script log seats config t s.mode
+ends_new script log config entries t seats s new_seats at =
     let new : IsNewSeat (operations script t) script.globals s = new_seats.each t s at in
     elim new.mode [
-      | inl runs ↦ subst (EndsSo script log seats words t) (sym runs.0) tt
-      | inr over ↦ subst (EndsSo script log seats words t) (sym over.0) (ap length (no_replies script entries t seats new_seats) ∙ ap length (sym over.1 ∙ new.to_come))
+      | inl runs ↦ subst (EndsSo script log seats config t) (sym runs.0) tt
+      | inr over ↦ subst (EndsSo script log seats config t) (sym over.0) (ap length (no_replies script entries t seats new_seats) ∙ ap length (sym over.1 ∙ new.to_come))
     ]
 
 -- all threads stand before their first events
-pub Table_new : (script : Script) (words entries : ℕ) (heap : Heap) (rest : Rest) (seats : List Seat) → words < 2 ^ 30 → length script.programs ≤ 8 → IsNewHeap words script.globals true heap → IsNewRest (length script.programs) entries rest → AreNewSeats script seats entries → TableStands script words (view (core_of heap rest)) seats
-Table_new script words entries heap rest seats small few new_heap new_rest new_seats =
+pub Table_new : (script : Script) (config : Config) (entries : ℕ) (heap : Heap) (rest : Rest) (seats : List Seat) → config.heap < 2 ^ 30 → length script.programs ≤ 8 → IsNewHeap config.heap script.globals true heap → IsNewRest (length script.programs) entries rest → AreNewSeats script seats entries → TableStands script config (view (core_of heap rest)) seats
+Table_new script config entries heap rest seats small few new_heap new_rest new_seats =
     let n : ℕ = length script.programs in
-    let at_rest : AtRest heap rest = start_at_rest words script.globals n entries heap rest small few new_heap new_rest in
+    let at_rest : AtRest heap rest = start_at_rest config.heap script.globals n entries heap rest small few new_heap new_rest in
     record {
       stands = at_rest.stands;
       count = new_seats.count;
@@ -100,7 +103,11 @@ Table_new script words entries heap rest seats small few new_heap new_rest new_s
       words = new_heap.space.size;
       each = λ t s at. Seat_new script entries t heap rest s at_rest new_rest (let below : t < length seats = slice_get_within seats t s at in omega (arith, new_seats.count)) (new_seats.each t s at);
       own = subst (All (λ (e : Entry). e.thread < n)) (sym new_rest.history) (All-nil (λ (e : Entry). e.thread < n));
-      ends = λ t s at. ends_new script rest.log.items entries words t seats s new_seats at;
+      ends = λ t s at. ends_new script rest.log.items config entries t seats s new_seats at;
+      due = λ t s at owes. absurd (elim (new_seats.each t s at).mode [
+        | inl runs ↦ let wrong : false ≡ true = ap owes_silent (sym runs.0) ∙ owes in cc
+        | inr over ↦ let wrong : false ≡ true = ap owes_silent (sym over.0) ∙ owes in cc
+      ]);
       made = λ t k below. absurd (omega (arith, ap length (no_replies script entries t seats new_seats)));
       entries = omega (arith, ap length new_rest.history, new_seats.entries, new_rest.room);
       few = omega (arith, ap length new_rest.history, new_seats.few);
@@ -109,6 +116,10 @@ Table_new script words entries heap rest seats small few new_heap new_rest new_s
 -- no thread waits
 pub stop_new : (script : Script) (entries : ℕ) (heap : Heap) (rest : Rest) (seats : List Seat) → AreNewSeats script seats entries → KnowsStop (view (core_of heap rest)) seats
 stop_new script entries heap rest seats new_seats = record {
+  waits = λ t s at waits. absurd (elim (new_seats.each t s at).mode [
+    | inl runs ↦ subst Waits runs.0 waits
+    | inr over ↦ subst Waits over.0 waits
+  ]);
   stop = λ is. absurd (let not : false ≡ true = is in cc);
   asked = λ t s at is. absurd (elim (new_seats.each t s at).mode [
     | inl runs ↦ let wrong : Running ≡ Asked = sym runs.0 ∙ is in cc
@@ -116,9 +127,21 @@ stop_new script entries heap rest seats new_seats = record {
   ]);
 }
 
+-- no silent collection comes without a reply
+silent_none : (every : ℕ) → silent_in every 0 ≡ 0
+silent_none zero = refl
+silent_none (suc e) =
+    let some : 0 < suc e = omega arith in
+    let by : suc e * (0 / suc e) + 0 % suc e ≡ 0 = div-add-mod 0 (suc e) in
+    elim (cases_lt 0 (0 / suc e)) [
+      | inl more ↦ absurd (let one : 1 ≤ 0 / suc e = omega (arith, more) in let large : suc e * 1 ≤ suc e * (0 / suc e) = mul-le-mul_left (suc e) one in omega (arith, large, by))
+      | inr none ↦ omega (arith, none)
+    ]
+
 -- no collection was answered
-pub collections_new : (script : Script) (entries n : ℕ) (seats : List Seat) → AreNewSeats script seats entries → collections script (replies_of seats) n ≡ 0
-collections_new script entries zero seats new_seats = refl
-collections_new script entries (suc n) seats new_seats =
-    let here : collections_of script (replies_of seats) n ≡ 0 = ap (λ (rs : List Reply). count_by is_collect (take (length rs) (operations script n))) (no_replies script entries n seats new_seats) in
-    omega (arith, collections_new script entries n seats new_seats, here)
+pub collections_new : (script : Script) (config : Config) (entries n : ℕ) (seats : List Seat) → AreNewSeats script seats entries → collections script config (replies_of seats) n ≡ 0
+collections_new script config entries zero seats new_seats = refl
+collections_new script config entries (suc n) seats new_seats =
+    let none : length (replies_of seats n) ≡ 0 = ap length (no_replies script entries n seats new_seats) in
+    let own : count_by is_collect (take (length (replies_of seats n)) (operations script n)) ≡ 0 = ap (λ (k : ℕ). count_by is_collect (take k (operations script n))) none in
+    omega (arith, collections_new script config entries n seats new_seats, own, ap (silent_in config.every) none, silent_none config.every)

@@ -1,6 +1,7 @@
 -- What each step of a run keeps.
-use Rattle.std.proofs.Common.{◌≡◌, ◌≢◌, ℕ, ◌+◌, ◌<◌, ◌≤◌, zero, suc, true, false, List, [], ◌∷◌, ◌++◌, length, take, refl, sym, ◌∙◌, ap, subst, arith, length-append, inl, inr}
+use Rattle.std.proofs.Common.{◌≡◌, ◌≢◌, ℕ, ◌+◌, ◌*◌, ◌/◌, ◌%◌, ◌<◌, ◌≤◌, zero, suc, true, false, List, [], ◌∷◌, ◌++◌, length, take, refl, sym, ◌∙◌, ap, subst, arith, length-append, inl, inr}
 use Rattle.std.proofs.Math.ListN.{set, length-set}
+use Rattle.std.proofs.Math.Nat.{div-add-mod, mod-lt, mul-le-mul_left}
 use Rattle.std.proofs.Math.Seq.{take-append_seam}
 use Rattle.std.proofs.lemmas.Bool.{cases_eq, cases_lt, cond_both}
 use Rattle.std.proofs.lemmas.List.{append-nil, get_or_past, set-get_or}
@@ -13,6 +14,7 @@ use Rattle.std.specs.List.{count_by}
 use Rattle.melt_model.specs.History.{Shape, shape, made, last, IsReference, MayFollow, Legal}
 use Rattle.melt_model.specs.Standing.{HoldReferences, Stands}
 use Rattle.melt_model.specs.Thread.{Deed, unchanged, on_part, found, number, value_in, does}
+use Rattle.melt_model.specs.declared.config.Config.{Config}
 use Rattle.melt_model.specs.declared.history.Act.{Act}
 use Rattle.melt_model.specs.declared.history.Act.TheVariants.{Make, Read, Write}
 use Rattle.melt_model.specs.declared.history.Entry.{Entry}
@@ -34,13 +36,15 @@ use Rattle.melt_core.specs.declared.call.Call.{Call}
 use Rattle.melt_core.specs.Answering.{entry, with_entry, gives, Answers}
 use Rattle.melt_core.specs.Changed.{stopped}
 use Rattle.melt_core.specs.Views.{View, values_of, call_of, IsQuiet, Standing}
-use Rattle.melt_core.specs.Events.{KeepsOthers, HasRoom, HasRoomFor}
+use Rattle.melt_core.specs.declared.answer.Pause.{Pause}
+use Rattle.melt_core.specs.declared.answer.Pause.TheVariants as pause
+use Rattle.melt_core.specs.Events.{KeepsOthers, HasRoom, HasRoomFor, Pauses}
 use Rattle.melt_core.proofs.Values.{get_or_set_keeps}
 use Rattle.melt_step.specs.declared.seat.Seat.{Seat}
 use Rattle.melt_step.specs.declared.seat.Mode.{Mode}
 use Rattle.melt_step.specs.declared.seat.Mode.TheVariants.{Running, Due, Silent, Collecting, Asked, Lacking, Ended}
-use Rattle.melt_step.specs.Run.{is_collect, collections, collections_of}
-use Rattle.melt_step.specs.Seats.{with_first, left, MayGo, IsEnded, FitsMode, SeatStands, replies_of, HadNow, MadeSo, EndsSo, to_reply, Later, TableStands, SeatWaits, SeatGoes, SeatRefused, TakesReply, SeatTold, IsReady, SeatStep, Renewed, Collected, AllWait}
+use Rattle.melt_step.specs.Run.{IsDue, is_collect, silent_in, collections, collections_of}
+use Rattle.melt_step.specs.Seats.{DueBy, owes_silent, owes, owing, paused_as, with_first, left, MayGo, IsEnded, FitsMode, SeatStands, replies_of, HadNow, MadeSo, EndsSo, to_reply, Later, TableStands, SeatWaits, SeatGoes, SeatRefused, TakesReply, SeatTold, IsReady, SeatStep, Renewed, Collected, AllWait}
 use Rattle.melt_step.proofs.Cuts.{replies_here, LacksNow_later, HadNow_later, had_room}
 
 -- an element of a list in which one was set
@@ -268,45 +272,46 @@ mode_stands script v w t s mode st runs waits history values fits call = record 
 }
 
 -- why a thread has ended stays so
-ends_later : (script : Script) (log more : List Entry) (seats after : List Seat) (heap u : ℕ) (s : Seat) (mode : Mode) → Later seats after → slice_get seats u ≡ Some s → replies_of after u ≡ replies_of seats u → s.mode ≡ mode → EndsSo script log seats heap u mode → EndsSo script (log ++ more) after heap u mode
-ends_later script log more seats after heap u s Running later at same is ends = tt
-ends_later script log more seats after heap u s Due later at same is ends = tt
-ends_later script log more seats after heap u s Silent later at same is ends = tt
-ends_later script log more seats after heap u s Collecting later at same is ends = tt
-ends_later script log more seats after heap u s Asked later at same is ends = tt
-ends_later script log more seats after heap u s Lacking later at same is ends = tt
-ends_later script log more seats after heap u s (Ended end.Done) later at same is ends = ap length same ∙ ends
-ends_later script log more seats after heap u s (Ended (end.OutOfHeap held need)) later at same is ends =
-    LacksNow_later script log more seats after heap u held need s later at (let over : IsEnded (Ended (end.OutOfHeap held need)) = tt in subst IsEnded (sym is) over) ends
-ends_later script log more seats after heap u s (Ended end.DiskFault) later at same is ends = absurd ends
-ends_later script log more seats after heap u s (Ended (end.Damaged home place word)) later at same is ends = absurd ends
-ends_later script log more seats after heap u s (Ended end.Halted) later at same is ends = absurd ends
+ends_later : (script : Script) (log more : List Entry) (seats after : List Seat) (config : Config) (u : ℕ) (s : Seat) (mode : Mode) → Later seats after → slice_get seats u ≡ Some s → replies_of after u ≡ replies_of seats u → s.mode ≡ mode → EndsSo script log seats config u mode → EndsSo script (log ++ more) after config u mode
+ends_later script log more seats after config u s Running later at same is ends = tt
+ends_later script log more seats after config u s Due later at same is ends = tt
+ends_later script log more seats after config u s Silent later at same is ends = tt
+ends_later script log more seats after config u s Collecting later at same is ends = tt
+ends_later script log more seats after config u s Asked later at same is ends = tt
+ends_later script log more seats after config u s Lacking later at same is ends = tt
+ends_later script log more seats after config u s (Ended end.Done) later at same is ends = ap length same ∙ ends
+ends_later script log more seats after config u s (Ended (end.OutOfHeap held need)) later at same is ends =
+    LacksNow_later script log more seats after config u held need s later at (let over : IsEnded (Ended (end.OutOfHeap held need)) = tt in subst IsEnded (sym is) over) ends
+ends_later script log more seats after config u s (Ended end.DiskFault) later at same is ends = absurd ends
+ends_later script log more seats after config u s (Ended (end.Damaged home place word)) later at same is ends = absurd ends
+ends_later script log more seats after config u s (Ended end.Halted) later at same is ends = absurd ends
 
 -- a thread that has not ended need not say why
-pub ends_open : (script : Script) (log : List Entry) (seats : List Seat) (heap t : ℕ) (mode : Mode) → (IsEnded mode → ⊥) → EndsSo script log seats heap t mode
-ends_open script log seats heap t Running free = tt
-ends_open script log seats heap t Due free = tt
-ends_open script log seats heap t Silent free = tt
-ends_open script log seats heap t Collecting free = tt
-ends_open script log seats heap t Asked free = tt
-ends_open script log seats heap t Lacking free = tt
-ends_open script log seats heap t (Ended e) free = absurd (free tt)
+pub ends_open : (script : Script) (log : List Entry) (seats : List Seat) (config : Config) (t : ℕ) (mode : Mode) → (IsEnded mode → ⊥) → EndsSo script log seats config t mode
+ends_open script log seats config t Running free = tt
+ends_open script log seats config t Due free = tt
+ends_open script log seats config t Silent free = tt
+ends_open script log seats config t Collecting free = tt
+ends_open script log seats config t Asked free = tt
+ends_open script log seats config t Lacking free = tt
+ends_open script log seats config t (Ended e) free = absurd (free tt)
 
 -- What an event of a thread shows of it, so that all threads stand behind the event: its entry, if it has one, and the
 -- replies that it got.
-pub record Moves (script : Script) (heap : ℕ) (v w : View) (seats : List Seat) (t : ℕ) (s after : Seat) : Type 0 where
+pub record Moves (script : Script) (config : Config) (v w : View) (seats : List Seat) (t : ℕ) (s after : Seat) : Type 0 where
   pub act : Option Act
   pub extra : List Reply
   pub grown : w.log ≡ with_entry t v.log act
   pub replies : after.replies.items ≡ s.replies.items ++ extra
   pub stands : SeatStands script w t after
-  pub ends : EndsSo script w.log (set seats t after) heap t after.mode
-  pub made_last : (k : ℕ) → k < length after.replies.items → length s.replies.items ≤ k → MadeSo script v.log seats heap t k
+  pub due : owes_silent after.mode ≡ true → IsDue config (length after.replies.items)
+  pub ends : EndsSo script w.log (set seats t after) config t after.mode
+  pub made_last : (k : ℕ) → k < length after.replies.items → length s.replies.items ≤ k → MadeSo script v.log seats config t k
   pub entries : length w.log + length (left after) ≤ length v.log + length (left s)
 
 -- all threads stand behind such an event
-pub Table_moves : (script : Script) (heap : ℕ) (v w : View) (seats : List Seat) (t : ℕ) (s after : Seat) → TableStands script heap v seats → slice_get seats t ≡ Some s → (IsEnded s.mode → ⊥) → Standing w → KeepsOthers v w t → Moves script heap v w seats t s after → TableStands script heap w (set seats t after)
-Table_moves script heap v w seats t s after table at runs stands others m =
+pub Table_moves : (script : Script) (config : Config) (v w : View) (seats : List Seat) (t : ℕ) (s after : Seat) → TableStands script config v seats → slice_get seats t ≡ Some s → (IsEnded s.mode → ⊥) → Standing w → KeepsOthers v w t → Moves script config v w seats t s after → TableStands script config w (set seats t after)
+Table_moves script config v w seats t s after table at runs stands others m =
     let later : Later seats (set seats t after) = later_set seats t s after m.extra at runs m.replies in
     let more = with_more v.log t m.act in
     let longer : w.log ≡ v.log ++ more.0 = m.grown ∙ more.1 in
@@ -333,16 +338,20 @@ Table_moves script heap v w seats t s after table at runs stands others m =
       ];
       own = subst (All (λ (e : Entry). e.thread < length script.programs)) (sym m.grown)
           (with_own v.log t (length script.programs) m.act (let within : t < length seats = slice_get_within seats t s at in let count : length seats ≡ length script.programs = table.count in omega arith) table.own);
+      due = λ u x is. elim (cases_eq u t) [
+        | inl same ↦ subst (λ (y : Seat). owes_silent y.mode ≡ true → IsDue config (length y.replies.items)) (at_t u x same is) m.due
+        | inr differ ↦ table.due u x (elsewhere u x differ is)
+      ];
       ends = λ u x is. elim (cases_eq u t) [
-        | inl same ↦ subst (λ (k : ℕ). EndsSo script w.log (set seats t after) heap k x.mode) (sym same) (subst (λ (y : Seat). EndsSo script w.log (set seats t after) heap t y.mode) (at_t u x same is) m.ends)
-        | inr differ ↦ subst (λ (h : List Entry). EndsSo script h (set seats t after) heap u x.mode) (sym longer)
-            (ends_later script v.log more.0 seats (set seats t after) heap u x x.mode later (elsewhere u x differ is) (replies_other seats t u after differ) refl (table.ends u x (elsewhere u x differ is)))
+        | inl same ↦ subst (λ (k : ℕ). EndsSo script w.log (set seats t after) config k x.mode) (sym same) (subst (λ (y : Seat). EndsSo script w.log (set seats t after) config t y.mode) (at_t u x same is) m.ends)
+        | inr differ ↦ subst (λ (h : List Entry). EndsSo script h (set seats t after) config u x.mode) (sym longer)
+            (ends_later script v.log more.0 seats (set seats t after) config u x x.mode later (elsewhere u x differ is) (replies_other seats t u after differ) refl (table.ends u x (elsewhere u x differ is)))
       ];
       made = λ u k below dst refs nums next.
-          let before : HadNow script v.log seats heap u k (2 + refs + nums) = elim (cases_lt k (length (replies_of seats u))) [
+          let before : HadNow script v.log seats config u k (2 + refs + nums) = elim (cases_lt k (length (replies_of seats u))) [
             | inl earlier ↦ table.made u k earlier dst refs nums next
             | inr last ↦ elim (cases_eq u t) [
-              | inl same ↦ subst (λ (j : ℕ). slice_get (operations script j) k ≡ Some (New dst refs nums) → HadNow script v.log seats heap j k (2 + refs + nums)) (sym same)
+              | inl same ↦ subst (λ (j : ℕ). slice_get (operations script j) k ≡ Some (New dst refs nums) → HadNow script v.log seats config j k (2 + refs + nums)) (sym same)
                   (m.made_last k
                   (subst (λ (n : ℕ). k < n) (ap (λ (j : ℕ). length (replies_of (set seats t after) j)) same ∙ ap length now) below)
                   (subst (λ (n : ℕ). n ≤ k) (ap (λ (j : ℕ). length (replies_of seats j)) same ∙ ap length was) last)
@@ -350,15 +359,15 @@ Table_moves script heap v w seats t s after table at runs stands others m =
               | inr differ ↦ absurd (let same : length (replies_of (set seats t after) u) ≡ length (replies_of seats u) = ap length (replies_other seats t u after differ) in omega arith)
             ]
           ] in
-          subst (λ (h : List Entry). HadNow script h (set seats t after) heap u k (2 + refs + nums)) (sym longer)
-          (HadNow_later script v.log more.0 seats (set seats t after) heap u k (2 + refs + nums) later before);
+          subst (λ (h : List Entry). HadNow script h (set seats t after) config u k (2 + refs + nums)) (sym longer)
+          (HadNow_later script v.log more.0 seats (set seats t after) config u k (2 + refs + nums) later before);
       entries = let e : length v.log + to_reply seats ≤ v.capacity = table.entries in let c : w.capacity ≡ v.capacity = others.capacity in omega (arith, e, c, to_come, fits, one);
       few = let e : length v.log + to_reply seats ≤ 8388608 = table.few in omega (arith, e, to_come, fits, one);
     }
 
 -- a thread that got no reply
-pub same_moves : (script : Script) (heap : ℕ) (v w : View) (seats : List Seat) (t : ℕ) (s : Seat) (mode : Mode) → (IsEnded mode → ⊥) → w.log ≡ v.log → SeatStands script w t (record s { mode = mode }) → Moves script heap v w seats t s (record s { mode = mode })
-same_moves script heap v w seats t s mode free history stands =
+pub same_moves : (script : Script) (config : Config) (v w : View) (seats : List Seat) (t : ℕ) (s : Seat) (mode : Mode) → (owes_silent mode ≡ true → IsDue config (length s.replies.items)) → (IsEnded mode → ⊥) → w.log ≡ v.log → SeatStands script w t (record s { mode = mode }) → Moves script config v w seats t s (record s { mode = mode })
+same_moves script config v w seats t s mode due free history stands =
     let after : Seat = record s { mode = mode } in
     record {
       act = None;
@@ -366,7 +375,8 @@ same_moves script heap v w seats t s mode free history stands =
       grown = history;
       replies = sym (append-nil s.replies.items);
       stands = stands;
-      ends = ends_open script w.log (set seats t after) heap t mode free;
+      due = due;
+      ends = ends_open script w.log (set seats t after) config t mode free;
       made_last = λ k below last. absurd (omega arith);
       entries = let same : length w.log ≡ length v.log = ap length history in omega arith;
     }
@@ -376,42 +386,81 @@ waits_open : (v w : View) (t : ℕ) (s after : Seat) (mode : Mode) → SeatWaits
 waits_open v w t s after mode waits over = elim waits.before [ inl own ↦ subst IsEnded own.2 over | inr due ↦ subst IsEnded due.1 over ]
 
 -- a thread that waits for a collection
-waits_moves : (script : Script) (heap : ℕ) (v w : View) (seats : List Seat) (t : ℕ) (s after : Seat) (mode : Mode) → SeatStands script v t s → (IsEnded s.mode → ⊥) → SeatWaits v w t s after mode → Moves script heap v w seats t s after
-waits_moves script heap v w seats t s after mode st runs waits =
+waits_moves : (script : Script) (config : Config) (v w : View) (seats : List Seat) (t : ℕ) (s after : Seat) (mode : Mode) → (owes_silent s.mode ≡ true → IsDue config (length s.replies.items)) → SeatStands script v t s → (IsEnded s.mode → ⊥) → SeatWaits v w t s after mode → Moves script config v w seats t s after
+waits_moves script config v w seats t s after mode due st runs waits =
     let waiting : IsEnded mode → ⊥ = waits_open v w t s after mode waits in
     let fits : FitsMode mode s.op = elim waits.before [
       | inl own ↦ subst (λ (m : Mode). FitsMode m s.op) (sym own.2) own.1
       | inr due ↦ subst (λ (m : Mode). FitsMode m s.op) (sym due.1) tt
+    ] in
+    let owes : owes_silent mode ≡ true → IsDue config (length s.replies.items) = λ is. elim waits.before [
+      | inl own ↦ absurd (let wrong : false ≡ true = sym (ap owes_silent own.2) ∙ is in cc)
+      | inr silent ↦ due (ap owes_silent silent.0)
     ] in
     let call : (c : Call) → call_of v t ≡ Some c → ⊥ = λ c is. elim waits.before [
       | inl own ↦ let known = st.call c is in known.2 (same_Some c.op Collect (sym known.1 ∙ own.1))
       | inr due ↦ let known : s.mode ≡ Running = (st.call c is).0 in let is_due : s.mode ≡ Due = due.0 in absurd (cc)
     ] in
     let stands : SeatStands script (stopped v) t (record s { mode = mode }) = mode_stands script v (stopped v) t s mode st runs waiting refl refl fits (λ c is. absurd (call c is)) in
-    subst (λ (y : Seat). Moves script heap v w seats t s y) (sym waits.only)
-    (same_moves script heap v w seats t s mode waiting (ap (λ (x : View). x.log) waits.stop) (subst (λ (x : View). SeatStands script x t (record s { mode = mode })) (sym waits.stop) stands))
+    subst (λ (y : Seat). Moves script config v w seats t s y) (sym waits.only)
+    (same_moves script config v w seats t s mode owes waiting (ap (λ (x : View). x.log) waits.stop) (subst (λ (x : View). SeatStands script x t (record s { mode = mode })) (sym waits.stop) stands))
 
 -- a thread whose call goes on
-goes_moves : (script : Script) (heap : ℕ) (v w : View) (seats : List Seat) (t : ℕ) (s after : Seat) → SeatStands script v t s → (IsEnded s.mode → ⊥) → SeatGoes v w t s after → Moves script heap v w seats t s after
-goes_moves script heap v w seats t s after st runs goes =
+goes_moves : (script : Script) (config : Config) (v w : View) (seats : List Seat) (t : ℕ) (s after : Seat) → (owes_silent s.mode ≡ true → IsDue config (length s.replies.items)) → SeatStands script v t s → (IsEnded s.mode → ⊥) → SeatGoes v w t s after → Moves script config v w seats t s after
+goes_moves script config v w seats t s after due st runs goes =
     let stands : SeatStands script w t (record s { mode = s.mode }) =
     mode_stands script v w t s s.mode st runs runs goes.history goes.values st.fits
     (λ c is. let same : goes.call ≡ c = same_Some goes.call c (sym goes.flight ∙ is) in
     (goes.running, goes.op ∙ ap (λ (x : Call). Some x.op) same, subst (λ (x : Call). x.op ≢ Collect) same goes.no_collect)) in
-    subst (λ (y : Seat). Moves script heap v w seats t s y) (sym goes.same) (same_moves script heap v w seats t s s.mode runs goes.history stands)
+    subst (λ (y : Seat). Moves script config v w seats t s y) (sym goes.same) (same_moves script config v w seats t s s.mode due runs goes.history stands)
 
--- a thread whose call was refused
-refused_moves : (script : Script) (heap : ℕ) (v w : View) (seats : List Seat) (t : ℕ) (s after : Seat) (mode : Mode) → SeatStands script v t s → (IsEnded s.mode → ⊥) → SeatRefused v w t s after mode → Moves script heap v w seats t s after
-refused_moves script heap v w seats t s after mode st runs refused =
-    let waiting : IsEnded mode → ⊥ = λ over. elim refused.waits [ inl asked ↦ subst IsEnded asked over | inr lacking ↦ subst IsEnded lacking over ] in
-    let fits : FitsMode mode s.op = elim refused.waits [
-      | inl asked ↦ subst (λ (m : Mode). FitsMode m s.op) (sym asked) (refused.op, refused.no_collect)
-      | inr lacking ↦ subst (λ (m : Mode). FitsMode m s.op) (sym lacking) (refused.op, refused.no_collect)
+-- what a call that paused leaves of the view
+pub paused_view : (v w : View) (t : ℕ) (o : Op) (cause : Pause) → Pauses v w t o cause → (call_of w t ≡ None) × (w.log ≡ v.log) × (values_of w t ≡ values_of v t)
+paused_view v w t o pause.Asked pauses = (ap (λ (x : View). call_of x t) pauses.same ∙ pauses.first, ap (λ (x : View). x.log) pauses.same, ap (λ (x : View). values_of x t) pauses.same)
+paused_view v w t o (pause.Space need) pauses = (pauses.call, pauses.history, pauses.values)
+paused_view v w t o pause.Forward pauses = absurd pauses
+
+-- how a thread whose call paused waits
+pub paused_cases : (cause : Pause) → (paused_as cause ≡ Asked) ⊎ (paused_as cause ≡ Lacking)
+paused_cases pause.Asked = inl refl
+paused_cases (pause.Space need) = inr refl
+paused_cases pause.Forward = inr refl
+
+-- a thread that waits for its call to be made again
+again_moves : (script : Script) (config : Config) (v w : View) (seats : List Seat) (t : ℕ) (s : Seat) (mode : Mode) → SeatStands script v t s → (IsEnded s.mode → ⊥) → (mode ≡ Asked) ⊎ (mode ≡ Lacking) → IsSome s.op → s.op ≢ Some Collect → (call_of w t ≡ None) × (w.log ≡ v.log) × (values_of w t ≡ values_of v t) → Moves script config v w seats t s (record s { mode = mode })
+again_moves script config v w seats t s mode st runs waits some no_collect behind =
+    let waiting : IsEnded mode → ⊥ = λ over. elim waits [ inl asked ↦ subst IsEnded asked over | inr lacking ↦ subst IsEnded lacking over ] in
+    let owes : owes_silent mode ≡ true → IsDue config (length s.replies.items) = λ is. absurd (elim waits [
+      | inl asked ↦ let wrong : false ≡ true = sym (ap owes_silent asked) ∙ is in cc
+      | inr lacking ↦ let wrong : false ≡ true = sym (ap owes_silent lacking) ∙ is in cc
+    ]) in
+    let fits : FitsMode mode s.op = elim waits [
+      | inl asked ↦ subst (λ (m : Mode). FitsMode m s.op) (sym asked) (some, no_collect)
+      | inr lacking ↦ subst (λ (m : Mode). FitsMode m s.op) (sym lacking) (some, no_collect)
     ] in
     let stands : SeatStands script w t (record s { mode = mode }) =
-    mode_stands script v w t s mode st runs waiting refused.history refused.values fits
-    (λ c is. absurd (let none : call_of w t ≡ None = refused.call in cc)) in
-    subst (λ (y : Seat). Moves script heap v w seats t s y) (sym refused.only) (same_moves script heap v w seats t s mode waiting refused.history stands)
+    mode_stands script v w t s mode st runs waiting behind.1 behind.2 fits
+    (λ c is. absurd (let none : call_of w t ≡ None = behind.0 in cc)) in
+    same_moves script config v w seats t s mode owes waiting behind.1 stands
+
+-- a thread whose call was refused
+refused_moves : (script : Script) (config : Config) (v w : View) (seats : List Seat) (t : ℕ) (s after : Seat) → SeatStands script v t s → (IsEnded s.mode → ⊥) → SeatRefused v w t s after → Moves script config v w seats t s after
+refused_moves script config v w seats t s after st runs refused =
+    subst (λ (y : Seat). Moves script config v w seats t s y) (sym refused.only)
+    (again_moves script config v w seats t s (paused_as refused.cause) st runs (paused_cases refused.cause) (rw refused.next refl)
+    (λ is. refused.no_collect (same_Some refused.op Collect (sym refused.next ∙ is))) (paused_view v w t refused.op refused.cause refused.pauses))
+
+-- a thread that still lacks room stands as before
+pub Table_lacks : (script : Script) (config : Config) (v w : View) (seats : List Seat) (t : ℕ) (s : Seat) → TableStands script config v seats → slice_get seats t ≡ Some s → s.mode ≡ Lacking → Standing w → KeepsOthers v w t → (call_of w t ≡ None) × (w.log ≡ v.log) × (values_of w t ≡ values_of v t) → TableStands script config w seats
+Table_lacks script config v w seats t s table at lacking stands others behind =
+    let st : SeatStands script v t s = table.each t s at in
+    let runs : IsEnded s.mode → ⊥ = λ over. subst IsEnded lacking over in
+    let fits : FitsMode Lacking s.op = subst (λ (m : Mode). FitsMode m s.op) lacking st.fits in
+    let same : record s { mode = Lacking } ≡ s = ap {B = Seat} (λ (m : Mode). record s { mode = m }) (sym lacking) in
+    let moves : Moves script config v w seats t s (record s { mode = Lacking }) = again_moves script config v w seats t s Lacking st runs (inr refl) fits.0 fits.1 behind in
+    subst (TableStands script config w) (set_got seats t s at)
+    (subst (λ (y : Seat). TableStands script config w (set seats t y)) same
+    (Table_moves script config v w seats t s (record s { mode = Lacking }) table at runs stands others moves))
 
 -- A thread that got the reply to its next operation: what was left began with it.
 told_left : (v w : View) (t : ℕ) (s after : Seat) (told : SeatTold v w t s after) → left s ≡ told.op ∷ s.rest.operations
@@ -465,22 +514,22 @@ told_stands script v w t s after st runs before behind globals told =
     }
 
 -- if it has ended, all its operations were answered
-told_ends : (script : Script) (heap : ℕ) (w : View) (seats : List Seat) (t : ℕ) (s after : Seat) (reply : Reply) → slice_get seats t ≡ Some s → SeatStands script w t after → TakesReply s after reply → EndsSo script w.log (set seats t after) heap t after.mode
-told_ends script heap w seats t s after reply at st takes =
+told_ends : (script : Script) (config : Config) (w : View) (seats : List Seat) (t : ℕ) (s after : Seat) (reply : Reply) → slice_get seats t ≡ Some s → SeatStands script w t after → TakesReply s after reply → EndsSo script w.log (set seats t after) config t after.mode
+told_ends script config w seats t s after reply at st takes =
     elim takes.fits [
-      | inl runs ↦ subst (λ (m : Mode). EndsSo script w.log (set seats t after) heap t m) (sym runs.0) tt
+      | inl runs ↦ subst (λ (m : Mode). EndsSo script w.log (set seats t after) config t m) (sym runs.0) tt
       | inr rest ↦ elim rest [
-        | inl due ↦ subst (λ (m : Mode). EndsSo script w.log (set seats t after) heap t m) (sym due) tt
+        | inl due ↦ subst (λ (m : Mode). EndsSo script w.log (set seats t after) config t m) (sym due) tt
         | inr ended ↦
             let all : length (replies_of (set seats t after) t) ≡ length (operations script t) =
             omega (arith, ap length (replies_same seats t s after at), st.within, ap length ended.1) in
-            subst (λ (m : Mode). EndsSo script w.log (set seats t after) heap t m) (sym ended.0) all
+            subst (λ (m : Mode). EndsSo script w.log (set seats t after) config t m) (sym ended.0) all
       ]
     ]
 
 -- an object that it made had room
-told_made : (script : Script) (heap : ℕ) (v w : View) (seats : List Seat) (t k : ℕ) (s after : Seat) → TableStands script heap v seats → slice_get seats t ≡ Some s → (IsEnded s.mode → ⊥) → SeatTold v w t s after → k < length after.replies.items → length s.replies.items ≤ k → MadeSo script v.log seats heap t k
-told_made script heap v w seats t k s after table at runs told below last dst refs nums next =
+told_made : (script : Script) (config : Config) (v w : View) (seats : List Seat) (t k : ℕ) (s after : Seat) → TableStands script config v seats → slice_get seats t ≡ Some s → (IsEnded s.mode → ⊥) → SeatTold v w t s after → k < length after.replies.items → length s.replies.items ≤ k → MadeSo script v.log seats config t k
+told_made script config v w seats t k s after table at runs told below last dst refs nums next =
     let st : SeatStands script v t s = table.each t s at in
     let n : ℕ = length s.replies.items in
     let count : length after.replies.items ≡ n + 1 = ap length told.takes.replies ∙ length-append s.replies.items (told.reply ∷ []) in
@@ -488,12 +537,27 @@ told_made script heap v w seats t k s after table at runs told below last dst re
     let here : slice_get (operations script t) n ≡ Some told.op = get_next (operations script t) s.rest.operations n told.op (sym st.to_come ∙ told_left v w t s after told) in
     let op_is : told.op ≡ New dst refs nums = same_Some told.op (New dst refs nums) (sym here ∙ (ap (λ (j : ℕ). slice_get (operations script t) j) (sym is_last) ∙ next)) in
     let room : HasRoom v (2 + refs + nums) = subst (HasRoomFor v) op_is told.room in
-    subst (λ (j : ℕ). HadNow script v.log seats heap t j (2 + refs + nums)) (ap length (replies_here seats t s at) ∙ sym is_last)
-    (had_room script heap v seats t (2 + refs + nums) s table at runs room)
+    subst (λ (j : ℕ). HadNow script v.log seats config t j (2 + refs + nums)) (ap length (replies_here seats t s at) ∙ sym is_last)
+    (had_room script config v seats t (2 + refs + nums) s table at runs room)
+
+-- if a silent collection is due behind the reply, it is by the number of replies
+told_due : (config : Config) (s after : Seat) (reply : Reply) → DueBy config.every s after → TakesReply s after reply → owes_silent after.mode ≡ true → IsDue config (length after.replies.items)
+told_due config s after reply due takes owes =
+    let count : length after.replies.items ≡ length s.replies.items + 1 = ap length takes.replies ∙ length-append s.replies.items (reply ∷ []) in
+    let more : after.replies.items ≢ s.replies.items = λ same. omega (arith, ap length same, count) in
+    let is : after.mode ≡ Due = elim takes.fits [
+      | inl runs ↦ absurd (let wrong : false ≡ true = sym (ap owes_silent runs.0) ∙ owes in cc)
+      | inr rest ↦ elim rest [
+        | inl due ↦ due
+        | inr ended ↦ absurd (let wrong : false ≡ true = sym (ap owes_silent ended.0) ∙ owes in cc)
+      ]
+    ] in
+    let by = (due more).0 is in
+    record { asked = by.0; some = λ none. omega (arith, none, count); divides = by.1 }
 
 -- so all threads stand behind its reply
-told_moves : (script : Script) (heap : ℕ) (v w : View) (seats : List Seat) (t : ℕ) (s after : Seat) → TableStands script heap v seats → slice_get seats t ≡ Some s → (IsEnded s.mode → ⊥) → Standing w → length w.globals ≡ length v.globals → SeatTold v w t s after → Moves script heap v w seats t s after
-told_moves script heap v w seats t s after table at runs behind globals told =
+told_moves : (script : Script) (config : Config) (v w : View) (seats : List Seat) (t : ℕ) (s after : Seat) → DueBy config.every s after → TableStands script config v seats → slice_get seats t ≡ Some s → (IsEnded s.mode → ⊥) → Standing w → length w.globals ≡ length v.globals → SeatTold v w t s after → Moves script config v w seats t s after
+told_moves script config v w seats t s after due table at runs behind globals told =
     let st : SeatStands script w t after = told_stands script v w t s after (table.each t s at) runs table.stands behind globals told in
     let act : Option Act = (does v.log (values_of v t) told.op told.answers.value).act in
     let grown : w.log ≡ with_entry t v.log act = told.answers.history in
@@ -503,8 +567,9 @@ told_moves script heap v w seats t s after table at runs behind globals told =
       grown = grown;
       replies = told.takes.replies;
       stands = st;
-      ends = told_ends script heap w seats t s after told.reply at st told.takes;
-      made_last = λ k below last. told_made script heap v w seats t k s after table at runs told below last;
+      due = told_due config s after told.reply due told.takes;
+      ends = told_ends script config w seats t s after told.reply at st told.takes;
+      made_last = λ k below last. told_made script config v w seats t k s after table at runs told below last;
       entries =
           let first : left s ≡ told.op ∷ s.rest.operations = told_left v w t s after told in
           omega (arith, ap length grown, with_length v.log t act, ap length first, ap length told.takes.to_come);
@@ -521,20 +586,20 @@ goes_on Lacking goes over = over
 goes_on (Ended e) goes over = goes
 
 -- an event of one thread that has not ended
-pub Table_step : (script : Script) (heap : ℕ) (v w : View) (seats : List Seat) (t : ℕ) (s after : Seat) → TableStands script heap v seats → slice_get seats t ≡ Some s → (IsEnded s.mode → ⊥) → SeatStep v w t s after → TableStands script heap w (set seats t after)
-Table_step script heap v w seats t s after table at runs step =
+pub Table_step : (script : Script) (config : Config) (v w : View) (seats : List Seat) (t : ℕ) (s after : Seat) → TableStands script config v seats → slice_get seats t ≡ Some s → (IsEnded s.mode → ⊥) → SeatStep v w t s after → DueBy config.every s after → TableStands script config w (set seats t after)
+Table_step script config v w seats t s after table at runs step due =
     let st : SeatStands script v t s = table.each t s at in
-    let moves : Moves script heap v w seats t s after = elim step.what [
-      | inl waits ↦ waits_moves script heap v w seats t s after waits.0 st runs waits.1
+    let moves : Moves script config v w seats t s after = elim step.what [
+      | inl waits ↦ waits_moves script config v w seats t s after waits.0 (table.due t s at) st runs waits.1
       | inr rest ↦ elim rest [
-        | inl goes ↦ goes_moves script heap v w seats t s after st runs goes
+        | inl goes ↦ goes_moves script config v w seats t s after (table.due t s at) st runs goes
         | inr further ↦ elim further [
-          | inl refused ↦ refused_moves script heap v w seats t s after refused.0 st runs refused.1
-          | inr told ↦ told_moves script heap v w seats t s after table at runs step.stands step.others.globals told
+          | inl refused ↦ refused_moves script config v w seats t s after st runs refused
+          | inr told ↦ told_moves script config v w seats t s after due table at runs step.stands step.others.globals told
         ]
       ]
     ] in
-    Table_moves script heap v w seats t s after table at runs step.stands step.others moves
+    Table_moves script config v w seats t s after table at runs step.stands step.others moves
 
 -- a next operation is one of those that are left
 first_counts : (o : Option Op) (ops : List Op) → IsSome o → 0 < length (with_first o ops)
@@ -542,8 +607,8 @@ first_counts None ops is = absurd (cc)
 first_counts (Some o) ops is = omega arith
 
 -- what an event needs
-pub table_ready : (script : Script) (heap : ℕ) (v : View) (seats : List Seat) (t : ℕ) (s : Seat) → TableStands script heap v seats → slice_get seats t ≡ Some s → IsReady v t s
-table_ready script heap v seats t s table at =
+pub table_ready : (script : Script) (config : Config) (v : View) (seats : List Seat) (t : ℕ) (s : Seat) → TableStands script config v seats → slice_get seats t ≡ Some s → IsReady v t s
+table_ready script config v seats t s table at =
     let st : SeatStands script v t s = table.each t s at in
     let within : t < length seats = slice_get_within seats t s at in
     let count : length seats ≡ length script.programs = table.count in
@@ -566,8 +631,8 @@ table_ready script heap v seats t s table at =
     }
 
 -- a call that is in flight is that of a thread that can go on
-call_goes : (script : Script) (heap : ℕ) (v : View) (seats : List Seat) (t : ℕ) (c : Call) → TableStands script heap v seats → AllWait seats → call_of v t ≡ Some c → ⊥
-call_goes script heap v seats t c table waits is =
+call_goes : (script : Script) (config : Config) (v : View) (seats : List Seat) (t : ℕ) (c : Call) → TableStands script config v seats → AllWait seats → call_of v t ≡ Some c → ⊥
+call_goes script config v seats t c table waits is =
     let count : length seats ≡ length script.programs = table.count in
     let threads : length v.held ≡ length script.programs = table.threads in
     let each : length v.calls ≡ length v.held = table.stands.each in
@@ -582,12 +647,12 @@ none_of None never = refl
 none_of (Some x) never = absurd (never x refl)
 
 -- no call is in flight where no thread can go on
-pub waiting_quiet : (script : Script) (heap : ℕ) (v : View) (seats : List Seat) → TableStands script heap v seats → AllWait seats → IsQuiet v
-waiting_quiet script heap v seats table waits t = none_of (call_of v t) (λ c is. call_goes script heap v seats t c table waits is)
+pub waiting_quiet : (script : Script) (config : Config) (v : View) (seats : List Seat) → TableStands script config v seats → AllWait seats → IsQuiet v
+waiting_quiet script config v seats table waits t = none_of (call_of v t) (λ c is. call_goes script config v seats t c table waits is)
 
 -- all threads stand in it
-pub Table_renewed : (script : Script) (heap : ℕ) (v w : View) (seats : List Seat) → TableStands script heap v seats → Renewed v w → TableStands script heap w seats
-Table_renewed script heap v w seats table renewed = record {
+pub Table_renewed : (script : Script) (config : Config) (v w : View) (seats : List Seat) → TableStands script config v seats → Renewed v w → TableStands script config w seats
+Table_renewed script config v w seats table renewed = record {
   stands = renewed.stands;
   count = table.count;
   threads = renewed.threads ∙ table.threads;
@@ -608,15 +673,16 @@ Table_renewed script heap v w seats table renewed = record {
     room = st.room;
   };
   own = subst (All (λ (e : Entry). e.thread < length script.programs)) (sym renewed.history) table.own;
-  ends = λ t s at. subst (λ (h : List Entry). EndsSo script h seats heap t s.mode) (sym renewed.history) (table.ends t s at);
-  made = λ t k below dst refs nums next. subst (λ (h : List Entry). HadNow script h seats heap t k (2 + refs + nums)) (sym renewed.history) (table.made t k below dst refs nums next);
+  due = table.due;
+  ends = λ t s at. subst (λ (h : List Entry). EndsSo script h seats config t s.mode) (sym renewed.history) (table.ends t s at);
+  made = λ t k below dst refs nums next. subst (λ (h : List Entry). HadNow script h seats config t k (2 + refs + nums)) (sym renewed.history) (table.made t k below dst refs nums next);
   entries = let e : length v.log + to_reply seats ≤ v.capacity = table.entries in let c : w.capacity ≡ v.capacity = renewed.capacity in omega (arith, e, c, ap length renewed.history);
   few = let e : length v.log + to_reply seats ≤ 8388608 = table.few in omega (arith, e, ap length renewed.history);
 }
 
 -- a collection
-pub Table_collected : (script : Script) (heap : ℕ) (v w : View) (seats : List Seat) → TableStands script heap v seats → Collected v w → TableStands script heap w seats
-Table_collected script heap v w seats table collected = Table_renewed script heap v w seats table (record {
+pub Table_collected : (script : Script) (config : Config) (v w : View) (seats : List Seat) → TableStands script config v seats → Collected v w → TableStands script config w seats
+Table_collected script config v w seats table collected = Table_renewed script config v w seats table (record {
   stands = collected.stands;
   quiet = collected.quiet;
   globals = collected.globals;
@@ -627,31 +693,34 @@ Table_collected script heap v w seats table collected = Table_renewed script hea
   values = collected.values;
 })
 
--- the collections of all threads, where no thread but one differs
-pub collections_same : (script : Script) (a b : ℕ → List Reply) (n : ℕ) → ((u : ℕ) → u < n → collections_of script a u ≡ collections_of script b u) → collections script a n ≡ collections script b n
-collections_same script a b zero same = refl
-collections_same script a b (suc n) same =
-    let front : collections script a n ≡ collections script b n = collections_same script a b n (λ u below. same u (omega arith)) in
-    let here : collections_of script a n ≡ collections_of script b n = same n (omega arith) in
+-- the collections of all threads, where those of each are the same
+pub collections_same : (script : Script) (config : Config) (a b : ℕ → List Reply) (n : ℕ) → ((u : ℕ) → u < n → collections_of script config a u ≡ collections_of script config b u) → collections script config a n ≡ collections script config b n
+collections_same script config a b zero same = refl
+collections_same script config a b (suc n) same =
+    let front : collections script config a n ≡ collections script config b n = collections_same script config a b n (λ u below. same u (omega arith)) in
+    let here : collections_of script config a n ≡ collections_of script config b n = same n (omega arith) in
     cc
 
--- the collections of all threads, where one thread has one more at most
-collections_more : (script : Script) (a b : ℕ → List Reply) (t n : ℕ) → ((u : ℕ) → u ≢ t → collections_of script a u ≡ collections_of script b u) → collections_of script a t ≤ collections_of script b t + 1 → collections script a n ≤ collections script b n + 1
-collections_more script a b t zero same more = omega arith
-collections_more script a b t (suc n) same more =
-    elim (cases_eq n t) [
-      | inl here ↦
-          let front : collections script a n ≡ collections script b n = collections_same script a b n (λ u below. same u (λ is. absurd (omega arith))) in
-          let last : collections_of script a n ≤ collections_of script b n + 1 = subst (λ (k : ℕ). collections_of script a k ≤ collections_of script b k + 1) (sym here) more in
-          omega (arith, front, last)
-      | inr differ ↦
-          let front : collections script a n ≤ collections script b n + 1 = collections_more script a b t n same more in
-          omega (arith, front, same n differ)
-    ]
+-- the collections of all threads, where those of no thread but one differ
+collections_at : (script : Script) (config : Config) (a b : ℕ → List Reply) (t n : ℕ) → t < n → ((u : ℕ) → u ≢ t → collections_of script config a u ≡ collections_of script config b u) → collections script config a n + collections_of script config b t ≡ collections script config b n + collections_of script config a t
+collections_at script config a b t zero below same = absurd (omega arith)
+collections_at script config a b t (suc n) below same = elim (cases_eq n t) [
+  | inl here ↦
+      let front : collections script config a n ≡ collections script config b n = collections_same script config a b n (λ u under. same u (λ is. absurd (omega arith))) in
+      omega (arith, front, ap (collections_of script config a) here, ap (collections_of script config b) here)
+  | inr differ ↦
+      let front : collections script config a n + collections_of script config b t ≡ collections script config b n + collections_of script config a t = collections_at script config a b t n (omega arith) same in
+      omega (arith, front, same n differ)
+]
+
+-- the collections by the replies of a thread
+by_replies : Script → Config → ℕ → List Reply → ℕ
+by_replies script config u rs = count_by is_collect (take (length rs) (operations script u)) + silent_in config.every (length rs)
 
 -- those of another thread stay
-pub collections_other : (script : Script) (seats : List Seat) (t u : ℕ) (after : Seat) → u ≢ t → collections_of script (replies_of (set seats t after)) u ≡ collections_of script (replies_of seats) u
-collections_other script seats t u after differ = ap (λ (rs : List Reply). count_by is_collect (take (length rs) (operations script u))) (replies_other seats t u after differ)
+collections_other : (script : Script) (config : Config) (seats : List Seat) (t u : ℕ) (after : Seat) → u ≢ t → collections_of script config (replies_of (set seats t after)) u ≡ collections_of script config (replies_of seats) u
+unfolding by_replies
+collections_other script config seats t u after differ = ap (by_replies script config u) (replies_other seats t u after differ)
 
 -- an operation that is no collection does not count as one
 is_no_collect : (o : Op) → o ≢ Collect → is_collect o ≡ false
@@ -672,58 +741,166 @@ one_at_most : (b : Bool) → (if b then 1 else 0) ≤ 1
 one_at_most true = omega arith
 one_at_most false = omega arith
 
+-- behind a reply whose number is a multiple one silent collection more
+silent_due : (every n : ℕ) → every ≢ 0 → (n + 1) % every ≡ 0 → silent_in every (n + 1) ≡ silent_in every n + 1
+silent_due zero n some divides = absurd (some refl)
+silent_due (suc e) n some divides =
+    let m : ℕ = suc e in
+    let q : ℕ = n / m in
+    let p : ℕ = (n + 1) / m in
+    let now : m * p + (n + 1) % m ≡ n + 1 = div-add-mod (n + 1) m in
+    let was : m * q + n % m ≡ n = div-add-mod n m in
+    let some_m : 0 < m = omega arith in
+    let rest : n % m < m = mod-lt n some_m in
+    elim (cases_lt q p) [
+      | inl more ↦ elim (cases_lt (q + 1) p) [
+        | inl far ↦ absurd (let more_q : q + 2 ≤ p = omega (arith, far) in let large : m * (q + 2) ≤ m * p = mul-le-mul_left m more_q in omega (arith, large, now, was, rest, divides))
+        | inr one ↦ omega (arith, more, one)
+      ]
+      | inr less ↦ absurd (let large : m * p ≤ m * q = mul-le-mul_left m less in omega (arith, large, now, was, rest, divides))
+    ]
+
+-- and none behind another
+silent_not : (every n : ℕ) → (every ≢ 0 → (n + 1) % every ≡ 0 → ⊥) → silent_in every (n + 1) ≡ silent_in every n
+silent_not zero n not = refl
+silent_not (suc e) n not =
+    let m : ℕ = suc e in
+    let q : ℕ = n / m in
+    let p : ℕ = (n + 1) / m in
+    let now : m * p + (n + 1) % m ≡ n + 1 = div-add-mod (n + 1) m in
+    let was : m * q + n % m ≡ n = div-add-mod n m in
+    let some_m : 0 < m = omega arith in
+    let rest : n % m < m = mod-lt n some_m in
+    let over : (n + 1) % m < m = mod-lt (n + 1) some_m in
+    let some : 0 < (n + 1) % m = elim (cases_lt 0 ((n + 1) % m)) [ inl is ↦ is | inr none ↦ absurd (not (λ is. omega (arith, is)) (omega (arith, none))) ] in
+    elim (cases_lt q p) [
+      | inl more ↦ absurd (let more_q : q + 1 ≤ p = omega (arith, more) in let large : m * (q + 1) ≤ m * p = mul-le-mul_left m more_q in omega (arith, large, now, was, rest, some))
+      | inr less ↦ elim (cases_lt p q) [
+        | inl far ↦ absurd (let more_p : p + 1 ≤ q = omega (arith, far) in let large : m * (p + 1) ≤ m * q = mul-le-mul_left m more_p in omega (arith, large, now, was, over))
+        | inr one ↦ omega (arith, less, one)
+      ]
+    ]
+
+-- a mode is that of a thread with a silent collection to come or is not
+due_cases : (mode : Mode) → (mode ≡ Due) ⊎ (mode ≡ Due → ⊥)
+due_cases Running = inr (λ is. cc)
+due_cases Due = inl refl
+due_cases Silent = inr (λ is. cc)
+due_cases Collecting = inr (λ is. cc)
+due_cases Asked = inr (λ is. cc)
+due_cases Lacking = inr (λ is. cc)
+due_cases (Ended e) = inr (λ is. cc)
+
+-- a reply brings a silent collection exactly where one is due behind it
+silent_told : (config : Config) (s after : Seat) (reply : Reply) → DueBy config.every s after → TakesReply s after reply → silent_in config.every (length s.replies.items + 1) ≡ silent_in config.every (length s.replies.items) + owes after.mode
+silent_told config s after reply due takes =
+    let k : ℕ = length s.replies.items in
+    let count : length after.replies.items ≡ k + 1 = ap length takes.replies ∙ length-append s.replies.items (reply ∷ []) in
+    let more : after.replies.items ≢ s.replies.items = λ same. omega (arith, ap length same, count) in
+    let by = due more in
+    elim (due_cases after.mode) [
+      | inl is ↦
+          let divides = by.0 is in
+          omega (arith, silent_due config.every k divides.0 (ap (λ (n : ℕ). n % config.every) (sym count) ∙ divides.1), ap owes is)
+      | inr not ↦
+          let none : owes after.mode ≡ 0 = elim takes.fits [
+            | inl runs ↦ ap owes runs.0
+            | inr rest ↦ elim rest [ inl is ↦ absurd (not is) | inr ended ↦ ap owes ended.0 ]
+          ] in
+          omega (arith, none, silent_not config.every k (λ some divides. not (by.1 (some, ap (λ (n : ℕ). n % config.every) count ∙ divides))))
+    ]
+
 -- the collections of a thread that got a reply
-told_collections : (script : Script) (v w : View) (seats : List Seat) (t : ℕ) (s after : Seat) → SeatStands script v t s → slice_get seats t ≡ Some s → (told : SeatTold v w t s after) → collections_of script (replies_of (set seats t after)) t ≡ collections_of script (replies_of seats) t + (if is_collect told.op then 1 else 0)
-told_collections script v w seats t s after st at told =
+told_collections : (script : Script) (config : Config) (v w : View) (seats : List Seat) (t : ℕ) (s after : Seat) → SeatStands script v t s → slice_get seats t ≡ Some s → DueBy config.every s after → (told : SeatTold v w t s after) → collections_of script config (replies_of (set seats t after)) t ≡ collections_of script config (replies_of seats) t + owes after.mode + (if is_collect told.op then 1 else 0)
+told_collections script config v w seats t s after st at due told =
     let ops : List Op = operations script t in
     let k : ℕ = length s.replies.items in
     let C : ℕ → ℕ = λ (n : ℕ). count_by is_collect (take n ops) in
     let count : length after.replies.items ≡ k + 1 = ap length told.takes.replies ∙ length-append s.replies.items (told.reply ∷ []) in
-    let now : length (replies_of (set seats t after) t) ≡ suc k = omega (arith, count, ap length (replies_same seats t s after at)) in
+    let now : length (replies_of (set seats t after) t) ≡ k + 1 = omega (arith, count, ap length (replies_same seats t s after at)) in
     let was : length (replies_of seats t) ≡ k = ap length (replies_here seats t s at) in
     let taken : take (suc k) ops ≡ take k ops ++ told.op ∷ [] = take_next ops s.rest.operations k told.op (sym st.to_come ∙ told_left v w t s after told) in
-    ap C now ∙ (ap (count_by is_collect) taken ∙ (sum_by_push (λ (o : Op). if is_collect o then 1 else 0) (take k ops) told.op ∙ ap (λ (n : ℕ). n + (if is_collect told.op then 1 else 0)) (ap C (sym was))))
+    let next : C (suc k) ≡ C k + (if is_collect told.op then 1 else 0) = ap (count_by is_collect) taken ∙ sum_by_push (λ (o : Op). if is_collect o then 1 else 0) (take k ops) told.op in
+    let suc_k : k + 1 ≡ suc k = omega arith in
+    omega (arith, next, ap C was, ap C (now ∙ suc_k), ap (silent_in config.every) was, ap (silent_in config.every) now, silent_told config s after told.reply due told.takes)
 
 -- the collections of a thread that got no reply
-pub silent_collections : (script : Script) (seats : List Seat) (t : ℕ) (s after : Seat) → slice_get seats t ≡ Some s → after.replies.items ≡ s.replies.items → collections_of script (replies_of (set seats t after)) t ≡ collections_of script (replies_of seats) t
-silent_collections script seats t s after at same =
-    ap (λ (rs : List Reply). count_by is_collect (take (length rs) (operations script t))) (replies_same seats t s after at ∙ (same ∙ sym (replies_here seats t s at)))
+silent_collections : (script : Script) (config : Config) (seats : List Seat) (t : ℕ) (s after : Seat) → slice_get seats t ≡ Some s → after.replies.items ≡ s.replies.items → collections_of script config (replies_of (set seats t after)) t ≡ collections_of script config (replies_of seats) t
+unfolding by_replies
+silent_collections script config seats t s after at same =
+    ap (by_replies script config t) (replies_same seats t s after at ∙ (same ∙ sym (replies_here seats t s at)))
 
--- An event of a thread adds one at most to the collections that were answered, and none where its reply was to another
--- operation.
-here_step : (script : Script) (heap : ℕ) (v w : View) (seats : List Seat) (t : ℕ) (s after : Seat) → TableStands script heap v seats → slice_get seats t ≡ Some s → SeatStep v w t s after → (collections_of script (replies_of (set seats t after)) t ≡ collections_of script (replies_of seats) t) ⊎ ((told : SeatTold v w t s after) × (collections_of script (replies_of (set seats t after)) t ≡ collections_of script (replies_of seats) t + (if is_collect told.op then 1 else 0)))
-here_step script heap v w seats t s after table at step =
+-- how many threads have a silent collection still to come, where a seat was set
+pub owing_set : (seats : List Seat) (t : ℕ) (s after : Seat) → slice_get seats t ≡ Some s → owing (set seats t after) + owes s.mode ≡ owing seats + owes after.mode
+owing_set seats t s after at =
+    let f : Seat → ℕ = λ (x : Seat). owes x.mode in
+    omega (arith, sum-map f seats, sum-map f (set seats t after), sum_by-set f seats t after s (slice_get_within seats t s at), ap f (get_or_from_slice_get seats t s s at))
+
+-- So many collections more were made for the replies that threads got, and for those that are no longer to come.
+abbrev pub Adds : Script → Config → List Seat → List Seat → ℕ → Type 0
+Adds script config seats after c =
+    collections script config (replies_of after) (length script.programs) + owing seats ≡ collections script config (replies_of seats) (length script.programs) + owing after + c
+
+-- where the replies of one thread change alone
+adds_at : (script : Script) (config : Config) (seats : List Seat) (t c : ℕ) (s after : Seat) → slice_get seats t ≡ Some s → length seats ≡ length script.programs → collections_of script config (replies_of (set seats t after)) t + owes s.mode ≡ collections_of script config (replies_of seats) t + owes after.mode + c → Adds script config seats (set seats t after) c
+adds_at script config seats t c s after at count here =
+    let below : t < length seats = slice_get_within seats t s at in
+    omega (
+      arith,
+      here,
+      owing_set seats t s after at,
+      collections_at script config (replies_of (set seats t after)) (replies_of seats) t (length script.programs) (omega (arith, below, count)) (λ u differ. collections_other script config seats t u after differ),
+    )
+
+-- no reply and the same silent collections to come
+pub adds_mode : (script : Script) (config : Config) (seats : List Seat) (t : ℕ) (s : Seat) (mode : Mode) → slice_get seats t ≡ Some s → length seats ≡ length script.programs → owes s.mode ≡ owes mode → Adds script config seats (set seats t (record s { mode = mode })) 0
+adds_mode script config seats t s mode at count same =
+    adds_at script config seats t 0 s (record s { mode = mode }) at count (omega (arith, same, silent_collections script config seats t s (record s { mode = mode }) at refl))
+
+-- a silent collection that was made for a thread
+pub adds_silent : (script : Script) (config : Config) (seats : List Seat) (t : ℕ) (s : Seat) (mode : Mode) → slice_get seats t ≡ Some s → length seats ≡ length script.programs → owes s.mode ≡ owes mode + 1 → Adds script config seats (set seats t (record s { mode = mode })) 1
+adds_silent script config seats t s mode at count same =
+    adds_at script config seats t 1 s (record s { mode = mode }) at count (omega (arith, same, silent_collections script config seats t s (record s { mode = mode }) at refl))
+
+-- a thread that waits for its call to be made again has no silent collection to come
+paused_owes : (cause : Pause) → owes (paused_as cause) ≡ 0
+paused_owes pause.Asked = refl
+paused_owes (pause.Space need) = refl
+paused_owes pause.Forward = refl
+
+-- An event of a thread adds its silent collection to those that are to come, and one at most that was answered.
+here_step : (script : Script) (config : Config) (v w : View) (seats : List Seat) (t : ℕ) (s after : Seat) → TableStands script config v seats → slice_get seats t ≡ Some s → SeatStep v w t s after → DueBy config.every s after → Adds script config seats (set seats t after) 0 ⊎ ((told : SeatTold v w t s after) × Adds script config seats (set seats t after) (if is_collect told.op then 1 else 0))
+here_step script config v w seats t s after table at step due =
+    let by_mode : (mode : Mode) → after ≡ record s { mode = mode } → owes s.mode ≡ owes mode → Adds script config seats (set seats t after) 0 = λ mode is same.
+    subst (λ (y : Seat). Adds script config seats (set seats t y) 0) (sym is) (adds_mode script config seats t s mode at table.count same) in
     elim step.what [
-      | inl waits ↦ inl (silent_collections script seats t s after at (ap (λ (x : Seat). x.replies.items) waits.1.only))
+      | inl waits ↦ inl (by_mode waits.0 waits.1.only (elim waits.1.before [ inl own ↦ ap owes own.0 ∙ ap owes (sym own.2) | inr silent ↦ ap owes silent.0 ∙ ap owes (sym silent.1) ]))
       | inr rest ↦ elim rest [
-        | inl goes ↦ inl (silent_collections script seats t s after at (ap (λ (x : Seat). x.replies.items) goes.same))
+        | inl goes ↦ inl (by_mode s.mode goes.same refl)
         | inr further ↦ elim further [
-          | inl refused ↦ inl (silent_collections script seats t s after at (ap (λ (x : Seat). x.replies.items) refused.1.only))
-          | inr told ↦ inr (told, told_collections script v w seats t s after (table.each t s at) at told)
+          | inl refused ↦ inl (by_mode (paused_as refused.cause) refused.only (ap owes refused.running ∙ sym (paused_owes refused.cause)))
+          | inr told ↦ inr (
+            told,
+            adds_at script config seats t (if is_collect told.op then 1 else 0) s after at table.count
+                (let none : owes s.mode ≡ 0 = ap {B = ℕ} (λ (b : Bool). if b then 1 else 0) told.not_due in
+                omega (arith, none, told_collections script config v w seats t s after (table.each t s at) at due told)),
+          )
         ]
       ]
     ]
 
--- the collections that were answered, when a thread got one reply more
-pub collections_grow : (script : Script) (heap : ℕ) (v w : View) (seats : List Seat) (t : ℕ) (s after : Seat) → TableStands script heap v seats → slice_get seats t ≡ Some s → SeatStep v w t s after → collections script (replies_of (set seats t after)) (length script.programs) ≤ collections script (replies_of seats) (length script.programs) + 1
-collections_grow script heap v w seats t s after table at step =
-    collections_more script (replies_of (set seats t after)) (replies_of seats) t (length script.programs)
-    (λ u differ. collections_other script seats t u after differ)
-    (elim (here_step script heap v w seats t s after table at step) [
-      | inl same ↦ omega (arith, same)
-      | inr more ↦ omega (arith, more.1, one_at_most (is_collect more.0.op))
-    ])
+-- one collection at most was answered
+pub collections_grow : (script : Script) (config : Config) (v w : View) (seats : List Seat) (t : ℕ) (s after : Seat) → TableStands script config v seats → slice_get seats t ≡ Some s → SeatStep v w t s after → DueBy config.every s after → (c : ℕ) × (c ≤ 1) × Adds script config seats (set seats t after) c
+collections_grow script config v w seats t s after table at step due =
+    elim (here_step script config v w seats t s after table at step due) [
+      | inl same ↦ (0, omega arith, same)
+      | inr more ↦ ((if is_collect more.0.op then 1 else 0), one_at_most (is_collect more.0.op), more.1)
+    ]
 
--- and when the reply was not to a collection
-pub collections_step : (script : Script) (heap : ℕ) (v w : View) (seats : List Seat) (t : ℕ) (s after : Seat) → TableStands script heap v seats → slice_get seats t ≡ Some s → SeatStep v w t s after → ((told : SeatTold v w t s after) → told.op ≢ Collect) → collections script (replies_of (set seats t after)) (length script.programs) ≡ collections script (replies_of seats) (length script.programs)
-collections_step script heap v w seats t s after table at step other =
-    let here : collections_of script (replies_of (set seats t after)) t ≡ collections_of script (replies_of seats) t =
-    elim (here_step script heap v w seats t s after table at step) [
+-- and none where the reply was to another operation
+pub collections_step : (script : Script) (config : Config) (v w : View) (seats : List Seat) (t : ℕ) (s after : Seat) → TableStands script config v seats → slice_get seats t ≡ Some s → SeatStep v w t s after → DueBy config.every s after → ((told : SeatTold v w t s after) → told.op ≢ Collect) → Adds script config seats (set seats t after) 0
+collections_step script config v w seats t s after table at step due other =
+    elim (here_step script config v w seats t s after table at step due) [
       | inl same ↦ same
-      | inr more ↦ omega (arith, more.1, ap {B = ℕ} (λ (b : Bool). if b then 1 else 0) (is_no_collect more.0.op (other more.0)))
-    ] in
-    collections_same script (replies_of (set seats t after)) (replies_of seats) (length script.programs)
-    (λ u below. elim (cases_eq u t) [
-      | inl same ↦ subst (λ (k : ℕ). collections_of script (replies_of (set seats t after)) k ≡ collections_of script (replies_of seats) k) (sym same) here
-      | inr differ ↦ collections_other script seats t u after differ
-    ])
+      | inr more ↦ subst (Adds script config seats (set seats t after)) (ap {B = ℕ} (λ (b : Bool). if b then 1 else 0) (is_no_collect more.0.op (other more.0))) more.1
+    ]

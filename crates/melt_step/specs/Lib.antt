@@ -1,3 +1,4 @@
+pub mod Journals
 pub mod Run
 pub mod Seats
 pub mod Turns

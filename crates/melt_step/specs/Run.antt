@@ -1,5 +1,5 @@
 -- What a report of a run by the written order says of a trace.
-use Rattle.std.specs.Prelude.{◌≡◌, ◌≢◌, ℕ, zero, suc, ◌+◌, ◌<◌, ◌≤◌, Bool, true, false, if◌then◌else◌, List, [], length, All, take, slice_get, Option, None, Some, IfSome, IsSome}
+use Rattle.std.specs.Prelude.{◌≡◌, ◌≢◌, ℕ, zero, suc, ◌+◌, ◌/◌, ◌%◌, ◌<◌, ◌≤◌, ◌⊎◌, Bool, true, false, if◌then◌else◌, List, [], length, All, take, slice_get, Option, None, Some, IfSome, IsSome}
 use Rattle.std.specs.List.{count_by}
 use Rattle.std.specs.Option.{option_map_or}
 use Rattle.melt_model.specs.Alive.{Alive, words_of, CostsSum}
@@ -21,6 +21,7 @@ use Rattle.melt_trace.specs.Script.{Script, operations}
 use Rattle.melt_scion.specs.Placed.{Maps, Placed}
 use Rattle.melt_scion.specs.Heaps.{state_of, HasNames}
 use Rattle.melt_scion.specs.declared.heap.Heap.{Heap}
+use Rattle.melt_step.specs.Journals.{IsJournalOf}
 
 -- whether an operation asks for a collection
 abbrev pub is_collect : Op → Bool
@@ -59,17 +60,28 @@ abbrev pub registers_at : Script → List Entry → Cut → ℕ → ℕ → Valu
 registers_at script log cut t r =
     if cut.ended t then Nil else value_in (registers_after (history_at log cut) t (operations script t) (cut.replies t)) r
 
--- The replies that the threads had at the moment take exactly the entries that the history had, and a thread that had
--- ended got no further one.
-pub record IsCut (script : Script) (log : List Entry) (replies : ℕ → List Reply) (cut : Cut) : Type 0 where
+-- behind so many replies of a thread a silent collection is due
+pub record IsDue (config : Config) (count : ℕ) : Type 0 where
+  pub asked : config.every ≢ 0
+  pub some : count ≢ 0
+  pub divides : count % config.every ≡ 0
+
+-- a thread has ended, or has its last silent collection still to come
+abbrev pub IsOver : Script → Config → Cut → ℕ → Type 0
+IsOver script config cut t = (cut.ended t ≡ true) ⊎ IsDue config (length (operations script t))
+
+-- The replies that the threads had at the moment take exactly the entries that the history had. A thread that had ended
+-- got no further one, and one with all its replies had ended, unless a silent collection was due behind the last.
+pub record IsCut (script : Script) (log : List Entry) (replies : ℕ → List Reply) (config : Config) (cut : Cut) : Type 0 where
   pub within : cut.entries ≤ length log
   pub few : (t : ℕ) → cut.replies t ≤ length (replies t)
   pub told : (t : ℕ) → Transcript (history_at log cut) t (operations script t) (take (cut.replies t) (replies t))
   pub last : (t : ℕ) → cut.ended t ≡ true → cut.replies t ≡ length (replies t)
+  pub over : (t : ℕ) → cut.replies t ≡ length (operations script t) → IsOver script config cut t
 
 -- the moment at which a thread that had not ended had got so many replies
-pub record IsCutAt (script : Script) (log : List Entry) (replies : ℕ → List Reply) (t k : ℕ) (cut : Cut) : Type 0 where
-  pub is : IsCut script log replies cut
+pub record IsCutAt (script : Script) (log : List Entry) (replies : ℕ → List Reply) (config : Config) (t k : ℕ) (cut : Cut) : Type 0 where
+  pub is : IsCut script log replies config cut
   pub count : cut.replies t ≡ k
   pub alive : cut.ended t ≡ false
 
@@ -78,59 +90,80 @@ abbrev pub ReachesWords : Script → List Entry → Cut → ℕ → Type 0
 ReachesWords script log cut words =
     CostsSum (words_of (history_at log cut)) (Alive (history_at log cut) (registers_at script log cut)) words
 
+-- the last operation of a thread is a collection
+abbrev pub EndsWithCollect : List Op → Type 0
+EndsWithCollect ops = (k : ℕ) × (length ops ≡ suc k) × (slice_get ops k ≡ Some Collect)
+
 -- At some moment the next operation of the thread makes an object that needs more words than the heap has beside those
--- of the objects that registers and globals reach.
-pub record LacksRoom (script : Script) (log : List Entry) (replies : ℕ → List Reply) (heap t held need : ℕ) : Type 0 where
+-- of the objects that registers and globals reach. All silent collections were made by then, but for those behind a
+-- `collect` that was answered at the same safepoint.
+pub record LacksRoom (script : Script) (log : List Entry) (replies : ℕ → List Reply) (config : Config) (t held need : ℕ) : Type 0 where
   pub cut : Cut
-  pub is_cut : IsCutAt script log replies t (length (replies t)) cut
+  pub is_cut : IsCutAt script log replies config t (length (replies t)) cut
+  pub over : (u : ℕ) → cut.replies u ≡ length (operations script u) → (cut.ended u ≡ true) ⊎ (IsDue config (length (operations script u)) × EndsWithCollect (operations script u))
   pub dst : ℕ
   pub refs : ℕ
   pub nums : ℕ
   pub next : slice_get (operations script t) (length (replies t)) ≡ Some (New dst refs nums)
   pub needed : need ≡ 2 + refs + nums
   pub reach : ReachesWords script log cut held
-  pub above : heap < held + need
+  pub above : config.heap < held + need
 
 -- At some moment at which the thread had got k replies, the heap had so many words beside those of the objects that
--- registers and globals reach.
-pub record HadRoom (script : Script) (log : List Entry) (replies : ℕ → List Reply) (heap t k need : ℕ) : Type 0 where
+-- registers and globals reached.
+pub record HadRoom (script : Script) (log : List Entry) (replies : ℕ → List Reply) (config : Config) (t k need : ℕ) : Type 0 where
   pub cut : Cut
-  pub is_cut : IsCutAt script log replies t k cut
-  pub fits : (held : ℕ) → ReachesWords script log cut held → held + need ≤ heap
+  pub is_cut : IsCutAt script log replies config t k cut
+  pub held : ℕ
+  pub reach : ReachesWords script log cut held
+  pub fits : held + need ≤ config.heap
 
 -- If operation k of the thread makes an object, there was room for it.
-abbrev pub HasRoom : Script → List Entry → (ℕ → List Reply) → ℕ → ℕ → ℕ → Type 0
-HasRoom script log replies heap t k =
-    (dst refs nums : ℕ) → slice_get (operations script t) k ≡ Some (New dst refs nums) → HadRoom script log replies heap t k (2 + refs + nums)
+abbrev pub HasRoom : Script → List Entry → (ℕ → List Reply) → Config → ℕ → ℕ → Type 0
+HasRoom script log replies config t k =
+    (dst refs nums : ℕ) → slice_get (operations script t) k ≡ Some (New dst refs nums) → HadRoom script log replies config t k (2 + refs + nums)
 
 -- why a thread may end so
 abbrev pub MayEnd : Script → Config → Report → ℕ → ThreadEnd → Type 0
 MayEnd script config report t end.Done = answered report t ≡ length (operations script t)
-MayEnd script config report t (end.OutOfHeap held need) = LacksRoom script report.log (replies_in report) config.heap t held need
+MayEnd script config report t (end.OutOfHeap held need) = LacksRoom script report.log (replies_in report) config t held need
 MayEnd script config report t end.DiskFault = ⊥
 MayEnd script config report t (end.Damaged home at word) = ⊥
 MayEnd script config report t end.Halted = ⊥
 
--- how many of its replies a thread got for collections, and the first n threads together
-abbrev pub collections_of : Script → (ℕ → List Reply) → ℕ → ℕ
-collections_of script replies t = count_by is_collect (take (length (replies t)) (operations script t))
+-- how many silent collections come with so many replies of a thread: one behind each that is a multiple of the number
+abbrev pub silent_in : (every count : ℕ) → ℕ
+silent_in zero count = 0
+silent_in (suc every) count = count / suc every
 
-abbrev pub collections : Script → (ℕ → List Reply) → ℕ → ℕ
-collections script replies zero = 0
-collections script replies (suc n) = collections script replies n + collections_of script replies n
+-- how many collections the replies of a thread brought, its `collect`s and the silent ones, and those of the first n
+-- threads together
+abbrev pub collections_of : Script → Config → (ℕ → List Reply) → ℕ → ℕ
+collections_of script config replies t =
+    count_by is_collect (take (length (replies t)) (operations script t)) + silent_in config.every (length (replies t))
 
--- What a run reports of a trace. Its history is the one that it stored. An object was made only where there was room,
--- and each collection that a thread asked for is in the journal. Nothing is moved to disk yet.
+abbrev pub collections : Script → Config → (ℕ → List Reply) → ℕ → ℕ
+collections script config replies zero = 0
+collections script config replies (suc n) = collections script config replies n + collections_of script config replies n
+
+-- What a run reports of a trace. Its history is the one that it stored. An object was made only where there was room.
+-- The journal has the collections, each of its phase: those that threads asked for, the silent ones, and those that
+-- were made for room. Nothing is moved to disk yet.
 pub record IsStepReport (script : Script) (config : Config) (report : Report) : Type 0 where
   pub history : HasHistory script report.log report
   pub ends : (t : ℕ) (r : ThreadReport) → slice_get report.threads t ≡ Some r → MayEnd script config report t r.end
-  pub room : (t k : ℕ) → k < answered report t → HasRoom script report.log (replies_in report) config.heap t k
+  pub room : (t k : ℕ) → k < answered report t → HasRoom script report.log (replies_in report) config t k
   pub no_halt : report.halt ≡ None
   pub no_moves : All (λ j. j.phase ≢ Move) report.journal
-  pub collected : collections script (replies_in report) (length report.threads) ≤ length report.journal
+  pub journal : IsJournalOf config report.journal
+  pub collected : collections script config (replies_in report) (length report.threads) ≤ length report.journal
 
--- the heap stands for the history when all threads have ended
-pub record IsLeft (report : Report) (heap : Heap) : Type 0 where
+-- The heap that is left has the globals of the script, the words of the configuration, and names of its objects. It
+-- stands for the history when all threads have ended.
+pub record IsLeft (script : Script) (config : Config) (report : Report) (heap : Heap) : Type 0 where
+  pub globals : length heap.globals ≡ script.globals
+  pub words : length heap.space.list ≡ config.heap
+  pub named : IsSome heap.names
   pub maps : Maps
   pub names : HasNames heap.names maps
   pub placed : Placed report.log (λ t r. Nil) maps (state_of heap [] 1)
@@ -139,4 +172,4 @@ pub record IsLeft (report : Report) (heap : Heap) : Type 0 where
 pub record HasRun (script : Script) (config : Config) (report : Report) (heap : Option Heap) : Type 0 where
   pub reported : IsStepReport script config report
   pub is_there : IsSome heap
-  pub left : IfSome heap (IsLeft report)
+  pub left : IfSome heap (IsLeft script config report)

@@ -1,7 +1,8 @@
 -- The threads of a run between two events.
-use Rattle.std.specs.Prelude.{◌≡◌, ◌≢◌, ℕ, zero, suc, ◌+◌, ◌*◌, ◌^◌, ◌%◌, ◌<◌, ◌≤◌, true, false, List, [], ◌∷◌, ◌++◌, length, map, sum, take, drop, replicate, slice_get, slice_set, vec_capacity, All, Option, None, Some, IfSome, IsSome, ◌⊎◌, ◌↔◌}
+use Rattle.std.specs.Prelude.{◌≡◌, ◌≢◌, ℕ, zero, suc, ◌+◌, ◌*◌, ◌^◌, ◌%◌, ◌<◌, ◌≤◌, Bool, true, false, if◌then◌else◌, List, [], ◌∷◌, ◌++◌, length, map, sum, take, drop, replicate, slice_get, slice_set, vec_capacity, All, Option, None, Some, IfSome, IsSome, ◌⊎◌, ◌↔◌}
 use Rattle.melt_model.specs.Standing.{Stands}
 use Rattle.melt_model.specs.Alive.{Alive, words_of, CostsSum}
+use Rattle.melt_model.specs.declared.config.Config.{Config}
 use Rattle.melt_model.specs.declared.history.Entry.{Entry}
 use Rattle.melt_model.specs.declared.history.Value.{Value}
 use Rattle.melt_model.specs.declared.history.Value.TheVariants.{Nil}
@@ -14,17 +15,19 @@ use Rattle.melt_trace.specs.Script.{Script, operations}
 use Rattle.melt_core.specs.declared.call.Call.{Call}
 use Rattle.melt_core.specs.Answering.{Answers}
 use Rattle.melt_core.specs.Views.{View, view, call_of, value, values_of, Standing, IsQuiet}
-use Rattle.melt_core.specs.Events.{KeepsOthers, HasRoomFor, events_left, stage_in}
+use Rattle.melt_core.specs.Events.{KeepsOthers, HasRoomFor, Pauses, events_left, stage_in}
 use Rattle.melt_copy.specs.Copying.{IsCopying}
 use Rattle.melt_model.specs.declared.reports.Journal.{Journal}
 use Rattle.melt_model.specs.declared.reports.Phase.{Phase}
-use Rattle.melt_model.specs.declared.reports.Phase.TheVariants.{Inactive, Mark, Move}
-use Rattle.melt_policy.specs.Policy.{planned}
+use Rattle.melt_model.specs.declared.reports.Phase.TheVariants.{Move}
+use Rattle.melt_core.specs.declared.answer.Pause.{Pause}
+use Rattle.melt_core.specs.declared.answer.Pause.TheVariants as pause
+use Rattle.melt_step.specs.Journals.{forced, next_of, before, IsJournalOf}
 use Rattle.melt_step.specs.declared.collector.Collector.{Collector}
 use Rattle.melt_step.specs.declared.run.Run.{Run}
 use Rattle.melt_core.specs.Changed.{stopped, HasRoomForEntry}
 use Rattle.melt_core.specs.Epochs.{HasDropped}
-use Rattle.melt_step.specs.Run.{Cut, LacksRoom, HadRoom, collections}
+use Rattle.melt_step.specs.Run.{Cut, IsDue, LacksRoom, HadRoom, collections}
 use Rattle.melt_step.specs.declared.seat.Mode.{Mode}
 use Rattle.melt_step.specs.declared.seat.Mode.TheVariants.{Running, Due, Silent, Collecting, Asked, Lacking, Ended}
 use Rattle.melt_step.specs.declared.seat.Seat.{Seat}
@@ -86,24 +89,45 @@ abbrev pub GoneIn : List Seat → Cut → Type 0
 GoneIn seats cut = (u : ℕ) (s : Seat) → slice_get seats u ≡ Some s → cut.ended u ≡ true → IsEnded s.mode
 
 -- as in the report of a run, while it goes on
-abbrev pub LacksNow : Script → List Entry → List Seat → ℕ → ℕ → ℕ → ℕ → Type 0
-LacksNow script log seats heap t held need = (x : LacksRoom script log (replies_of seats) heap t held need) × GoneIn seats x.cut
+abbrev pub LacksNow : Script → List Entry → List Seat → Config → ℕ → ℕ → ℕ → Type 0
+LacksNow script log seats config t held need = (x : LacksRoom script log (replies_of seats) config t held need) × GoneIn seats x.cut
 
-abbrev pub HadNow : Script → List Entry → List Seat → ℕ → ℕ → ℕ → ℕ → Type 0
-HadNow script log seats heap t k need = (x : HadRoom script log (replies_of seats) heap t k need) × GoneIn seats x.cut
+abbrev pub HadNow : Script → List Entry → List Seat → Config → ℕ → ℕ → ℕ → Type 0
+HadNow script log seats config t k need = (x : HadRoom script log (replies_of seats) config t k need) × GoneIn seats x.cut
 
-abbrev pub MadeSo : Script → List Entry → List Seat → ℕ → ℕ → ℕ → Type 0
-MadeSo script log seats heap t k =
-    (dst refs nums : ℕ) → slice_get (operations script t) k ≡ Some (New dst refs nums) → HadNow script log seats heap t k (2 + refs + nums)
+abbrev pub MadeSo : Script → List Entry → List Seat → Config → ℕ → ℕ → Type 0
+MadeSo script log seats config t k =
+    (dst refs nums : ℕ) → slice_get (operations script t) k ≡ Some (New dst refs nums) → HadNow script log seats config t k (2 + refs + nums)
 
 -- why a thread may have ended
-abbrev pub EndsSo : Script → List Entry → List Seat → ℕ → ℕ → Mode → Type 0
-EndsSo script log seats heap t (Ended end.Done) = length (replies_of seats t) ≡ length (operations script t)
-EndsSo script log seats heap t (Ended (end.OutOfHeap held need)) = LacksNow script log seats heap t held need
-EndsSo script log seats heap t (Ended end.DiskFault) = ⊥
-EndsSo script log seats heap t (Ended (end.Damaged home at word)) = ⊥
-EndsSo script log seats heap t (Ended end.Halted) = ⊥
-EndsSo script log seats heap t mode = Unit {0}
+abbrev pub EndsSo : Script → List Entry → List Seat → Config → ℕ → Mode → Type 0
+EndsSo script log seats config t (Ended end.Done) = length (replies_of seats t) ≡ length (operations script t)
+EndsSo script log seats config t (Ended (end.OutOfHeap held need)) = LacksNow script log seats config t held need
+EndsSo script log seats config t (Ended end.DiskFault) = ⊥
+EndsSo script log seats config t (Ended (end.Damaged home at word)) = ⊥
+EndsSo script log seats config t (Ended end.Halted) = ⊥
+EndsSo script log seats config t mode = Unit {0}
+
+-- a thread has a silent collection still to come
+abbrev pub owes_silent : Mode → Bool
+owes_silent Due = true
+owes_silent Silent = true
+owes_silent mode = false
+
+-- the last reply of a thread was that to a collection
+abbrev pub HadCollect : Script → ℕ → Seat → Type 0
+HadCollect script t s = (k : ℕ) × (length s.replies.items ≡ suc k) × (slice_get (operations script t) k ≡ Some Collect)
+
+-- a thread has a silent collection still to come only where its last reply was that to a collection
+abbrev pub OweBehindCollects : Script → List Seat → Type 0
+OweBehindCollects script seats = (t : ℕ) (s : Seat) → slice_get seats t ≡ Some s → owes_silent s.mode ≡ true → HadCollect script t s
+
+-- how many threads have a silent collection still to come
+abbrev pub owes : Mode → ℕ
+owes mode = if owes_silent mode then 1 else 0
+
+abbrev pub owing : List Seat → ℕ
+owing seats = sum (map (λ (s : Seat). owes s.mode) seats)
 
 -- how many replies all threads are still to get
 abbrev pub to_reply : List Seat → ℕ
@@ -116,16 +140,17 @@ pub record Later (seats after : List Seat) : Type 0 where
   pub ended : (t : ℕ) (s : Seat) → slice_get seats t ≡ Some s → IsEnded s.mode → slice_get after t ≡ Some s
 
 -- All threads stand in the history, for which the core stands; it has room for the entries to come.
-pub record TableStands (script : Script) (heap : ℕ) (v : View) (seats : List Seat) : Type 0 where
+pub record TableStands (script : Script) (config : Config) (v : View) (seats : List Seat) : Type 0 where
   pub stands : Standing v
   pub count : length seats ≡ length script.programs
   pub threads : length v.held ≡ length script.programs
   pub globals : length v.globals ≡ script.globals
-  pub words : length v.space.list ≡ heap
+  pub words : length v.space.list ≡ config.heap
   pub each : (t : ℕ) (s : Seat) → slice_get seats t ≡ Some s → SeatStands script v t s
   pub own : All (λ (e : Entry). e.thread < length script.programs) v.log
-  pub ends : (t : ℕ) (s : Seat) → slice_get seats t ≡ Some s → EndsSo script v.log seats heap t s.mode
-  pub made : (t k : ℕ) → k < length (replies_of seats t) → MadeSo script v.log seats heap t k
+  pub due : (t : ℕ) (s : Seat) → slice_get seats t ≡ Some s → owes_silent s.mode ≡ true → IsDue config (length s.replies.items)
+  pub ends : (t : ℕ) (s : Seat) → slice_get seats t ≡ Some s → EndsSo script v.log seats config t s.mode
+  pub made : (t k : ℕ) → k < length (replies_of seats t) → MadeSo script v.log seats config t k
   pub entries : length v.log + to_reply seats ≤ v.capacity
   pub few : length v.log + to_reply seats ≤ 8388608
 
@@ -147,14 +172,21 @@ pub record SeatGoes (v w : View) (t : ℕ) (s after : Seat) : Type 0 where
   pub history : w.log ≡ v.log
   pub values : values_of w t ≡ values_of v t
 
-pub record SeatRefused (v w : View) (t : ℕ) (s after : Seat) (mode : Mode) : Type 0 where
-  pub only : after ≡ record s { mode = mode }
-  pub waits : (mode ≡ Asked) ⊎ (mode ≡ Lacking)
-  pub op : IsSome s.op
-  pub no_collect : s.op ≢ Some Collect
-  pub call : call_of w t ≡ None
-  pub history : w.log ≡ v.log
-  pub values : values_of w t ≡ values_of v t
+-- how a thread waits whose call paused for this cause
+abbrev pub paused_as : Pause → Mode
+paused_as pause.Asked = Asked
+paused_as (pause.Space need) = Lacking
+paused_as pause.Forward = Lacking
+
+-- the call of a thread paused
+pub record SeatRefused (v w : View) (t : ℕ) (s after : Seat) : Type 0 where
+  pub running : s.mode ≡ Running
+  pub op : Op
+  pub next : s.op ≡ Some op
+  pub no_collect : op ≢ Collect
+  pub cause : Pause
+  pub pauses : Pauses v w t op cause
+  pub only : after ≡ record s { mode = paused_as cause }
 
 -- What a reply leaves of a thread. If it has ended with it, its registers hold nothing.
 pub record TakesReply (s after : Seat) (reply : Reply) : Type 0 where
@@ -188,6 +220,7 @@ pub record SeatTold (v w : View) (t : ℕ) (s after : Seat) : Type 0 where
   pub dropped : IsEnded after.mode → values_of w t ≡ replicate 16 Nil
   pub call : call_of w t ≡ None
   pub room : HasRoomFor v op
+  pub not_due : owes_silent s.mode ≡ false
   pub no_collect : MayGo s.mode → op ≢ Collect
 
 -- What an event needs of its thread: the call in flight is of its next operation, and there is room for its reply and
@@ -208,7 +241,7 @@ pub record IsReady (v : View) (t : ℕ) (s : Seat) : Type 0 where
 pub record SeatStep (v w : View) (t : ℕ) (s after : Seat) : Type 0 where
   pub stands : Standing w
   pub others : KeepsOthers v w t
-  pub what : ((mode : Mode) × SeatWaits v w t s after mode) ⊎ (SeatGoes v w t s after ⊎ (((mode : Mode) × SeatRefused v w t s after mode) ⊎ SeatTold v w t s after))
+  pub what : ((mode : Mode) × SeatWaits v w t s after mode) ⊎ (SeatGoes v w t s after ⊎ (SeatRefused v w t s after ⊎ SeatTold v w t s after))
 
 -- a new epoch, in which all stands as before
 pub record Renewed (v w : View) : Type 0 where
@@ -275,36 +308,72 @@ pub record IsPlanning (c : Collector) : Type 0 where
   pub moves : All (λ (j : Journal). j.phase ≢ Move) c.journal.items
   pub planned : IsCopying c.planned
 
--- one collection more was written down
-pub record Notes (old new : Collector) : Type 0 where
+-- A collection of a phase was written down, by what it left, and the next one was planned by that.
+pub record PlansBy (old new : Collector) (w : View) (phase : Phase) : Type 0 where
   pub planning : IsPlanning new
-  pub count : length new.journal.items ≡ length old.journal.items + 1
-
--- the phase in which a collection is made that is planned to be of this one, while there is no disk
-abbrev pub made_as : Phase → Phase
-made_as Inactive = Inactive
-made_as Mark = Mark
-made_as Move = Mark
-
--- A collection of a phase was written down, and the next one was planned by what it left.
-pub record PlansBy (old new : Collector) (phase : Phase) : Type 0 where
+  pub config : new.config ≡ old.config
   pub entry : Journal
   pub journal : new.journal.items ≡ old.journal.items ++ entry ∷ []
   pub of_phase : entry.phase ≡ phase
-  pub next : new.planned ≡ made_as (planned entry.live old.config.heap phase old.config.mark old.config.move_)
-  pub config : new.config ≡ old.config
+  pub held : entry.held ≤ entry.live
+  pub live : w.free ≡ entry.live + 1
+  pub within : entry.live ≤ length w.space.list
+  pub next : new.planned ≡ next_of old.config (Some entry)
+
+-- so many collections were made, each as it was planned
+pub data Planned : ℕ → Collector → Collector → Type 0 where
+  none : (c : Collector) → Planned zero c c
+  more : (n : ℕ) (a b c : Collector) (w : View) → Planned n a b → PlansBy b c w b.planned → Planned (suc n) a c
+
+-- What a collector knows: the numbers of the run, the collections so far, and of which phase the next one is.
+pub record CollectorStands (config : Config) (c : Collector) : Type 0 where
+  pub planning : IsPlanning c
+  pub numbers : c.config ≡ config
+  pub journal : IsJournalOf config c.journal.items
+  pub next : c.planned ≡ next_of config (before c.journal.items (length c.journal.items))
 
 -- A run between two events.
-pub record RunStands (script : Script) (heap : ℕ) (run : Run) : Type 0 where
-  pub table : TableStands script heap (view run.core) run.seats.items
-  pub planning : IsPlanning run.collector
-  pub collected : collections script (replies_of run.seats.items) (length script.programs) ≤ length run.collector.journal.items
+pub record RunStands (script : Script) (config : Config) (run : Run) : Type 0 where
+  pub table : TableStands script config (view run.core) run.seats.items
+  pub every : run.every ≡ config.every
+  pub collector : CollectorStands config run.collector
+  pub collected : collections script config (replies_of run.seats.items) (length script.programs) ≤ length run.collector.journal.items + owing run.seats.items
+
+-- the last event of a run was a collection, or a reply to it
+pub record JustCollected (run : Run) : Type 0 where
+  pub stop : (view run.core).stop ≡ false
+  pub front : List Journal
+  pub last : Journal
+  pub journal : run.collector.journal.items ≡ front ++ last ∷ []
+  pub free : (view run.core).free ≡ last.live + 1
+
+-- the planned collection was made, and all else is as before
+pub record MakesPlanned (old new : Run) : Type 0 where
+  pub collected : Collected (view old.core) (view new.core)
+  pub plans : PlansBy old.collector new.collector (view new.core) old.collector.planned
+  pub seats : new.seats.items ≡ old.seats.items
+  pub every : new.every ≡ old.every
+
+-- A run at a safepoint, behind the collections for which threads waited.
+pub record StandsCollected (script : Script) (config : Config) (run : Run) : Type 0 where
+  pub stands : RunStands script config run
+  pub owed : OweBehindCollects script run.seats.items
+  pub collected : JustCollected run
 
 -- a thread waits for a collection of its own
 abbrev pub ForCollection : Mode → Type 0
 ForCollection Silent = Unit {0}
 ForCollection Collecting = Unit {0}
 ForCollection mode = ⊥
+
+-- how many collections a thread waits for, and all threads together
+abbrev pub collections_for : Mode → ℕ
+collections_for Silent = 1
+collections_for Collecting = 1
+collections_for mode = 0
+
+abbrev pub collections_due : List Seat → ℕ
+collections_due seats = sum (map (λ (s : Seat). collections_for s.mode) seats)
 
 -- a thread waits for a collection of its own, or for room
 abbrev pub Waits : Mode → Type 0
@@ -317,13 +386,20 @@ CallsAgain Asked = Unit {0}
 CallsAgain Lacking = Unit {0}
 CallsAgain mode = ⊥
 
--- What a run knows of the stop word: where it is set, a thread waits, and only there calls are refused for it.
+-- a thread waits, for whatever
+abbrev pub IsPaused : Mode → Type 0
+IsPaused Asked = Unit {0}
+IsPaused mode = Waits mode
+
+-- What a run knows of the stop word: it is set exactly where a thread waits, and only there calls are refused for it.
 pub record KnowsStop (v : View) (seats : List Seat) : Type 0 where
+  pub waits : (t : ℕ) (s : Seat) → slice_get seats t ≡ Some s → Waits s.mode → v.stop ≡ true
   pub stop : v.stop ≡ true → (t : ℕ) × ((s : Seat) × (slice_get seats t ≡ Some s) × Waits s.mode)
   pub asked : (t : ℕ) (s : Seat) → slice_get seats t ≡ Some s → s.mode ≡ Asked → v.stop ≡ true
 
 -- what an event of a thread does to the stop word
 pub record SetsStop (v w : View) (after : Seat) : Type 0 where
+  pub waits : Waits after.mode → w.stop ≡ true
   pub stop : w.stop ≡ true → (v.stop ≡ true) ⊎ Waits after.mode
   pub stays : v.stop ≡ true → w.stop ≡ true
   pub asked : after.mode ≡ Asked → w.stop ≡ true
@@ -334,7 +410,11 @@ SomeGoesOn seats = (t : ℕ) × ((s : Seat) × (slice_get seats t ≡ Some s) ×
 
 -- what a part of a safepoint keeps: for each script that the run stands for
 abbrev pub KeepsRun : Run → Run → Type 0
-KeepsRun old new = (script : Script) (heap : ℕ) → RunStands script heap old → RunStands script heap new
+KeepsRun old new = (script : Script) (config : Config) → RunStands script config old → RunStands script config new
+
+-- some thread waits for room
+abbrev pub SomeLacks : List Seat → Type 0
+SomeLacks seats = (t : ℕ) × ((s : Seat) × (slice_get seats t ≡ Some s) × (s.mode ≡ Lacking))
 
 -- no thread can go on
 abbrev pub AllWait : List Seat → Type 0
@@ -357,31 +437,75 @@ jobs mode count = 1 + 2 * count
 abbrev pub jobs_of : Seat → ℕ
 jobs_of s = jobs s.mode (length (left s))
 
--- the collection of a thread was made, if it waited for one
+-- The collection of a thread was made, if it waited for one, and it waits no longer. A silent collection is due then only
+-- behind the `collect` that was answered.
 pub record CollectedFor (s after : Seat) : Type 0 where
   pub fewer : ForCollection s.mode → jobs_of after < jobs_of s
+  pub goes : ForCollection s.mode → IsPaused after.mode → ⊥
+  pub owes : ForCollection s.mode → owes_silent after.mode ≡ true → (s.op ≡ Some Collect) × (length after.replies.items ≡ suc (length s.replies.items))
   pub same : (ForCollection s.mode → ⊥) → after ≡ s
 
 -- at most this thread changed, for whose collection it was
 abbrev pub CollectedAt : List Seat → List Seat → ℕ → Type 0
 CollectedAt seats after t = (s : Seat) → slice_get seats t ≡ Some s → (x : Seat) × (after ≡ slice_set seats t x) × CollectedFor s x
 
+-- What was collected for a thread: one collection as it was planned, if it waited for one. Else the core is as before.
+pub record MakesFor (s : Seat) (old new : Run) : Type 0 where
+  pub planned : Planned (collections_for s.mode) old.collector new.collector
+  pub made : ForCollection s.mode → JustCollected new
+  pub none : (ForCollection s.mode → ⊥) → new.core ≡ old.core
+
+-- what was collected for all threads
+pub record MakesForAll (old new : Run) : Type 0 where
+  pub planned : Planned (collections_due old.seats.items) old.collector new.collector
+  pub made : collections_due old.seats.items ≢ 0 → JustCollected new
+  pub none : collections_due old.seats.items ≡ 0 → new.core ≡ old.core
+
+-- no thread below this one waits for a collection of its own
+abbrev pub NoneBelow : (Mode → Type 0) → List Seat → ℕ → Type 0
+NoneBelow Is seats t = (u : ℕ) (s : Seat) → u < t → slice_get seats u ≡ Some s → Is s.mode → ⊥
+
 -- and so all threads
 pub record CollectedAll (seats after : List Seat) : Type 0 where
   pub count : length after ≡ length seats
   pub each : (t : ℕ) (s : Seat) → slice_get seats t ≡ Some s → (x : Seat) × (slice_get after t ≡ Some x) × CollectedFor s x
 
--- only this thread changed, and has less to do
+-- only this thread changed, has less to do, and does not wait
 abbrev pub CalledAt : List Seat → List Seat → ℕ → Type 0
-CalledAt seats after t = (s : Seat) → slice_get seats t ≡ Some s → (x : Seat) × (after ≡ slice_set seats t x) × (jobs_of x < jobs_of s)
+CalledAt seats after t = (s : Seat) → slice_get seats t ≡ Some s → (x : Seat) × (after ≡ slice_set seats t x) × (jobs_of x < jobs_of s) × (IsPaused x.mode → ⊥)
 
--- each thread has as much to do as before
+-- The call of a thread was made alone. Where it was refused, and only there, a collection was forced.
+pub record CalledFirst (old new : Run) (t : ℕ) : Type 0 where
+  pub seat : Seat
+  pub at : slice_get old.seats.items t ≡ Some seat
+  pub called : View
+  pub next : Seat
+  pub lacks : Option ℕ
+  pub call : CalledAlone (view old.core) called t seat next lacks
+  pub answered : lacks ≡ None → new.collector ≡ old.collector
+  pub refused : IsSome lacks → (w : View) × PlansBy old.collector new.collector w forced
+
+-- The collections of a safepoint: as they were planned, one for each thread that waited for its own, or one where none
+-- did, as a thread lacked room then; and at most one that was forced, for a thread that lacked room.
+pub record MakesCollections (seats : List Seat) (old new : Collector) : Type 0 where
+  pub between : Collector
+  pub own : collections_due seats ≢ 0 → Planned (collections_due seats) old between
+  pub room : collections_due seats ≡ 0 → Planned 1 old between
+  pub last : (new ≡ between) ⊎ (SomeLacks seats × ((w : View) × PlansBy between new w forced))
+
+-- no thread waits
+abbrev pub NoneWaits : List Seat → Type 0
+NoneWaits seats = (t : ℕ) (s : Seat) → slice_get seats t ≡ Some s → IsPaused s.mode → ⊥
+
+-- each thread has as much to do as before, and none waits
 pub record Resumed (seats after : List Seat) : Type 0 where
+  pub goes : NoneWaits after
   pub count : length after ≡ length seats
   pub each : (t : ℕ) (s : Seat) → slice_get seats t ≡ Some s → (x : Seat) × (slice_get after t ≡ Some x) × (jobs_of x ≡ jobs_of s)
 
--- A safepoint: no thread has more to do than before, and one has less.
+-- A safepoint: no thread waits behind it, none has more to do than before, and one has less.
 pub record Passed (seats after : List Seat) : Type 0 where
+  pub goes : NoneWaits after
   pub count : length after ≡ length seats
   pub each : (t : ℕ) (s : Seat) → slice_get seats t ≡ Some s → (x : Seat) × (slice_get after t ≡ Some x) × (jobs_of x ≤ jobs_of s)
   pub one : (t : ℕ) × ((s : Seat) × ((x : Seat) × (slice_get seats t ≡ Some s) × (slice_get after t ≡ Some x) × (jobs_of x < jobs_of s)))

@@ -5,7 +5,8 @@ ghost use Rattle.melt_copy.specs.Copying.{Collects, IsCopying};
 ghost use Rattle.melt_core.specs.Views.{IsQuiet, Standing, view};
 ghost use Rattle.melt_policy.specs.Policy.{planned};
 ghost use Rattle.melt_model.specs.declared.reports.Phase.{Phase};
-ghost use Rattle.melt_step.specs.Seats.{Collected, IsPlanning, Notes, PlansBy, made_as};
+ghost use Rattle.melt_step.specs.Journals.{made_as};
+ghost use Rattle.melt_step.specs.Seats.{Collected, IsPlanning, PlansBy};
 
 use melt_copy::collect_copy;
 use melt_core::Core;
@@ -84,8 +85,7 @@ impl Collector {
         requires stands { Standing (view core) }
         requires quiet { IsQuiet (view core) }
         ensures collected { IfOk result (λ after. Collected (view core) (view after)) }
-        ensures notes { OnOk result (Notes self.old self.new) }
-        ensures plans { OnOk result (PlansBy self.old self.new phase) }
+        ensures plans { IfOk result (λ after. PlansBy self.old self.new (view after) phase) }
     {
         let (mut heap, mut rest) = core.finish();
         let blank = Blank::new(1);
@@ -117,8 +117,7 @@ impl Collector {
         requires stands { Standing (view core) }
         requires quiet { IsQuiet (view core) }
         ensures collected { IfOk result (λ after. Collected (view core) (view after)) }
-        ensures notes { OnOk result (Notes self.old self.new) }
-        ensures plans { OnOk result (PlansBy self.old self.new self.old.planned) }
+        ensures plans { IfOk result (λ after. PlansBy self.old self.new (view after) self.old.planned) }
     {
         self.collect(alloc, core, self.planned)
     }

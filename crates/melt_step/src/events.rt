@@ -48,7 +48,10 @@ pub fn make_event(core: &mut Core, seat: &mut Seat<'_>, thread: u32, every: u32)
                 StepResult::Going => {}
                 StepResult::Answered(reply) => answered(core, seat, thread, reply, every),
                 StepResult::Refused(Refusal::Pause(Pause::Asked)) => seat.mode = Mode::Asked,
-                StepResult::Refused(_) => seat.mode = Mode::Lacking,
+                StepResult::Refused(Refusal::Pause(Pause::Space { .. } | Pause::Forward)) => {
+                    seat.mode = Mode::Lacking;
+                }
+                StepResult::Refused(Refusal::DiskFault | Refusal::Damaged(_)) => unreachable!(),
             }
         }
         _ => {
@@ -84,6 +87,7 @@ pub fn call_alone(
 ) -> Option<u32>
     requires stands { Standing (view core.old) }
     requires thread { thread < length (view core.old).held }
+    requires waits { seat.old.mode ≡ Mode.Lacking }
     requires op { seat.old.op ≡ Some op }
     requires no_collect { op ≢ Op.Collect }
     requires bounds { InBounds (length (view core.old).globals) op }
@@ -103,7 +107,11 @@ pub fn call_alone(
                 return None;
             }
             StepResult::Refused(Refusal::Pause(Pause::Space { need })) => return Some(need),
-            StepResult::Refused(_) => unreachable!(),
+            StepResult::Refused(
+                Refusal::Pause(Pause::Asked | Pause::Forward)
+                | Refusal::DiskFault
+                | Refusal::Damaged(_),
+            ) => unreachable!(),
         }
     }
 }

@@ -30,7 +30,7 @@ pub struct Run<'a> {
 impl<'a> Run<'a> {
     /// Makes the next event of a thread that can go on.
     pub fn step(&mut self, thread: u32)
-        requires stands { (script : Script) × ((heap : ℕ) × RunStands script heap self.old) }
+        requires stands { (script : Script) × ((config : Config) × RunStands script config self.old) }
         requires goes { (s : Seat) × (slice_get self.old.seats.items thread ≡ Some s) × MayGo s.mode }
         requires stop { KnowsStop (view self.old.core) self.old.seats.items }
         ensures keeps { KeepsRun self.old self.new }
@@ -58,7 +58,7 @@ impl<'a> Run<'a> {
     /// Gives out events until all threads have ended.
     fn run_all(self, alloc: Global, trace: &Trace) -> Result<Run<'a>, NoMemory>
         requires count { length self.seats.items ≡ length trace.now.programs }
-        requires stands { (heap : ℕ) × RunStands trace.now heap self }
+        requires stands { (config : Config) × RunStands trace.now config self }
         requires stop { KnowsStop (view self.core) self.seats.items }
         ensures keeps { IfOk result (KeepsRun self.entry) }
         ensures ended { IfOk result (λ run. (t : ℕ) (s : Seat) → slice_get run.seats.items t ≡ Some s → IsEnded s.mode) }
@@ -79,8 +79,8 @@ impl<'a> Run<'a> {
     /// The report of a run in which all threads have ended, and the heap that is left.
     pub fn report(self, alloc: Global) -> Result<(Report, Option<Heap>), NoMemory>
         requires ended { (t : ℕ) (s : Seat) → slice_get self.seats.items t ≡ Some s → IsEnded s.mode }
-        requires stands { (script : Script) × ((heap : ℕ) × RunStands script heap self) }
-        ensures { IfOk result (λ done. (script : Script) (config : Config) → RunStands script config.heap self.entry → HasRun script config done.0 done.1) }
+        requires stands { (script : Script) × ((config : Config) × RunStands script config self) }
+        ensures { IfOk result (λ done. (script : Script) (config : Config) → RunStands script config self.entry → HasRun script config done.0 done.1) }
     {
         let Run {
             core,
@@ -130,7 +130,7 @@ fn new_seats<'a>(alloc: Global, trace: &'a Trace) -> Result<(Vec<Seat<'a>>, u64)
 /// A run of a trace before its first event.
 pub fn new_run<'a>(alloc: Global, trace: &'a Trace, config: Config) -> Result<Run<'a>, NoMemory>
     requires ranges { InRanges config }
-    ensures stands { IfOk result (RunStands trace.now config.heap) }
+    ensures stands { IfOk result (RunStands trace.now config) }
     ensures stop { IfOk result (λ run. KnowsStop (view run.core) run.seats.items) }
 {
     let (seats, entries) = new_seats(alloc, trace)?;

@@ -1,9 +1,10 @@
 //! What is done when no thread can go on.
 ghost use Rattle.std.specs.Prelude.{◌≡◌, ℕ, ◌<◌, length, slice_get, false, Some, IfOk, IfSome, IfNone};
+ghost use Rattle.melt_model.specs.declared.config.Config.{Config};
 ghost use Rattle.melt_trace.specs.Script.{Script};
-ghost use Rattle.melt_core.specs.Views.{IsQuiet, view};
+ghost use Rattle.melt_core.specs.Views.{IsQuiet, Standing, view};
 ghost use Rattle.melt_step.specs.declared.seat.Seat.{Seat};
-ghost use Rattle.melt_step.specs.Seats.{AllWait, CalledAt, CollectedAll, CollectedAt, KeepsRun, KnowsStop, Passed, Resumed, RunStands, SomeGoesOn};
+ghost use Rattle.melt_step.specs.Seats.{AllWait, CalledAt, CalledFirst, CollectedAll, CollectedAt, ForCollection, IsPlanning, JustCollected, KeepsRun, KnowsStop, MakesCollections, MakesFor, MakesForAll, MakesPlanned, NoneBelow, Passed, Resumed, RunStands, SomeGoesOn, StandsCollected};
 
 use crate::events::{answered, call_alone};
 use crate::run::Run;
@@ -13,51 +14,67 @@ use melt_model::{NoMemory, Phase, Reply, ThreadEnd};
 use std::alloc::Global;
 
 impl<'a> Run<'a> {
+    /// Makes the collection that is planned.
+    fn collect(mut self, alloc: Global) -> Result<Run<'a>, NoMemory>
+        requires planning { IsPlanning self.collector }
+        requires stands { Standing (view self.core) }
+        requires quiet { IsQuiet (view self.core) }
+        ensures { IfOk result (MakesPlanned self.entry) }
+    {
+        let core = self.core;
+        self.core = self.collector.collect_planned(alloc, core)?;
+        Ok(self)
+    }
+
     /// Makes the collection for which a thread waits, if it waits for one of its own.
     fn collect_for(self, alloc: Global, thread: u32) -> Result<Run<'a>, NoMemory>
-        requires stands { (script : Script) × ((heap : ℕ) × RunStands script heap self) }
+        requires stands { (script : Script) × ((config : Config) × RunStands script config self) }
         requires thread { thread < length self.seats.items }
+        requires first { NoneBelow ForCollection self.seats.items thread }
         requires quiet { IsQuiet (view self.core) }
         ensures keeps { IfOk result (KeepsRun self.entry) }
         ensures quiet { IfOk result (λ run. IsQuiet (view run.core)) }
         ensures only { IfOk result (λ run. CollectedAt self.entry.seats.items run.seats.items thread) }
+        ensures made { IfOk result (λ run. (s : Seat) → slice_get self.entry.seats.items thread ≡ Some s → MakesFor s self.entry run) }
     {
-        let Run {
-            mut core,
-            mut seats,
-            mut collector,
-            every,
-        } = self;
-        let seat = &mut seats[thread as usize];
-        match seat.mode {
+        match self.seats[thread as usize].mode {
             Mode::Collecting => {
-                core = collector.collect_planned(alloc, core)?;
+                let Run {
+                    mut core,
+                    mut seats,
+                    collector,
+                    every,
+                } = self.collect(alloc)?;
+                let seat = &mut seats[thread as usize];
                 answered(&mut core, seat, thread, Reply::Done, every);
+                Ok(Run {
+                    core,
+                    seats,
+                    collector,
+                    every,
+                })
             }
             Mode::Silent => {
-                core = collector.collect_planned(alloc, core)?;
+                let mut run = self.collect(alloc)?;
+                let seat = &mut run.seats[thread as usize];
                 seat.go_on();
                 if seat.has_ended() {
-                    core.drop_all(thread);
+                    run.core.drop_all(thread);
                 }
+                Ok(run)
             }
-            _ => {}
+            _ => Ok(self),
         }
-        Ok(Run {
-            core,
-            seats,
-            collector,
-            every,
-        })
     }
 
     /// Makes the collections for which threads wait, in ascending order.
     fn collect_for_all(self, alloc: Global) -> Result<Run<'a>, NoMemory>
-        requires stands { (script : Script) × ((heap : ℕ) × RunStands script heap self) }
+        requires stands { (script : Script) × ((config : Config) × RunStands script config self) }
         requires quiet { IsQuiet (view self.core) }
         ensures keeps { IfOk result (KeepsRun self.entry) }
         ensures quiet { IfOk result (λ run. IsQuiet (view run.core)) }
         ensures all { IfOk result (λ run. CollectedAll self.entry.seats.items run.seats.items) }
+        ensures made { IfOk result (MakesForAll self.entry) }
     {
         let mut run = self;
         for t in 0..run.seats.len() as u32 {
@@ -66,34 +83,11 @@ impl<'a> Run<'a> {
         Ok(run)
     }
 
-    /// Makes the collection that is planned, though no thread waits for one.
-    fn collect_once(self, alloc: Global) -> Result<Run<'a>, NoMemory>
-        requires stands { (script : Script) × ((heap : ℕ) × RunStands script heap self) }
-        requires quiet { IsQuiet (view self.core) }
-        ensures keeps { IfOk result (KeepsRun self.entry) }
-        ensures quiet { IfOk result (λ run. IsQuiet (view run.core)) }
-        ensures no_stop { IfOk result (λ run. (view run.core).stop ≡ false) }
-        ensures same { IfOk result (λ run. run.seats.items ≡ self.entry.seats.items) }
-    {
-        let Run {
-            core,
-            seats,
-            mut collector,
-            every,
-        } = self;
-        let core = collector.collect_planned(alloc, core)?;
-        Ok(Run {
-            core,
-            seats,
-            collector,
-            every,
-        })
-    }
-
     /// The lowest thread that waits for room.
     fn lacking(&self) -> Option<u32>
-        requires stands { (script : Script) × ((heap : ℕ) × RunStands script heap self.now) }
+        requires stands { (script : Script) × ((config : Config) × RunStands script config self.now) }
         ensures some { IfSome result (λ t. (s : Seat) × (slice_get self.now.seats.items t ≡ Some s) × (s.mode ≡ Mode.Lacking)) }
+        ensures first { IfSome result (NoneBelow (λ mode. mode ≡ Mode.Lacking) self.now.seats.items) }
         ensures none { IfNone result ((t : ℕ) (s : Seat) → slice_get self.now.seats.items t ≡ Some s → s.mode ≡ Mode.Lacking → ⊥) }
     {
         for (t, seat) in self.seats.iter().enumerate() {
@@ -104,16 +98,17 @@ impl<'a> Run<'a> {
         None
     }
 
-    /// Makes the call of a thread that lacked room, after a collection. If it lacks room even after a forced one, the
-    /// thread ends.
+    /// Makes the call of the first thread that lacked room, after a collection. If it lacks room even after a forced one,
+    /// the thread ends.
     fn call_first(self, alloc: Global, thread: u32) -> Result<Run<'a>, NoMemory>
-        requires stands { (script : Script) × ((heap : ℕ) × RunStands script heap self) }
+        requires stands { (script : Script) × ((config : Config) × StandsCollected script config self) }
         requires waits { (s : Seat) × (slice_get self.seats.items thread ≡ Some s) × (s.mode ≡ Mode.Lacking) }
+        requires first { NoneBelow (λ mode. mode ≡ Mode.Lacking) self.seats.items thread }
         requires quiet { IsQuiet (view self.core) }
-        requires no_stop { (view self.core).stop ≡ false }
-        ensures keeps { IfOk result (KeepsRun self.entry) }
+        ensures keeps { IfOk result (λ run. (script : Script) (config : Config) → StandsCollected script config self.entry → RunStands script config run) }
         ensures quiet { IfOk result (λ run. IsQuiet (view run.core)) }
         ensures only { IfOk result (λ run. CalledAt self.entry.seats.items run.seats.items thread) }
+        ensures called { IfOk result (λ run. CalledFirst self.entry run thread) }
     {
         let Run {
             mut core,
@@ -141,45 +136,37 @@ impl<'a> Run<'a> {
     }
 
     /// The threads that wait go on, in a new epoch where the stop word is set.
-    fn resume(self) -> Run<'a>
-        requires stands { (script : Script) × ((heap : ℕ) × RunStands script heap self) }
+    fn resume(mut self) -> Run<'a>
+        requires stands { (script : Script) × ((config : Config) × RunStands script config self) }
         requires quiet { IsQuiet (view self.core) }
+        requires collected { (t : ℕ) (s : Seat) → slice_get self.seats.items t ≡ Some s → ForCollection s.mode → ⊥ }
         ensures keeps { KeepsRun self.entry result }
         ensures quiet { IsQuiet (view result.core) }
         ensures stop { KnowsStop (view result.core) result.seats.items }
         ensures resumed { Resumed self.entry.seats.items result.seats.items }
+        ensures collector { result.collector ≡ self.entry.collector }
     {
-        let Run {
-            mut core,
-            mut seats,
-            collector,
-            every,
-        } = self;
-        for seat in seats.iter_mut() {
+        for seat in self.seats.iter_mut() {
             seat.make_again();
         }
-        if core.is_stopped() {
-            let (heap, rest) = core.finish();
-            core = Core::begin(heap, rest);
+        if self.core.is_stopped() {
+            let (heap, rest) = self.core.finish();
+            self.core = Core::begin(heap, rest);
         }
-        Run {
-            core,
-            seats,
-            collector,
-            every,
-        }
+        self
     }
 
     /// What is done when no thread can go on: collections for those that wait for one, then the call of the first that
     /// lacked room, after a collection if there was none; then all that wait go on.
     pub fn pass_safepoint(self, alloc: Global) -> Result<Run<'a>, NoMemory>
-        requires stands { (script : Script) × ((heap : ℕ) × RunStands script heap self) }
+        requires stands { (script : Script) × ((config : Config) × RunStands script config self) }
         requires waits { AllWait self.seats.items }
         requires stop { KnowsStop (view self.core) self.seats.items }
         requires some { SomeGoesOn self.seats.items }
         ensures keeps { IfOk result (KeepsRun self.entry) }
         ensures quiet { IfOk result (λ run. IsQuiet (view run.core)) }
         ensures stop { IfOk result (λ run. KnowsStop (view run.core) run.seats.items) }
+        ensures made { IfOk result (λ run. MakesCollections self.entry.seats.items self.entry.collector run.collector) }
         ensures passed { IfOk result (λ run. Passed self.entry.seats.items run.seats.items) }
     {
         let run = self.collect_for_all(alloc)?;
@@ -187,7 +174,7 @@ impl<'a> Run<'a> {
             return Ok(run.resume());
         };
         let run = if run.core.is_stopped() {
-            run.collect_once(alloc)?
+            run.collect(alloc)?
         } else {
             run
         };

@@ -1,5 +1,6 @@
 ghost use Rattle.std.specs.Prelude.{◌≡◌, ◌≤◌, ℕ};
 ghost use Rattle.melt_model.specs.Config.{InRanges};
+ghost use Rattle.melt_model.specs.declared.config.Config.{Config};
 ghost use Rattle.melt_core.specs.Views.{view};
 ghost use Rattle.melt_step.specs.Seats.{KeepsRun, KnowsStop, RunStands};
 
@@ -159,7 +160,7 @@ fn an_object_that_nothing_reaches_gives_its_words_back(rt: HostRuntime) -> Resul
 /// Takes the events of a run, and compares the thread of each and how many replies it has then. No thread can go on
 /// behind the last.
 fn expect_events<R: Abort>(rt: &R, trace: &Trace, run: &mut Run<'_>, events: &[(u32, usize)])
-    requires stands { (heap : ℕ) × RunStands trace.now heap run.old }
+    requires stands { (config : Config) × RunStands trace.now config run.old }
     requires stop { KnowsStop (view run.old.core) run.old.seats.items }
     ensures keeps { KeepsRun run.old run.new }
 {

@@ -5,4 +5,4 @@ pub returns-clause-stands : goal.returns-clause-stands
 returns-clause-stands c = chosen_stands
 
 pub returns-clause-told : goal.returns-clause-told
-returns-clause-told c script heap v w seats after table chosen = table_told script heap w after (chosen_stands script heap v w seats after table chosen)
+returns-clause-told c script config v w seats after table chosen = table_told script config w after (chosen_stands script config v w seats after table chosen)

@@ -13,4 +13,4 @@ loop-reply-preserved c = record {
 pub returns-in-Answered-clause-called : goal.returns-in-Answered-clause-called
 returns-in-Answered-clause-called c =
     call_told (view c.args.core.now) (view c.loop-reply.core) (view c.advance.new.self) (view c.answered.new.core) c.args.thread c.args.op c.in-Answered.reply c.args.seat.now c.answered.new.seat
-    c.requires.op c.requires.no_collect c.loop-reply.invariant.on c.advance.ensures.advances.stands c.advance.ensures.advances.others (search rules) (search rules) c.answered.ensures.drops
+    c.requires.waits c.requires.op c.requires.no_collect c.loop-reply.invariant.on c.advance.ensures.advances.stands c.advance.ensures.advances.others (search rules) (search rules) c.answered.ensures.drops

@@ -22,6 +22,6 @@ index-requires g c =
 
 pub loop-thread-preserved : goal.loop-thread-preserved
 loop-thread-preserved g c = record {
-  keeps = λ script heap stands. c.step.ensures.keeps script heap (c.loop-thread.invariant.keeps script heap stands);
+  keeps = λ script config stands. c.step.ensures.keeps script config (c.loop-thread.invariant.keeps script config stands);
   stop = c.step.ensures.stop;
 }

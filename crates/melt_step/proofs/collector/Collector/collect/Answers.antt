@@ -11,7 +11,7 @@ use Rattle.melt_core.specs.Lending.{with_held}
 use Rattle.melt_core.specs.declared.machine.Core.{Core}
 use Rattle.melt_core.specs.declared.machine.Rest.{Rest}
 use Rattle.melt_step.specs.Seats.{Collected}
-use Rattle.melt_step.proofs.Collecting.{names_are, rest_formed, rest_collected, finished_collected, same_sizes, noted, planned_by}
+use Rattle.melt_step.proofs.Collecting.{names_are, rest_formed, rest_collected, finished_collected, same_sizes, LeavesWords, left_words, planned_by}
 use Rattle.melt_step.proofs.collector.Collector.collect.Goals as goal
 
 pub collect_uncounted-requires-clause-formed : goal.collect_uncounted-requires-clause-formed
@@ -38,20 +38,21 @@ returns-clause-collected c =
     (finished_collected (view c.args.core) (view (core_of heap rest)) (view (core_of new after)) c.finish-heap.ensures.finished
     (rest_collected heap new rest after c.args.phase c.in_ok-journal.journal c.finish-heap.ensures.rests c.requires.phase collects same (same_sizes rest.held.items after.held.items same before sixteen) refl refl refl))
 
-pub returns-clause-notes : goal.returns-clause-notes
-returns-clause-notes c =
-    let heap : Heap = c.finish-heap.result.0 in
-    let collects : Collects heap c.finish-heap.result.1.held.items c.collect_uncounted.new.heap c.collect_uncounted.new.held c.args.phase c.in_ok-journal.journal =
-    subst (λ (xs : List Registers). Collects heap xs c.collect_uncounted.new.heap c.collect_uncounted.new.held c.args.phase c.in_ok-journal.journal) c.registers.ensures.value c.in_ok-journal.ensures.collected in
-    noted c.args.self.now c.plan.new.self _ c.args.phase c.in_ok-journal.journal c.requires.planning c.plan.ensures.planning c.plan.ensures.journal c.requires.phase
-    (collects (maps_of heap.names) 1 (names_are heap.names) c.finish-heap.ensures.rests.stands.placed.formed).told.of_phase
-    c.in_ok-push.ensures.items refl
-
 pub returns-clause-plans : goal.returns-clause-plans
 returns-clause-plans c =
     let heap : Heap = c.finish-heap.result.0 in
-    let collects : Collects heap c.finish-heap.result.1.held.items c.collect_uncounted.new.heap c.collect_uncounted.new.held c.args.phase c.in_ok-journal.journal =
-    subst (λ (xs : List Registers). Collects heap xs c.collect_uncounted.new.heap c.collect_uncounted.new.held c.args.phase c.in_ok-journal.journal) c.registers.ensures.value c.in_ok-journal.ensures.collected in
-    planned_by c.args.self.now c.plan.new.self _ c.args.phase c.in_ok-journal.journal c.plan.ensures.journal
-    (collects (maps_of heap.names) 1 (names_are heap.names) c.finish-heap.ensures.rests.stands.placed.formed).told.of_phase
-    c.in_ok-push.ensures.items refl c.plan.ensures.next refl c.plan.ensures.config
+    let rest : Rest = c.finish-heap.result.1 in
+    let new : Heap = c.collect_uncounted.new.heap in
+    let held : List Registers = c.collect_uncounted.new.held in
+    let after : Rest = with_held rest held in
+    let lent : c.registers.result.now ≡ rest.held.items = c.registers.ensures.value in
+    let threads : length held ≡ length rest.held.items = c.collect_uncounted.auto.held ∙ ap length lent in
+    let items : after.held.items ≡ held = with_items_is rest.held held (threads ∙ sym rest.held.ok.0) in
+    let collects : Collects heap rest.held.items new after.held.items c.args.phase c.in_ok-journal.journal =
+    subst (λ (xs : List Registers). Collects heap xs new after.held.items c.args.phase c.in_ok-journal.journal) lent
+    (subst (λ (xs : List Registers). Collects heap c.registers.result.now new xs c.args.phase c.in_ok-journal.journal) (sym items) c.in_ok-journal.ensures.collected) in
+    let of_phase : c.in_ok-journal.journal.phase ≡ c.args.phase = (collects (maps_of heap.names) 1 (names_are heap.names) c.finish-heap.ensures.rests.stands.placed.formed).told.of_phase in
+    let left : LeavesWords (view c.begin.result) c.in_ok-journal.journal =
+    subst (λ (core : Core). LeavesWords (view core) c.in_ok-journal.journal) (sym c.begin.ensures) (left_words heap new rest after c.args.phase c.in_ok-journal.journal c.finish-heap.ensures.rests collects) in
+    planned_by c.args.self.now c.plan.new.self _ (view c.begin.result) c.args.phase c.in_ok-journal.journal c.requires.planning c.plan.ensures.planning c.plan.ensures.journal c.requires.phase of_phase
+    c.in_ok-push.ensures.items refl c.plan.ensures.next refl c.plan.ensures.config left

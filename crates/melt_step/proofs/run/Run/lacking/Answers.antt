@@ -22,6 +22,9 @@ pub returns-in-Lacking-clause-some : goal.returns-in-Lacking-clause-some
 returns-in-Lacking-clause-some c =
     (c.seat-item.result, seat_there c.deref-seat-items.result.now c.args.self.now.seats.items c.loop-t.t c.seat-item.result c.deref-seat-items.ensures.value c.loop-t-test.true c.seat-item.is, c.in-Lacking.is)
 
+pub returns-in-Lacking-clause-first : goal.returns-in-Lacking-clause-first
+returns-in-Lacking-clause-first c = c.loop-t.invariant
+
 pub loop-t-preserved : goal.loop-t-preserved
 loop-t-preserved c =
     none_more c.args.self.now.seats.items c.loop-t.t c.seat-item.result

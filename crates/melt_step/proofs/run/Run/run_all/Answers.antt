@@ -16,7 +16,7 @@ step-requires-clause-goes c =
 pub loop-t-preserved-in-Some : goal.loop-t-preserved-in-Some
 loop-t-preserved-in-Some c = record {
   count = c.step.ensures.count ∙ c.loop-t.invariant.count;
-  keeps = λ script heap stands. c.step.ensures.keeps script heap (c.loop-t.invariant.keeps script heap stands);
+  keeps = λ script config stands. c.step.ensures.keeps script config (c.loop-t.invariant.keeps script config stands);
   stop = c.step.ensures.stop;
 }
 
@@ -30,6 +30,6 @@ loop-t-smaller c =
 pub loop-t-preserved : goal.loop-t-preserved
 loop-t-preserved c = record {
   count = c.in_ok-run.ensures.passed.count ∙ c.loop-t.invariant.count;
-  keeps = λ script heap stands. c.in_ok-run.ensures.keeps script heap (c.loop-t.invariant.keeps script heap stands);
+  keeps = λ script config stands. c.in_ok-run.ensures.keeps script config (c.loop-t.invariant.keeps script config stands);
   stop = c.in_ok-run.ensures.stop;
 }

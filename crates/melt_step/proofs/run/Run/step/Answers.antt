@@ -3,7 +3,7 @@ use Rattle.std.proofs.Common.{◌≡◌, refl, sym, ◌∙◌, subst}
 use Rattle.std.proofs.lemmas.Option.{get_or_from_slice_get}
 use Rattle.melt_core.specs.Views.{view}
 use Rattle.melt_step.specs.declared.seat.Seat.{Seat}
-use Rattle.melt_step.specs.Seats.{IsReady, MayGo, SeatStep}
+use Rattle.melt_step.specs.Seats.{DueBy, IsReady, MayGo, SeatStep}
 use Rattle.melt_step.proofs.Tables.{table_ready}
 use Rattle.melt_step.proofs.Modes.{stop_known}
 use Rattle.melt_step.proofs.Going.{step_keeps, step_less}
@@ -27,7 +27,8 @@ returns-clause-keeps c =
     let here : c.index_mut-seat.result.now ≡ s = c.index_mut-seat.ensures.value ∙ get_or_from_slice_get c.args.self.now.seats.items c.args.thread s _ c.requires.goes.1 in
     let step : SeatStep (view c.args.self.now.core) (view c.make_event.new.core) c.args.thread s c.make_event.new.seat =
     subst (λ (x : Seat). SeatStep (view c.args.self.now.core) (view c.make_event.new.core) c.args.thread x c.make_event.new.seat) here c.make_event.ensures.step in
-    step_keeps c.args.self.now _ c.args.thread s c.make_event.new.seat c.requires.goes.1 c.requires.goes.2 step refl refl
+    step_keeps c.args.self.now _ c.args.thread s c.make_event.new.seat c.requires.goes.1 c.requires.goes.2 step refl
+    (subst (λ (x : Seat). DueBy c.args.self.now.every x c.make_event.new.seat) here c.make_event.ensures.due) refl refl
 
 pub returns-clause-stop : goal.returns-clause-stop
 returns-clause-stop c =
