@@ -34,6 +34,7 @@ use Rattle.melt_core.proofs.Registers.{registers_set, registers_other}
 use Rattle.melt_scion.specs.Changes.{FreeMoves, SameWords}
 use Rattle.melt_scion.proofs.Staying.{free_shifts}
 use Rattle.melt_scion.proofs.Following.{same_history}
+use Rattle.melt_scion.proofs.Starting.{NoObjects, IsEmpty, FormedWords_start, NoGaps_start, Tells_start}
 use Rattle.melt_core.proofs.Holding.{holds_same}
 use Rattle.melt_core.proofs.Making.{hold_words}
 use Rattle.melt_model.specs.declared.history.Entry.{Entry}
@@ -132,3 +133,81 @@ dropped v t within none = record {
           apart = s.apart;
           counts = λ is. let c = s.counts is in record { in_use = c.in_use; adds_up = c.adds_up; below = c.below; within = c.within };
         }
+
+-- each register of threads whose registers hold nothing is 0
+nothing_held : (threads u r : ℕ) → register_in (replicate threads no_registers) u r ≡ 0
+nothing_held zero u r = refl
+nothing_held (suc threads) zero r = get_or_replicate 16 r 0
+nothing_held (suc threads) (suc u) r = nothing_held threads u r
+
+no_name : (words k : ℕ) → name_at (replicate words None) k ≡ None
+no_name words zero = refl
+no_name words (suc k) = get_or_replicate words k None
+
+-- a new heap of these words, under threads that made nothing
+new_view : SpaceWords → ℕ → ℕ → ℕ → ℕ → View
+new_view space words globals threads capacity = record {
+  space = space;
+  globals = replicate globals 0;
+  names = Some (record { addresses = replicate words None });
+  held = replicate threads no_registers;
+  calls = replicate threads None;
+  log = [];
+  capacity = capacity;
+  made = 0;
+  free = space.used + 1;
+  stop = false;
+}
+
+stands_new : (told : Bool) (space : SpaceWords) (words globals threads capacity : ℕ) → length space.list ≡ words → space.used ≡ 0 → words < 2 ^ 30 → threads ≤ 8 → Standing told (new_view space words globals threads capacity)
+unfolding new_view
+stands_new told space words globals threads capacity size unused small few =
+    let v : View = new_view space words globals threads capacity in
+    let still : IsQuiet v = λ t. get_or_replicate threads t None in
+    let gone : (t : ℕ) (c : Call) → call_of v t ≡ Some c → ⊥ = λ t c is. (let e : None ≡ Some c = sym (still t) ∙ is in cc) in
+    let unclaimed : claimed v.calls ≡ 0 = claimed_none v.calls still in
+    let objects : NoObjects (maps v) = record { address = no_name words; home = λ home. refl } in
+    let empty : IsEmpty (state v) = record {
+      small = omega (arith, size, small);
+      forwards = λ p below. refl;
+      scions = λ k. refl;
+      end = refl;
+      homes = refl;
+      free_homes = refl;
+      globals = λ g below. get_or_replicate globals g 0;
+    } in
+    record {
+      named = refl;
+      room = length-replicate words None ∙ sym size;
+      few = omega (arith, length-replicate threads no_registers, few);
+      each = length-replicate threads None ∙ sym (length-replicate threads no_registers);
+      counted = refl;
+      first = omega arith;
+      bounded = inl (omega (arith, unused));
+      holds = record {
+        formed = FormedWords_start (maps v) (state v) objects empty;
+        no_gaps = NoGaps_start (maps v) (state v) objects empty;
+        tells = λ is. Tells_start (maps v) (state v) objects empty;
+      };
+      legal = λ is p e at. absurd (cc);
+      registers = λ t r. inl (nothing_held threads t r);
+      known = λ t c is. absurd (gone t c is);
+      fits = λ t c is. absurd (gone t c is);
+      apart = λ t u c d other is at. absurd (gone t c is);
+      counts = λ is. record {
+        in_use = 0;
+        adds_up = CostsSum-empty (words_of []) (InUse (maps v)) (λ n named. let e : None ≡ Some n = sym (no_name words named.0) ∙ named.1 in cc);
+        below = omega (arith, unclaimed);
+        within = omega (arith, unclaimed);
+      };
+    }
+
+-- before the first event
+pub start_at_rest : (told : Bool) (words globals threads entries : ℕ) (heap : Heap) (rest : Rest) → words < 2 ^ 30 → threads ≤ 8 → IsNewHeap words globals true heap → IsNewRest threads entries rest → AtRest told heap rest
+unfolding new_view
+start_at_rest told words globals threads entries heap rest small few is_new is_rest =
+    let same : new_view heap.space words globals threads (vec_capacity rest.log) ≡ view (core_of heap rest) = cc in
+    record {
+      stands = subst (Standing told) same (stands_new told heap.space words globals threads (vec_capacity rest.log) is_new.space.size is_new.space.used small few);
+      quiet = λ t. ap (λ (calls : List (Option Call)). get_or calls t None) is_rest.calls ∙ get_or_replicate threads t None;
+    }

@@ -19,6 +19,7 @@ use Rattle.melt_core.specs.declared.call.Call.{Call}
 use Rattle.melt_core.specs.Answering.{Answers, with_entry}
 use Rattle.melt_core.specs.Known.{Evolves, IsPlace, IsTagged, word_in}
 use Rattle.melt_core.specs.Stages.{LoadsAt, Applies, change_of, cleared_by, Next, MustPause, events_left}
+use Rattle.melt_core.specs.Changed.{HasRoomForEntry}
 use Rattle.melt_core.specs.Views.{View, maps, state, values_of, value, registers_in, call_of, stage_of, Standing}
 
 -- registers and globals that the operation names are there, and the object that it makes is small enough
@@ -48,7 +49,7 @@ pub record MayAdvance (v : View) (t : ℕ) (o : Op) : Type 0 where
   pub bounds : InBounds (length v.globals) o
   pub no_collect : o ≢ op.Collect
   pub continued : Continues (call_of v t) o
-  pub room : length v.log < v.capacity
+  pub room : HasRoomForEntry v
   pub few : length v.log < 2 ^ 32
 
 -- what an event of one thread leaves to the others

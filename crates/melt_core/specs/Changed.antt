@@ -1,5 +1,5 @@
 -- The small changes of which events are made, as changes of a view.
-use Rattle.std.specs.Prelude.{◌≡◌, ℕ, [], ◌∷◌, ◌++◌, slice_set, Option, None, Some}
+use Rattle.std.specs.Prelude.{◌≡◌, ℕ, ◌<◌, true, [], ◌∷◌, ◌++◌, length, slice_set, Option, None, Some}
 use Rattle.melt_model.specs.Thread.{found}
 use Rattle.melt_model.specs.declared.history.Entry.{Entry}
 use Rattle.melt_model.specs.declared.history.Act.TheVariants.{Read}
@@ -18,6 +18,14 @@ use Rattle.melt_core.specs.Views.{View, registers_in, maps, held_value}
 pub record HoldsRef (word : ℕ) (reference : Ref) : Type 0 where
   pub in_range : IsRef reference
   pub is : word ≡ ref_word reference
+
+-- the stop word is set
+abbrev pub stopped : View → View
+stopped v = record v { stop = true }
+
+-- the history has room for one entry more
+abbrev pub HasRoomForEntry : View → Type 0
+HasRoomForEntry v = length v.log < v.capacity
 
 -- the call of a thread is this, or is over
 abbrev pub with_call : View → ℕ → Option Call → View
