@@ -29,6 +29,8 @@ use Rattle.melt_core.proofs.Regions.{no_region_apart}
 use Rattle.melt_core.specs.Stages.{Fits}
 use Rattle.melt_core.specs.Epochs.{no_registers, IsNewRest, core_of, AtRest, HasDropped}
 use Rattle.melt_core.specs.Views.{View, InUse, view, maps, state, call_of, values_of, held_values, registers_in, claimed_in, claimed, Counts, Bounded, Standing, IsQuiet}
+use Rattle.melt_core.specs.Changed.{stopped}
+use Rattle.melt_core.proofs.Claims.{bounded_stop}
 use Rattle.melt_core.proofs.Values.{get_or_replicate}
 use Rattle.melt_core.proofs.Registers.{registers_set, registers_other}
 use Rattle.melt_scion.specs.Changes.{FreeMoves, SameWords}
@@ -133,6 +135,25 @@ dropped v t within none = record {
           apart = s.apart;
           counts = λ is. let c = s.counts is in record { in_use = c.in_use; adds_up = c.adds_up; below = c.below; within = c.within };
         }
+
+-- the stop word was set
+pub stands_stopped : (told : Bool) (v : View) → Standing told v → Standing told (stopped v)
+stands_stopped told v s = record {
+  named = s.named;
+  room = s.room;
+  few = s.few;
+  each = s.each;
+  counted = s.counted;
+  first = s.first;
+  bounded = bounded_stop (length v.space.list) v.free v.stop v.calls s.bounded;
+  holds = s.holds;
+  legal = s.legal;
+  registers = s.registers;
+  known = s.known;
+  fits = s.fits;
+  apart = s.apart;
+  counts = λ is. let c = s.counts is in record { in_use = c.in_use; adds_up = c.adds_up; below = c.below; within = c.within };
+}
 
 -- each register of threads whose registers hold nothing is 0
 nothing_held : (threads u r : ℕ) → register_in (replicate threads no_registers) u r ≡ 0

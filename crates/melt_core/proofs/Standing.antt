@@ -151,7 +151,7 @@ advances v w t o result asks made capacity applies outcome clean =
         capacity = capacity;
         calls = λ u differ. call_there v w t u made.after h.calls differ;
         registers = h.others;
-        values = λ told u differ. values_stay v w u cleared s evolves (h.others u differ);
+        values = λ u differ. values_stay v w u cleared s evolves (h.others u differ);
       };
       outcome = outcome;
       clean = clean;

@@ -60,7 +60,7 @@ pub record KeepsOthers (v w : View) (t : ℕ) : Type 0 where
   pub capacity : w.capacity ≡ v.capacity
   pub calls : (u : ℕ) → u ≢ t → call_of w u ≡ call_of v u
   pub registers : (u : ℕ) → u ≢ t → registers_in w.held u ≡ registers_in v.held u
-  pub values : Standing true v → (u : ℕ) → u ≢ t → values_of w u ≡ values_of v u
+  pub values : (u : ℕ) → u ≢ t → values_of w u ≡ values_of v u
 
 -- the history and the registers of the thread stay
 pub record KeepsOwn (v w : View) (t : ℕ) : Type 0 where

@@ -1,6 +1,6 @@
 -- A call that a thread makes alone.
 use Rattle.std.proofs.Common.{◌≡◌, ◌≢◌, ℕ, ◌+◌, ◌<◌, ◌≤◌, false, length, refl, sym, ◌∙◌, ap, subst, arith, inl, inr}
-use Rattle.std.specs.Prelude.{Option, None, Some}
+use Rattle.std.specs.Prelude.{Bool, true, Option, None, Some}
 use Rattle.std.proofs.lemmas.Bool.{cases_eq}
 use Rattle.std.proofs.lemmas.Option.{same_Some}
 use Rattle.melt_model.specs.declared.operations.Op.{Op}
@@ -11,9 +11,19 @@ use Rattle.melt_core.specs.declared.call.Stage.{Stage}
 use Rattle.melt_core.specs.declared.call.Stage.TheVariants as stage
 use Rattle.melt_core.specs.declared.call.Stage.TheVariants.{Polled, Headed, Looked, Cleared, Claimed}
 use Rattle.melt_core.specs.declared.answer.StepResult.TheVariants.{Going}
-use Rattle.melt_core.specs.Calls.{AtStage}
+use Rattle.melt_word.specs.Words.{IsShape, cost_of}
+use Rattle.melt_word.specs.declared.header.Shape.{Shape}
+use Rattle.melt_scion.specs.State.{State}
+use Rattle.melt_scion.specs.Placed.{Maps}
+use Rattle.melt_scion.specs.Heaps.{register_in}
+use Rattle.melt_core.specs.declared.call.Access.TheVariants.{Load, Store, Get, Put}
+use Rattle.melt_core.specs.declared.call.Task.TheVariants.{Make, Use, LoadGlobal, StoreGlobal}
+use Rattle.melt_core.specs.Stages.{Next, Applies, change_of}
+use Rattle.std.proofs.lemmas.Bool.{cases_lt}
 use Rattle.melt_core.specs.Views.{View, values_of, call_of, maps, state, Standing}
-use Rattle.melt_core.specs.Events.{Advances, Continues, KeepsOthers, IsAnswered, Goes, stage_in, events_left}
+use Rattle.melt_core.specs.Advances.{Advances, Continues, KeepsOthers, IsAnswered, Goes}
+use Rattle.melt_core.specs.Views.{stage_in}
+use Rattle.melt_core.specs.Stages.{events_left}
 use Rattle.melt_step.specs.declared.seat.Seat.{Seat}
 use Rattle.melt_step.specs.declared.seat.Mode.TheVariants.{Lacking}
 use Rattle.melt_step.specs.Seats.{owes_silent, TakesReply, DropsIfEnded, CalledAlone}
@@ -22,13 +32,13 @@ use Rattle.melt_step.proofs.Calling.{KeepsOthers_both, told_seat, told_stands}
 -- a call that has claimed nothing yet
 abbrev pub IsEarly : Option Stage → Type 0
 IsEarly None = Unit {0}
-IsEarly (Some Polled) = Unit {0}
+IsEarly (Some (Polled task)) = Unit {0}
 IsEarly stage = ⊥
 
 -- A thread makes its call alone: the others saw nothing of it so far, and before it claims the first free place is
 -- that of the beginning. A claim that ended past the last word did so from there.
 pub record OnCall (v w : View) (t : ℕ) (o : Op) : Type 0 where
-  pub stands : Standing w
+  pub stands : Standing true w
   pub others : KeepsOthers v w t
   pub continued : Continues (call_of w t) o
   pub history : w.log ≡ v.log
@@ -38,10 +48,10 @@ pub record OnCall (v w : View) (t : ℕ) (o : Op) : Type 0 where
   pub lacks : (need : ℕ) → stage_in (call_of w t) ≡ Some (stage.Lacking need) → length v.space.list + 1 < v.free + need
 
 -- the call is to begin
-pub call_begins : (v : View) (t : ℕ) (o : Op) → Standing v → call_of v t ≡ None → v.stop ≡ false → OnCall v v t o
+pub call_begins : (v : View) (t : ℕ) (o : Op) → Standing true v → call_of v t ≡ None → v.stop ≡ false → OnCall v v t o
 call_begins v t o stands none stop = record {
   stands = stands;
-  others = record { globals = refl; words = refl; threads = refl; capacity = refl; calls = λ u other. refl; values = λ u other. refl };
+  others = record { globals = refl; words = refl; threads = refl; capacity = refl; calls = λ u other. refl; registers = λ u other. refl; values = λ u other. refl };
   continued = subst (λ (c : Option Call). Continues c o) (sym none) tt;
   history = refl;
   values = refl;
@@ -50,35 +60,56 @@ call_begins v t o stands none stop = record {
   lacks = λ need is. absurd (let no : None ≡ Some (stage.Lacking need) = ap stage_in (sym none) ∙ is in cc);
 }
 
--- a call that has so many events before it has claimed nothing yet
-stage_early : (w : View) (t : ℕ) (c : Call) (s : Stage) → Standing w → call_of w t ≡ Some c → c.stage ≡ s → 126 < events_left (Some s) → IsEarly (Some s)
-stage_early w t c Polled stands at is left = tt
-stage_early w t c (Headed address shape) stands at is left = absurd (omega arith)
-stage_early w t c (Looked place target) stands at is left = absurd (omega arith)
-stage_early w t c (Cleared place target) stands at is left = absurd (omega arith)
-stage_early w t c (Claimed address shape stored) stands at is left =
-    let flight : AtStage (maps w) (state w) t c.op (Claimed address shape stored) = subst (AtStage (maps w) (state w) t c.op) is (stands.in_flight t c at) in
-    let refs : shape.refs ≤ 62 = flight.1.small.refs in
-    let nums : shape.nums ≤ 62 = flight.1.small.nums in
-    absurd (omega arith)
-stage_early w t c (stage.Lacking need) stands at is left = absurd (omega arith)
+-- an event behind which nothing was claimed yet leaves the first free place
+goes_free : (m n : Maps) (s x : State) (register : ℕ → ℕ) (stop : Bool) (o : Op) (from : Option Stage) (next : Stage) → Next m s register stop o from next → Applies m n s x (change_of s register from) → IsEarly (Some next) → x.free ≡ s.free
+goes_free m n s x register stop o None next is applies early = applies.1.free
+goes_free m n s x register stop o (Some (Polled (Make dst shape))) next is applies early = absurd (elim (cases_lt (s.base.size + 1) (s.free + cost_of shape)) [
+  | inl above ↦ subst (λ (g : Stage). IsEarly (Some g)) (is.1 above) early
+  | inr below ↦ subst (λ (g : Stage). IsEarly (Some g)) (is.0 below) early
+])
+goes_free m n s x register stop o (Some (Polled (Use r access))) next is applies early = applies.1.free
+goes_free m n s x register stop o (Some (Polled (LoadGlobal dst g))) next is applies early = applies.1.free
+goes_free m n s x register stop o (Some (Polled (StoreGlobal g src))) next is applies early = absurd is
+goes_free m n s x register stop o (Some (Headed address shape (Load dst i))) next is applies early = applies.1.free
+goes_free m n s x register stop o (Some (Headed address shape (Store i src))) next is applies early = absurd is
+goes_free m n s x register stop o (Some (Headed address shape (Get j))) next is applies early = absurd is
+goes_free m n s x register stop o (Some (Headed address shape (Put j v))) next is applies early = absurd is
+goes_free m n s x register stop o (Some (Looked place target dst)) next is applies early = absurd (subst (λ (g : Stage). IsEarly (Some g)) is early)
+goes_free m n s x register stop o (Some (Cleared place target dst)) next is applies early = absurd is
+goes_free m n s x register stop o (Some (Claimed address shape stored dst)) next is applies early = absurd (subst (λ (g : Stage). IsEarly (Some g)) is.1 early)
+goes_free m n s x register stop o (Some (stage.Lacking need)) next is applies early = absurd is
 
-call_early : (w : View) (t : ℕ) (call : Option Call) → Standing w → call_of w t ≡ call → 126 < events_left (stage_in call) → IsEarly (stage_in call)
-call_early w t None stands at left = tt
-call_early w t (Some c) stands at left = stage_early w t c c.stage stands at refl left
+-- a claim that ended past the last word did so from the first free place, and is the first of its call
+goes_lacks : (m : Maps) (s : State) (register : ℕ → ℕ) (stop : Bool) (o : Op) (from : Option Stage) (next : Stage) (need : ℕ) → Next m s register stop o from next → next ≡ stage.Lacking need → IsEarly from × (s.base.size + 1 < s.free + need)
+goes_lacks m s register stop o None next need is lacks = absurd (let e : Polled is.0 ≡ stage.Lacking need = sym is.3 ∙ lacks in cc)
+goes_lacks m s register stop o (Some (Polled (Make dst shape))) next need is lacks = elim (cases_lt (s.base.size + 1) (s.free + cost_of shape)) [
+  | inl above ↦ (tt, (let e : stage.Lacking (cost_of shape) ≡ stage.Lacking need = sym (is.1 above) ∙ lacks in let same : cost_of shape ≡ need = cc in omega arith))
+  | inr below ↦ absurd (let e : Claimed s.free shape 0 dst ≡ stage.Lacking need = sym (is.0 below) ∙ lacks in cc)
+]
+goes_lacks m s register stop o (Some (Polled (Use r access))) next need is lacks = absurd (let e : Headed (register r) is.0 access ≡ stage.Lacking need = sym is.3 ∙ lacks in cc)
+goes_lacks m s register stop o (Some (Polled (LoadGlobal dst g))) next need is lacks = absurd (let e = sym is.2 ∙ lacks in cc)
+goes_lacks m s register stop o (Some (Polled (StoreGlobal g src))) next need is lacks = absurd is
+goes_lacks m s register stop o (Some (Headed address shape (Load dst i))) next need is lacks = absurd (let e = sym is.2 ∙ lacks in cc)
+goes_lacks m s register stop o (Some (Headed address shape (Store i src))) next need is lacks = absurd is
+goes_lacks m s register stop o (Some (Headed address shape (Get j))) next need is lacks = absurd is
+goes_lacks m s register stop o (Some (Headed address shape (Put j v))) next need is lacks = absurd is
+goes_lacks m s register stop o (Some (Looked place target dst)) next need is lacks = absurd (let e : Cleared place target dst ≡ stage.Lacking need = sym is ∙ lacks in cc)
+goes_lacks m s register stop o (Some (Cleared place target dst)) next need is lacks = absurd is
+goes_lacks m s register stop o (Some (Claimed address shape stored dst)) next need is lacks = absurd (let e : Claimed address shape (stored + 1) dst ≡ stage.Lacking need = sym is.1 ∙ lacks in cc)
+goes_lacks m s register stop o (Some (stage.Lacking n)) next need is lacks = absurd is
 
--- a claim ends past the last word only where the call has claimed nothing yet
-lacks_early : (w x : View) (t need : ℕ) (o : Op) (goes : Goes w x t o) → goes.stage ≡ stage.Lacking need → IsEarly (stage_in (call_of w t))
-lacks_early w x t need o goes is = subst IsEarly (sym (goes.claims need is)) tt
-
--- an early stage is that of a call that was begun
-early_polled : (s : Stage) → IsEarly (Some s) → s ≡ Polled
-early_polled Polled early = refl
-early_polled (Headed address shape) early = absurd early
-early_polled (Looked place target) early = absurd early
-early_polled (Cleared place target) early = absurd early
-early_polled (Claimed address shape stored) early = absurd early
-early_polled (stage.Lacking need) early = absurd early
+-- where nothing was claimed behind an event, nothing was before it
+goes_early : (m : Maps) (s : State) (register : ℕ → ℕ) (stop : Bool) (o : Op) (from : Option Stage) (next : Stage) → Next m s register stop o from next → IsEarly (Some next) → IsEarly from
+goes_early m s register stop o None next is early = tt
+goes_early m s register stop o (Some (Polled task)) next is early = tt
+goes_early m s register stop o (Some (Headed address shape (Load dst i))) next is early = subst (λ (g : Stage). IsEarly (Some g)) is.2 early
+goes_early m s register stop o (Some (Headed address shape (Store i src))) next is early = absurd is
+goes_early m s register stop o (Some (Headed address shape (Get j))) next is early = absurd is
+goes_early m s register stop o (Some (Headed address shape (Put j v))) next is early = absurd is
+goes_early m s register stop o (Some (Looked place target dst)) next is early = subst (λ (g : Stage). IsEarly (Some g)) is early
+goes_early m s register stop o (Some (Cleared place target dst)) next is early = absurd is
+goes_early m s register stop o (Some (Claimed address shape stored dst)) next is early = subst (λ (g : Stage). IsEarly (Some g)) is.1 early
+goes_early m s register stop o (Some (stage.Lacking need)) next is early = absurd is
 
 -- the call goes on
 pub call_goes : (v w x : View) (t : ℕ) (o : Op) → OnCall v w t o → Advances w x t o Going → OnCall v x t o
@@ -86,26 +117,25 @@ call_goes v w x t o on advances =
     let goes : Goes w x t o = advances.outcome in
     let after : stage_in (call_of x t) ≡ Some goes.stage = ap stage_in goes.call in
     record {
-      stands = advances.stands;
+      stands = advances.keeps true on.stands;
       others = KeepsOthers_both v w x t on.others advances.others;
       continued = subst (λ (c : Option Call). Continues c o) (sym goes.call) refl;
-      history = goes.history ∙ on.history;
-      values = goes.values ∙ on.values;
+      history = goes.own.history ∙ on.history;
+      values = goes.own.values ∙ on.values;
       stop = goes.stop ∙ on.stop;
       free = λ early.
-          let polled : goes.stage ≡ Polled = early_polled goes.stage (subst IsEarly after early) in
-          let left : 126 < events_left (stage_in (call_of w t)) =
-          let nearer : events_left (Some Polled) < events_left (stage_in (call_of w t)) = subst (λ (s : Stage). events_left (Some s) < events_left (stage_in (call_of w t))) polled goes.nearer in omega arith in
-          goes.free polled ∙ on.free (call_early w t (call_of w t) on.stands refl left);
+          let behind : IsEarly (Some goes.stage) = subst IsEarly after early in
+          goes_free (maps w) (maps x) (state w) (state x) (register_in w.held t) w.stop o (stage_in (call_of w t)) goes.stage goes.next advances.changes behind
+          ∙ on.free (goes_early (maps w) (state w) (register_in w.held t) w.stop o (stage_in (call_of w t)) goes.stage goes.next behind);
       lacks = λ need is.
           let lacking : goes.stage ≡ stage.Lacking need = same_Some goes.stage (stage.Lacking need) (sym after ∙ is) in
-          let above : length w.space.list + 1 < w.free + need = goes.lacks need lacking in
-          let free : w.free ≡ v.free = on.free (lacks_early w x t need o goes lacking) in
-          omega (arith, above, free, on.others.words);
+          let first = goes_lacks (maps w) (state w) (register_in w.held t) w.stop o (stage_in (call_of w t)) goes.stage need goes.next lacking in
+          let free : w.free ≡ v.free = on.free first.0 in
+          omega (arith, first.1, free, on.others.words);
     }
 
 -- the call was answered
-pub call_told : (v w x y : View) (t : ℕ) (o : Op) (reply : Reply) (s after : Seat) → s.mode ≡ Lacking → s.op ≡ Some o → o ≢ Collect → OnCall v w t o → Standing x → KeepsOthers w x t → IsAnswered w x t o reply → TakesReply s after reply → DropsIfEnded x y t after.mode → CalledAlone v y t s after None
+pub call_told : (v w x y : View) (t : ℕ) (o : Op) (reply : Reply) (s after : Seat) → s.mode ≡ Lacking → s.op ≡ Some o → o ≢ Collect → OnCall v w t o → Standing true x → KeepsOthers w x t → IsAnswered w x t o reply → TakesReply s after reply → DropsIfEnded x y t after.mode → CalledAlone v y t s after None
 call_told v w x y t o reply s after lacking next no_collect on stands others answered takes drops =
     let behind = told_stands x y t after.mode stands drops in
     let values : (u : ℕ) → values_of w u ≡ values_of v u = λ u. elim (cases_eq u t) [
@@ -115,5 +145,5 @@ call_told v w x y t o reply s after lacking next no_collect on stands others ans
     record {
       stands = behind.0;
       others = KeepsOthers_both v w y t on.others (KeepsOthers_both w x y t others behind.1);
-      what = inl (refl, told_seat v w x y t o reply s after next no_collect on.history values on.others.words answered (ap owes_silent lacking) takes drops);
+      what = inl (refl, told_seat v w x y t o reply s after next no_collect on.history values on.others.words on.stands answered (ap owes_silent lacking) takes drops);
     }

@@ -1,5 +1,5 @@
 -- What an event or a reply makes of a thread.
-use Rattle.std.proofs.Common.{◌≡◌, ◌≢◌, ℕ, ◌+◌, ◌≤◌, false, List, length, refl, sym, ◌∙◌, ap, subst, arith, inl, inr}
+use Rattle.std.proofs.Common.{true, ◌≡◌, ◌≢◌, ℕ, ◌+◌, ◌≤◌, false, List, length, refl, sym, ◌∙◌, ap, subst, arith, inl, inr}
 use Rattle.std.specs.Prelude.{Some, ◌⊎◌}
 use Rattle.melt_model.specs.Alive.{Alive, words_of, CostsSum}
 use Rattle.melt_model.specs.declared.history.Entry.{Entry}
@@ -13,10 +13,10 @@ use Rattle.melt_model.specs.Thread.{value_in}
 use Rattle.melt_model.proofs.Sums.{CostsSum-same}
 use Rattle.melt_core.specs.Answering.{Answers}
 use Rattle.melt_core.specs.Views.{View, value, values_of, call_of, Standing}
-use Rattle.melt_core.specs.Events.{KeepsOthers, HasRoom, HasRoomFor, IsAnswered}
+use Rattle.melt_core.specs.Advances.{KeepsOthers, HasRoom, HasRoomFor, IsAnswered}
 use Rattle.melt_core.specs.Changed.{stopped}
 use Rattle.melt_core.specs.Epochs.{HasDropped}
-use Rattle.melt_core.proofs.Changing.{Standing_stopped}
+use Rattle.melt_core.proofs.Resting.{stands_stopped}
 use Rattle.melt_step.specs.declared.seat.Seat.{Seat}
 use Rattle.melt_step.specs.declared.seat.Mode.{Mode}
 use Rattle.melt_step.specs.declared.seat.Mode.TheVariants.{Running, Due, Silent, Collecting, Asked, Lacking, Ended}
@@ -25,24 +25,28 @@ use Rattle.melt_step.proofs.Cuts.{alive_same}
 use Rattle.melt_step.proofs.Modes.{dropped_keeps}
 
 -- a thread waits for a collection
-pub waits_step : (v w : View) (t : ℕ) (s : Seat) (mode : Mode) → Standing v → w ≡ stopped v → ((s.mode ≡ Running) × (s.op ≡ Some Collect) × (mode ≡ Collecting)) ⊎ ((s.mode ≡ Due) × (mode ≡ Silent)) → SeatStep v w t s (record s { mode = mode })
+pub waits_step : (v w : View) (t : ℕ) (s : Seat) (mode : Mode) → Standing true v → w ≡ stopped v → ((s.mode ≡ Running) × (s.op ≡ Some Collect) × (mode ≡ Collecting)) ⊎ ((s.mode ≡ Due) × (mode ≡ Silent)) → SeatStep v w t s (record s { mode = mode })
 waits_step v w t s mode stands is before =
-    let others : KeepsOthers v (stopped v) t = record { globals = refl; words = refl; threads = refl; capacity = refl; calls = λ u other. refl; values = λ u other. refl } in
+    let others : KeepsOthers v (stopped v) t = record { globals = refl; words = refl; threads = refl; capacity = refl; calls = λ u other. refl; registers = λ u other. refl; values = λ u other. refl } in
     record {
-      stands = subst Standing (sym is) (Standing_stopped v stands);
+      stands = subst (Standing true) (sym is) (stands_stopped true v stands);
       others = subst (λ (x : View). KeepsOthers v x t) (sym is) others;
       what = inl (mode, record { only = refl; stop = is; before = before });
     }
 
 -- the same words have room, where history and registers are the same
 room_same : (v u : View) (need : ℕ) → u.log ≡ v.log → ((x : ℕ) → values_of u x ≡ values_of v x) → length u.space.list ≡ length v.space.list → HasRoom u need → HasRoom v need
-room_same v u need log values words room alive sum =
+room_same v u need log values words room =
     let same : (t r : ℕ) → value v t r ≡ value u t r = λ t r. ap (λ (vs : List Value). value_in vs r) (sym (values t)) in
-    let there : CostsSum (words_of v.log) (Alive v.log (value u)) alive =
-    CostsSum-same (words_of v.log) (Alive v.log (value v)) (Alive v.log (value u)) alive (λ n. (alive_same v.log (value v) (value u) n same, alive_same v.log (value u) (value v) n (λ t r. sym (same t r)))) sum in
-    let here : CostsSum (words_of u.log) (Alive u.log (value u)) alive = subst (λ (h : List Entry). CostsSum (words_of h) (Alive h (value u)) alive) (sym log) there in
-    let fits : alive + need ≤ length u.space.list = room alive here in
-    omega (arith, fits, words)
+    let there : CostsSum (words_of v.log) (Alive v.log (value u)) room.alive = subst (λ (h : List Entry). CostsSum (words_of h) (Alive h (value u)) room.alive) log room.adds_up in
+    let fits : room.alive + need ≤ length u.space.list = room.fits in
+    record {
+      alive = room.alive;
+      adds_up =
+          CostsSum-same (words_of v.log) (Alive v.log (value u)) (Alive v.log (value v)) room.alive
+          (λ n. (alive_same v.log (value u) (value v) n (λ t r. sym (same t r)), alive_same v.log (value v) (value u) n same)) there;
+      fits = omega (arith, fits, words);
+    }
 
 -- so has the object that an operation makes
 pub room_for_same : (v u : View) (o : Op) → u.log ≡ v.log → ((x : ℕ) → values_of u x ≡ values_of v x) → length u.space.list ≡ length v.space.list → HasRoomFor u o → HasRoomFor v o
@@ -70,17 +74,18 @@ KeepsOthers_both v u w t first then = record {
   threads = then.threads ∙ first.threads;
   capacity = then.capacity ∙ first.capacity;
   calls = λ u other. then.calls u other ∙ first.calls u other;
+  registers = λ u other. then.registers u other ∙ first.registers u other;
   values = λ u other. then.values u other ∙ first.values u other;
 }
 
 -- a thread got its reply, by the last event of a call that the others saw nothing of
-pub told_seat : (v u w x : View) (t : ℕ) (o : Op) (reply : Reply) (s after : Seat) → s.op ≡ Some o → o ≢ Collect → u.log ≡ v.log → ((y : ℕ) → values_of u y ≡ values_of v y) → length u.space.list ≡ length v.space.list → IsAnswered u w t o reply → owes_silent s.mode ≡ false → TakesReply s after reply → DropsIfEnded w x t after.mode → SeatTold v x t s after
-told_seat v u w x t o reply s after next no_collect log values words answered open_ takes drops =
-    let here : Answers t u.log (values_of u t) o reply w.log (values_of w t) = answered.answers in
+pub told_seat : (v u w x : View) (t : ℕ) (o : Op) (reply : Reply) (s after : Seat) → s.op ≡ Some o → o ≢ Collect → u.log ≡ v.log → ((y : ℕ) → values_of u y ≡ values_of v y) → length u.space.list ≡ length v.space.list → Standing true u → IsAnswered u w t o reply → owes_silent s.mode ≡ false → TakesReply s after reply → DropsIfEnded w x t after.mode → SeatTold v x t s after
+told_seat v u w x t o reply s after next no_collect log values words stood answered open_ takes drops =
+    let here : Answers t u.log (values_of u t) o reply w.log (values_of w t) = answered.answers stood in
     let answers : Answers t v.log (values_of v t) o reply w.log (values_of w t) =
     subst (λ (h : List Entry). Answers t h (values_of v t) o reply w.log (values_of w t)) log
     (subst (λ (vs : List Value). Answers t u.log vs o reply w.log (values_of w t)) (values t) here) in
-    let room : HasRoomFor v o = room_for_same v u o log values words answered.room in
+    let room : HasRoomFor v o = room_for_same v u o log values words (answered.room stood) in
     elim (drop_cases w x t after.mode drops) [
       | inl ended ↦
           let dropped : HasDropped w x t = ended.1 in
@@ -116,13 +121,13 @@ told_seat v u w x t o reply s after next no_collect log values words answered op
     ]
 
 -- all is well behind the reply, and the others saw nothing of it
-pub told_stands : (w x : View) (t : ℕ) (mode : Mode) → Standing w → DropsIfEnded w x t mode → Standing x × KeepsOthers w x t × (x.stop ≡ w.stop)
+pub told_stands : (w x : View) (t : ℕ) (mode : Mode) → Standing true w → DropsIfEnded w x t mode → Standing true x × KeepsOthers w x t × (x.stop ≡ w.stop)
 told_stands w x t mode stands drops =
     elim (drop_cases w x t mode drops) [
-      | inl ended ↦ (ended.1.stands, dropped_keeps w x t ended.1, ap (λ (y : View). y.stop) ended.1.only)
+      | inl ended ↦ (ended.1.keeps true stands, dropped_keeps w x t ended.1, ap (λ (y : View). y.stop) ended.1.only)
       | inr goes ↦
-          let others : KeepsOthers w w t = record { globals = refl; words = refl; threads = refl; capacity = refl; calls = λ u other. refl; values = λ u other. refl } in
-          (subst Standing (sym goes.1) stands, subst (λ (y : View). KeepsOthers w y t) (sym goes.1) others, ap (λ (y : View). y.stop) goes.1)
+          let others : KeepsOthers w w t = record { globals = refl; words = refl; threads = refl; capacity = refl; calls = λ u other. refl; registers = λ u other. refl; values = λ u other. refl } in
+          (subst (Standing true) (sym goes.1) stands, subst (λ (y : View). KeepsOthers w y t) (sym goes.1) others, ap (λ (y : View). y.stop) goes.1)
     ]
 
 -- a thread that got a reply does not wait for the stop word
@@ -143,14 +148,14 @@ told_goes s after reply takes waits = elim takes.fits [
 ]
 
 -- an event by which a thread got its reply
-pub told_step : (v w x : View) (t : ℕ) (o : Op) (reply : Reply) (s after : Seat) → s.mode ≡ Running → s.op ≡ Some o → o ≢ Collect → Standing w → KeepsOthers v w t → IsAnswered v w t o reply → TakesReply s after reply → DropsIfEnded w x t after.mode → SeatStep v x t s after × SetsStop v x after
-told_step v w x t o reply s after running next no_collect stands others answered takes drops =
+pub told_step : (v w x : View) (t : ℕ) (o : Op) (reply : Reply) (s after : Seat) → s.mode ≡ Running → s.op ≡ Some o → o ≢ Collect → Standing true v → Standing true w → KeepsOthers v w t → IsAnswered v w t o reply → TakesReply s after reply → DropsIfEnded w x t after.mode → SeatStep v x t s after × SetsStop v x after
+told_step v w x t o reply s after running next no_collect stood stands others answered takes drops =
     let behind = told_stands w x t after.mode stands drops in
     let stop : x.stop ≡ v.stop = behind.2 ∙ answered.stop in
     let step : SeatStep v x t s after = record {
       stands = behind.0;
       others = KeepsOthers_both v w x t others behind.1;
-      what = inr (inr (inr (told_seat v v w x t o reply s after next no_collect refl (λ y. refl) refl answered (ap owes_silent running) takes drops)));
+      what = inr (inr (inr (told_seat v v w x t o reply s after next no_collect refl (λ y. refl) refl stood answered (ap owes_silent running) takes drops)));
     } in
     let sets : SetsStop v x after = record {
       waits = λ waits. absurd (told_goes s after reply takes waits);

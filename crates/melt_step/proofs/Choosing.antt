@@ -1,5 +1,5 @@
 -- All threads stand in one history, by whatever choices.
-use Rattle.std.proofs.Common.{ℕ, List, subst}
+use Rattle.std.proofs.Common.{ℕ, List, refl, subst}
 use Rattle.melt_model.specs.History.{Legal}
 use Rattle.melt_model.specs.declared.config.Config.{Config}
 use Rattle.melt_trace.specs.Script.{Script}
@@ -26,7 +26,7 @@ chosen_stands script config v x seats after table (Chosen.epoch _ w _ _ _ renewe
 -- threads that stand in a history were told what it gives them
 pub table_told : (script : Script) (config : Config) (v : View) (seats : List Seat) → TableStands script config v seats → AreTold script v seats
 table_told script config v seats table = record {
-  legal = subst (Legal v.log) table.globals table.stands.legal;
+  legal = subst (Legal v.log) table.globals (table.stands.legal refl);
   transcripts = λ t. told_now script config v seats t table;
   own_threads = table.own;
 }

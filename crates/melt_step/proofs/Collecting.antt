@@ -1,5 +1,5 @@
 -- A collection between two epochs.
-use Rattle.std.proofs.Common.{◌≡◌, ℕ, ◌+◌, ◌^◌, ◌<◌, ◌≤◌, suc, List, [], ◌∷◌, ◌++◌, length, get_or, ◌⊎◌, inl, inr, refl, sym, ◌∙◌, ap, subst, arith, length-append}
+use Rattle.std.proofs.Common.{◌≡◌, ℕ, ◌+◌, ◌^◌, ◌<◌, ◌≤◌, suc, List, [], ◌∷◌, ◌++◌, length, get_or, ◌⊎◌, inl, inr, refl, sym, ◌∙◌, ap, subst, arith, length-append, true}
 use Rattle.std.proofs.Math.Path.{fun_ext}
 use Rattle.std.proofs.Math.ListN.{get_or-map}
 use Rattle.std.proofs.lemmas.Bool.{cases_lt}
@@ -17,18 +17,21 @@ use Rattle.melt_model.specs.declared.reports.Phase.TheVariants.{Inactive, Mark, 
 use Rattle.melt_model.specs.declared.reports.Journal.{Journal}
 use Rattle.melt_model.proofs.Sums.{CostsSum-same, CostsSum-part}
 use Rattle.melt_scion.specs.State.{State}
-use Rattle.melt_scion.specs.Placed.{Maps, Placed}
-use Rattle.melt_scion.specs.Collected.{InUse, InReach}
+use Rattle.melt_scion.specs.Placed.{Maps, IsNamed, Placed}
+use Rattle.melt_scion.specs.Collected.{Leaves, Collected as Gone, CountsWords}
 use Rattle.melt_scion.specs.Names.{name_at}
-use Rattle.melt_scion.specs.Heaps.{HasNames, KeepsNames, NamesMade, IsFormed}
+use Rattle.melt_scion.specs.Heaps.{HasNames, KeepsNames, NamesMade, IsFormed, state_of}
 use Rattle.melt_scion.specs.declared.heap.Names as heap
 use Rattle.melt_scion.specs.declared.heap.Heap.{Heap}
 use Rattle.melt_scion.specs.declared.registers.Registers.{Registers}
-use Rattle.melt_scion.proofs.Reaching.{reached_alive, alive_reached}
-use Rattle.melt_copy.specs.Copying.{IsCopying, Collects, HasCollected}
+use Rattle.melt_scion.proofs.Homeless.{heap_has_no_scions, no_homes}
+use Rattle.melt_scion.proofs.Numbered.{counts_numbers}
+use Rattle.melt_scion.proofs.Totals.{held_costs, live_costs}
+use Rattle.melt_core.proofs.Alive.{placed as placed_now}
+use Rattle.melt_copy.specs.Copying.{IsCopying, Collects, HasCollected, no_home}
 use Rattle.melt_core.specs.declared.call.Call.{Call}
 use Rattle.melt_core.specs.declared.machine.Rest.{Rest}
-use Rattle.melt_core.specs.Views.{View, view, maps, maps_of, state, value, values_of, numbers_of, registers_in, held_values, call_of, claimed, claimed_in, Standing}
+use Rattle.melt_core.specs.Views.{View, view, maps, maps_of, state, value, values_of, numbers_of, registers_in, held_values, call_of, claimed, claimed_in, InUse, Counts, Standing}
 use Rattle.melt_core.specs.Epochs.{AtRest, core_of, HasFinished}
 use Rattle.melt_core.proofs.Values.{same_values}
 use Rattle.melt_policy.specs.Policy.{planned}
@@ -47,22 +50,27 @@ names_made None words room = tt
 names_made (Some names) words room = room
 
 -- heap and registers may be collected
-pub rest_formed : (heap : Heap) (rest : Rest) → AtRest heap rest → IsFormed heap rest.held.items
+pub rest_formed : (heap : Heap) (rest : Rest) → AtRest true heap rest → IsFormed heap rest.held.items
 rest_formed heap rest at_rest = record {
   maps = maps_of heap.names;
   end = 1;
   names = names_are heap.names;
   made = names_made heap.names (length heap.space.list) at_rest.stands.room;
-  formed = at_rest.stands.placed.formed;
+  formed = record { words = at_rest.stands.holds.formed; registers = at_rest.stands.registers };
 }
 
+-- a home that is no object's
+no_object : (o : Option ℕ) → ((n : ℕ) → o ≡ Some n → ⊥) → o ≡ None
+no_object None none = refl
+no_object (Some n) none = absurd (none n refl)
+
 -- maps that agree with the names, and have no homes
-same_maps : (old new : Option heap.Names) (after : Maps) → IsSome old → KeepsNames old new → HasNames new after → ((home : ℕ) → after.home home ≡ None) → after ≡ maps_of new
+same_maps : (old new : Option heap.Names) (after : Maps) → IsSome old → KeepsNames old new → HasNames new after → ((home n : ℕ) → after.home home ≡ Some n → ⊥) → after ≡ maps_of new
 same_maps None new after is_some keeps has none = absurd (cc)
 same_maps (Some old) None after is_some keeps has none = absurd keeps
 same_maps (Some old) (Some new) after is_some keeps has none =
     ap (λ (f : ℕ → Option ℕ). let m : Maps = record { address = f; home = after.home } in m) (fun_ext has)
-    ∙ ap (λ (g : ℕ → Option ℕ). let m : Maps = record { address = name_at new.addresses; home = g } in m) (fun_ext none)
+    ∙ ap (λ (g : ℕ → Option ℕ). let m : Maps = record { address = name_at new.addresses; home = g } in m) (fun_ext (λ home. no_object (after.home home) (none home)))
 
 -- names stay where they are
 keeps_some : (old new : Option heap.Names) → IsSome old → KeepsNames old new → IsSome new
@@ -77,12 +85,22 @@ keeps_room None (Some new) keeps = absurd keeps
 keeps_room (Some old) None keeps = absurd keeps
 keeps_room (Some old) (Some new) keeps = keeps
 
--- the objects that a collection reaches are those that are alive
-alive_in_use : (h : List Entry) (value : ℕ → ℕ → Value) (maps new : Maps) (s : State) (n : ℕ) → Legal h s.globals → Placed h value maps s → (InUse new n ↔ InReach maps s n) → InUse new n ↔ Alive h value n
-alive_in_use h value maps new s n legal placed in_use = (
-  λ is. let reached : InReach maps s n = in_use.0 is in reached_alive h value maps s reached.0 n placed reached.2 reached.1,
-  λ is. in_use.1 (alive_reached h value maps s n legal placed is),
-)
+-- in a phase in which objects stay none leaves
+none_leave : (phase : Phase) (s : State) → IsCopying phase → (a : ℕ) → Leaves phase s a → ⊥
+none_leave Inactive s copying a leaves = leaves
+none_leave Mark s copying a leaves = leaves
+none_leave Move s copying a leaves = copying
+
+-- what is in use after a collection was in use before it
+was_in_use : (phase : Phase) (old new : Maps) (s t : State) (to home : ℕ → ℕ) (n : ℕ) → Gone phase old new s t to home → InUse new n → InUse old n
+was_in_use phase old new s t to home n collected is =
+    let from = collected.goes.only is.0 (n, is.1) in
+    (from.0, sym (collected.goes.named from.0 (λ none. from.2 (sym from.1 ∙ none))) ∙ (ap new.address from.1 ∙ is.1))
+
+-- the words of what is in use, counted by headers, are those of the objects of the history
+in_use_costs : (h : List Entry) (value : ℕ → ℕ → Value) (m : Maps) (s : State) (total : ℕ) → Placed h value m s → CountsWords s (IsNamed m) total → CostsSum (words_of h) (InUse m) total
+in_use_costs h value m s total placed counts =
+    counts_numbers h m s placed.formed.words placed.tells (IsNamed m) (InUse m) total (λ a is. is) (λ n. (λ is. (is.0, (n, is.1), is.1), λ is. (is.0, is.2))) counts
 
 -- where no call is in flight, no region is owned
 unclaimed : (calls : List (Option Call)) → ((t : ℕ) → get_or calls t None ≡ None) → claimed calls ≡ 0
@@ -97,15 +115,16 @@ collected_view : Heap → Rest → List Registers → View
 collected_view new rest held = record (view (core_of new rest)) { held = held }
 
 -- the collected heap and registers stand for the history of the rest
-collected_stands : (heap new : Heap) (rest : Rest) (held : List Registers) (phase : Phase) (journal : Journal) → AtRest heap rest → Collects heap rest.held.items new held phase journal → length held ≡ length rest.held.items → ((t : ℕ) → length (registers_in held t) ≡ length (registers_in rest.held.items t)) → Collected (view (core_of heap rest)) (collected_view new rest held)
+collected_stands : (heap new : Heap) (rest : Rest) (held : List Registers) (phase : Phase) (journal : Journal) → AtRest true heap rest → IsCopying phase → Collects heap rest.held.items new held phase journal → length held ≡ length rest.held.items → ((t : ℕ) → length (registers_in held t) ≡ length (registers_in rest.held.items t)) → Collected (view (core_of heap rest)) (collected_view new rest held)
 unfolding collected_view
-collected_stands heap new rest held phase journal at_rest collects threads sizes =
+collected_stands heap new rest held phase journal at_rest copying collects threads sizes =
     let v : View = view (core_of heap rest) in
     let w : View = collected_view new rest held in
-    let s : Standing v = at_rest.stands in
-    let has : HasCollected (maps v) 1 heap new rest.held.items held phase journal = collects (maps v) 1 (names_are heap.names) s.placed.formed in
-    let same : has.after ≡ maps w = same_maps heap.names new.names has.after s.named has.names_stay has.names (λ home. has.collected.homes home) in
-    let placed_at : Placed v.log (value v) has.after (state w) = has.collected.placed v.log (value v) s.placed in
+    let s : Standing true v = at_rest.stands in
+    let before : Placed v.log (value v) (maps v) (state v) = placed_now v s in
+    let has : HasCollected (maps v) 1 heap new rest.held.items held phase journal = collects (maps v) 1 (names_are heap.names) before.formed in
+    let placed_at : Placed v.log (value v) has.after (state w) = has.collected.placed v.log (value v) before in
+    let same : has.after ≡ maps w = same_maps heap.names new.names has.after s.named has.names_stay has.names (λ home n. no_homes v.log has.after (state w) home n placed_at.tells refl) in
     let placed : Placed v.log (value v) (maps w) (state w) = subst (λ (m : Maps). Placed v.log (value v) m (state w)) same placed_at in
     let values : (t : ℕ) → values_of w t ≡ values_of v t = λ t.
     same_values heap.names new.names (registers_in rest.held.items t) (registers_in held t) (sizes t) (placed.registers t) in
@@ -113,30 +132,40 @@ collected_stands heap new rest held phase journal at_rest collects threads sizes
     let size : length new.space.list ≡ length heap.space.list = has.collected.size in
     let globals : length new.globals ≡ length heap.globals = has.collected.globals in
     let none : claimed v.calls ≡ 0 = unclaimed v.calls at_rest.quiet in
-    let live : CostsSum (words_of v.log) (InUse has.after) new.space.used =
-    subst (CostsSum (words_of v.log) (InUse has.after)) has.told.live_words (has.counts.live_words v.log (value v) s.placed) in
-    let fewer : new.space.used ≤ s.counts.in_use =
-    CostsSum-part (words_of v.log) (InUse has.after) (InUse (maps v)) new.space.used s.counts.in_use (λ n is. let reached = (has.collected.in_use n).0 is in (reached.0, reached.1)) live s.counts.adds_up in
+    let used : journal.live ≡ new.space.used = has.told.live_words in
+    let counted : CountsWords (state w) (IsNamed has.after) new.space.used = subst (CountsWords (state w) (IsNamed has.after)) used has.live in
+    let live : CostsSum (words_of v.log) (InUse has.after) new.space.used = in_use_costs v.log (value v) has.after (state w) new.space.used placed_at counted in
+    let told : Counts v = s.counts refl in
+    let fewer : new.space.used ≤ told.in_use =
+    CostsSum-part (words_of v.log) (InUse has.after) (InUse (maps v)) new.space.used told.in_use (λ n is. was_in_use phase (maps v) has.after (state v) (state w) has.to no_home n has.collected is) live told.adds_up in
     let alive : CostsSum (words_of v.log) (Alive v.log (value w)) new.space.used =
     subst (λ (f : ℕ → ℕ → Value). CostsSum (words_of v.log) (Alive v.log f) new.space.used) value_is
-    (CostsSum-same (words_of v.log) (InUse has.after) (Alive v.log (value v)) new.space.used (λ n. alive_in_use v.log (value v) (maps v) has.after (state v) n s.legal s.placed (has.collected.in_use n)) live) in
+    (live_costs v.log (value v) (maps v) (state v) before phase has.after (state w) has.to no_home new.space.used (s.legal refl) (heap_has_no_scions heap rest.held.items 1) refl (none_leave phase (state v) copying) has.collected counted) in
+    let within : new.space.used ≤ length new.space.list = omega (arith, none, size, fewer, told.within) in
     record {
       stands = record {
-        legal = subst (Legal v.log) (sym globals) s.legal;
         named = keeps_some heap.names new.names s.named has.names_stay;
         room = keeps_room heap.names new.names has.names_stay ∙ (s.room ∙ sym size);
-        small = subst (λ (n : ℕ). n < 2 ^ 30) (sym size) s.small;
         few = subst (λ (n : ℕ). n ≤ 8) (sym threads) s.few;
         each = s.each ∙ sym threads;
         counted = s.counted;
-        placed = subst (λ (f : ℕ → ℕ → Value). Placed v.log f (maps w) (state w)) value_is placed;
-        in_flight = λ t c is. let quiet : call_of v t ≡ None = at_rest.quiet t in absurd (cc);
+        first = omega arith;
+        bounded = inl (omega (arith, within));
+        holds = record {
+          formed = placed.formed.words;
+          no_gaps = record { filled = λ home address k i below sends less. absurd (omega arith) };
+          tells = λ is. placed.tells;
+        };
+        legal = λ is. subst (Legal v.log) (sym globals) (s.legal refl);
+        registers = placed.formed.registers;
+        known = λ t c is. let quiet : call_of v t ≡ None = at_rest.quiet t in absurd (cc);
+        fits = λ t c is. let quiet : call_of v t ≡ None = at_rest.quiet t in absurd (cc);
         apart = λ t u c d other is at. let quiet : call_of v t ≡ None = at_rest.quiet t in absurd (cc);
-        counts = record {
+        counts = λ is. record {
           in_use = new.space.used;
           adds_up = subst (λ (m : Maps). CostsSum (words_of v.log) (InUse m) new.space.used) same live;
           below = omega (arith, none);
-          within = omega (arith, none, size, fewer, s.counts.within);
+          within = omega (arith, none, within);
         };
       };
       quiet = at_rest.quiet;
@@ -172,11 +201,11 @@ pub same_sizes : (old new : List Registers) → length new ≡ length old → Al
 same_sizes old new threads before after t = sizes_at old new t threads before after (cases_lt t (length old))
 
 -- they were collected, and nothing else of the rest changed
-pub rest_collected : (heap new : Heap) (rest after : Rest) (phase : Phase) (journal : Journal) → AtRest heap rest → IsCopying phase → Collects heap rest.held.items new after.held.items phase journal → length after.held.items ≡ length rest.held.items → ((t : ℕ) → length (registers_in after.held.items t) ≡ length (registers_in rest.held.items t)) → after.calls.items ≡ rest.calls.items → after.log ≡ rest.log → after.made ≡ rest.made → Collected (view (core_of heap rest)) (view (core_of new after))
+pub rest_collected : (heap new : Heap) (rest after : Rest) (phase : Phase) (journal : Journal) → AtRest true heap rest → IsCopying phase → Collects heap rest.held.items new after.held.items phase journal → length after.held.items ≡ length rest.held.items → ((t : ℕ) → length (registers_in after.held.items t) ≡ length (registers_in rest.held.items t)) → after.calls.items ≡ rest.calls.items → after.log ≡ rest.log → after.made ≡ rest.made → Collected (view (core_of heap rest)) (view (core_of new after))
 unfolding collected_view
 rest_collected heap new rest after phase journal at_rest copying collects threads sizes calls log made =
     let same : collected_view new rest after.held.items ≡ view (core_of new after) = cc in
-    subst (Collected (view (core_of heap rest))) same (collected_stands heap new rest after.held.items phase journal at_rest collects threads sizes)
+    subst (Collected (view (core_of heap rest))) same (collected_stands heap new rest after.held.items phase journal at_rest copying collects threads sizes)
 
 -- a collection of what an epoch left is one of the epoch's core
 pub finished_collected : (v x w : View) → HasFinished v x → Collected x w → Collected v w
@@ -209,21 +238,26 @@ pub record LeavesWords (w : View) (journal : Journal) : Type 0 where
   pub within : journal.live ≤ length w.space.list
 
 -- they are those of what is in use, and what registers hold is a part of that
-pub left_words : (heap new : Heap) (rest after : Rest) (phase : Phase) (journal : Journal) → AtRest heap rest → Collects heap rest.held.items new after.held.items phase journal → LeavesWords (view (core_of new after)) journal
-left_words heap new rest after phase journal at_rest collects =
+pub left_words : (heap new : Heap) (rest after : Rest) (phase : Phase) (journal : Journal) → AtRest true heap rest → IsCopying phase → Collects heap rest.held.items new after.held.items phase journal → LeavesWords (view (core_of new after)) journal
+left_words heap new rest after phase journal at_rest copying collects =
     let v : View = view (core_of heap rest) in
-    let s : Standing v = at_rest.stands in
-    let has : HasCollected (maps v) 1 heap new rest.held.items after.held.items phase journal = collects (maps v) 1 (names_are heap.names) s.placed.formed in
-    let live : CostsSum (words_of v.log) (InUse has.after) journal.live = has.counts.live_words v.log (value v) s.placed in
-    let held : CostsSum (words_of v.log) (Held (value v)) journal.held = has.counts.held_words v.log (value v) s.placed in
-    let fewer : journal.live ≤ s.counts.in_use =
-    CostsSum-part (words_of v.log) (InUse has.after) (InUse (maps v)) journal.live s.counts.in_use (λ n is. let reached = (has.collected.in_use n).0 is in (reached.0, reached.1)) live s.counts.adds_up in
+    let s : Standing true v = at_rest.stands in
+    let t : State = state_of new after.held.items 1 in
+    let before : Placed v.log (value v) (maps v) (state v) = placed_now v s in
+    let has : HasCollected (maps v) 1 heap new rest.held.items after.held.items phase journal = collects (maps v) 1 (names_are heap.names) before.formed in
+    let placed_at : Placed v.log (value v) has.after t = has.collected.placed v.log (value v) before in
+    let told : Counts v = s.counts refl in
+    let live : CostsSum (words_of v.log) (InUse has.after) journal.live = in_use_costs v.log (value v) has.after t journal.live placed_at has.live in
+    let alive : CostsSum (words_of v.log) (Alive v.log (value v)) journal.live =
+    live_costs v.log (value v) (maps v) (state v) before phase has.after t has.to no_home journal.live (s.legal refl) (heap_has_no_scions heap rest.held.items 1) refl (none_leave phase (state v) copying) has.collected has.live in
+    let held : CostsSum (words_of v.log) (Held (value v)) journal.held = held_costs v.log (value v) (maps v) (state v) before journal.held has.held_words in
+    let fewer : journal.live ≤ told.in_use =
+    CostsSum-part (words_of v.log) (InUse has.after) (InUse (maps v)) journal.live told.in_use (λ n is. was_in_use phase (maps v) has.after (state v) t has.to no_home n has.collected is) live told.adds_up in
     let size : length new.space.list ≡ length heap.space.list = has.collected.size in
     record {
-      held = CostsSum-part (words_of v.log) (Held (value v)) (InUse has.after) journal.held journal.live
-          (λ n is. (alive_in_use v.log (value v) (maps v) has.after (state v) n s.legal s.placed (has.collected.in_use n)).1 (Alive.in_register n is)) held live;
+      held = CostsSum-part (words_of v.log) (Held (value v)) (Alive v.log (value v)) journal.held journal.live (λ n is. Alive.in_register n is) held alive;
       live = omega (arith, has.told.live_words);
-      within = omega (arith, fewer, size, s.counts.within);
+      within = omega (arith, fewer, size, told.within);
     }
 
 -- a collection of the phase was written down, and what it left is what the next one is planned by

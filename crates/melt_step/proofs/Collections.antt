@@ -110,10 +110,10 @@ collect_told v w t s after mode next takes history held dropped call = record {
 }
 
 -- the same as an event of the thread
-collect_step : (v w : View) (t : ℕ) (s after : Seat) → Standing v → call_of v t ≡ None → s.mode ≡ Collecting → s.op ≡ Some Collect → TakesReply s after reply.Done → DropsIfEnded v w t after.mode → SeatStep v w t s after
+collect_step : (v w : View) (t : ℕ) (s after : Seat) → Standing true v → call_of v t ≡ None → s.mode ≡ Collecting → s.op ≡ Some Collect → TakesReply s after reply.Done → DropsIfEnded v w t after.mode → SeatStep v w t s after
 collect_step v w t s after stands no_call mode next takes drops = elim (drops_cases v w t after.mode drops) [
   | inl gone ↦ record {
-    stands = gone.1.stands;
+    stands = gone.1.keeps true stands;
     others = dropped_keeps v w t gone.1;
     what = inr (inr (inr (collect_told v w t s after mode next takes (ap (λ (x : View). x.log) gone.1.only) (inl gone.0) (λ over. gone.1.here) (ap (λ (x : View). call_of x t) gone.1.only ∙ no_call))));
   }

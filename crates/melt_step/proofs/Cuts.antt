@@ -22,9 +22,8 @@ use Rattle.melt_model.proofs.Transcripts.{Transcript_so_far, registers_so_far, o
 use Rattle.melt_trace.specs.Script.{Script, operations}
 use Rattle.melt_scion.specs.declared.registers.Registers.{Registers}
 use Rattle.melt_core.specs.Views.{View, value, values_of, held_values}
-use Rattle.melt_core.specs.Events.{HasRoom}
+use Rattle.melt_core.specs.Advances.{HasRoom}
 use Rattle.melt_core.proofs.Values.{get_or_replicate}
-use Rattle.melt_step.proofs.Sums.{alive_sum}
 use Rattle.melt_step.specs.declared.seat.Seat.{Seat}
 use Rattle.melt_step.specs.declared.seat.Mode.{Mode}
 use Rattle.melt_step.specs.declared.seat.Mode.TheVariants.{Running, Due, Silent, Collecting, Asked, Lacking, Ended}
@@ -316,27 +315,18 @@ words_same : (h : List Entry) (a b : ℕ → ℕ → Value) (held : ℕ) → ((t
 words_same h a b held same reach =
     CostsSum-same (words_of h) (Alive h a) (Alive h b) held (λ n. (alive_same h a b n same, alive_same h b a n (λ t r. sym (same t r)))) reach
 
--- the words of what registers and globals reach have a sum
-alive_now : (v : View) → (held : ℕ) × CostsSum (words_of v.log) (Alive v.log (value v)) held
-alive_now v =
-    alive_sum v.log (values_of v) (length v.held) (λ t r n is. elim (cases_lt t (length v.held)) [
-      | inl below ↦ below
-      | inr past ↦ absurd (let wrong : Nil ≡ Ref n = sym (nothing_past v t r past) ∙ is in cc)
-    ])
-
 -- now: the next operation of a thread has so many words beside all that is alive
 pub had_room : (script : Script) (config : Config) (v : View) (seats : List Seat) (t need : ℕ) (s : Seat) → TableStands script config v seats → slice_get seats t ≡ Some s → (IsEnded s.mode → ⊥) → HasRoom v need → HadNow script v.log seats config t (length (replies_of seats t)) need
 had_room script config v seats t need s table at goes room =
     let cut : Cut = now v.log seats in
-    let alive : (held : ℕ) × CostsSum (words_of v.log) (Alive v.log (value v)) held = alive_now v in
-    let by_history : WordsBy script cut alive.0 v.log =
-    words_same v.log (value v) (registers_by script cut v.log) alive.0 (λ u r. sym (registers_now script config v seats u r table)) alive.1 in
-    let fits : alive.0 + need ≤ length v.space.list = room alive.0 alive.1 in
+    let by_history : WordsBy script cut room.alive v.log =
+    words_same v.log (value v) (registers_by script cut v.log) room.alive (λ u r. sym (registers_now script config v seats u r table)) room.adds_up in
+    let fits : room.alive + need ≤ length v.space.list = room.fits in
     let had : HadRoom script v.log (replies_of seats) config t (length (replies_of seats t)) need = record {
       cut = cut;
       is_cut = IsCutAt_now script config v seats t s table at goes;
-      held = alive.0;
-      reach = subst (WordsBy script cut alive.0) (sym (take-length v.log)) by_history;
+      held = room.alive;
+      reach = subst (WordsBy script cut room.alive) (sym (take-length v.log)) by_history;
       fits = omega (arith, fits, table.words);
     } in
     (had, gone_now v.log seats)

@@ -2,7 +2,7 @@
 use Rattle.std.proofs.Common.{◌≡◌, ℕ, ◌+◌, ◌<◌, ◌≤◌, zero, suc, List, [], ◌∷◌, length, refl, sym, ◌∙◌, ap, subst, arith, inl, inr}
 use Rattle.std.proofs.lemmas.List.Sums.{sum-map, sum_by-cons}
 use Rattle.std.proofs.lemmas.Option.{slice_get_cases, slice_get_within}
-use Rattle.std.specs.Prelude.{Option, None, Some, slice_get, take, All, ◌≢◌}
+use Rattle.std.specs.Prelude.{true, Option, None, Some, slice_get, take, All, ◌≢◌}
 use Rattle.std.specs.List.{count_by}
 use Rattle.std.specs.Option.{option_map_or}
 use Rattle.melt_model.specs.History.{Legal}
@@ -21,8 +21,8 @@ use Rattle.melt_scion.specs.State.{State}
 use Rattle.melt_scion.specs.Placed.{Placed}
 use Rattle.melt_scion.specs.Heaps.{state_of}
 use Rattle.melt_scion.specs.declared.heap.Heap.{Heap}
-use Rattle.melt_scion.proofs.Frame.{Placed_stays}
-use Rattle.melt_scion.proofs.Writes.{SameObjects_by_words}
+use Rattle.melt_scion.proofs.Staying.{SameParts, same_words, FormedWords_same, Tells_same}
+use Rattle.melt_scion.proofs.Following.{same_history}
 use Rattle.melt_trace.specs.Script.{Script, operations}
 use Rattle.melt_core.specs.declared.machine.Rest.{Rest}
 use Rattle.melt_core.specs.Views.{View, view, maps, maps_of, value, state}
@@ -127,22 +127,22 @@ may_end script config report seats t (end.Damaged home at word) same ends = ends
 may_end script config report seats t end.Halted same ends = ends
 
 -- the heap without the registers of its threads
-placed_left : (heap : Heap) (rest : Rest) → AtRest heap rest → Placed rest.log.items (λ t r. Nil) (maps_of heap.names) (state_of heap [] 1)
+placed_left : (heap : Heap) (rest : Rest) → AtRest true heap rest → Placed rest.log.items (λ t r. Nil) (maps_of heap.names) (state_of heap [] 1)
 placed_left heap rest at_rest =
     let v : View = view (core_of heap rest) in
     let s : State = state v in
-    let placed : Placed v.log (value v) (maps v) s = at_rest.stands.placed in
-    Placed_stays v.log v.log (value v) (λ t r. Nil) (maps v) s (state_of heap [] 1) placed
-    (record { size = refl; free = refl; globals = refl; end = refl })
-    (SameObjects_by_words (maps v) s (state_of heap [] 1) (λ a n named. refl))
-    (λ n z is. is)
-    (record { slots = placed.formed.slots; home_words = placed.formed.home_words; globals = placed.formed.globals; registers = λ t r. inl refl })
-    (record { slots = placed.slots; numbers = placed.numbers; globals = placed.globals; registers = λ t r. refl })
+    let left : State = state_of heap [] 1 in
+    let same : SameParts (maps v) s left = same_words (maps v) s left (record { base = refl; free = refl; word = λ k. refl; global = λ g. refl; forward = λ p. refl }) in
+    record {
+      formed = record { words = FormedWords_same (maps v) s left same at_rest.stands.holds.formed; registers = λ t r. inl refl };
+      tells = Tells_same (maps v) s left same v.log v.log (same_history v.log) (at_rest.stands.holds.tells refl);
+      registers = λ t r. refl;
+    }
 
 -- the report has the replies and the end of each thread, the journal and the history
 pub has_run : (script : Script) (config : Config) (run : Run) (heap : Heap) (rest : Rest) (report : Report)
     → RunStands script config run → ((t : ℕ) (s : Seat) → slice_get run.seats.items t ≡ Some s → IsEnded s.mode)
-    → AtRest heap rest → HasFinished (view run.core) (view (core_of heap rest))
+    → AtRest true heap rest → HasFinished (view run.core) (view (core_of heap rest))
     → length report.threads ≡ length run.seats.items
     → ((t : ℕ) (s : Seat) (r : ThreadReport) → slice_get run.seats.items t ≡ Some s → slice_get report.threads t ≡ Some r → (r.replies ≡ s.replies.items) × (s.mode ≡ Ended r.end))
     → report.journal ≡ run.collector.journal.items → report.halt ≡ None → report.log ≡ rest.log.items
@@ -158,7 +158,7 @@ has_run script config run heap rest report stands ended at_rest finished count t
     let moves : All (λ (j : Journal). j.phase ≢ Move) run.collector.journal.items = stands.collector.planning.moves in
     let reported : IsStepReport script config report = record {
       history = record {
-        legal = subst (λ (h : List Entry). Legal h script.globals) history (subst (Legal v.log) table.globals table.stands.legal);
+        legal = subst (λ (h : List Entry). Legal h script.globals) history (subst (Legal v.log) table.globals (table.stands.legal refl));
         threads = count ∙ table.count;
         transcripts = λ t r at.
             let seat = there t r at in

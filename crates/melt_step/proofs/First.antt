@@ -12,7 +12,7 @@ use Rattle.melt_model.specs.declared.operations.Op.TheVariants.{Collect}
 use Rattle.melt_model.specs.declared.reports.ThreadEnd.TheVariants as end
 use Rattle.melt_trace.specs.Grammar.{InRange}
 use Rattle.melt_trace.specs.Script.{Script}
-use Rattle.melt_core.specs.Calls.{InBounds}
+use Rattle.melt_core.specs.Advances.{InBounds}
 use Rattle.melt_core.specs.Views.{View, view}
 use Rattle.melt_core.specs.Changed.{HasRoomForEntry}
 use Rattle.melt_core.specs.Epochs.{HasDropped}
@@ -23,11 +23,15 @@ use Rattle.melt_step.specs.Journals.{forced}
 use Rattle.melt_step.specs.declared.collector.Collector.{Collector}
 use Rattle.melt_step.specs.declared.run.Run.{Run}
 use Rattle.melt_step.specs.Seats.{CollectorStands, DueBy, IsPaused, OweBehindCollects, PlansBy, StandsCollected, TakesReply, owes, with_first, left, jobs, jobs_of, FitsMode, IsReady, TableStands, RunStands, LacksNow, LacksAlone, CalledAlone, Collected, IsEnded, SeatTold, SeatStep}
-use Rattle.melt_core.proofs.Found.{some_number}
 use Rattle.melt_step.proofs.Cuts.{lacks_room}
 use Rattle.melt_step.proofs.Journals.{collector_more, tight}
 use Rattle.melt_step.proofs.Tables.{Adds, adds_mode, Table_lacks, Table_step, Table_collected, table_ready, collections_step}
 use Rattle.melt_step.proofs.Modes.{Table_gone}
+
+-- an option that holds a number
+some_number : (o : Option ℕ) → IsSome o → (n : ℕ) × (o ≡ Some n)
+some_number None is = absurd (cc)
+some_number (Some n) is = (n, refl)
 
 -- What a call that is made alone needs of its thread.
 pub record MayCall (v : View) (t : ℕ) (s : Seat) (o : Op) : Type 0 where

@@ -1,5 +1,5 @@
 -- A run goes on by events and safepoints.
-use Rattle.std.proofs.Common.{◌≡◌, ◌≢◌, ℕ, ◌<◌, ◌≤◌, List, length, sym, ◌∙◌, ap, subst, arith}
+use Rattle.std.proofs.Common.{◌≡◌, ◌≢◌, ℕ, ◌<◌, ◌≤◌, List, length, sym, ◌∙◌, ap, subst, arith, true}
 use Rattle.std.proofs.Math.ListN.{set}
 use Rattle.std.specs.Prelude.{Some, slice_get}
 use Rattle.melt_model.specs.declared.config.Config.{Config}
@@ -32,8 +32,8 @@ step_keeps old new t s after at goes step seats due every collector = λ script 
 -- it has less to do than before
 pub step_less : (script : Script) (config : Config) (v w : View) (seats : List Seat) (t : ℕ) (s after : Seat) → TableStands script config v seats → slice_get seats t ≡ Some s → MayGo s.mode → SeatStep v w t s after → potential (set seats t after) w.calls < potential seats v.calls
 step_less script config v w seats t s after table at goes step =
-    let before : Standing v = table.stands in
-    let behind : Standing w = step.stands in
+    let before : Standing true v = table.stands in
+    let behind : Standing true w = step.stands in
     step_nearer script config v w seats t s after table at goes step (behind.each ∙ (step.others.threads ∙ sym before.each))
 
 -- and so behind a safepoint

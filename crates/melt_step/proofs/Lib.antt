@@ -1,4 +1,3 @@
-pub mod Sums
 pub mod Journals
 pub mod Cuts
 pub mod Tables

@@ -4,7 +4,7 @@ use Rattle.std.proofs.Math.ListN.{set, length-set}
 use Rattle.std.proofs.lemmas.Bool.{cases_eq}
 use Rattle.std.proofs.lemmas.List.{append-nil}
 use Rattle.std.proofs.lemmas.Option.{same_Some}
-use Rattle.std.specs.Prelude.{Option, None, Some, IsSome, slice_get}
+use Rattle.std.specs.Prelude.{replicate, Option, None, Some, IsSome, slice_get}
 use Rattle.melt_model.specs.Standing.{Stands}
 use Rattle.melt_model.specs.declared.config.Config.{Config}
 use Rattle.melt_model.specs.declared.history.Entry.{Entry}
@@ -12,8 +12,9 @@ use Rattle.melt_model.specs.declared.operations.Op.{Op}
 use Rattle.melt_model.specs.declared.reports.ThreadEnd.{ThreadEnd}
 use Rattle.melt_model.specs.declared.reports.ThreadEnd.TheVariants as end
 use Rattle.melt_trace.specs.Script.{Script, operations}
-use Rattle.melt_core.specs.Views.{View, call_of}
-use Rattle.melt_core.specs.Events.{KeepsOthers}
+use Rattle.melt_core.specs.Views.{View, call_of, registers_in}
+use Rattle.melt_core.proofs.Registers.{registers_other}
+use Rattle.melt_core.specs.Advances.{KeepsOthers}
 use Rattle.melt_core.specs.Epochs.{HasDropped, no_registers}
 use Rattle.melt_step.specs.declared.seat.Seat.{Seat}
 use Rattle.melt_step.specs.declared.seat.Mode.{Mode}
@@ -24,7 +25,7 @@ use Rattle.melt_step.proofs.Tables.{get_set_same, get_set_other, replies_same, l
 
 -- where nothing changes, the others are as they were
 pub nothing_keeps : (v : View) (t : ℕ) → KeepsOthers v v t
-nothing_keeps v t = record { globals = refl; words = refl; threads = refl; capacity = refl; calls = λ u differ. refl; values = λ u differ. refl }
+nothing_keeps v t = record { globals = refl; words = refl; threads = refl; capacity = refl; calls = λ u differ. refl; registers = λ u differ. refl; values = λ u differ. refl }
 
 -- a thread without a call in flight runs on with its next operation
 pub Table_runs : (script : Script) (config : Config) (v : View) (seats : List Seat) (t : ℕ) (s : Seat) → TableStands script config v seats → slice_get seats t ≡ Some s → (IsEnded s.mode → ⊥) → IsSome s.op → call_of v t ≡ None → TableStands script config v (set seats t (record s { mode = Running }))
@@ -48,6 +49,7 @@ dropped_keeps v w t dropped = record {
   threads = ap (λ (x : View). length x.held) dropped.only ∙ length-set v.held t no_registers;
   capacity = ap (λ (x : View). x.capacity) dropped.only;
   calls = λ u differ. ap (λ (x : View). call_of x u) dropped.only;
+  registers = λ u differ. ap (λ (x : View). registers_in x.held u) dropped.only ∙ registers_other v.held t u (replicate 16 0) differ;
   values = dropped.others;
 }
 
@@ -96,7 +98,7 @@ Table_gone script config v w seats t s e table at goes dropped no_call ends =
       made_last = λ k below last. absurd (omega arith);
       entries = let same : length w.log ≡ length v.log = ap length history in omega arith;
     } in
-    Table_moves script config v w seats t s after table at goes dropped.stands (dropped_keeps v w t dropped) moves
+    Table_moves script config v w seats t s after table at goes (dropped.keeps true table.stands) (dropped_keeps v w t dropped) moves
 
 -- a thread that can go on does not wait
 goes_waits : (mode : Mode) → MayGo mode → Waits mode → ⊥

@@ -213,7 +213,7 @@ again_knows seats after n v again all own none = record {
 }
 
 -- what an epoch left begins a new one, in which all stands as before
-pub finished_renewed : (v : View) (heap : Heap) (rest : Rest) → AtRest heap rest → HasFinished v (view (core_of heap rest)) → Renewed v (view (core_of heap rest))
+pub finished_renewed : (v : View) (heap : Heap) (rest : Rest) → AtRest true heap rest → HasFinished v (view (core_of heap rest)) → Renewed v (view (core_of heap rest))
 finished_renewed v heap rest at_rest finished = record {
   stands = at_rest.stands;
   quiet = at_rest.quiet;
@@ -392,7 +392,7 @@ pub begun_same : (v : View) → v.stop ≡ false → Begun v v
 begun_same v none = record { no_stop = none; table = λ script config seats table. table }
 
 -- in a new epoch
-pub begun_new : (v : View) (heap : Heap) (rest : Rest) → AtRest heap rest → HasFinished v (view (core_of heap rest)) → Begun v (view (core_of heap rest))
+pub begun_new : (v : View) (heap : Heap) (rest : Rest) → AtRest true heap rest → HasFinished v (view (core_of heap rest)) → Begun v (view (core_of heap rest))
 begun_new v heap rest at_rest finished = record {
   no_stop = refl;
   table = λ script words seats table. Table_renewed script words v (view (core_of heap rest)) seats table (finished_renewed v heap rest at_rest finished);

@@ -5,7 +5,7 @@ use Rattle.std.proofs.lemmas.Bool.{cases_lt}
 use Rattle.std.proofs.lemmas.List.{length-replicate}
 use Rattle.std.proofs.lemmas.List.Elements.{All-nil}
 use Rattle.std.proofs.lemmas.Option.{slice_get_cases, slice_get_within}
-use Rattle.std.specs.Prelude.{None, Some, All, slice_get, replicate}
+use Rattle.std.specs.Prelude.{true, None, Some, All, slice_get, replicate}
 use Rattle.std.specs.List.{count_by}
 use Rattle.melt_model.specs.History.{IsReference}
 use Rattle.melt_model.specs.Standing.{Stands}
@@ -57,7 +57,7 @@ Stands_new t ops = record {
 }
 
 -- a thread stands before its first event
-Seat_new : (script : Script) (entries t : ℕ) (heap : Heap) (rest : Rest) (s : Seat) → AtRest heap rest → IsNewRest (length script.programs) entries rest → t < length script.programs → IsNewSeat (operations script t) script.globals s → SeatStands script (view (core_of heap rest)) t s
+Seat_new : (script : Script) (entries t : ℕ) (heap : Heap) (rest : Rest) (s : Seat) → AtRest true heap rest → IsNewRest (length script.programs) entries rest → t < length script.programs → IsNewSeat (operations script t) script.globals s → SeatStands script (view (core_of heap rest)) t s
 Seat_new script entries t heap rest s at_rest new_rest below new =
     let v : View = view (core_of heap rest) in
     let ops : List Op = operations script t in
@@ -94,7 +94,7 @@ ends_new script log config entries t seats s new_seats at =
 pub Table_new : (script : Script) (config : Config) (entries : ℕ) (heap : Heap) (rest : Rest) (seats : List Seat) → config.heap < 2 ^ 30 → length script.programs ≤ 8 → IsNewHeap config.heap script.globals true heap → IsNewRest (length script.programs) entries rest → AreNewSeats script seats entries → TableStands script config (view (core_of heap rest)) seats
 Table_new script config entries heap rest seats small few new_heap new_rest new_seats =
     let n : ℕ = length script.programs in
-    let at_rest : AtRest heap rest = start_at_rest config.heap script.globals n entries heap rest small few new_heap new_rest in
+    let at_rest : AtRest true heap rest = start_at_rest true config.heap script.globals n entries heap rest small few new_heap new_rest in
     record {
       stands = at_rest.stands;
       count = new_seats.count;

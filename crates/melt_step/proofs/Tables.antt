@@ -38,7 +38,7 @@ use Rattle.melt_core.specs.Changed.{stopped}
 use Rattle.melt_core.specs.Views.{View, values_of, call_of, IsQuiet, Standing}
 use Rattle.melt_core.specs.declared.answer.Pause.{Pause}
 use Rattle.melt_core.specs.declared.answer.Pause.TheVariants as pause
-use Rattle.melt_core.specs.Events.{KeepsOthers, HasRoom, HasRoomFor, Pauses}
+use Rattle.melt_core.specs.Advances.{KeepsOthers, HasRoom, HasRoomFor, Pauses}
 use Rattle.melt_core.proofs.Values.{get_or_set_keeps}
 use Rattle.melt_step.specs.declared.seat.Seat.{Seat}
 use Rattle.melt_step.specs.declared.seat.Mode.{Mode}
@@ -310,7 +310,7 @@ pub record Moves (script : Script) (config : Config) (v w : View) (seats : List 
   pub entries : length w.log + length (left after) ≤ length v.log + length (left s)
 
 -- all threads stand behind such an event
-pub Table_moves : (script : Script) (config : Config) (v w : View) (seats : List Seat) (t : ℕ) (s after : Seat) → TableStands script config v seats → slice_get seats t ≡ Some s → (IsEnded s.mode → ⊥) → Standing w → KeepsOthers v w t → Moves script config v w seats t s after → TableStands script config w (set seats t after)
+pub Table_moves : (script : Script) (config : Config) (v w : View) (seats : List Seat) (t : ℕ) (s after : Seat) → TableStands script config v seats → slice_get seats t ≡ Some s → (IsEnded s.mode → ⊥) → Standing true w → KeepsOthers v w t → Moves script config v w seats t s after → TableStands script config w (set seats t after)
 Table_moves script config v w seats t s after table at runs stands others m =
     let later : Later seats (set seats t after) = later_set seats t s after m.extra at runs m.replies in
     let more = with_more v.log t m.act in
@@ -417,7 +417,7 @@ goes_moves script config v w seats t s after due st runs goes =
 -- what a call that paused leaves of the view
 pub paused_view : (v w : View) (t : ℕ) (o : Op) (cause : Pause) → Pauses v w t o cause → (call_of w t ≡ None) × (w.log ≡ v.log) × (values_of w t ≡ values_of v t)
 paused_view v w t o pause.Asked pauses = (ap (λ (x : View). call_of x t) pauses.same ∙ pauses.first, ap (λ (x : View). x.log) pauses.same, ap (λ (x : View). values_of x t) pauses.same)
-paused_view v w t o (pause.Space need) pauses = (pauses.call, pauses.history, pauses.values)
+paused_view v w t o (pause.Space need) pauses = (pauses.call, pauses.own.history, pauses.own.values)
 paused_view v w t o pause.Forward pauses = absurd pauses
 
 -- how a thread whose call paused waits
@@ -451,7 +451,7 @@ refused_moves script config v w seats t s after st runs refused =
     (λ is. refused.no_collect (same_Some refused.op Collect (sym refused.next ∙ is))) (paused_view v w t refused.op refused.cause refused.pauses))
 
 -- a thread that still lacks room stands as before
-pub Table_lacks : (script : Script) (config : Config) (v w : View) (seats : List Seat) (t : ℕ) (s : Seat) → TableStands script config v seats → slice_get seats t ≡ Some s → s.mode ≡ Lacking → Standing w → KeepsOthers v w t → (call_of w t ≡ None) × (w.log ≡ v.log) × (values_of w t ≡ values_of v t) → TableStands script config w seats
+pub Table_lacks : (script : Script) (config : Config) (v w : View) (seats : List Seat) (t : ℕ) (s : Seat) → TableStands script config v seats → slice_get seats t ≡ Some s → s.mode ≡ Lacking → Standing true w → KeepsOthers v w t → (call_of w t ≡ None) × (w.log ≡ v.log) × (values_of w t ≡ values_of v t) → TableStands script config w seats
 Table_lacks script config v w seats t s table at lacking stands others behind =
     let st : SeatStands script v t s = table.each t s at in
     let runs : IsEnded s.mode → ⊥ = λ over. subst IsEnded lacking over in
@@ -478,7 +478,7 @@ told_fits s after reply takes =
     ]
 
 -- it stands one operation further in the history
-told_stands : (script : Script) (v w : View) (t : ℕ) (s after : Seat) → SeatStands script v t s → (IsEnded s.mode → ⊥) → Standing v → Standing w → length w.globals ≡ length v.globals → SeatTold v w t s after → SeatStands script w t after
+told_stands : (script : Script) (v w : View) (t : ℕ) (s after : Seat) → SeatStands script v t s → (IsEnded s.mode → ⊥) → Standing true v → Standing true w → length w.globals ≡ length v.globals → SeatTold v w t s after → SeatStands script w t after
 told_stands script v w t s after st runs before behind globals told =
     let ops : List Op = operations script t in
     let k : ℕ = length s.replies.items in
@@ -487,10 +487,10 @@ told_stands script v w t s after st runs before behind globals told =
     let dropped : drop k ops ≡ told.op ∷ s.rest.operations = sym st.to_come ∙ first in
     let count : length after.replies.items ≡ k + 1 = ap length takes.replies ∙ length-append s.replies.items (told.reply ∷ []) in
     let more : length after.replies.items ≡ suc k = omega (arith, count) in
-    let legal : Legal w.log (length v.globals) = subst (λ (n : ℕ). Legal w.log n) globals behind.legal in
+    let legal : Legal w.log (length v.globals) = subst (λ (n : ℕ). Legal w.log n) globals (behind.legal refl) in
     let now : Stands v.log t (take k ops) s.replies.items (values_of v t) = subst (λ (rs : List Value). Stands v.log t (take k ops) s.replies.items rs) (held_now script v t s st runs) st.told in
     let next : Stands w.log t (take k ops ++ told.op ∷ []) (s.replies.items ++ told.reply ∷ []) told.registers =
-    Stands_answers v.log w.log t (length v.globals) (take k ops) s.replies.items (values_of v t) told.registers told.op told.reply before.legal legal now told.answers in
+    Stands_answers v.log w.log t (length v.globals) (take k ops) s.replies.items (values_of v t) told.registers told.op told.reply (before.legal refl) legal now told.answers in
     let taken : take (length after.replies.items) ops ≡ take k ops ++ told.op ∷ [] = ap (λ (n : ℕ). take n ops) more ∙ take_next ops s.rest.operations k told.op dropped in
     let sizes : length (left s) ≡ length s.rest.operations + 1 = omega (arith, ap length first) in
     let fewer : length (left after) ≡ length s.rest.operations = ap length takes.to_come in
@@ -556,7 +556,7 @@ told_due config s after reply due takes owes =
     record { asked = by.0; some = λ none. omega (arith, none, count); divides = by.1 }
 
 -- so all threads stand behind its reply
-told_moves : (script : Script) (config : Config) (v w : View) (seats : List Seat) (t : ℕ) (s after : Seat) → DueBy config.every s after → TableStands script config v seats → slice_get seats t ≡ Some s → (IsEnded s.mode → ⊥) → Standing w → length w.globals ≡ length v.globals → SeatTold v w t s after → Moves script config v w seats t s after
+told_moves : (script : Script) (config : Config) (v w : View) (seats : List Seat) (t : ℕ) (s after : Seat) → DueBy config.every s after → TableStands script config v seats → slice_get seats t ≡ Some s → (IsEnded s.mode → ⊥) → Standing true w → length w.globals ≡ length v.globals → SeatTold v w t s after → Moves script config v w seats t s after
 told_moves script config v w seats t s after due table at runs behind globals told =
     let st : SeatStands script w t after = told_stands script v w t s after (table.each t s at) runs table.stands behind globals told in
     let act : Option Act = (does v.log (values_of v t) told.op told.answers.value).act in

@@ -15,7 +15,9 @@ use Rattle.melt_trace.specs.Script.{Script, operations}
 use Rattle.melt_core.specs.declared.call.Call.{Call}
 use Rattle.melt_core.specs.Answering.{Answers}
 use Rattle.melt_core.specs.Views.{View, view, call_of, value, values_of, Standing, IsQuiet}
-use Rattle.melt_core.specs.Events.{KeepsOthers, HasRoomFor, Pauses, events_left, stage_in}
+use Rattle.melt_core.specs.Advances.{KeepsOthers, HasRoomFor, Pauses}
+use Rattle.melt_core.specs.Stages.{events_left}
+use Rattle.melt_core.specs.Views.{stage_in}
 use Rattle.melt_copy.specs.Copying.{IsCopying}
 use Rattle.melt_model.specs.declared.reports.Journal.{Journal}
 use Rattle.melt_model.specs.declared.reports.Phase.{Phase}
@@ -141,7 +143,7 @@ pub record Later (seats after : List Seat) : Type 0 where
 
 -- All threads stand in the history, for which the core stands; it has room for the entries to come.
 pub record TableStands (script : Script) (config : Config) (v : View) (seats : List Seat) : Type 0 where
-  pub stands : Standing v
+  pub stands : Standing true v
   pub count : length seats ≡ length script.programs
   pub threads : length v.held ≡ length script.programs
   pub globals : length v.globals ≡ script.globals
@@ -226,7 +228,7 @@ pub record SeatTold (v w : View) (t : ℕ) (s after : Seat) : Type 0 where
 -- What an event needs of its thread: the call in flight is of its next operation, and there is room for its reply and
 -- its entry.
 pub record IsReady (v : View) (t : ℕ) (s : Seat) : Type 0 where
-  pub stands : Standing v
+  pub stands : Standing true v
   pub thread : t < length v.held
   pub call : (c : Call) → call_of v t ≡ Some c → (s.mode ≡ Running) × (s.op ≡ Some c.op) × (c.op ≢ Collect)
   pub fits : FitsMode s.mode s.op
@@ -239,13 +241,13 @@ pub record IsReady (v : View) (t : ℕ) (s : Seat) : Type 0 where
 
 -- one event of a thread
 pub record SeatStep (v w : View) (t : ℕ) (s after : Seat) : Type 0 where
-  pub stands : Standing w
+  pub stands : Standing true w
   pub others : KeepsOthers v w t
   pub what : ((mode : Mode) × SeatWaits v w t s after mode) ⊎ (SeatGoes v w t s after ⊎ (SeatRefused v w t s after ⊎ SeatTold v w t s after))
 
 -- a new epoch, in which all stands as before
 pub record Renewed (v w : View) : Type 0 where
-  pub stands : Standing w
+  pub stands : Standing true w
   pub quiet : IsQuiet w
   pub globals : length w.globals ≡ length v.globals
   pub words : length w.space.list ≡ length v.space.list
@@ -256,7 +258,7 @@ pub record Renewed (v w : View) : Type 0 where
 
 -- A collection: history, values and calls stay, and the words in use are those of what registers and globals reach.
 pub record Collected (v w : View) : Type 0 where
-  pub stands : Standing w
+  pub stands : Standing true w
   pub quiet : IsQuiet w
   pub globals : length w.globals ≡ length v.globals
   pub words : length w.space.list ≡ length v.space.list
@@ -299,7 +301,7 @@ pub record LacksAlone (v w : View) (t : ℕ) (s after : Seat) (need : ℕ) : Typ
 
 -- The call of a thread was made alone: it was answered, or its claim of so many words ended past the last one.
 pub record CalledAlone (v w : View) (t : ℕ) (s after : Seat) (lacks : Option ℕ) : Type 0 where
-  pub stands : Standing w
+  pub stands : Standing true w
   pub others : KeepsOthers v w t
   pub what : ((lacks ≡ None) × SeatTold v w t s after) ⊎ ((need : ℕ) × LacksAlone v w t s after need × (lacks ≡ Some need))
 

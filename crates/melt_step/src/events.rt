@@ -1,7 +1,7 @@
 //! The events of a thread.
-ghost use Rattle.std.specs.Prelude.{◌≡◌, ◌≢◌, ◌^◌, ◌<◌, length, vec_capacity, false, Some, None};
+ghost use Rattle.std.specs.Prelude.{◌≡◌, ◌≢◌, ◌^◌, ◌<◌, length, vec_capacity, false, Some, None, true};
 ghost use Rattle.melt_model.specs.declared.operations.Op.{Op};
-ghost use Rattle.melt_core.specs.Calls.{InBounds};
+ghost use Rattle.melt_core.specs.Advances.{InBounds};
 ghost use Rattle.melt_core.specs.Changed.{HasRoomForEntry};
 ghost use Rattle.melt_core.specs.Views.{Standing, call_of, view};
 ghost use Rattle.melt_step.specs.Seats.{CalledAlone, DropsIfEnded, DueBy, IsReady, MayGo, SeatStep, SetsStop, TakesReply};
@@ -63,7 +63,7 @@ pub fn make_event(core: &mut Core, seat: &mut Seat<'_>, thread: u32, every: u32)
 
 /// A thread got a reply. One that has ended drops its registers.
 pub fn answered(core: &mut Core, seat: &mut Seat<'_>, thread: u32, reply: Reply, every: u32)
-    requires stands { Standing (view core.old) }
+    requires stands { Standing true (view core.old) }
     requires thread { thread < length (view core.old).held }
     requires no_call { call_of (view core.old) thread ≡ None }
     requires room { length seat.old.replies.items < vec_capacity seat.old.replies }
@@ -85,7 +85,7 @@ pub fn call_alone(
     op: Op,
     every: u32,
 ) -> Option<u32>
-    requires stands { Standing (view core.old) }
+    requires stands { Standing true (view core.old) }
     requires thread { thread < length (view core.old).held }
     requires waits { seat.old.mode ≡ Mode.Lacking }
     requires op { seat.old.op ≡ Some op }

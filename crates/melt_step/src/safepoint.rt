@@ -1,5 +1,5 @@
 //! What is done when no thread can go on.
-ghost use Rattle.std.specs.Prelude.{◌≡◌, ℕ, ◌<◌, length, slice_get, false, Some, IfOk, IfSome, IfNone};
+ghost use Rattle.std.specs.Prelude.{◌≡◌, ℕ, ◌<◌, length, slice_get, false, Some, IfOk, IfSome, IfNone, true};
 ghost use Rattle.melt_model.specs.declared.config.Config.{Config};
 ghost use Rattle.melt_trace.specs.Script.{Script};
 ghost use Rattle.melt_core.specs.Views.{IsQuiet, Standing, view};
@@ -17,7 +17,7 @@ impl<'a> Run<'a> {
     /// Makes the collection that is planned.
     fn collect(mut self, alloc: Global) -> Result<Run<'a>, NoMemory>
         requires planning { IsPlanning self.collector }
-        requires stands { Standing (view self.core) }
+        requires stands { Standing true (view self.core) }
         requires quiet { IsQuiet (view self.core) }
         ensures { IfOk result (MakesPlanned self.entry) }
     {

@@ -1,5 +1,5 @@
 -- Each event goes on with the call, or ends it.
-use Rattle.std.proofs.Common.{rules}
+use Rattle.std.proofs.Common.{rules, true}
 use Rattle.melt_core.specs.Views.{view}
 use Rattle.melt_step.proofs.Alone.{call_goes, call_told}
 use Rattle.melt_step.proofs.events.call_alone.Goals as goal
@@ -13,4 +13,4 @@ loop-reply-preserved c = record {
 pub returns-in-Answered-clause-called : goal.returns-in-Answered-clause-called
 returns-in-Answered-clause-called c =
     call_told (view c.args.core.now) (view c.loop-reply.core) (view c.advance.new.self) (view c.answered.new.core) c.args.thread c.args.op c.in-Answered.reply c.args.seat.now c.answered.new.seat
-    c.requires.waits c.requires.op c.requires.no_collect c.loop-reply.invariant.on c.advance.ensures.advances.stands c.advance.ensures.advances.others (search rules) (search rules) c.answered.ensures.drops
+    c.requires.waits c.requires.op c.requires.no_collect c.loop-reply.invariant.on (c.advance.ensures.keeps true c.loop-reply.invariant.on.stands) c.advance.ensures.others (search rules) (search rules) c.answered.ensures.drops

@@ -1,7 +1,8 @@
 -- The call goes on from the beginning, and each event has fewer behind it.
 use Rattle.std.proofs.Common.{◌≡◌}
 use Rattle.melt_core.specs.Views.{call_of, view}
-use Rattle.melt_core.specs.Events.{events_left, stage_in}
+use Rattle.melt_core.specs.Stages.{events_left}
+use Rattle.melt_core.specs.Views.{stage_in}
 use Rattle.melt_step.proofs.Alone.{OnCall}
 use Rattle.melt_step.proofs.events.call_alone.Given as goal
 

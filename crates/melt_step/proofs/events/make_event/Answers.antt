@@ -1,5 +1,5 @@
 -- What the event was, by the mode of the thread.
-use Rattle.std.proofs.Common.{rules, refl, inl}
+use Rattle.std.proofs.Common.{rules, refl, inl, true}
 use Rattle.melt_core.specs.Views.{view}
 use Rattle.melt_step.proofs.Calling.{waits_step, told_step}
 use Rattle.melt_step.proofs.events.make_event.Goals as goal
@@ -11,7 +11,7 @@ returns-in-Running-Some-Collect-clause-step c =
 pub returns-in-Answered : goal.returns-in-Answered
 returns-in-Answered c =
     let both = told_step (view c.args.core.now) (view c.advance.new.self) (view c.answered.new.core) c.args.thread c.in-Running-Some.op c.in-Answered.reply c.args.seat.now c.answered.new.seat
-    (search rules) (search rules) (search rules) c.advance.ensures.advances.stands c.advance.ensures.advances.others (search rules) c.answered.ensures.takes c.answered.ensures.drops in
+    (search rules) (search rules) (search rules) c.requires.ready.stands (c.advance.ensures.keeps true c.requires.ready.stands) c.advance.ensures.others (search rules) c.answered.ensures.takes c.answered.ensures.drops in
     record { step = both.0; stop = both.1; due = c.answered.ensures.due }
 
 pub returns-in_default-clause-step : goal.returns-in_default-clause-step

@@ -1,6 +1,6 @@
 use Rattle.std.proofs.Common.{◌≡◌, List, length, refl, sym, ◌∙◌, ap, subst}
 use Rattle.std.proofs.lemmas.List.{with_items_is}
-use Rattle.std.specs.Prelude.{All}
+use Rattle.std.specs.Prelude.{All, true}
 use Rattle.melt_scion.specs.Heaps.{IsFormed}
 use Rattle.melt_scion.specs.declared.heap.Heap.{Heap}
 use Rattle.melt_scion.specs.declared.registers.Registers.{Registers}
@@ -16,7 +16,7 @@ use Rattle.melt_step.proofs.collector.Collector.collect.Goals as goal
 
 pub collect_uncounted-requires-clause-formed : goal.collect_uncounted-requires-clause-formed
 collect_uncounted-requires-clause-formed c =
-    subst (IsFormed c.finish-heap.result.0) (sym c.registers.ensures.value) (rest_formed c.finish-heap.result.0 c.finish-heap.result.1 c.finish-heap.ensures.rests)
+    subst (IsFormed c.finish-heap.result.0) (sym c.registers.ensures.value) (rest_formed c.finish-heap.result.0 c.finish-heap.result.1 (c.finish-heap.ensures.rests true c.requires.stands))
 
 pub returns-clause-collected : goal.returns-clause-collected
 returns-clause-collected c =
@@ -36,7 +36,7 @@ returns-clause-collected c =
     (subst (λ (xs : List Registers). Collects heap c.registers.result.now new xs c.args.phase c.in_ok-journal.journal) (sym items) c.in_ok-journal.ensures.collected) in
     subst (λ (core : Core). Collected (view c.args.core) (view core)) (sym c.begin.ensures)
     (finished_collected (view c.args.core) (view (core_of heap rest)) (view (core_of new after)) c.finish-heap.ensures.finished
-    (rest_collected heap new rest after c.args.phase c.in_ok-journal.journal c.finish-heap.ensures.rests c.requires.phase collects same (same_sizes rest.held.items after.held.items same before sixteen) refl refl refl))
+    (rest_collected heap new rest after c.args.phase c.in_ok-journal.journal (c.finish-heap.ensures.rests true c.requires.stands) c.requires.phase collects same (same_sizes rest.held.items after.held.items same before sixteen) refl refl refl))
 
 pub returns-clause-plans : goal.returns-clause-plans
 returns-clause-plans c =
@@ -51,8 +51,8 @@ returns-clause-plans c =
     let collects : Collects heap rest.held.items new after.held.items c.args.phase c.in_ok-journal.journal =
     subst (λ (xs : List Registers). Collects heap xs new after.held.items c.args.phase c.in_ok-journal.journal) lent
     (subst (λ (xs : List Registers). Collects heap c.registers.result.now new xs c.args.phase c.in_ok-journal.journal) (sym items) c.in_ok-journal.ensures.collected) in
-    let of_phase : c.in_ok-journal.journal.phase ≡ c.args.phase = (collects (maps_of heap.names) 1 (names_are heap.names) c.finish-heap.ensures.rests.stands.placed.formed).told.of_phase in
+    let of_phase : c.in_ok-journal.journal.phase ≡ c.args.phase = (collects (maps_of heap.names) 1 (names_are heap.names) (let at_rest = c.finish-heap.ensures.rests true c.requires.stands in record { words = at_rest.stands.holds.formed; registers = at_rest.stands.registers })).told.of_phase in
     let left : LeavesWords (view c.begin.result) c.in_ok-journal.journal =
-    subst (λ (core : Core). LeavesWords (view core) c.in_ok-journal.journal) (sym c.begin.ensures) (left_words heap new rest after c.args.phase c.in_ok-journal.journal c.finish-heap.ensures.rests collects) in
+    subst (λ (core : Core). LeavesWords (view core) c.in_ok-journal.journal) (sym c.begin.ensures) (left_words heap new rest after c.args.phase c.in_ok-journal.journal (c.finish-heap.ensures.rests true c.requires.stands) c.requires.phase collects) in
     planned_by c.args.self.now c.plan.new.self _ (view c.begin.result) c.args.phase c.in_ok-journal.journal c.requires.planning c.plan.ensures.planning c.plan.ensures.journal c.requires.phase of_phase
     c.in_ok-push.ensures.items refl c.plan.ensures.next refl c.plan.ensures.config left

@@ -73,7 +73,7 @@ returns-clause-keeps c = λ script config alone.
     elim c.match-seat.branch [
       | in-Some+then-is_some+in_ok-core+in-Some-call_alone w ↦
           run_stands script config c.args.self _ (view w.drop_all.new.self) c.args.thread s _ alone.stands (ap view w.core-is) refl (search rules)
-          (again_gone script config v (view w.call_alone.new.core) (view w.in_ok-core.core) (view w.call_alone-then-is_some.new.core) (view w.drop_all.new.self) c.args.self.seats.items c.args.thread w.used-held.result w.in-Some-call_alone.need s w.call_alone.new.seat w.call_alone-then-is_some.new.seat w.call_alone.result w.call_alone-then-is_some.result alone.owed alone.stands.table read.0 read.1 (search rules) w.call_alone.ensures.called w.in_ok-core.ensures.collected w.used-held.ensures w.in-Some-call_alone.is w.call_alone-then-is_some.ensures.called w.drop_all.ensures)
+          (again_gone script config v (view w.call_alone.new.core) (view w.in_ok-core.core) (view w.call_alone-then-is_some.new.core) (view w.drop_all.new.self) c.args.self.seats.items c.args.thread w.used-held.result w.in-Some-call_alone.need s w.call_alone.new.seat w.call_alone-then-is_some.new.seat w.call_alone.result w.call_alone-then-is_some.result alone.owed alone.stands.table read.0 read.1 (search rules) w.call_alone.ensures.called w.in_ok-core.ensures.collected (let first = w.in_ok-core.ensures.collected.stands.first in omega (arith, w.used-held.ensures, first)) w.in-Some-call_alone.is w.call_alone-then-is_some.ensures.called w.drop_all.ensures)
           (subst (CollectorStands config) (sym w.collector-is) (forced_stands script config c.args.self w.collect.new.self (view w.call_alone.new.core) (view w.in_ok-core.core) c.args.thread s w.call_alone.new.seat w.call_alone.result alone read.0 (search rules) w.call_alone.ensures.called w.in_ok-core.ensures.collected w.in_ok-core.ensures.plans))
           (omega (arith, plans_count c.args.self.collector w.collect.new.self (view w.in_ok-core.core) forced w.in_ok-core.ensures.plans, ap (λ (x : Collector). length x.journal.items) w.collector-is))
       | in-Some+then-is_some+in_ok-core+in_default-call_alone w ↦
@@ -113,7 +113,7 @@ returns-clause-only c = λ x at.
     elim c.match-seat.branch [
       | in-Some+then-is_some+in_ok-core+in-Some-call_alone w ↦
           called_at script config (view w.drop_all.new.self) c.args.self.seats.items c.match-seat.seats.items c.args.thread s x _ read.0
-          (again_gone script config v (view w.call_alone.new.core) (view w.in_ok-core.core) (view w.call_alone-then-is_some.new.core) (view w.drop_all.new.self) c.args.self.seats.items c.args.thread w.used-held.result w.in-Some-call_alone.need s w.call_alone.new.seat w.call_alone-then-is_some.new.seat w.call_alone.result w.call_alone-then-is_some.result alone.owed alone.stands.table read.0 read.1 (search rules) w.call_alone.ensures.called w.in_ok-core.ensures.collected w.used-held.ensures w.in-Some-call_alone.is w.call_alone-then-is_some.ensures.called w.drop_all.ensures)
+          (again_gone script config v (view w.call_alone.new.core) (view w.in_ok-core.core) (view w.call_alone-then-is_some.new.core) (view w.drop_all.new.self) c.args.self.seats.items c.args.thread w.used-held.result w.in-Some-call_alone.need s w.call_alone.new.seat w.call_alone-then-is_some.new.seat w.call_alone.result w.call_alone-then-is_some.result alone.owed alone.stands.table read.0 read.1 (search rules) w.call_alone.ensures.called w.in_ok-core.ensures.collected (let first = w.in_ok-core.ensures.collected.stands.first in omega (arith, w.used-held.ensures, first)) w.in-Some-call_alone.is w.call_alone-then-is_some.ensures.called w.drop_all.ensures)
           (search rules) at
       | in-Some+then-is_some+in_ok-core+in_default-call_alone w ↦
           called_at script config (view w.call_alone-then-is_some.new.core) c.args.self.seats.items c.match-seat.seats.items c.args.thread s x _ read.0

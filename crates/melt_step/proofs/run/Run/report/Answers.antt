@@ -1,5 +1,5 @@
 -- All threads have ended when the loop has, and each was reported.
-use Rattle.std.proofs.Common.{◌≡◌, ◌∷◌, ◌++◌, [], List, refl, sym, ◌∙◌, ap, subst}
+use Rattle.std.proofs.Common.{true, ◌≡◌, ◌∷◌, ◌++◌, [], List, refl, sym, ◌∙◌, ap, subst}
 use Rattle.std.proofs.lemmas.List.{append-nil, append_assoc, nil_from_length}
 use Rattle.melt_model.specs.declared.reports.ThreadReport.{ThreadReport}
 use Rattle.melt_step.specs.Seats.{IsEnded}
@@ -8,8 +8,8 @@ use Rattle.melt_step.proofs.Ending.{has_run}
 use Rattle.melt_step.proofs.Reporting.{Reported, reported_none, reported_more, ended_so, ended_quiet, ended_next}
 use Rattle.melt_step.proofs.run.Run.report.Goals as goal
 
-pub finish-heap-requires-clause-quiet : goal.finish-heap-requires-clause-quiet
-finish-heap-requires-clause-quiet c = ended_quiet c.requires.stands.0 c.requires.stands.1.0 c.args.self c.requires.stands.1.1 c.requires.ended
+pub finish-heap-requires : goal.finish-heap-requires
+finish-heap-requires c = record { quiet = ended_quiet c.requires.stands.0 c.requires.stands.1.0 c.args.self c.requires.stands.1.1 c.requires.ended }
 
 pub loop-seat-init : goal.loop-seat-init
 loop-seat-init c =
@@ -40,4 +40,4 @@ returns c = λ script config stands.
     let all : c.loop-seat.yielded ≡ c.args.self.seats.items =
     sym (append-nil c.loop-seat.yielded) ∙ (ap (λ (xs : List Seat). c.loop-seat.yielded ++ xs) (sym none) ∙ c.loop-seat.invariant.1) in
     let reported : Reported c.args.self.seats.items c.loop-seat.threads.items = subst (λ (xs : List Seat). Reported xs c.loop-seat.threads.items) all c.loop-seat.invariant.0 in
-    has_run script config c.args.self c.finish-heap.result.0 c.finish-heap.result.1 _ stands c.requires.ended c.finish-heap.ensures.rests c.finish-heap.ensures.finished reported.count reported.each refl refl c.into_history.ensures
+    has_run script config c.args.self c.finish-heap.result.0 c.finish-heap.result.1 _ stands c.requires.ended (c.finish-heap.ensures.rests true c.requires.stands.1.1.table.stands) c.finish-heap.ensures.finished reported.count reported.each refl refl c.into_history.ensures

@@ -1,5 +1,5 @@
 -- All threads that wait make their calls again, and then stand in the epoch that goes on.
-use Rattle.std.proofs.Common.{◌≡◌, ◌<◌, ◌≤◌, false, List, length, get_or, refl, sym, ◌∙◌, ap, subst, arith}
+use Rattle.std.proofs.Common.{true, ◌≡◌, ◌<◌, ◌≤◌, false, List, length, get_or, refl, sym, ◌∙◌, ap, subst, arith}
 use Rattle.std.proofs.lemmas.List.{with_items_is}
 use Rattle.std.proofs.lemmas.Option.{slice_get-get_or}
 use Rattle.std.specs.Vec.{with_items}
@@ -28,7 +28,7 @@ returns-then-is_stopped-clause-keeps c =
     let done : AgainBelow seats (with_items c.args.self.seats after).items c.loop-seat.seat-index = subst (λ (xs : List Seat). AgainBelow seats xs c.loop-seat.seat-index) (sym items) again in
     let all : length seats ≤ c.loop-seat.seat-index = omega (arith, c.loop-seat-test.false, ap length c.deref_mut-seat-items.ensures.value) in
     let begun : Begun old (view c.begin.result) =
-    subst (λ (core : Core). Begun old (view core)) (sym c.begin.ensures) (begun_new old c.finish-heap.result.0 c.finish-heap.result.1 c.finish-heap.ensures.rests c.finish-heap.ensures.finished) in
+    subst (λ (core : Core). Begun old (view core)) (sym c.begin.ensures) (begun_new old c.finish-heap.result.0 c.finish-heap.result.1 (c.finish-heap.ensures.rests true c.requires.stands.1.1.table.stands) c.finish-heap.ensures.finished) in
     resumed_keeps c.args.self _ (view c.begin.result) c.loop-seat.seat-index done c.requires.quiet begun refl refl refl
 
 pub returns-then-is_stopped-clause-stop : goal.returns-then-is_stopped-clause-stop
@@ -41,7 +41,7 @@ returns-then-is_stopped-clause-stop c =
     let done : AgainBelow seats (with_items c.args.self.seats after).items c.loop-seat.seat-index = subst (λ (xs : List Seat). AgainBelow seats xs c.loop-seat.seat-index) (sym items) again in
     let all : length seats ≤ c.loop-seat.seat-index = omega (arith, c.loop-seat-test.false, ap length c.deref_mut-seat-items.ensures.value) in
     let begun : Begun old (view c.begin.result) =
-    subst (λ (core : Core). Begun old (view core)) (sym c.begin.ensures) (begun_new old c.finish-heap.result.0 c.finish-heap.result.1 c.finish-heap.ensures.rests c.finish-heap.ensures.finished) in
+    subst (λ (core : Core). Begun old (view core)) (sym c.begin.ensures) (begun_new old c.finish-heap.result.0 c.finish-heap.result.1 (c.finish-heap.ensures.rests true c.requires.stands.1.1.table.stands) c.finish-heap.ensures.finished) in
     again_knows seats (with_items c.args.self.seats after).items c.loop-seat.seat-index (view c.begin.result) done all c.requires.collected begun.no_stop
 
 pub returns-then-is_stopped-clause-resumed : goal.returns-then-is_stopped-clause-resumed
