@@ -6,11 +6,11 @@ use Rattle.melt_model.specs.declared.reports.Journal.{Journal}
 use Rattle.melt_model.specs.declared.reports.Phase.{Phase}
 use Rattle.melt_word.specs.Words.{cost_of}
 use Rattle.melt_space.specs.Space.{SpaceWords, word_at, Replaces}
-use Rattle.melt_scion.specs.State.{Base, State}
+use Rattle.melt_scion.specs.State.{State}
 use Rattle.melt_scion.specs.Placed.{Maps, IsNamed, Formed}
 use Rattle.melt_scion.specs.Collected.{CountsWords, HeldAt}
 use Rattle.melt_scion.specs.Names.{name_at}
-use Rattle.melt_scion.specs.Heaps.{state_of, HasNames, KeepsNames, NamesMade, IsFormed}
+use Rattle.melt_scion.specs.Heaps.{base_of, state_of, HasNames, KeepsNames, NamesMade, IsFormed}
 use Rattle.melt_scion.specs.declared.registers.Registers.{Registers}
 use Rattle.melt_scion.specs.declared.heap.Names.{Names}
 use Rattle.melt_scion.specs.declared.heap.Heap.{Heap}
@@ -106,14 +106,12 @@ replaced_word : (old new : SpaceWords) (words : List ℕ) (k : ℕ) → Replaces
 replaced_word old new words zero replaces first last = absurd (omega (arith, first))
 replaced_word old new words (suc k) replaces first last = replaces.front k (omega (arith, last))
 
-abbrev base_with : ℕ → ℕ → ℕ → Base
-base_with size globals end = record { size = size; globals = globals; forwards = 0; scion = λ k. None; end = end; homes = []; free_homes = []; image = λ k. 0 }
-
 -- heaps of the same size and with as many globals
-same_base : (size old_size globals old_globals end : ℕ) → size ≡ old_size → globals ≡ old_globals
-    → base_with size globals end ≡ base_with old_size old_globals end
-same_base size old_size globals old_globals end one two =
-    ap (λ (n : ℕ). base_with n globals end) one ∙ ap (λ (n : ℕ). base_with old_size n end) two
+same_base : (old new : Heap) (end : ℕ) → length new.space.list ≡ length old.space.list
+    → length new.globals ≡ length old.globals → base_of new end ≡ base_of old end
+same_base old new end size globals =
+    ap (λ (n : ℕ). record (base_of old end) { size = n; globals = length new.globals }) size
+    ∙ ap (λ (n : ℕ). record (base_of old end) { globals = n }) globals
 
 -- the heap that was put back is a copy
 put_copy : (phase : Phase) (old new : Heap) (held after : List Registers) (end : ℕ) (copied : Copied)
@@ -137,7 +135,7 @@ put_copy phase old new held after end copied is put =
       global = λ g below. subst (λ (ws : List ℕ). WordMoves phase f (s.global g) (slice_index ws g)) (sym put.globals) (is.globals g below);
       register = put.registers;
       held = is.held;
-      base = same_base (length new.space.list) (length old.space.list) (length new.globals) (length old.globals) end put.space.size globals;
+      base = same_base old new end put.space.size globals;
     }
 
 -- what was put back is a collection
