@@ -4,13 +4,16 @@ use Rattle.std.specs.Prelude.{Bool, true, Option, None, Some}
 use Rattle.std.proofs.lemmas.Bool.{cases_eq}
 use Rattle.std.proofs.lemmas.Option.{same_Some}
 use Rattle.melt_model.specs.declared.operations.Op.{Op}
+use Rattle.melt_model.specs.declared.operations.Op.TheVariants as op
 use Rattle.melt_model.specs.declared.operations.Op.TheVariants.{Collect}
 use Rattle.melt_model.specs.declared.operations.Reply.{Reply}
 use Rattle.melt_core.specs.declared.call.Call.{Call}
 use Rattle.melt_core.specs.declared.call.Stage.{Stage}
 use Rattle.melt_core.specs.declared.call.Stage.TheVariants as stage
 use Rattle.melt_core.specs.declared.call.Stage.TheVariants.{Polled, Headed, Looked, Cleared, Claimed}
-use Rattle.melt_core.specs.declared.answer.StepResult.TheVariants.{Going}
+use Rattle.melt_core.specs.declared.answer.Pause.TheVariants.{Space}
+use Rattle.melt_core.specs.declared.answer.Refusal.TheVariants.{Pause}
+use Rattle.melt_core.specs.declared.answer.StepResult.TheVariants.{Going, Refused}
 use Rattle.melt_word.specs.Words.{IsShape, cost_of}
 use Rattle.melt_word.specs.declared.header.Shape.{Shape}
 use Rattle.melt_scion.specs.State.{State}
@@ -18,15 +21,16 @@ use Rattle.melt_scion.specs.Placed.{Maps}
 use Rattle.melt_scion.specs.Heaps.{register_in}
 use Rattle.melt_core.specs.declared.call.Access.TheVariants.{Load, Store, Get, Put}
 use Rattle.melt_core.specs.declared.call.Task.TheVariants.{Make, Use, LoadGlobal, StoreGlobal}
-use Rattle.melt_core.specs.Stages.{Next, Applies, change_of}
+use Rattle.melt_core.specs.Stages.{Next, Applies, Fits, change_of}
+use Rattle.melt_core.proofs.Tasks.{new_is}
 use Rattle.std.proofs.lemmas.Bool.{cases_lt}
 use Rattle.melt_core.specs.Views.{View, values_of, call_of, maps, state, Standing}
-use Rattle.melt_core.specs.Advances.{Advances, Continues, KeepsOthers, IsAnswered, Goes}
+use Rattle.melt_core.specs.Advances.{Advances, Continues, KeepsOthers, IsAnswered, IsRefused, Goes}
 use Rattle.melt_core.specs.Views.{stage_in}
 use Rattle.melt_core.specs.Stages.{events_left}
 use Rattle.melt_step.specs.declared.seat.Seat.{Seat}
 use Rattle.melt_step.specs.declared.seat.Mode.TheVariants.{Lacking}
-use Rattle.melt_step.specs.Seats.{owes_silent, TakesReply, DropsIfEnded, CalledAlone}
+use Rattle.melt_step.specs.Seats.{owes_silent, TakesReply, DropsIfEnded, LacksAlone, CalledAlone}
 use Rattle.melt_step.proofs.Calling.{KeepsOthers_both, told_seat, told_stands}
 
 -- a call that has claimed nothing yet
@@ -146,4 +150,37 @@ call_told v w x y t o reply s after lacking next no_collect on stands others ans
       stands = behind.0;
       others = KeepsOthers_both v w y t on.others (KeepsOthers_both w x y t others behind.1);
       what = inl (refl, told_seat v w x y t o reply s after next no_collect on.history values on.others.words on.stands answered (ap owes_silent lacking) takes drops);
+    }
+
+-- a stage is that of a call, which is the one of the operation
+lacking_fits : (v : View) (t : ℕ) (o : Op) (need : ℕ) (now : Option Call) → call_of v t ≡ now → Standing true v → Continues now o → stage_in now ≡ Some (stage.Lacking need) → Fits (register_in v.held t) o (stage.Lacking need)
+lacking_fits v t o need None is stands continued lacking = absurd (cc)
+lacking_fits v t o need (Some c) is stands continued lacking =
+    let fits : Fits (register_in v.held t) c.op c.stage = stands.fits t c is in
+    subst (λ (p : Op). Fits (register_in v.held t) p (stage.Lacking need)) (sym continued)
+    (subst (Fits (register_in v.held t) c.op) (same_Some c.stage (stage.Lacking need) lacking) fits)
+
+-- the call was refused: its claim ended past the last word of the heap
+pub call_lacks : (v w x : View) (t : ℕ) (o : Op) (need : ℕ) (s : Seat) → s.op ≡ Some o → OnCall v w t o → Advances w x t o (Refused (Pause (Space need))) → CalledAlone v x t s s (Some need)
+call_lacks v w x t o need s next on advances =
+    let refused : IsRefused w x t o need = advances.outcome in
+    let fits : Fits (register_in w.held t) o (stage.Lacking need) = lacking_fits w t o need (call_of w t) refl on.stands on.continued refused.stage in
+    let shape : Shape = fits.1 in
+    let made : o ≡ op.New fits.0 shape.refs shape.nums = new_is o fits.0 shape fits.2 in
+    let lacks : LacksAlone v x t s s need = record {
+      same = refl;
+      dst = fits.0;
+      refs = shape.refs;
+      nums = shape.nums;
+      next = next ∙ ap Some made;
+      needed = fits.3;
+      above = on.lacks need refused.stage;
+      call = refused.call;
+      history = refused.own.history ∙ on.history;
+      values = refused.own.values ∙ on.values;
+    } in
+    record {
+      stands = advances.keeps true on.stands;
+      others = KeepsOthers_both v w x t on.others advances.others;
+      what = inr (need, lacks, refl);
     }

@@ -1,6 +1,6 @@
 -- What an event or a reply makes of a thread.
 use Rattle.std.proofs.Common.{true, ◌≡◌, ◌≢◌, ℕ, ◌+◌, ◌≤◌, false, List, length, refl, sym, ◌∙◌, ap, subst, arith, inl, inr}
-use Rattle.std.specs.Prelude.{Some, ◌⊎◌}
+use Rattle.std.specs.Prelude.{◌<◌, Option, Some, ◌⊎◌}
 use Rattle.melt_model.specs.Alive.{Alive, words_of, CostsSum}
 use Rattle.melt_model.specs.declared.history.Entry.{Entry}
 use Rattle.melt_model.specs.declared.history.Value.{Value}
@@ -12,15 +12,22 @@ use Rattle.melt_model.specs.declared.reports.ThreadEnd.TheVariants as end
 use Rattle.melt_model.specs.Thread.{value_in}
 use Rattle.melt_model.proofs.Sums.{CostsSum-same}
 use Rattle.melt_core.specs.Answering.{Answers}
-use Rattle.melt_core.specs.Views.{View, value, values_of, call_of, Standing}
-use Rattle.melt_core.specs.Advances.{KeepsOthers, HasRoom, HasRoomFor, IsAnswered}
+use Rattle.melt_core.specs.Views.{View, value, values_of, call_of, stage_in, Standing}
+use Rattle.melt_core.specs.Advances.{Advances, KeepsOthers, HasRoom, HasRoomFor, IsAnswered, Goes, IsRefused}
+use Rattle.melt_core.specs.Stages.{events_left}
+use Rattle.melt_core.specs.declared.call.Call.{Call}
+use Rattle.melt_core.specs.declared.call.Stage.{Stage}
+use Rattle.melt_core.specs.declared.answer.Pause.TheVariants as pause
+use Rattle.melt_core.specs.declared.answer.Refusal.TheVariants as refusal
+use Rattle.melt_core.specs.declared.answer.StepResult.{StepResult}
+use Rattle.melt_core.specs.declared.answer.StepResult.TheVariants.{Going, Answered, Refused}
 use Rattle.melt_core.specs.Changed.{stopped}
 use Rattle.melt_core.specs.Epochs.{HasDropped}
 use Rattle.melt_core.proofs.Resting.{stands_stopped}
 use Rattle.melt_step.specs.declared.seat.Seat.{Seat}
 use Rattle.melt_step.specs.declared.seat.Mode.{Mode}
 use Rattle.melt_step.specs.declared.seat.Mode.TheVariants.{Running, Due, Silent, Collecting, Asked, Lacking, Ended}
-use Rattle.melt_step.specs.Seats.{owes_silent, Waits, IsEnded, TakesReply, DropsIfEnded, SeatTold, SeatStep, SetsStop}
+use Rattle.melt_step.specs.Seats.{owes_silent, paused_as, Waits, SeatGoes, SeatRefused, IsEnded, TakesReply, DropsIfEnded, SeatTold, SeatStep, SetsStop}
 use Rattle.melt_step.proofs.Cuts.{alive_same}
 use Rattle.melt_step.proofs.Modes.{dropped_keeps}
 
@@ -162,5 +169,71 @@ told_step v w x t o reply s after running next no_collect stood stands others an
       stop = λ is. inl (sym stop ∙ is);
       stays = λ is. stop ∙ is;
       asked = λ asked. absurd (told_runs s after reply takes asked);
+    } in
+    (step, sets)
+
+-- an event behind which the call goes on
+pub goes_step : (v w : View) (t : ℕ) (o : Op) (s : Seat) → s.mode ≡ Running → s.op ≡ Some o → o ≢ Collect → Standing true v → Advances v w t o Going → SeatStep v w t s s × SetsStop v w s
+goes_step v w t o s running next no_collect stands advances =
+    let goes : Goes v w t o = advances.outcome in
+    let call : Call = record { op = o; stage = goes.stage } in
+    let nearer : events_left (stage_in (call_of w t)) < events_left (stage_in (call_of v t)) =
+    subst (λ (now : Option Call). events_left (stage_in now) < events_left (stage_in (call_of v t))) (sym goes.call) goes.nearer in
+    let step : SeatStep v w t s s = record {
+      stands = advances.keeps true stands;
+      others = advances.others;
+      what = inr (inl (record {
+        same = refl;
+        running = running;
+        call = call;
+        flight = goes.call;
+        op = next;
+        no_collect = no_collect;
+        nearer = nearer;
+        history = goes.own.history;
+        values = goes.own.values;
+      }));
+    } in
+    let sets : SetsStop v w s = record {
+      waits = λ waits. absurd (subst Waits running waits);
+      stop = λ is. inl (sym goes.stop ∙ is);
+      stays = λ is. goes.stop ∙ is;
+      asked = λ asked. absurd (let none : Running ≡ Asked = sym running ∙ asked in cc);
+    } in
+    (step, sets)
+
+-- the call is refused for want of room
+abbrev pub WantsRoom : StepResult → Type 0
+WantsRoom (Refused (refusal.Pause (pause.Space need))) = Unit {0}
+WantsRoom result = ⊥
+
+-- an event by which it is
+pub lacks_step : (v w : View) (t : ℕ) (o : Op) (result : StepResult) (s : Seat) → s.mode ≡ Running → s.op ≡ Some o → o ≢ Collect → Standing true v → Advances v w t o result → WantsRoom result → SeatStep v w t s (record s { mode = Lacking }) × SetsStop v w (record s { mode = Lacking })
+lacks_step v w t o Going s running next no_collect stands advances wants = absurd wants
+lacks_step v w t o (Answered reply) s running next no_collect stands advances wants = absurd wants
+lacks_step v w t o (Refused refusal.DiskFault) s running next no_collect stands advances wants = absurd wants
+lacks_step v w t o (Refused (refusal.Damaged damaged)) s running next no_collect stands advances wants = absurd wants
+lacks_step v w t o (Refused (refusal.Pause pause.Asked)) s running next no_collect stands advances wants = absurd wants
+lacks_step v w t o (Refused (refusal.Pause pause.Forward)) s running next no_collect stands advances wants = absurd wants
+lacks_step v w t o (Refused (refusal.Pause (pause.Space need))) s running next no_collect stands advances wants =
+    let refused : IsRefused v w t o need = advances.outcome in
+    let step : SeatStep v w t s (record s { mode = Lacking }) = record {
+      stands = advances.keeps true stands;
+      others = advances.others;
+      what = inr (inr (inl (record {
+        running = running;
+        op = o;
+        next = next;
+        no_collect = no_collect;
+        cause = pause.Space need;
+        pauses = refused;
+        only = refl;
+      })));
+    } in
+    let sets : SetsStop v w (record s { mode = Lacking }) = record {
+      waits = λ waits. refused.stop;
+      stop = λ is. inr tt;
+      stays = λ is. refused.stop;
+      asked = λ asked. refused.stop;
     } in
     (step, sets)

@@ -207,6 +207,13 @@ rest_collected heap new rest after phase journal at_rest copying collects thread
     let same : collected_view new rest after.held.items ≡ view (core_of new after) = cc in
     subst (Collected (view (core_of heap rest))) same (collected_stands heap new rest after.held.items phase journal at_rest copying collects threads sizes)
 
+-- the collected heap has names
+pub collected_named : (heap new : Heap) (rest : Rest) (held : List Registers) (phase : Phase) (journal : Journal) → AtRest true heap rest → Collects heap rest.held.items new held phase journal → IsSome new.names
+collected_named heap new rest held phase journal at_rest collects =
+    let has : HasCollected (maps_of heap.names) 1 heap new rest.held.items held phase journal =
+    collects (maps_of heap.names) 1 (names_are heap.names) (record { words = at_rest.stands.holds.formed; registers = at_rest.stands.registers }) in
+    keeps_some heap.names new.names at_rest.stands.named has.names_stay
+
 -- a collection of what an epoch left is one of the epoch's core
 pub finished_collected : (v x w : View) → HasFinished v x → Collected x w → Collected v w
 finished_collected v x w finished collected = record {

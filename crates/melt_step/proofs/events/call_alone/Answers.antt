@@ -1,7 +1,10 @@
 -- Each event goes on with the call, or ends it.
-use Rattle.std.proofs.Common.{rules, true}
+use Rattle.std.proofs.Common.{rules, sym, subst, true}
+use Rattle.std.specs.Prelude.{ℕ, Some}
 use Rattle.melt_core.specs.Views.{view}
-use Rattle.melt_step.proofs.Alone.{call_goes, call_told}
+use Rattle.melt_step.specs.Seats.{CalledAlone}
+use Rattle.melt_step.specs.declared.seat.Seat.{Seat}
+use Rattle.melt_step.proofs.Alone.{call_goes, call_told, call_lacks}
 use Rattle.melt_step.proofs.events.call_alone.Goals as goal
 
 pub loop-reply-preserved : goal.loop-reply-preserved
@@ -9,6 +12,15 @@ loop-reply-preserved c = record {
   on = call_goes (view c.args.core.now) (view c.loop-reply.core) (view c.advance.new.self) c.args.thread c.args.op c.loop-reply.invariant.on (search rules);
   seat = c.loop-reply.invariant.seat;
 }
+
+pub answered-requires-clause-stands : goal.answered-requires-clause-stands
+answered-requires-clause-stands c = c.advance.ensures.keeps true c.loop-reply.invariant.on.stands
+
+pub returns-in-Refused-Pause-Space-clause-called : goal.returns-in-Refused-Pause-Space-clause-called
+returns-in-Refused-Pause-Space-clause-called c =
+    subst (λ (need : ℕ). CalledAlone (view c.args.core.now) (view c.advance.new.self) c.args.thread c.args.seat.now c.loop-reply.seat (Some need)) (sym c.in-Refused-Pause-Space.need-is)
+    (subst (λ (s : Seat). CalledAlone (view c.args.core.now) (view c.advance.new.self) c.args.thread c.args.seat.now s (Some c.in-Refused-Pause-Space.need)) (sym c.loop-reply.invariant.seat)
+    (call_lacks (view c.args.core.now) (view c.loop-reply.core) (view c.advance.new.self) c.args.thread c.args.op c.in-Refused-Pause-Space.need c.args.seat.now (search rules) c.loop-reply.invariant.on (search rules)))
 
 pub returns-in-Answered-clause-called : goal.returns-in-Answered-clause-called
 returns-in-Answered-clause-called c =

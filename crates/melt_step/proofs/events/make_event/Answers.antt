@@ -1,12 +1,30 @@
 -- What the event was, by the mode of the thread.
 use Rattle.std.proofs.Common.{rules, refl, inl, true}
 use Rattle.melt_core.specs.Views.{view}
-use Rattle.melt_step.proofs.Calling.{waits_step, told_step}
+use Rattle.melt_step.proofs.Calling.{waits_step, goes_step, lacks_step, told_step}
 use Rattle.melt_step.proofs.events.make_event.Goals as goal
 
 pub returns-in-Running-Some-Collect-clause-step : goal.returns-in-Running-Some-Collect-clause-step
 returns-in-Running-Some-Collect-clause-step c =
     waits_step (view c.args.core.now) (view c.ask.new.self) c.args.thread c.args.seat.now _ c.requires.ready.stands c.ask.ensures (inl (c.in-Running-Some-Collect.is-0, search rules, refl))
+
+pub answered-requires : goal.answered-requires
+answered-requires c = record {
+  stands = c.advance.ensures.keeps true c.requires.ready.stands;
+  thread = search rules;
+  no_call = search rules;
+  room = search rules;
+}
+
+pub returns-in-Going : goal.returns-in-Going
+returns-in-Going c =
+    let both = goes_step (view c.args.core.now) (view c.advance.new.self) c.args.thread c.in-Running-Some.op c.args.seat.now (search rules) (search rules) (search rules) c.requires.ready.stands (search rules) in
+    record { step = both.0; stop = both.1; due = λ other. absurd (other refl) }
+
+pub returns-in-Refused-Pause-Space : goal.returns-in-Refused-Pause-Space
+returns-in-Refused-Pause-Space c =
+    let both = lacks_step (view c.args.core.now) (view c.advance.new.self) c.args.thread c.in-Running-Some.op c.advance.result c.args.seat.now (search rules) (search rules) (search rules) c.requires.ready.stands c.advance.ensures (search rules) in
+    record { step = both.0; stop = both.1; due = λ other. absurd (other refl) }
 
 pub returns-in-Answered : goal.returns-in-Answered
 returns-in-Answered c =

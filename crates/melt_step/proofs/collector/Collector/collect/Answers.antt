@@ -11,12 +11,22 @@ use Rattle.melt_core.specs.Lending.{with_held}
 use Rattle.melt_core.specs.declared.machine.Core.{Core}
 use Rattle.melt_core.specs.declared.machine.Rest.{Rest}
 use Rattle.melt_step.specs.Seats.{Collected}
-use Rattle.melt_step.proofs.Collecting.{names_are, rest_formed, rest_collected, finished_collected, same_sizes, LeavesWords, left_words, planned_by}
+use Rattle.melt_step.proofs.Collecting.{names_are, rest_formed, rest_collected, collected_named, finished_collected, same_sizes, LeavesWords, left_words, planned_by}
 use Rattle.melt_step.proofs.collector.Collector.collect.Goals as goal
 
 pub collect_uncounted-requires-clause-formed : goal.collect_uncounted-requires-clause-formed
 collect_uncounted-requires-clause-formed c =
     subst (IsFormed c.finish-heap.result.0) (sym c.registers.ensures.value) (rest_formed c.finish-heap.result.0 c.finish-heap.result.1 (c.finish-heap.ensures.rests true c.requires.stands))
+
+pub begin-requires : goal.begin-requires
+begin-requires c =
+    let heap : Heap = c.finish-heap.result.0 in
+    let rest : Rest = c.finish-heap.result.1 in
+    let new : Heap = c.collect_uncounted.new.heap in
+    let held : List Registers = c.collect_uncounted.new.held in
+    let collects : Collects heap rest.held.items new held c.args.phase c.in_ok-journal.journal =
+    subst (λ (xs : List Registers). Collects heap xs new held c.args.phase c.in_ok-journal.journal) c.registers.ensures.value c.in_ok-journal.ensures.collected in
+    record { names = collected_named heap new rest held c.args.phase c.in_ok-journal.journal (c.finish-heap.ensures.rests true c.requires.stands) collects }
 
 pub returns-clause-collected : goal.returns-clause-collected
 returns-clause-collected c =
