@@ -1,5 +1,5 @@
 -- The search for a home tries each place once.
-use Rattle.std.proofs.Common.{◌≡◌, ℕ, ◌+◌, ◌<◌, suc, zero, refl, sym, ◌∙◌, arith, subst}
+use Rattle.std.proofs.Common.{◌≡◌, ℕ, ◌<◌, suc, zero, refl, sym, ◌∙◌, arith}
 use Rattle.melt_forward.specs.Forwarding.{probe}
 
 -- the places are tried in ascending order

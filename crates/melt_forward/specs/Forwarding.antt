@@ -1,4 +1,4 @@
--- Forwarding words: each is empty or sends one home to the address of its object. And where the search for a home looks.
+-- Forwarding words: each is empty or sends one home to the address of its object. And where a search for a home looks.
 use Rattle.std.specs.Prelude.{◌≡◌, ◌≢◌, ◌⊎◌, ℕ, ◌+◌, ◌*◌, ◌<◌, suc, zero, List, length, slice_index}
 use Rattle.melt_word.specs.Words.{IsAddress, IsDiskHome}
 use Rattle.melt_forward.specs.declared.forwarding.Found.{Found}

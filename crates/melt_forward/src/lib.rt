@@ -4,3 +4,6 @@
 pub mod forwarding;
 
 pub use forwarding::{Found, find, pack};
+
+#[cfg(test)]
+mod tests;
