@@ -1,4 +1,8 @@
 pub mod Named
+pub mod Numbers
+pub mod LiveScions
+pub mod ScionTables
+pub mod HomeNumbers
 pub mod Geometry
 pub mod Frame
 pub mod Entries
