@@ -82,6 +82,8 @@ abbrev pub behind : List ℕ → ℕ → Option ℕ
 behind [] x = None
 behind (y ∷ ys) x = if nat_eq y x then first_of ys else behind ys x
 
+-- How this crate keeps a table. Nothing above it names what follows.
+
 -- the numbers of those that are live among the pairs of the numbers from n on
 abbrev pub live_from : ℕ → List (Option (ℕ × ℕ)) → List ℕ
 live_from n [] = []
