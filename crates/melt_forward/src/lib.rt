@@ -1,2 +1,9 @@
-//! Forwarding words.
+//! Forwarding words: where the objects of homes stand.
 #![tactic(auto)]
+
+pub mod forwarding;
+
+pub use forwarding::{Found, find, pack};
+
+#[cfg(test)]
+mod tests;

@@ -1,10 +1,14 @@
+pub mod Named
+pub mod Numbers
+pub mod LiveScions
+pub mod ScionTables
+pub mod HomeNumbers
 pub mod Geometry
 pub mod Entries
 pub mod Homeless
 pub mod Reaching
 pub mod Numbered
 pub mod Totals
-pub mod Named
 pub mod Parts
 pub mod Keeping
 pub mod Following

@@ -4,4 +4,6 @@ pub mod Regions
 pub mod Changes
 pub mod Collected
 pub mod Names
+pub mod Scions
+pub mod HomeNames
 pub mod Heaps

@@ -2,12 +2,16 @@
 #![tactic(auto)]
 
 pub mod heap;
+pub mod home_names;
 pub mod names;
 pub mod registers;
+pub mod scions;
 
 pub use heap::{Globals, Heap, Names};
+pub use home_names::HomeNames;
 pub use names::AddressNames;
 pub use registers::Registers;
+pub use scions::ScionTable;
 
 #[cfg(test)]
 mod tests;

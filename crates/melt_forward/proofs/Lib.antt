@@ -1,0 +1,5 @@
+pub mod OneAnswer
+pub mod Pairs
+pub mod Probing
+pub mod Searching
+pub mod Written

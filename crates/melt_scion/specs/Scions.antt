@@ -1,0 +1,111 @@
+-- The table of scions: a finite map from scions to homes and addresses, and two lists beside it.
+use Rattle.std.specs.Prelude.{◌≡◌, ◌≢◌, ◌↔◌, ℕ, ◌+◌, ◌<◌, ◌≤◌, suc, zero, if◌then◌else◌, List, [], ◌∷◌, ◌++◌, length, replicate, Option, None, Some, IsSome, nat_eq, slice_index_or}
+use Rattle.std.specs.List.{AllPairs, Contains, range_with_len}
+use Rattle.std.specs.Option.{option_map}
+
+pub record Scions : Type 0 where
+  -- for each number from 1 on, the home and the address of the scion, where it is live
+  pub pairs : List (Option (ℕ × ℕ))
+  -- the numbers that are not live, in the order in which they are to be given
+  pub unused : List ℕ
+  -- the live scions, in the order of a walk
+  pub live : List ℕ
+
+-- the home and the address of a scion, if it is live
+abbrev pub scion_at : Scions → ℕ → Option (ℕ × ℕ)
+scion_at table zero = None
+scion_at table (suc k) = slice_index_or table.pairs k None
+
+abbrev pub IsLive : Scions → ℕ → Type 0
+IsLive table scion = IsSome (scion_at table scion)
+
+-- no number stands in the list twice
+abbrev pub EachOnce : List ℕ → Type 0
+EachOnce numbers = AllPairs (λ x y. x ≢ y) numbers
+
+-- one of the numbers from 1 on that the table is for, and not live
+pub record IsUnused (table : Scions) (number : ℕ) : Type 0 where
+  pub from_1 : 0 < number
+  pub in_range : number ≤ length table.pairs
+  pub not_live : scion_at table number ≡ None
+
+-- the two lists have each number that the table is for once, in the one or in the other
+pub record IsTable (table : Scions) : Type 0 where
+  pub live : (number : ℕ) → Contains table.live number ↔ IsLive table number
+  pub live_once : EachOnce table.live
+  pub unused : (number : ℕ) → Contains table.unused number ↔ IsUnused table number
+  pub unused_once : EachOnce table.unused
+  pub all : length table.live + length table.unused ≡ length table.pairs
+
+-- a table for the numbers from 1 to n, of which none is live
+abbrev pub empty_table : ℕ → Scions
+empty_table n = record { pairs = replicate n None; unused = range_with_len 1 n; live = [] }
+
+-- the one list is the other with x put somewhere
+pub record IsPutIn (x : ℕ) (less more : List ℕ) : Type 0 where
+  pub front : List ℕ
+  pub back : List ℕ
+  pub less_is : less ≡ front ++ back
+  pub more_is : more ≡ front ++ x ∷ back
+
+-- the first unused number is live now, and the others keep what they have and their order
+pub record Adds (old new : Scions) (home address scion : ℕ) : Type 0 where
+  pub was_unused : scion_at old scion ≡ None
+  pub given : old.unused ≡ scion ∷ new.unused
+  pub here : scion_at new scion ≡ Some (home, address)
+  pub others : (k : ℕ) → k ≢ scion → scion_at new k ≡ scion_at old k
+  pub order : IsPutIn scion old.live new.live
+  pub size : length new.pairs ≡ length old.pairs
+
+-- the scion is the first unused number now, and the others keep what they have and their order
+pub record Frees (old new : Scions) (scion : ℕ) : Type 0 where
+  pub taken : new.unused ≡ scion ∷ old.unused
+  pub gone : scion_at new scion ≡ None
+  pub others : (k : ℕ) → k ≢ scion → scion_at new k ≡ scion_at old k
+  pub order : IsPutIn scion new.live old.live
+  pub size : length new.pairs ≡ length old.pairs
+
+-- the scion has this address now, and its home as before
+pub record SetsAddress (old new : Scions) (scion address : ℕ) : Type 0 where
+  pub here : scion_at new scion ≡ option_map (λ pair. (pair.0, address)) (scion_at old scion)
+  pub others : (k : ℕ) → k ≢ scion → scion_at new k ≡ scion_at old k
+  pub unused : new.unused ≡ old.unused
+  pub live : new.live ≡ old.live
+  pub size : length new.pairs ≡ length old.pairs
+
+abbrev pub first_of : List ℕ → Option ℕ
+first_of [] = None
+first_of (x ∷ xs) = Some x
+
+-- the number behind x in the list
+abbrev pub behind : List ℕ → ℕ → Option ℕ
+behind [] x = None
+behind (y ∷ ys) x = if nat_eq y x then first_of ys else behind ys x
+
+-- How this crate keeps a table. Nothing above it names what follows.
+
+-- the numbers of those that are live among the pairs of the numbers from n on
+abbrev pub live_from : ℕ → List (Option (ℕ × ℕ)) → List ℕ
+live_from n [] = []
+live_from n (None ∷ pairs) = live_from (suc n) pairs
+live_from n (Some pair ∷ pairs) = n ∷ live_from (suc n) pairs
+
+-- the table of these pairs and unused numbers, which a walk goes through in ascending order
+abbrev pub table_of : List (Option (ℕ × ℕ)) → List ℕ → Scions
+table_of pairs unused = record { pairs = pairs; unused = unused; live = live_from 1 pairs }
+
+-- What is kept of a table: its numbers fit, its lists have each number once, and there is room for all unused ones.
+pub record IsKept (pairs : List (Option (ℕ × ℕ))) (unused : List ℕ) (capacity : ℕ) : Type 0 where
+  pub table : IsTable (table_of pairs unused)
+  pub small : length pairs < 4294967296
+  pub room : length pairs ≤ capacity
+
+-- none of the first pairs is there
+abbrev pub AreNone : List (Option (ℕ × ℕ)) → ℕ → Type 0
+AreNone pairs count = (k : ℕ) → k < count → slice_index_or pairs k None ≡ None
+
+-- the first pair that is there is at this index
+pub record IsFirstSome (pairs : List (Option (ℕ × ℕ))) (index : ℕ) : Type 0 where
+  pub in_range : index < length pairs
+  pub here : IsSome (slice_index_or pairs index None)
+  pub before : AreNone pairs index
