@@ -40,7 +40,14 @@ impl Core {
     }
 
     /// Reads a number word of an object.
-    pub(crate) fn get(&mut self, thread: u32, op: Op, address: u32, shape: Shape, j: u8) -> StepResult
+    pub(crate) fn get(
+        &mut self,
+        thread: u32,
+        op: Op,
+        address: u32,
+        shape: Shape,
+        j: u8,
+    ) -> StepResult
         requires asks { MayAdvance (view self.old) thread op }
         requires stage { stage_of (view self.old) thread ≡ Some (Stage.Headed address shape (Access.Get j)) }
         ensures { Advances (view self.old) (view self.new) thread op result }
@@ -96,7 +103,14 @@ impl Core {
     }
 
     /// Clears the stale bit of the object that a load found.
-    pub(crate) fn clear(&mut self, thread: u32, op: Op, place: Place, target: u32, dst: u8) -> StepResult
+    pub(crate) fn clear(
+        &mut self,
+        thread: u32,
+        op: Op,
+        place: Place,
+        target: u32,
+        dst: u8,
+    ) -> StepResult
         requires asks { MayAdvance (view self.old) thread op }
         requires stage { stage_of (view self.old) thread ≡ Some (Stage.Looked place target dst) }
         ensures { Advances (view self.old) (view self.new) thread op result }
@@ -113,7 +127,14 @@ impl Core {
 
     /// Exchanges the word at a place for that of the clean address, if it is still that of the stale one. The load is
     /// answered with the reference that stands there then.
-    pub(crate) fn untag(&mut self, thread: u32, op: Op, place: Place, target: u32, dst: u8) -> StepResult
+    pub(crate) fn untag(
+        &mut self,
+        thread: u32,
+        op: Op,
+        place: Place,
+        target: u32,
+        dst: u8,
+    ) -> StepResult
         requires asks { MayAdvance (view self.old) thread op }
         requires stage { stage_of (view self.old) thread ≡ Some (Stage.Cleared place target dst) }
         ensures { Advances (view self.old) (view self.new) thread op result }

@@ -40,7 +40,15 @@ impl Core {
     }
 
     /// Stores 0 in the next word of the region of a call.
-    fn store_zero(&mut self, thread: u32, op: Op, address: u32, shape: Shape, stored: u32, dst: u8) -> StepResult
+    fn store_zero(
+        &mut self,
+        thread: u32,
+        op: Op,
+        address: u32,
+        shape: Shape,
+        stored: u32,
+        dst: u8,
+    ) -> StepResult
         requires asks { MayAdvance (view self.old) thread op }
         requires stage { stage_of (view self.old) thread ≡ Some (Stage.Claimed address shape stored dst) }
         requires few { stored + 1 < cost_of shape }
@@ -58,7 +66,15 @@ impl Core {
     }
 
     /// Stores the header: the words are an object now, which has the next number.
-    fn publish(&mut self, thread: u32, op: Op, address: u32, shape: Shape, stored: u32, dst: u8) -> StepResult
+    fn publish(
+        &mut self,
+        thread: u32,
+        op: Op,
+        address: u32,
+        shape: Shape,
+        stored: u32,
+        dst: u8,
+    ) -> StepResult
         requires asks { MayAdvance (view self.old) thread op }
         requires stage { stage_of (view self.old) thread ≡ Some (Stage.Claimed address shape stored dst) }
         requires all { stored + 1 ≡ cost_of shape }
@@ -79,7 +95,15 @@ impl Core {
     }
 
     /// Stores the next word of the region of a call, the header last.
-    pub(crate) fn fill(&mut self, thread: u32, op: Op, address: u32, shape: Shape, stored: u32, dst: u8) -> StepResult
+    pub(crate) fn fill(
+        &mut self,
+        thread: u32,
+        op: Op,
+        address: u32,
+        shape: Shape,
+        stored: u32,
+        dst: u8,
+    ) -> StepResult
         requires asks { MayAdvance (view self.old) thread op }
         requires stage { stage_of (view self.old) thread ≡ Some (Stage.Claimed address shape stored dst) }
         ensures { Advances (view self.old) (view self.new) thread op result }
