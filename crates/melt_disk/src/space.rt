@@ -110,6 +110,7 @@ impl<'d, D: StaleDisk> StaleSpace<'d, D> {
         ensures count { D.faults self.old.disk.now ≤ D.faults self.new.disk.now }
         ensures read_faults { D.read_faults self.new.disk.now ≡ D.read_faults self.old.disk.now }
         ensures lends { D.lends self.new.disk.now ≡ D.lends self.old.disk.now }
+        ensures one_write { D.writes self.new.disk.now ≡ counted (D.writes self.old.disk.now) 1 }
         ensures end { self.new.end ≡ self.old.end }
         ensures limit { self.new.limit ≡ self.old.limit }
         ensures same_disk { self.new.disk.ghost_name ≡ self.old.disk.ghost_name }
@@ -139,6 +140,7 @@ impl<'d, D: StaleDisk> StaleSpace<'d, D> {
         ensures count { D.faults self.old.disk.now ≤ D.faults self.new.disk.now }
         ensures read_faults { D.read_faults self.new.disk.now ≡ D.read_faults self.old.disk.now }
         ensures lends { D.lends self.new.disk.now ≡ D.lends self.old.disk.now }
+        ensures one_write { D.writes self.new.disk.now ≡ counted (D.writes self.old.disk.now) 1 }
         ensures end { self.new.end ≡ self.old.end }
         ensures limit { self.new.limit ≡ self.old.limit }
         ensures same_disk { self.new.disk.ghost_name ≡ self.old.disk.ghost_name }
@@ -160,6 +162,7 @@ impl<'d, D: StaleDisk> StaleSpace<'d, D> {
         ensures count { D.faults self.old.disk.now ≤ D.faults self.new.disk.now }
         ensures read_faults { D.read_faults self.new.disk.now ≡ D.read_faults self.old.disk.now }
         ensures lends { D.lends self.new.disk.now ≡ counted (D.lends self.old.disk.now) 1 }
+        ensures writes { D.writes self.new.disk.now ≡ D.writes self.old.disk.now }
         ensures end { self.new.end ≡ self.old.end }
         ensures limit { self.new.limit ≡ self.old.limit }
         ensures same_disk { self.new.disk.ghost_name ≡ self.old.disk.ghost_name }
@@ -174,6 +177,7 @@ impl<'d, D: StaleDisk> StaleSpace<'d, D> {
         ensures read_faults { D.read_faults self.new.disk.now ≡
             counted (D.read_faults self.old.disk.now) (D.Reader.faults reader) }
         ensures lends { D.lends self.new.disk.now ≡ D.lends self.old.disk.now }
+        ensures writes { D.writes self.new.disk.now ≡ D.writes self.old.disk.now }
         ensures end { self.new.end ≡ self.old.end }
         ensures limit { self.new.limit ≡ self.old.limit }
         ensures same_disk { self.new.disk.ghost_name ≡ self.old.disk.ghost_name }

@@ -22,6 +22,7 @@ const PIECE: usize = 4096;
 pub struct FileDisk<F> {
     pub file: F,
     pub piece: Vec<u8>,
+    pub writes: u64,
     pub lends: u64,
     pub faults: u64,
     pub read_faults: u64,
@@ -49,6 +50,7 @@ impl<R: Files + Drop> FileDisk<StdFile<R>> {
         ensures no_file { IfOk result (λ disk. IsNone disk.file.file) }
         ensures no_file_faults { IfOk result (λ disk. disk.file.faults ≡ 0) }
         ensures piece { IfOk result (λ disk. vec_len disk.piece ≡ 32768) }
+        ensures no_writes { IfOk result (λ disk. disk.writes ≡ 0) }
         ensures no_lends { IfOk result (λ disk. disk.lends ≡ 0) }
         ensures no_faults { IfOk result (λ disk. disk.faults ≡ 0) }
         ensures no_read_faults { IfOk result (λ disk. disk.read_faults ≡ 0) }
@@ -62,6 +64,7 @@ impl<F: Drop> FileDisk<F> {
     pub fn over(alloc: Global, file: F) -> Result<FileDisk<F>, AllocError>
         ensures file { IfOk result (λ disk. disk.file ≡ file) }
         ensures piece { IfOk result (λ disk. vec_len disk.piece ≡ 32768) }
+        ensures no_writes { IfOk result (λ disk. disk.writes ≡ 0) }
         ensures no_lends { IfOk result (λ disk. disk.lends ≡ 0) }
         ensures no_faults { IfOk result (λ disk. disk.faults ≡ 0) }
         ensures no_read_faults { IfOk result (λ disk. disk.read_faults ≡ 0) }
@@ -69,6 +72,7 @@ impl<F: Drop> FileDisk<F> {
         Ok(FileDisk {
             file,
             piece: vec![in alloc; 0; 8 * PIECE]?,
+            writes: 0,
             lends: 0,
             faults: 0,
             read_faults: 0,
@@ -122,6 +126,8 @@ where
 
     ghost lends = { λ d. d.lends };
 
+    ghost writes = { λ d. d.writes };
+
     fn write_at(&mut self, at: u32, words: &[u64]) -> Result<(), Failed>
         requires some { 0 < length words.now }
         requires in_range { at + length words.now ≤ 2 ^ 32 }
@@ -136,7 +142,9 @@ where
         ensures count { self.old.faults ≤ self.new.faults }
         ensures read_faults { self.new.read_faults ≡ self.old.read_faults }
         ensures lends { self.new.lends ≡ self.old.lends }
+        ensures writes { self.new.writes ≡ counted self.old.writes 1 }
     {
+        self.writes = self.writes.saturating_add(1);
         let piece = &mut self.piece;
         if write_file(&mut self.file, piece, at, words).is_err() {
             self.faults = self.faults.saturating_add(1);
@@ -160,6 +168,7 @@ where
         ensures count { self.old.faults ≤ self.new.faults }
         ensures read_faults { self.new.read_faults ≡ self.old.read_faults }
         ensures lends { self.new.lends ≡ counted self.old.lends 1 }
+        ensures writes { self.new.writes ≡ self.old.writes }
     {
         self.lends = self.lends.saturating_add(1);
         let piece = vec![in alloc; 0; 8 * PIECE].map_err(|_| LendRefusal::NoMemory)?;
@@ -182,6 +191,7 @@ where
         ensures count { self.new.faults ≡ self.old.faults }
         ensures read_faults { self.new.read_faults ≡ counted self.old.read_faults reader.faults }
         ensures lends { self.new.lends ≡ self.old.lends }
+        ensures writes { self.new.writes ≡ self.old.writes }
     {
         self.read_faults = self.read_faults.saturating_add(reader.faults);
     }

@@ -105,6 +105,9 @@ pub trait StaleDisk {
     /// How many calls of `lend` there were.
     ghost lends: { Self → ℕ };
 
+    /// How many calls of `write_at` there were, failed ones too.
+    ghost writes: { Self → ℕ };
+
     /// Writes the words from word `at` on. After an `Err` the words in that range may be anything.
     fn write_at(&mut self, at: u32, words: &[u64]) -> Result<(), Failed>
         requires some { 0 < length words.now }
@@ -114,7 +117,8 @@ pub trait StaleDisk {
         ensures failed { OnErr result (Rose (faults self.old) (faults self.new)) }
         ensures count { faults self.old ≤ faults self.new }
         ensures read_faults { read_faults self.new ≡ read_faults self.old }
-        ensures lends { lends self.new ≡ lends self.old };
+        ensures lends { lends self.new ≡ lends self.old }
+        ensures writes { writes self.new ≡ counted (writes self.old) 1 };
 
     /// Lends a reader of the words as they are now.
     fn lend(&mut self, alloc: Global) -> Result<Self::Reader, LendRefusal>
@@ -125,14 +129,16 @@ pub trait StaleDisk {
         ensures failed { IsErrOf result LendRefusal.Failed → Rose (faults self.old) (faults self.new) }
         ensures count { faults self.old ≤ faults self.new }
         ensures read_faults { read_faults self.new ≡ read_faults self.old }
-        ensures lends { lends self.new ≡ counted (lends self.old) 1 };
+        ensures lends { lends self.new ≡ counted (lends self.old) 1 }
+        ensures writes { writes self.new ≡ writes self.old };
 
     /// Takes a reader back.
     fn give_back(&mut self, reader: Self::Reader)
         ensures image { image self.new ≡ image self.old }
         ensures count { faults self.new ≡ faults self.old }
         ensures read_faults { read_faults self.new ≡ counted (read_faults self.old) (Self.Reader.faults reader) }
-        ensures lends { lends self.new ≡ lends self.old };
+        ensures lends { lends self.new ≡ lends self.old }
+        ensures writes { writes self.new ≡ writes self.old };
 }
 
 /// Reads the bytes of a file at any place.

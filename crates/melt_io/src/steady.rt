@@ -27,6 +27,7 @@ pub struct SteadySink {
 #[derive(Debug, Drop)]
 pub struct SteadyDisk {
     pub image: Vec<u64>,
+    pub writes: u64,
     pub lends: u64,
     pub faults: u64,
     pub read_faults: u64,
@@ -66,12 +67,14 @@ impl SteadyDisk {
     /// A disk of zeros.
     pub fn new(alloc: Global) -> SteadyDisk
         ensures image { result.image.items ≡ [] }
+        ensures no_writes { result.writes ≡ 0 }
         ensures no_lends { result.lends ≡ 0 }
         ensures no_faults { result.faults ≡ 0 }
         ensures no_read_faults { result.read_faults ≡ 0 }
     {
         SteadyDisk {
             image: Vec::new(alloc),
+            writes: 0,
             lends: 0,
             faults: 0,
             read_faults: 0,
@@ -147,6 +150,8 @@ impl StaleDisk for SteadyDisk {
 
     ghost lends = { λ d. d.lends };
 
+    ghost writes = { λ d. d.writes };
+
     fn write_at(&mut self, at: u32, words: &[u64]) -> Result<(), Failed>
         requires some { 0 < length words.now }
         requires in_range { at + length words.now ≤ 2 ^ 32 }
@@ -158,7 +163,9 @@ impl StaleDisk for SteadyDisk {
         ensures full { OnErr result (vec_capacity self.old.image < at + length words.now) }
         ensures read_faults { self.new.read_faults ≡ self.old.read_faults }
         ensures lends { self.new.lends ≡ self.old.lends }
+        ensures writes { self.new.writes ≡ counted self.old.writes 1 }
     {
+        self.writes = self.writes.saturating_add(1);
         if write_image(&mut self.image, at as usize, words).is_err() {
             self.faults = self.faults.saturating_add(1);
             return Err(Failed);
@@ -174,6 +181,7 @@ impl StaleDisk for SteadyDisk {
         ensures faults { self.new.faults ≡ self.old.faults }
         ensures read_faults { self.new.read_faults ≡ self.old.read_faults }
         ensures lends { self.new.lends ≡ counted self.old.lends 1 }
+        ensures writes { self.new.writes ≡ self.old.writes }
     {
         self.lends = self.lends.saturating_add(1);
         let image = Vec::from_slice(alloc, &self.image).map_err(|_| LendRefusal::NoMemory)?;
