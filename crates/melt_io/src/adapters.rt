@@ -19,6 +19,7 @@ const PATH: &str = "melt.stale";
 pub struct StdSource<R> {
     pub reader: R,
     pub faults: u64,
+    ghost word: { faults < 2 ^ 64 },
 }
 
 /// Writes to a writer, as `StdSink::new(rt.stdout())`. Each call makes one write of the size given, with
@@ -28,6 +29,7 @@ pub struct StdSource<R> {
 pub struct StdSink<W> {
     pub writer: W,
     pub faults: u64,
+    ghost word: { faults < 2 ^ 64 },
 }
 
 /// The file `melt.stale` of the current folder, which is not touched before `create`. Each call makes one
@@ -38,6 +40,7 @@ pub struct StdFile<R: Files> {
     pub runtime: R,
     pub file: Option<R::File>,
     pub faults: u64,
+    ghost word: { faults < 2 ^ 64 },
 }
 
 /// Reads from the same file, by one read of std for each call. It tells no content: what is written after
@@ -46,6 +49,7 @@ pub struct StdFile<R: Files> {
 pub struct StdFileReader<F> {
     pub file: F,
     pub faults: u64,
+    ghost word: { faults < 2 ^ 64 },
 }
 
 /// Does nothing.
@@ -83,6 +87,7 @@ impl<R: Read> Source for StdSource<R> {
         ensures no_fault { OnOk result (self.new.faults ≡ self.old.faults) }
         ensures failed { OnErr result (Rose self.old.faults self.new.faults) }
         ensures count { self.old.faults ≤ self.new.faults }
+        ensures word { self.new.faults < 2 ^ 64 }
     {
         match self.reader.read(buf) {
             Ok(n) => Ok(n),
@@ -106,6 +111,7 @@ impl<W: Write> Sink for StdSink<W> {
         ensures no_fault { OnOk result (self.new.faults ≡ self.old.faults) }
         ensures failed { OnErr result (Rose self.old.faults self.new.faults) }
         ensures count { self.old.faults ≤ self.new.faults }
+        ensures word { self.new.faults < 2 ^ 64 }
     {
         match self.writer.write(piece) {
             Ok(n) if n > 0 || piece.is_empty() => Ok(n),

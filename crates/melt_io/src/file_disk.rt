@@ -27,6 +27,7 @@ pub struct FileDisk<F> {
     pub faults: u64,
     pub read_faults: u64,
     ghost roomy: { 8 ≤ vec_len piece },
+    ghost word: { faults < 2 ^ 64 },
 }
 
 /// Reads the words that stand in a file, and zeros past its end. Up to 4,096 words are read by one read of
@@ -40,6 +41,7 @@ pub struct FileReader<F> {
     pub reads: u64,
     pub faults: u64,
     ghost roomy: { 8 ≤ vec_len piece },
+    ghost word: { faults < 2 ^ 64 },
 }
 
 impl<R: Files + Drop> FileDisk<StdFile<R>> {
@@ -99,8 +101,10 @@ impl<F: PositionedReader> RecordReader for FileReader<F> {
         ensures no_fault { OnOk result (self.new.faults ≡ self.old.faults) }
         ensures failed { OnErr result (Rose self.old.faults self.new.faults) }
         ensures count { self.old.faults ≤ self.new.faults }
+        ensures word { self.new.faults < 2 ^ 64 }
         ensures reads { self.new.reads ≡ counted self.old.reads 1 }
         ensures reads_rise { self.old.reads ≤ self.new.reads }
+        ensures reads_word { self.new.reads < 2 ^ 64 }
     {
         self.reads = self.reads.saturating_add(1);
         let piece = &mut self.piece;
@@ -140,6 +144,7 @@ where
         ensures no_fault { OnOk result (self.new.faults ≡ self.old.faults) }
         ensures failed { OnErr result (Rose self.old.faults self.new.faults) }
         ensures count { self.old.faults ≤ self.new.faults }
+        ensures word { self.new.faults < 2 ^ 64 }
         ensures read_faults { self.new.read_faults ≡ self.old.read_faults }
         ensures lends { self.new.lends ≡ self.old.lends }
         ensures writes { self.new.writes ≡ counted self.old.writes 1 }
@@ -166,6 +171,7 @@ where
         ensures no_fault { OnOk result (self.new.faults ≡ self.old.faults) }
         ensures failed { IsErrOf result LendRefusal.Failed → Rose self.old.faults self.new.faults }
         ensures count { self.old.faults ≤ self.new.faults }
+        ensures word { self.new.faults < 2 ^ 64 }
         ensures read_faults { self.new.read_faults ≡ self.old.read_faults }
         ensures lends { self.new.lends ≡ counted self.old.lends 1 }
         ensures writes { self.new.writes ≡ self.old.writes }

@@ -28,6 +28,7 @@ pub struct MemDisk {
     pub lies: Vec<(u64, u32, u64)>,
     pub faults: u64,
     pub read_faults: u64,
+    ghost word: { faults < 2 ^ 64 },
 }
 
 /// Reads a copy of a disk's words, made at the lend whose number is `lend`. Of the disk's reads that
@@ -40,6 +41,7 @@ pub struct MemReader {
     pub fail_reads: Vec<(u64, u64)>,
     pub lies: Vec<(u64, u32, u64)>,
     pub faults: u64,
+    ghost word: { faults < 2 ^ 64 },
 }
 
 impl MemDisk {
@@ -80,8 +82,10 @@ impl RecordReader for MemReader {
         ensures no_fault { OnOk result (self.new.faults ≡ self.old.faults) }
         ensures failed { OnErr result (Rose self.old.faults self.new.faults) }
         ensures count { self.old.faults ≤ self.new.faults }
+        ensures word { self.new.faults < 2 ^ 64 }
         ensures reads { self.new.reads ≡ counted self.old.reads 1 }
         ensures reads_rise { self.old.reads ≤ self.new.reads }
+        ensures reads_word { self.new.reads < 2 ^ 64 }
 
         ensures due { IsErr result ↔ Contains self.old.fail_reads.items (self.old.lend, counted self.old.reads 1) }
         ensures kept { (self.new.lend ≡ self.old.lend) × (self.new.fail_reads.items ≡ self.old.fail_reads.items) }
@@ -118,6 +122,7 @@ impl StaleDisk for MemDisk {
         ensures no_fault { OnOk result (self.new.faults ≡ self.old.faults) }
         ensures failed { OnErr result (Rose self.old.faults self.new.faults) }
         ensures count { self.old.faults ≤ self.new.faults }
+        ensures word { self.new.faults < 2 ^ 64 }
         ensures read_faults { self.new.read_faults ≡ self.old.read_faults }
         ensures lends { self.new.lends ≡ self.old.lends }
 
@@ -144,6 +149,7 @@ impl StaleDisk for MemDisk {
         ensures no_fault { OnOk result (self.new.faults ≡ self.old.faults) }
         ensures failed { IsErrOf result LendRefusal.Failed → Rose self.old.faults self.new.faults }
         ensures count { self.old.faults ≤ self.new.faults }
+        ensures word { self.new.faults < 2 ^ 64 }
         ensures read_faults { self.new.read_faults ≡ self.old.read_faults }
         ensures lends { self.new.lends ≡ counted self.old.lends 1 }
 

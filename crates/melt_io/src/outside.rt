@@ -43,7 +43,8 @@ pub trait Source {
         ensures end { IfOk result (λ n. n ≡ 0 → 0 < length buf.old → IfSome (left self.old) (λ bytes. bytes ≡ [])) }
         ensures failed { OnErr result (Rose (faults self.old) (faults self.new)) }
         ensures untouched { OnErr result (left self.new ≡ left self.old) }
-        ensures count { faults self.old ≤ faults self.new };
+        ensures count { faults self.old ≤ faults self.new }
+        ensures word { faults self.new < 2 ^ 64 };
 }
 
 /// Takes bytes in the order in which they are written.
@@ -62,7 +63,8 @@ pub trait Sink {
         ensures appended { IfOk result (λ n. Appends (written self.old) (take n piece.now) (written self.new)) }
         ensures failed { OnErr result (Rose (faults self.old) (faults self.new)) }
         ensures untouched { OnErr result (written self.new ≡ written self.old) }
-        ensures count { faults self.old ≤ faults self.new };
+        ensures count { faults self.old ≤ faults self.new }
+        ensures word { faults self.new < 2 ^ 64 };
 }
 
 /// Reads the words of a disk as they were when the reader was lent.
@@ -85,7 +87,9 @@ pub trait RecordReader {
         ensures image { image self.new ≡ image self.old }
         ensures failed { OnErr result (Rose (faults self.old) (faults self.new)) }
         ensures count { faults self.old ≤ faults self.new }
+        ensures word { faults self.new < 2 ^ 64 }
         ensures reads_rise { reads self.old ≤ reads self.new }
+        ensures reads_word { reads self.new < 2 ^ 64 }
         ensures one_read { reads self.new ≤ reads self.old + 1 };
 }
 
@@ -116,6 +120,7 @@ pub trait StaleDisk {
         ensures others { OnErr result (KeepsOthers (image self.old) at (length words.now) (image self.new)) }
         ensures failed { OnErr result (Rose (faults self.old) (faults self.new)) }
         ensures count { faults self.old ≤ faults self.new }
+        ensures word { faults self.new < 2 ^ 64 }
         ensures read_faults { read_faults self.new ≡ read_faults self.old }
         ensures lends { lends self.new ≡ lends self.old }
         ensures writes { writes self.new ≡ counted (writes self.old) 1 };
@@ -128,6 +133,7 @@ pub trait StaleDisk {
         ensures image { image self.new ≡ image self.old }
         ensures failed { IsErrOf result LendRefusal.Failed → Rose (faults self.old) (faults self.new) }
         ensures count { faults self.old ≤ faults self.new }
+        ensures word { faults self.new < 2 ^ 64 }
         ensures read_faults { read_faults self.new ≡ read_faults self.old }
         ensures lends { lends self.new ≡ counted (lends self.old) 1 }
         ensures writes { writes self.new ≡ writes self.old };
@@ -160,7 +166,8 @@ pub trait PositionedReader {
         ensures kept { bytes self.new ≡ bytes self.old }
         ensures no_fault { OnOk result (faults self.new ≡ faults self.old) }
         ensures failed { OnErr result (Rose (faults self.old) (faults self.new)) }
-        ensures count { faults self.old ≤ faults self.new };
+        ensures count { faults self.old ≤ faults self.new }
+        ensures word { faults self.new < 2 ^ 64 };
 }
 
 /// A file of bytes that are written at any place, and read only by readers that it opens.
@@ -188,7 +195,8 @@ pub trait PositionedFile {
         ensures kept { bytes self.new ≡ bytes self.old }
         ensures no_fault { OnOk result (faults self.new ≡ faults self.old) }
         ensures failed { OnErr result (Rose (faults self.old) (faults self.new)) }
-        ensures count { faults self.old ≤ faults self.new };
+        ensures count { faults self.old ≤ faults self.new }
+        ensures word { faults self.new < 2 ^ 64 };
 
     /// Writes the bytes from byte `at` on, with zeros before them where the file is shorter. After an
     /// `Err` the bytes in that range may be anything.
@@ -201,7 +209,8 @@ pub trait PositionedFile {
         ensures made { made self.new ≡ true }
         ensures no_fault { OnOk result (faults self.new ≡ faults self.old) }
         ensures failed { OnErr result (Rose (faults self.old) (faults self.new)) }
-        ensures count { faults self.old ≤ faults self.new };
+        ensures count { faults self.old ≤ faults self.new }
+        ensures word { faults self.new < 2 ^ 64 };
 
     /// Opens a reader of the bytes as they are now.
     fn open(&mut self) -> Result<Self::Reader, Failed>
@@ -212,7 +221,8 @@ pub trait PositionedFile {
         ensures made { made self.new ≡ true }
         ensures no_fault { OnOk result (faults self.new ≡ faults self.old) }
         ensures failed { OnErr result (Rose (faults self.old) (faults self.new)) }
-        ensures count { faults self.old ≤ faults self.new };
+        ensures count { faults self.old ≤ faults self.new }
+        ensures word { faults self.new < 2 ^ 64 };
 
     /// Before the file is made it tells no bytes, or that there are none.
     ghost none_before: { (file : Self) → made file ≡ false → IfSome (bytes file) (λ bytes. bytes ≡ []) };

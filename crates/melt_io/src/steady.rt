@@ -19,6 +19,7 @@ pub struct SteadySource {
 pub struct SteadySink {
     pub bytes: Vec<u8>,
     pub faults: u64,
+    ghost word: { faults < 2 ^ 64 },
 }
 
 /// A disk in memory, of which `image` has the words from word 0 on. A write past its end fills it with
@@ -31,6 +32,7 @@ pub struct SteadyDisk {
     pub lends: u64,
     pub faults: u64,
     pub read_faults: u64,
+    ghost word: { faults < 2 ^ 64 },
 }
 
 /// Reads a copy of a disk's words. It never fails.
@@ -109,6 +111,7 @@ impl Sink for SteadySink {
         ensures failed { OnErr result (Rose self.old.faults self.new.faults) }
         ensures untouched { OnErr result (self.new.bytes.items ≡ self.old.bytes.items) }
         ensures count { self.old.faults ≤ self.new.faults }
+        ensures word { self.new.faults < 2 ^ 64 }
         ensures full { OnErr result (vec_capacity self.old.bytes < vec_len self.old.bytes + length piece.now) }
     {
         if self.bytes.extend_from_slice(piece).is_err() {
@@ -132,6 +135,7 @@ impl RecordReader for SteadyReader {
         ensures image { self.new.image.items ≡ self.old.image.items }
         ensures reads { self.new.reads ≡ counted self.old.reads 1 }
         ensures reads_rise { self.old.reads ≤ self.new.reads }
+        ensures reads_word { self.new.reads < 2 ^ 64 }
     {
         self.reads = self.reads.saturating_add(1);
         copy_words(&self.image, at as usize, words);
@@ -160,6 +164,7 @@ impl StaleDisk for SteadyDisk {
         ensures no_fault { OnOk result (self.new.faults ≡ self.old.faults) }
         ensures failed { OnErr result (Rose self.old.faults self.new.faults) }
         ensures count { self.old.faults ≤ self.new.faults }
+        ensures word { self.new.faults < 2 ^ 64 }
         ensures full { OnErr result (vec_capacity self.old.image < at + length words.now) }
         ensures read_faults { self.new.read_faults ≡ self.old.read_faults }
         ensures lends { self.new.lends ≡ self.old.lends }
