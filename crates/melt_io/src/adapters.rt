@@ -91,10 +91,7 @@ impl<R: Read> Source for StdSource<R> {
     {
         match self.reader.read(buf) {
             Ok(n) => Ok(n),
-            Err(_) => {
-                self.faults = self.faults.saturating_add(1);
-                Err(Failed)
-            }
+            Err(_) => Err(Failed::counted(&mut self.faults)),
         }
     }
 }
@@ -115,10 +112,7 @@ impl<W: Write> Sink for StdSink<W> {
     {
         match self.writer.write(piece) {
             Ok(n) if n > 0 || piece.is_empty() => Ok(n),
-            _ => {
-                self.faults = self.faults.saturating_add(1);
-                Err(Failed)
-            }
+            _ => Err(Failed::counted(&mut self.faults)),
         }
     }
 }
@@ -146,10 +140,7 @@ impl<F: FileExt> PositionedReader for StdFileReader<F> {
     fn read_at(&mut self, buf: &mut [u8], at: u64) -> Result<usize, Failed> {
         match self.file.read_at(buf, at) {
             Ok(n) => Ok(n),
-            Err(_) => {
-                self.faults = self.faults.saturating_add(1);
-                Err(Failed)
-            }
+            Err(_) => Err(Failed::counted(&mut self.faults)),
         }
     }
 }
@@ -178,30 +169,21 @@ where
                 self.file = Some(file);
                 Ok(())
             }
-            Err(_) => {
-                self.faults = self.faults.saturating_add(1);
-                Err(Failed)
-            }
+            Err(_) => Err(Failed::counted(&mut self.faults)),
         }
     }
 
     fn write_all_at(&mut self, piece: &[u8], at: u64) -> Result<(), Failed> {
         match &self.file {
             Some(file) if file.write_all_at(piece, at).is_ok() => Ok(()),
-            _ => {
-                self.faults = self.faults.saturating_add(1);
-                Err(Failed)
-            }
+            _ => Err(Failed::counted(&mut self.faults)),
         }
     }
 
     fn open(&mut self) -> Result<StdFileReader<R::File>, Failed> {
         match fs::open(&self.runtime, PATH) {
             Ok(file) => Ok(StdFileReader { file, faults: 0 }),
-            Err(_) => {
-                self.faults = self.faults.saturating_add(1);
-                Err(Failed)
-            }
+            Err(_) => Err(Failed::counted(&mut self.faults)),
         }
     }
 }

@@ -8,7 +8,8 @@ use crate::outside::{
     Failed, LendRefusal, PositionedFile, PositionedReader, RecordReader, StaleDisk,
 };
 use crate::words::{get_words, put_words};
-use std::alloc::{AllocError, Global};
+use melt_model::NoMemory;
+use std::alloc::Global;
 use std::rt::Files;
 
 /// How many words are moved at once.
@@ -47,7 +48,7 @@ pub struct FileReader<F> {
 impl<R: Files + Drop> FileDisk<StdFile<R>> {
     /// A disk in the file `melt.stale` of the current folder, of which nothing was written. The file is not
     /// touched yet.
-    pub fn new(alloc: Global, runtime: R) -> Result<FileDisk<StdFile<R>>, AllocError>
+    pub fn new(alloc: Global, runtime: R) -> Result<FileDisk<StdFile<R>>, NoMemory>
         ensures runtime { IfOk result (λ disk. disk.file.runtime ≡ runtime) }
         ensures no_file { IfOk result (λ disk. IsNone disk.file.file) }
         ensures no_file_faults { IfOk result (λ disk. disk.file.faults ≡ 0) }
@@ -63,7 +64,7 @@ impl<R: Files + Drop> FileDisk<StdFile<R>> {
 
 impl<F: Drop> FileDisk<F> {
     /// A disk in this file, of which nothing was written. The file is not touched yet.
-    pub fn over(alloc: Global, file: F) -> Result<FileDisk<F>, AllocError>
+    pub fn over(alloc: Global, file: F) -> Result<FileDisk<F>, NoMemory>
         ensures file { IfOk result (λ disk. disk.file ≡ file) }
         ensures piece { IfOk result (λ disk. vec_len disk.piece ≡ 32768) }
         ensures no_writes { IfOk result (λ disk. disk.writes ≡ 0) }
@@ -109,8 +110,7 @@ impl<F: PositionedReader> RecordReader for FileReader<F> {
         self.reads = self.reads.saturating_add(1);
         let piece = &mut self.piece;
         if read_file(&mut self.file, piece, at, words).is_err() {
-            self.faults = self.faults.saturating_add(1);
-            return Err(Failed);
+            return Err(Failed::counted(&mut self.faults));
         }
         Ok(())
     }
@@ -152,8 +152,7 @@ where
         self.writes = self.writes.saturating_add(1);
         let piece = &mut self.piece;
         if write_file(&mut self.file, piece, at, words).is_err() {
-            self.faults = self.faults.saturating_add(1);
-            return Err(Failed);
+            return Err(Failed::counted(&mut self.faults));
         }
         Ok(())
     }
@@ -186,7 +185,7 @@ where
                 faults: 0,
             }),
             Err(_) => {
-                self.faults = self.faults.saturating_add(1);
+                Failed::counted(&mut self.faults);
                 Err(LendRefusal::Failed)
             }
         }

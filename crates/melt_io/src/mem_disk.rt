@@ -92,8 +92,7 @@ impl RecordReader for MemReader {
     {
         self.reads = self.reads.saturating_add(1);
         if self.fail_reads.contains(&(self.lend, self.reads)) {
-            self.faults = self.faults.saturating_add(1);
-            return Err(Failed);
+            return Err(Failed::counted(&mut self.faults));
         }
         copy_words(&self.image, at as usize, words);
         tell_lies(&self.lies, self.lend, at, words);
@@ -135,8 +134,7 @@ impl StaleDisk for MemDisk {
         if is_due(&mut self.writes, &self.fail_writes)
             || write_image(&mut self.image, at as usize, words).is_err()
         {
-            self.faults = self.faults.saturating_add(1);
-            return Err(Failed);
+            return Err(Failed::counted(&mut self.faults));
         }
         Ok(())
     }
@@ -161,7 +159,7 @@ impl StaleDisk for MemDisk {
         ensures lies { self.new.lies.items ≡ self.old.lies.items }
     {
         if is_due(&mut self.lends, &self.fail_lends) {
-            self.faults = self.faults.saturating_add(1);
+            Failed::counted(&mut self.faults);
             return Err(LendRefusal::Failed);
         }
         reader_of(self, alloc).map_err(|_| LendRefusal::NoMemory)

@@ -101,8 +101,7 @@ impl PositionedReader for MemFileReader {
         ensures lists { (self.new.fail.items ≡ self.old.fail.items) × (self.new.most ≡ self.old.most) }
     {
         if is_due(&mut self.calls, &self.fail) {
-            self.faults = self.faults.saturating_add(1);
-            return Err(Failed);
+            return Err(Failed::counted(&mut self.faults));
         }
         let end = buf.len().min(self.most.max(1));
         Ok(copy_bytes(&self.bytes, at as usize, &mut buf[..end]))
@@ -141,8 +140,7 @@ impl PositionedFile for MemFile {
         ensures lists { (self.new.fail.items ≡ self.old.fail.items) × (self.new.fail_reads.items ≡ self.old.fail_reads.items) × (self.new.most ≡ self.old.most) }
     {
         if is_due(&mut self.calls, &self.fail) {
-            self.faults = self.faults.saturating_add(1);
-            return Err(Failed);
+            return Err(Failed::counted(&mut self.faults));
         }
         let alloc = *self.fail.allocator();
         self.bytes = Some(Vec::new(alloc));
@@ -171,8 +169,7 @@ impl PositionedFile for MemFile {
             unreachable!()
         };
         if is_refused || write_bytes(bytes, at as usize, piece).is_err() {
-            self.faults = self.faults.saturating_add(1);
-            return Err(Failed);
+            return Err(Failed::counted(&mut self.faults));
         }
         Ok(())
     }
@@ -196,10 +193,7 @@ impl PositionedFile for MemFile {
         let is_refused = is_due(&mut self.calls, &self.fail);
         match self.reader() {
             Ok(reader) if !is_refused => Ok(reader),
-            _ => {
-                self.faults = self.faults.saturating_add(1);
-                Err(Failed)
-            }
+            _ => Err(Failed::counted(&mut self.faults)),
         }
     }
 }

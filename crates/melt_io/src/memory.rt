@@ -86,8 +86,7 @@ impl Source for MemSource {
         ensures kept { (self.new.bytes.items ≡ self.old.bytes.items) × (self.new.fail.items ≡ self.old.fail.items) }
     {
         if is_due(&mut self.calls, &self.fail) {
-            self.faults = self.faults.saturating_add(1);
-            return Err(Failed);
+            return Err(Failed::counted(&mut self.faults));
         }
         Ok(take_next(&self.bytes, &mut self.pos, buf))
     }
@@ -113,8 +112,7 @@ impl Sink for MemSink {
         ensures kept { self.new.fail.items ≡ self.old.fail.items }
     {
         if is_due(&mut self.calls, &self.fail) || self.bytes.extend_from_slice(piece).is_err() {
-            self.faults = self.faults.saturating_add(1);
-            return Err(Failed);
+            return Err(Failed::counted(&mut self.faults));
         }
         Ok(piece.len())
     }

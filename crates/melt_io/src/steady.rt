@@ -115,8 +115,7 @@ impl Sink for SteadySink {
         ensures full { OnErr result (vec_capacity self.old.bytes < vec_len self.old.bytes + length piece.now) }
     {
         if self.bytes.extend_from_slice(piece).is_err() {
-            self.faults = self.faults.saturating_add(1);
-            return Err(Failed);
+            return Err(Failed::counted(&mut self.faults));
         }
         Ok(piece.len())
     }
@@ -172,8 +171,7 @@ impl StaleDisk for SteadyDisk {
     {
         self.writes = self.writes.saturating_add(1);
         if write_image(&mut self.image, at as usize, words).is_err() {
-            self.faults = self.faults.saturating_add(1);
-            return Err(Failed);
+            return Err(Failed::counted(&mut self.faults));
         }
         Ok(())
     }
