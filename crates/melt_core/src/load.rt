@@ -98,6 +98,7 @@ impl Core {
             Ref::Null => self.read(thread, place, dst, 0),
             Ref::Clean(address) => self.read(thread, place, dst, address),
             Ref::Stale(target) => self.go(thread, op, Stage::Looked { place, target, dst }),
+            // (no object has a home yet)
             Ref::Disk(_) => unreachable!(),
         }
     }
@@ -115,6 +116,7 @@ impl Core {
         requires stage { stage_of (view self.old) thread ≡ Some (Stage.Looked place target dst) }
         ensures { Advances (view self.old) (view self.new) thread op result }
     {
+        // Nothing but this bit of a header ever changes, and it is only ever cleared in an epoch: a plain store will do.
         let header = Header {
             shape: self.heap.space.shape(target),
             stale: false,
@@ -142,6 +144,7 @@ impl Core {
         match self.reference_in(place) {
             Ref::Null => self.read(thread, place, dst, 0),
             Ref::Clean(current) => self.read(thread, place, dst, current),
+            // A word with a tag never becomes another one with a tag, so that this is the word of the look.
             Ref::Stale(_) => {
                 self.set_word_in(place, encode_ref(Ref::Clean(target)));
                 self.read(thread, place, dst, target)

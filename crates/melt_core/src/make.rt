@@ -24,6 +24,7 @@ impl Core {
     {
         let address = self.free;
         let need = cost(shape);
+        // Each thread claims past the last word at most once before it reads the stop word, so that the sum stays small.
         self.free = address + need;
         let stage = if self.free > self.heap.space.words() + 1 {
             Stage::Lacking { need }
@@ -85,6 +86,7 @@ impl Core {
             stale: false,
         };
         self.heap.space.set_word(address, encode_header(header));
+        // (each object has an entry in the history, of fewer than 2^32, so that its number fits)
         set_name(&mut self.heap.names, address, self.rest.made as u32);
         self.rest.made += 1;
         let Shape { refs, nums } = shape;
