@@ -13,3 +13,6 @@ mod write;
 
 pub use answer::{Pause, Refusal, StepResult};
 pub use machine::{Core, Rest};
+
+#[cfg(test)]
+mod tests;
