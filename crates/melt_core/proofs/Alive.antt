@@ -1,19 +1,18 @@
 -- Between two events the state is placed for the history, what is alive is in use, and its words have a sum.
-use Rattle.std.proofs.Common.{◌≡◌, ℕ, ◌<◌, ◌≤◌, List, [], length, refl, sym, ◌∙◌, ap, arith, inl, inr}
+use Rattle.std.proofs.Common.{◌≡◌, ℕ, ◌<◌, List, [], length, refl, sym, ◌∙◌, ap, arith, inl, inr}
 use Rattle.std.proofs.Math.ListN.{length-map}
 use Rattle.std.proofs.lemmas.Bool.{cases_lt}
 use Rattle.std.proofs.lemmas.List.{get_or_past}
 use Rattle.std.specs.Prelude.{true, Some, map}
 use Rattle.melt_model.specs.Alive.{Alive, words_of, CostsSum}
 use Rattle.melt_model.specs.Thread.{value_in}
-use Rattle.melt_model.specs.declared.history.Value.{Value}
 use Rattle.melt_model.specs.declared.history.Value.TheVariants.{Nil, Ref}
 use Rattle.melt_model.proofs.AliveSums as sums
-use Rattle.melt_scion.specs.Placed.{Placed, value_at}
+use Rattle.melt_scion.specs.Placed.{Placed}
 use Rattle.melt_scion.specs.Heaps.{register_in}
 use Rattle.melt_scion.specs.declared.registers.Registers.{Registers}
 use Rattle.melt_scion.proofs.Reaching.{alive_reached}
-use Rattle.melt_core.specs.Views.{View, InUse, maps, state, value, values_of, registers_in, held_value, held_values, Standing}
+use Rattle.melt_core.specs.Views.{View, InUse, maps, state, value, values_of, registers_in, held_values, Standing}
 use Rattle.melt_core.proofs.Values.{value_held, may_value}
 
 -- the state is placed for the history, with the values of all registers

@@ -1,7 +1,7 @@
 -- Events that answer a call, and neither make an object nor own words.
-use Rattle.std.proofs.Common.{◌≡◌, ◌≢◌, ℕ, ◌<◌, ◌≤◌, List, [], length, get_or, refl, sym, ◌∙◌, ap, subst, arith, inl, inr}
+use Rattle.std.proofs.Common.{◌≡◌, ◌≢◌, ℕ, ◌<◌, List, length, get_or, refl, sym, ◌∙◌, ap, subst, inl}
 use Rattle.std.proofs.Math.ListN.{set}
-use Rattle.std.specs.Prelude.{Bool, true, false, Option, None, Some}
+use Rattle.std.specs.Prelude.{true, false, Option, None, Some}
 use Rattle.melt_model.specs.declared.history.Act.{Act}
 use Rattle.melt_model.specs.declared.operations.Op.{Op}
 use Rattle.melt_model.specs.declared.operations.Op.TheVariants as op
@@ -10,32 +10,28 @@ use Rattle.melt_model.specs.declared.operations.Reply.TheVariants as reply
 use Rattle.melt_space.specs.Space.{SpaceWords, word_at}
 use Rattle.melt_scion.specs.Placed.{MayHold}
 use Rattle.melt_scion.specs.declared.heap.Names as heap
-use Rattle.melt_scion.specs.Regions.{no_region}
 use Rattle.melt_scion.specs.Changes.{SameWords}
 use Rattle.melt_scion.specs.Heaps.{register_in}
 use Rattle.melt_core.specs.declared.answer.StepResult.TheVariants.{Answered}
 use Rattle.melt_core.specs.declared.call.Access.{Access}
-use Rattle.melt_core.specs.declared.call.Call.{Call}
-use Rattle.melt_core.specs.declared.call.Place.{Place}
 use Rattle.melt_core.specs.declared.call.Place.TheVariants.{Field, Global}
 use Rattle.melt_core.specs.declared.call.Task.{Task}
 use Rattle.melt_core.specs.declared.call.Task.TheVariants.{Use}
 use Rattle.melt_core.specs.declared.call.Stage.{Stage}
-use Rattle.melt_core.specs.declared.call.Stage.TheVariants.{Lacking}
-use Rattle.melt_core.specs.Answering.{Answers, with_entry}
-use Rattle.melt_core.specs.Events.{Event, quiet}
-use Rattle.melt_core.specs.Stages.{Next, MustPause, Applies, Nothing, Shares, change_of, cleared_by, task_of, HasObject}
-use Rattle.melt_core.specs.Changed.{with_call, with_register}
+use Rattle.melt_core.specs.Answering.{Answers}
+use Rattle.melt_core.specs.Events.{quiet}
+use Rattle.melt_core.specs.Stages.{Next, MustPause, Applies, Shares, change_of, cleared_by, task_of, HasObject}
+use Rattle.melt_core.specs.Changed.{with_register}
 use Rattle.melt_core.specs.Advances.{MayAdvance, Advances, LeavesClean, HasRoomFor, Sets}
 use Rattle.melt_core.specs.Views.{View, maps, state, call_of, stage_in, stage_of, values_of, held_value, held_values, registers_in, claimed_in, maps_of, base_in, Standing}
 use Rattle.melt_core.proofs.Claims.{claims_ends}
 use Rattle.melt_core.proofs.Asked.{inside, set_none}
-use Rattle.melt_core.proofs.Standing.{Made, advances, call_here}
-use Rattle.melt_core.proofs.Plain.{Plain, plain, MakesNothing}
+use Rattle.melt_core.proofs.Standing.{advances, call_here}
+use Rattle.melt_core.proofs.Plain.{Plain, plain}
 use Rattle.melt_core.proofs.Registers.{register_keeps, register_other, registers_other, threads_set, values_set}
 use Rattle.melt_core.proofs.Values.{value_held, no_name_at}
 use Rattle.melt_core.proofs.Answers.{nil_answers, HoldsNil, differ_answers, copy_answers, drop_answers}
-use Rattle.melt_core.proofs.Tasks.{LoadsNothing, no_load}
+use Rattle.melt_core.proofs.Tasks.{no_load}
 
 -- nothing changes
 pub same_words : (v : View) → SameWords (state v) (state v)

@@ -1,5 +1,5 @@
 -- What an event may use of what stands: its call, what that knows, and what its registers hold.
-use Rattle.std.proofs.Common.{◌≡◌, ◌≢◌, ℕ, zero, suc, ◌+◌, ◌<◌, ◌≤◌, inl, inr, List, [], ◌∷◌, length, get_or, refl, sym, ◌∙◌, ap, subst, arith}
+use Rattle.std.proofs.Common.{◌≡◌, ℕ, zero, suc, ◌+◌, ◌<◌, inl, inr, List, [], ◌∷◌, length, get_or, refl, sym, ◌∙◌, ap, subst, arith}
 use Rattle.std.proofs.Math.ListN.{set}
 use Rattle.std.proofs.lemmas.Bool.{cases_lt}
 use Rattle.std.specs.Prelude.{Bool, true, false, Option, None, Some, if◌then◌else◌}
@@ -8,18 +8,15 @@ use Rattle.melt_word.specs.Words.{cost_of}
 use Rattle.melt_scion.specs.State.{State}
 use Rattle.melt_scion.specs.Placed.{Maps}
 use Rattle.melt_scion.specs.Heaps.{register_in}
-use Rattle.melt_core.specs.declared.call.Access.{Access}
 use Rattle.melt_core.specs.declared.call.Access.TheVariants.{Load, Store, Get, Put}
 use Rattle.melt_core.specs.declared.call.Task.TheVariants.{Make, Use, LoadGlobal, StoreGlobal}
-use Rattle.melt_core.specs.declared.call.Place.{Place}
-use Rattle.melt_core.specs.declared.call.Place.TheVariants.{Field, Global}
 use Rattle.melt_core.specs.declared.call.Stage.{Stage}
 use Rattle.melt_core.specs.declared.call.Stage.TheVariants.{Polled, Headed, Looked, Cleared, Claimed, Lacking}
 use Rattle.melt_core.specs.declared.call.Call.{Call}
 use Rattle.melt_core.specs.Known.{Known}
 use Rattle.melt_core.specs.Stages.{Fits, Next, Change, Nothing, Word, Publish, change_of, cleared_by}
 use Rattle.melt_core.specs.Advances.{MayAdvance, Continues}
-use Rattle.melt_core.specs.Views.{View, maps, state, call_of, stage_in, stage_of, claimed_in, claims_left}
+use Rattle.melt_core.specs.Views.{View, maps, state, call_of, stage_in, stage_of, claimed_in}
 
 -- the call at a stage is of the operation
 at_stage : (c : Option Call) (o : Op) (stage : Stage) → Continues c o → stage_in c ≡ Some stage → c ≡ Some (record { op = o; stage = stage })

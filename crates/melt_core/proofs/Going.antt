@@ -1,7 +1,7 @@
 -- Events after which a call goes on at another stage, and no word that threads share changes.
-use Rattle.std.proofs.Common.{◌≡◌, ◌≢◌, ℕ, ◌<◌, ◌≤◌, List, length, refl, sym, ◌∙◌, ap, subst, arith}
+use Rattle.std.proofs.Common.{◌≡◌, ℕ, refl, sym, subst}
 use Rattle.std.proofs.Math.ListN.{set}
-use Rattle.std.specs.Prelude.{Bool, true, false, Option, None, Some}
+use Rattle.std.specs.Prelude.{false, None, Some}
 use Rattle.melt_model.specs.declared.operations.Op.{Op}
 use Rattle.melt_scion.specs.Heaps.{register_in}
 use Rattle.melt_scion.specs.Regions.{no_region}
@@ -10,13 +10,13 @@ use Rattle.melt_core.specs.declared.call.Call.{Call}
 use Rattle.melt_core.specs.declared.call.Stage.{Stage}
 use Rattle.melt_core.specs.Known.{Known}
 use Rattle.melt_core.specs.Events.{Event, quiet}
-use Rattle.melt_core.specs.Stages.{Next, Change, Nothing, change_of, cleared_by, Applies, Fits}
+use Rattle.melt_core.specs.Stages.{Next, Nothing, change_of, cleared_by, Applies, Fits}
 use Rattle.melt_core.specs.Changed.{with_call}
 use Rattle.melt_core.specs.Advances.{MayAdvance, Advances, Goes, KeepsOwn}
 use Rattle.melt_core.specs.Views.{View, maps, state, call_of, stage_of, claimed_in, Standing}
 use Rattle.melt_core.proofs.Claims.{claims_next}
-use Rattle.melt_core.proofs.Asked.{call_at, inside, nothing_claimed, next_fits, still_clears}
-use Rattle.melt_core.proofs.Standing.{Made, advances, call_here}
+use Rattle.melt_core.proofs.Asked.{inside, nothing_claimed, next_fits, still_clears}
+use Rattle.melt_core.proofs.Standing.{advances, call_here}
 use Rattle.melt_core.proofs.Plain.{Plain, plain}
 use Rattle.melt_core.proofs.Regions.{nearer_in}
 

@@ -1,6 +1,6 @@
 -- Each event keeps what holds between two events.
-use Rattle.std.proofs.Common.{◌≡◌, ℕ, ◌+◌, ◌*◌, ◌<◌, ◌≤◌, refl, sym, ◌∙◌, ap, subst, arith, List, [], ◌∷◌, ◌++◌}
-use Rattle.std.specs.Prelude.{Bool, true, false, Option, None, Some}
+use Rattle.std.proofs.Common.{◌≡◌, ℕ, ◌+◌, ◌*◌, ◌<◌, refl, sym, ap, subst, arith, List}
+use Rattle.std.specs.Prelude.{Bool, true, false, Option, Some}
 use Rattle.melt_model.specs.History.{last, made, Legal}
 use Rattle.melt_model.specs.declared.history.Entry.{Entry}
 use Rattle.melt_model.specs.declared.history.Act.{Act}
@@ -11,10 +11,9 @@ use Rattle.melt_model.specs.declared.history.Slot.{Slot}
 use Rattle.melt_model.specs.declared.history.Slot.TheVariants as slot
 use Rattle.melt_word.specs.Words.{IsShape, IsRef, ref_word, header_word, cost_of}
 use Rattle.melt_word.specs.declared.header.Shape.{Shape}
-use Rattle.melt_word.specs.declared.header.Header.{Header}
 use Rattle.melt_word.specs.declared.reference.Ref.{Ref}
 use Rattle.melt_word.specs.declared.reference.Ref.TheVariants.{Clean}
-use Rattle.melt_scion.specs.State.{State, HeaderAt, IsFresh}
+use Rattle.melt_scion.specs.State.{State, IsFresh}
 use Rattle.melt_scion.specs.Placed.{Maps, IsNamed, MayHold, value_of, value_at, Holds}
 use Rattle.melt_scion.specs.Regions.{Region, HasStored}
 use Rattle.melt_scion.specs.Changes.{WordChanges, NameAppears}

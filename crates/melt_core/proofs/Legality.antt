@@ -1,6 +1,6 @@
 -- Each event keeps the history legal.
-use Rattle.std.proofs.Common.{◌≡◌, ℕ, ◌+◌, ◌*◌, ◌<◌, ◌≤◌, refl, sym, ◌∙◌, ap, subst, arith, List, [], ◌∷◌, ◌++◌}
-use Rattle.std.specs.Prelude.{Bool, true, Option, None, Some, IsSomeAnd}
+use Rattle.std.proofs.Common.{◌≡◌, ℕ, ◌*◌, ◌<◌, sym, ◌∙◌, ap, subst, arith, List}
+use Rattle.std.specs.Prelude.{Bool, true, Option, Some, IsSomeAnd}
 use Rattle.melt_model.specs.History as model
 use Rattle.melt_model.specs.History.{last, IsSlot, CanHold, MayFollow, Legal}
 use Rattle.melt_model.specs.declared.history.Entry.{Entry}
@@ -13,7 +13,6 @@ use Rattle.melt_model.specs.declared.history.Slot.TheVariants as slot
 use Rattle.melt_model.proofs.Histories.{Legal-push}
 use Rattle.melt_word.specs.Words.{IsShape}
 use Rattle.melt_word.specs.declared.header.Shape.{Shape}
-use Rattle.melt_word.specs.declared.header.Header.{Header}
 use Rattle.melt_scion.specs.State.{Base, State}
 use Rattle.melt_scion.specs.Placed.{Maps, Tells, Holds}
 use Rattle.melt_scion.specs.Regions.{Region}

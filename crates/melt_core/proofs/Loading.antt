@@ -1,28 +1,25 @@
 -- The events of loads: a look, a clear and an untag.
-use Rattle.std.proofs.Common.{◌≡◌, ◌≢◌, ℕ, zero, suc, ◌+◌, ◌*◌, ◌<◌, ◌≤◌, inl, inr, List, [], ◌∷◌, ◌++◌, length, get_or, refl, sym, ◌∙◌, ap, subst, arith}
+use Rattle.std.proofs.Common.{◌≡◌, ℕ, zero, suc, ◌<◌, inl, inr, List, [], ◌∷◌, ◌++◌, length, refl, sym, ◌∙◌, ap, subst, arith}
 use Rattle.std.proofs.Math.ListN.{set}
 use Rattle.std.specs.Prelude.{Bool, true, false, Option, None, Some, unwrap_or}
 use Rattle.melt_model.specs.History.{last}
 use Rattle.melt_model.specs.Thread.{found}
 use Rattle.melt_model.specs.declared.history.Act.{Act}
 use Rattle.melt_model.specs.declared.history.Act.TheVariants.{Read}
-use Rattle.melt_model.specs.declared.history.Entry.{Entry}
 use Rattle.melt_model.specs.declared.history.Slot.{Slot}
 use Rattle.melt_model.specs.declared.history.Slot.TheVariants as slots
 use Rattle.melt_model.specs.declared.history.Value.{Value}
 use Rattle.melt_model.specs.declared.history.Value.TheVariants.{Nil}
 use Rattle.melt_model.specs.declared.operations.Op.{Op}
 use Rattle.melt_model.specs.declared.operations.Op.TheVariants as op
-use Rattle.melt_model.specs.declared.operations.Reply.{Reply}
 use Rattle.melt_word.specs.Words.{IsHeader, IsRef, header_word, ref_word}
 use Rattle.melt_word.specs.declared.header.Header.{Header}
 use Rattle.melt_space.specs.Space.{SpaceWords, SetsWord, word_at}
-use Rattle.melt_word.specs.declared.reference.Ref.{Ref}
 use Rattle.melt_word.specs.declared.reference.Ref.TheVariants.{Null, Clean, Stale}
 use Rattle.melt_word.specs.declared.header.Shape.{Shape}
 use Rattle.melt_scion.specs.State.{Base, State, HeaderAt, IsFresh}
 use Rattle.melt_scion.proofs.Geometry.{one_header}
-use Rattle.melt_scion.specs.Placed.{Maps, MayHold, value_at, value_of}
+use Rattle.melt_scion.specs.Placed.{MayHold, value_of}
 use Rattle.melt_scion.specs.Regions.{no_region}
 use Rattle.melt_scion.specs.Changes.{WordChanges}
 use Rattle.melt_scion.specs.Heaps.{register_in}
@@ -40,8 +37,8 @@ use Rattle.melt_core.specs.Known.{IsObjectAt, IsPlace, IsTagged, SlotAt, HasLook
 use Rattle.melt_core.specs.Events.{Event, PlaceChanges, reads_place, clears, untags}
 use Rattle.melt_core.specs.Stages.{Next, MustPause, Fits, LoadsAt, LooksFrom, Applies, Nothing, change_of, cleared_by}
 use Rattle.melt_core.specs.Changed.{HoldsRef, HasRead, OnlyWords, with_call, with_register, noted}
-use Rattle.melt_core.specs.Advances.{MayAdvance, Advances, LeavesClean, HasRoomFor, Sets, InBounds}
-use Rattle.melt_core.specs.Views.{View, maps, state, call_of, stage_in, stage_of, values_of, held_value, registers_in, claimed_in, base_in, Standing}
+use Rattle.melt_core.specs.Advances.{MayAdvance, Advances, HasRoomFor, Sets, InBounds}
+use Rattle.melt_core.specs.Views.{View, maps, state, stage_of, values_of, held_value, registers_in, claimed_in, base_in, Standing}
 use Rattle.melt_core.proofs.Asked.{call_at, fits_at, known_at}
 use Rattle.melt_core.proofs.Claims.{claims_ends, claims_next}
 use Rattle.melt_core.proofs.Evolving.{evolves_event}
@@ -49,7 +46,7 @@ use Rattle.melt_core.proofs.Staying.{looked_stays, place_stays}
 use Rattle.melt_core.proofs.Standing.{advances}
 use Rattle.melt_core.proofs.Going.{goes}
 use Rattle.melt_core.proofs.Plain.{Plain, plain}
-use Rattle.melt_core.proofs.Answered.{Replies, answered, use_room}
+use Rattle.melt_core.proofs.Answered.{answered}
 use Rattle.melt_core.proofs.Answers.{load_answers, gload_answers}
 use Rattle.melt_core.proofs.Objects.{object_shape, value_named, tagged_is, value_there, may_stand_there, stale_address}
 use Rattle.melt_core.proofs.Registers.{register_keeps, register_other, registers_other, threads_set, values_set}

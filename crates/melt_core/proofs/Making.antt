@@ -1,5 +1,5 @@
 -- How an object is made: the events of a claim, of private stores, of the publication, and of the want of room.
-use Rattle.std.proofs.Common.{◌≡◌, ◌≢◌, ℕ, ◌+◌, ◌*◌, ◌-◌, ◌<◌, ◌≤◌, inl, inr, List, [], ◌∷◌, ◌++◌, length, get_or, refl, sym, ◌∙◌, ap, subst, arith}
+use Rattle.std.proofs.Common.{◌≡◌, ◌≢◌, ℕ, ◌+◌, ◌<◌, ◌≤◌, inl, inr, List, [], ◌∷◌, ◌++◌, length, refl, sym, ◌∙◌, ap, subst, arith}
 use Rattle.std.proofs.Math.ListN.{set}
 use Rattle.std.proofs.lemmas.Bool.{cases_eq, cases_lt, eq-eqb, ne_eqb}
 use Rattle.std.specs.Prelude.{Bool, true, false, Option, None, Some, IsSome, if◌then◌else◌}
@@ -7,7 +7,6 @@ use Rattle.std.specs.List.{filter_map, cons_option}
 use Rattle.melt_model.specs.History.{made as makes, shape_made}
 use Rattle.melt_model.proofs.Histories.{made-append}
 use Rattle.melt_model.specs.declared.history.Entry.{Entry}
-use Rattle.melt_model.specs.declared.history.Act.{Act}
 use Rattle.melt_model.specs.declared.history.Act.TheVariants.{Make}
 use Rattle.melt_model.specs.declared.history.Value.{Value}
 use Rattle.melt_model.specs.declared.history.Value.TheVariants.{Ref}
@@ -38,7 +37,7 @@ use Rattle.melt_core.specs.Events.{Event, quiet, claims as claims_words, stores,
 use Rattle.melt_core.specs.Stages.{Next, Fits, MustPause, Applies, Word, Publish, change_of, cleared_by, task_of}
 use Rattle.melt_core.specs.Changed.{with_call, with_register, noted}
 use Rattle.melt_core.specs.Advances.{MayAdvance, Advances, InBounds, HasRoomFor, Sets}
-use Rattle.melt_core.specs.Views.{View, maps, state, call_of, stage_in, stage_of, registers_in, claimed_in, base_in, maps_of, numbers_of, held_value, held_values, values_of, Standing}
+use Rattle.melt_core.specs.Views.{View, maps, state, call_of, stage_of, registers_in, claimed_in, base_in, maps_of, numbers_of, held_value, held_values, values_of, Standing}
 use Rattle.melt_core.proofs.Asked.{call_at, fits_at, known_at, inside, next_fits}
 use Rattle.melt_core.proofs.Claims.{bounded_is, bounded_lacking, bounded_call, bounded_refused, claims_ends, claims_next}
 use Rattle.melt_core.proofs.Counting.{Counts_claimed, Counts_lacking, Counts_same, Counts_published, room_for}

@@ -1,11 +1,9 @@
 -- Objects and places, as the events of a call find them.
-use Rattle.std.proofs.Common.{◌≡◌, ◌≢◌, ℕ, zero, suc, ◌+◌, ◌*◌, ◌<◌, ◌≤◌, inl, inr, List, get_or, refl, sym, ◌∙◌, ap, subst, arith}
-use Rattle.std.specs.Prelude.{true, false, Option, None, Some}
+use Rattle.std.proofs.Common.{◌≡◌, ◌≢◌, ℕ, ◌+◌, ◌*◌, ◌<◌, ◌≤◌, inl, inr, refl, sym, ◌∙◌, ap, subst, arith}
+use Rattle.std.specs.Prelude.{true, false, Some}
 use Rattle.melt_model.specs.History.{shape as shape_in, last}
 use Rattle.melt_model.specs.Thread.{value_in}
 use Rattle.melt_model.specs.declared.history.Slot.{Slot}
-use Rattle.melt_model.specs.declared.history.Slot.TheVariants as slots
-use Rattle.melt_model.specs.declared.history.Value.{Value}
 use Rattle.melt_model.specs.declared.history.Value.TheVariants.{Ref as Object}
 use Rattle.melt_word.specs.Words.{IsAddress, IsHeader, IsRef, header_word, ref_word}
 use Rattle.melt_word.specs.declared.header.Header.{Header}
@@ -14,8 +12,7 @@ use Rattle.melt_word.specs.declared.reference.Ref.{Ref}
 use Rattle.melt_word.specs.declared.reference.Ref.TheVariants.{Null, Clean, Stale, Disk}
 use Rattle.melt_word.proofs.OneToOne.{same_ref}
 use Rattle.melt_space.specs.Space.{word_at}
-use Rattle.melt_scion.specs.State.{State, HeaderAt, IsFresh}
-use Rattle.melt_scion.specs.Placed.{Maps, IsNamed, MayStand, MayHold, Stands, IsReferenceWord, FormedWords, Tells, value_of}
+use Rattle.melt_scion.specs.Placed.{MayStand, Stands, IsReferenceWord, value_of}
 use Rattle.melt_scion.specs.Heaps.{register_in}
 use Rattle.melt_core.specs.declared.call.Place.{Place}
 use Rattle.melt_core.specs.declared.call.Place.TheVariants.{Field, Global}

@@ -6,27 +6,24 @@ use Rattle.melt_model.specs.History as model
 use Rattle.melt_model.specs.History.{shape, made, last, IsSlot, IsReference, CanHold}
 use Rattle.melt_model.specs.declared.history.Entry.{Entry}
 use Rattle.melt_model.specs.declared.history.Value.{Value}
-use Rattle.melt_model.specs.declared.history.Value.TheVariants.{Nil, Ref, Num}
+use Rattle.melt_model.specs.declared.history.Value.TheVariants.{Nil, Ref}
 use Rattle.melt_model.specs.declared.history.Slot.{Slot}
-use Rattle.melt_model.specs.declared.history.Slot.TheVariants as slot
 use Rattle.melt_word.specs.Words.{IsRef, IsAddress, ref_word, cost_of}
 use Rattle.melt_word.specs.declared.header.Shape.{Shape}
-use Rattle.melt_word.specs.declared.header.Header.{Header}
 use Rattle.melt_word.specs.declared.reference.Ref as words
-use Rattle.melt_word.specs.declared.reference.Ref.TheVariants.{Null, Clean}
+use Rattle.melt_word.specs.declared.reference.Ref.TheVariants.{Clean}
 use Rattle.melt_word.proofs.OneToOne.{same_ref}
-use Rattle.melt_scion.specs.State.{State, HeaderAt, IsFresh, NoGaps}
+use Rattle.melt_scion.specs.State.{State, IsFresh, NoGaps}
 use Rattle.melt_scion.specs.Placed.{Maps, IsNamed, IsReferenceWord, MayHold, value_of, value_at, Stands, FormedWords}
 use Rattle.melt_scion.specs.Placed.{Tells}
-use Rattle.melt_scion.specs.Changes.{WordChanges, GlobalChanges}
 use Rattle.melt_scion.proofs.Keeping.{NoGaps_stays}
 use Rattle.melt_scion.proofs.Following.{ValueChanges}
 use Rattle.melt_scion.proofs.Writing.{Formed_slot, Tells_slot, Formed_global, Tells_global}
 use Rattle.melt_scion.proofs.Making.{null_may, null_stands, named_made}
 use Rattle.melt_core.specs.declared.call.Place.{Place}
 use Rattle.melt_core.specs.declared.call.Place.TheVariants.{Field, Global}
-use Rattle.melt_core.specs.Known.{IsObjectAt, word_in, IsPlace, SlotAt}
-use Rattle.melt_core.specs.Events.{PlaceChanges, IsNumberWord, number_place}
+use Rattle.melt_core.specs.Known.{word_in, IsPlace, SlotAt}
+use Rattle.melt_core.specs.Events.{PlaceChanges}
 
 -- an object of a shape has slots below that shape's
 below_refs : (i : ℕ) (z w : Shape) → z ≡ w → i < w.refs → i < z.refs

@@ -1,9 +1,8 @@
 -- Events that leave the names, the first free place and the stop word, and whose thread owns no words before and behind
 -- them. What each of these shows is less.
-use Rattle.std.proofs.Common.{◌≡◌, ◌≢◌, ℕ, ◌+◌, ◌*◌, ◌<◌, ◌≤◌, ◌⊎◌, inl, inr, List, [], ◌∷◌, ◌++◌, length, get_or, refl, sym, ◌∙◌, ap, subst, arith}
-use Rattle.std.proofs.Math.ListN.{set, length-set}
-use Rattle.std.proofs.lemmas.List.{get_or-set_same}
-use Rattle.std.specs.Prelude.{Bool, true, false, Option, None, Some, IsSome}
+use Rattle.std.proofs.Common.{◌≡◌, ◌≢◌, ℕ, ◌<◌, ◌≤◌, List, [], ◌∷◌, length, refl, sym, ◌∙◌, ap, subst, arith}
+use Rattle.std.proofs.Math.ListN.{set}
+use Rattle.std.specs.Prelude.{Bool, true, Option, None, Some, IsSome}
 use Rattle.std.specs.List.{cons_option}
 use Rattle.melt_model.specs.History.{Shape, made as makes, shape_made}
 use Rattle.melt_model.specs.declared.history.Act.{Act}
@@ -19,13 +18,13 @@ use Rattle.melt_core.specs.Answering.{entry, with_entry}
 use Rattle.melt_core.specs.Known.{Known, region_of}
 use Rattle.melt_core.specs.Stages.{Fits}
 use Rattle.melt_core.specs.Events.{Event}
-use Rattle.melt_core.specs.Views.{View, Standing, Counts, Bounded, maps, state, numbers_of, registers_in, call_of, stage_in, stage_of, claimed_in, claims_left}
+use Rattle.melt_core.specs.Views.{View, Standing, Counts, maps, state, numbers_of, registers_in, call_of, stage_in, stage_of, claimed_in, claims_left}
 use Rattle.melt_core.proofs.Keeping.{event_keeps}
 use Rattle.melt_core.proofs.Staying.{hold_stays}
 use Rattle.melt_core.proofs.Regions.{no_region_apart}
 use Rattle.melt_core.proofs.Claims.{bounded_is, bounded_call}
 use Rattle.melt_core.proofs.Counting.{Counts_same, Counts_entry}
-use Rattle.melt_core.proofs.Standing.{Happens, Made}
+use Rattle.melt_core.proofs.Standing.{Made}
 
 -- an act that makes no object, or none at all
 abbrev pub MakesNothing : Option Act → Type 0

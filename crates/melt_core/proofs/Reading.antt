@@ -1,41 +1,36 @@
 -- The events of a call on a part of an object that find lacks such part, or read a number word.
-use Rattle.std.proofs.Common.{◌≡◌, ◌≢◌, ℕ, ◌+◌, ◌<◌, ◌≤◌, inl, inr, List, [], ◌∷◌, ◌++◌, length, refl, sym, ◌∙◌, ap, subst, arith}
+use Rattle.std.proofs.Common.{◌≡◌, ℕ, ◌<◌, ◌≤◌, inl, inr, List, refl, sym, ◌∙◌, ap, subst}
 use Rattle.std.proofs.lemmas.Bool.{cases_lt}
-use Rattle.std.specs.Prelude.{Bool, true, false, Option, None, Some}
+use Rattle.std.specs.Prelude.{Option, None, Some}
 use Rattle.melt_model.specs.Thread.{value_in}
-use Rattle.melt_model.specs.declared.history.Act.{Act}
 use Rattle.melt_model.specs.declared.history.Act.TheVariants.{Read}
 use Rattle.melt_model.specs.declared.history.Slot.TheVariants as slots
 use Rattle.melt_model.specs.declared.history.Value.{Value}
 use Rattle.melt_model.specs.declared.history.Value.TheVariants.{Ref as Object, Num}
 use Rattle.melt_model.specs.declared.operations.Op.{Op}
 use Rattle.melt_model.specs.declared.operations.Op.TheVariants as op
-use Rattle.melt_model.specs.declared.operations.Reply.{Reply}
 use Rattle.melt_model.specs.declared.operations.Reply.TheVariants as reply
 use Rattle.melt_word.specs.Words.{IsHeader, header_word}
 use Rattle.melt_space.specs.Space.{word_at}
 use Rattle.melt_word.specs.declared.header.Shape.{Shape}
 use Rattle.melt_word.specs.declared.header.Header.{Header}
-use Rattle.melt_scion.specs.State.{HeaderAt}
 use Rattle.melt_scion.specs.Regions.{no_region}
 use Rattle.melt_scion.specs.Heaps.{register_in}
 use Rattle.melt_scion.proofs.Geometry.{one_header}
 use Rattle.melt_core.specs.declared.answer.StepResult.TheVariants.{Answered}
 use Rattle.melt_core.specs.declared.call.Access.{Access}
 use Rattle.melt_core.specs.declared.call.Access.TheVariants.{Load, Store, Get, Put}
-use Rattle.melt_core.specs.declared.call.Place.{Place}
 use Rattle.melt_core.specs.declared.call.Place.TheVariants.{Field, Global}
-use Rattle.melt_core.specs.declared.call.Task.{Task}
 use Rattle.melt_core.specs.declared.call.Task.TheVariants.{Use}
 use Rattle.melt_core.specs.declared.call.Stage.{Stage}
 use Rattle.melt_core.specs.declared.call.Stage.TheVariants.{Polled, Headed, Lacking}
 use Rattle.melt_core.specs.Answering.{Answers, entry}
-use Rattle.melt_core.specs.Known.{IsObjectAt, Known}
+use Rattle.melt_core.specs.Known.{IsObjectAt}
 use Rattle.melt_core.specs.Events.{Event, quiet, reads_number, number_place}
 use Rattle.melt_core.specs.Stages.{Next, MustPause, HasPart, Fits, Applies, change_of, cleared_by, task_of}
 use Rattle.melt_core.specs.Changed.{with_call, noted}
 use Rattle.melt_core.specs.Advances.{MayAdvance, Advances, LeavesClean}
-use Rattle.melt_core.specs.Views.{View, maps, state, stage_in, call_of, stage_of, values_of, claimed_in, Standing}
+use Rattle.melt_core.specs.Views.{View, maps, state, stage_of, values_of, claimed_in}
 use Rattle.melt_core.proofs.Claims.{claims_ends}
 use Rattle.melt_core.proofs.Asked.{call_at, fits_at, known_at}
 use Rattle.melt_core.proofs.Plain.{Plain}

@@ -1,20 +1,17 @@
 -- How a core begins and ends: between two epochs no call is in flight, and no region is owned.
-use Rattle.std.proofs.Common.{◌≡◌, ◌≢◌, ℕ, zero, suc, ◌+◌, ◌*◌, ◌-◌, ◌^◌, ◌<◌, ◌≤◌, inl, inr, List, [], ◌∷◌, length, get_or, refl, sym, ◌∙◌, ap, subst, arith}
+use Rattle.std.proofs.Common.{◌≡◌, ℕ, zero, suc, ◌+◌, ◌-◌, ◌^◌, ◌<◌, ◌≤◌, inl, inr, List, [], ◌∷◌, length, get_or, refl, sym, ◌∙◌, ap, subst, arith}
 use Rattle.std.proofs.Math.ListN.{set, length-set}
 use Rattle.std.proofs.lemmas.Bool.{cases_eq}
 use Rattle.std.proofs.lemmas.List.{length-replicate}
 use Rattle.std.proofs.lemmas.List.Sums.{sum-map, sum_by-cons}
-use Rattle.std.specs.Prelude.{Bool, true, false, Option, None, Some, IsSome, replicate, vec_capacity, slice_set, slice_index, min, map, sum}
-use Rattle.melt_model.specs.History.{made as makes}
+use Rattle.std.specs.Prelude.{Bool, true, false, Option, None, Some, replicate, vec_capacity, slice_set, slice_index, min}
 use Rattle.melt_model.specs.Alive.{words_of}
-use Rattle.melt_model.specs.declared.history.Value.TheVariants.{Nil}
 use Rattle.melt_model.proofs.Sums.{CostsSum-empty}
 use Rattle.melt_space.specs.Space.{SpaceWords, word_at}
-use Rattle.melt_scion.specs.State.{State, NoGaps}
-use Rattle.melt_scion.specs.Placed.{Maps, MayHold, FormedWords, Holds, Tells}
+use Rattle.melt_scion.specs.State.{State}
+use Rattle.melt_scion.specs.Placed.{Maps, MayHold, FormedWords, Holds}
 use Rattle.melt_scion.specs.Heaps.{register_in, IsNewHeap}
 use Rattle.melt_scion.specs.Names.{name_at}
-use Rattle.melt_scion.specs.declared.registers.Registers.{Registers}
 use Rattle.melt_scion.specs.declared.heap.Heap.{Heap}
 use Rattle.melt_core.specs.declared.call.Call.{Call}
 use Rattle.melt_core.specs.declared.machine.Rest.{Rest}
@@ -28,7 +25,7 @@ use Rattle.melt_core.proofs.Staying.{known_stays}
 use Rattle.melt_core.proofs.Regions.{no_region_apart}
 use Rattle.melt_core.specs.Stages.{Fits}
 use Rattle.melt_core.specs.Epochs.{no_registers, IsNewRest, core_of, AtRest, HasDropped}
-use Rattle.melt_core.specs.Views.{View, InUse, view, maps, state, call_of, values_of, held_values, registers_in, claimed_in, claimed, Counts, Bounded, Standing, IsQuiet}
+use Rattle.melt_core.specs.Views.{View, InUse, view, maps, state, call_of, held_values, claimed_in, claimed, Standing, IsQuiet}
 use Rattle.melt_core.specs.Changed.{stopped}
 use Rattle.melt_core.proofs.Claims.{bounded_stop}
 use Rattle.melt_core.proofs.Values.{get_or_replicate}

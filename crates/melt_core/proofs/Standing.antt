@@ -1,5 +1,5 @@
 -- What an event of one thread has to show, so that all stands behind it as before.
-use Rattle.std.proofs.Common.{◌≡◌, ◌≢◌, ℕ, ◌+◌, ◌<◌, ◌≤◌, ◌⊎◌, inl, inr, List, [], length, get_or, refl, sym, ◌∙◌, ap, subst, arith}
+use Rattle.std.proofs.Common.{◌≡◌, ◌≢◌, ℕ, ◌<◌, ◌≤◌, ◌⊎◌, inl, inr, List, length, get_or, sym, ◌∙◌, ap, subst, arith}
 use Rattle.std.proofs.Math.ListN.{set, length-set}
 use Rattle.std.proofs.lemmas.Bool.{cases_eq, cases_lt}
 use Rattle.std.proofs.lemmas.List.{get_or-set_same, get_or-set_other, get_or_past}
@@ -10,16 +10,15 @@ use Rattle.melt_model.specs.Thread.{value_in}
 use Rattle.melt_model.specs.declared.history.Act.{Act}
 use Rattle.melt_model.specs.declared.history.Value.{Value}
 use Rattle.melt_model.specs.declared.operations.Op.{Op}
-use Rattle.melt_scion.specs.State.{State, Base}
+use Rattle.melt_scion.specs.State.{Base}
 use Rattle.melt_scion.specs.Placed.{MayHold, Holds, value_at}
-use Rattle.melt_scion.specs.Regions.{Region, no_region, Apart, Owns}
+use Rattle.melt_scion.specs.Regions.{Region, Apart}
 use Rattle.melt_scion.specs.Heaps.{register_in}
 use Rattle.melt_core.specs.declared.call.Call.{Call}
-use Rattle.melt_core.specs.declared.call.Stage.{Stage}
 use Rattle.melt_core.specs.declared.answer.StepResult.{StepResult}
 use Rattle.melt_core.specs.Answering.{with_entry}
 use Rattle.melt_core.specs.Advances.{Advances, MayAdvance, Outcome, LeavesClean}
-use Rattle.melt_core.specs.Known.{Known, Evolves, RegionStays, region_of}
+use Rattle.melt_core.specs.Known.{Known, Evolves, region_of}
 use Rattle.melt_core.specs.Stages.{Fits, Applies, change_of, cleared_by}
 use Rattle.melt_core.specs.Events.{Event, Keeps}
 use Rattle.melt_core.specs.Views.{View, Standing, Counts, Bounded, maps, state, maps_of, numbers_of, registers_in, call_of, stage_of, values_of, held_value, held_values}

@@ -1,12 +1,10 @@
 -- The events of writes.
-use Rattle.std.proofs.Common.{◌≡◌, ◌≢◌, ℕ, ◌+◌, ◌*◌, ◌<◌, ◌≤◌, List, [], ◌∷◌, ◌++◌, length, refl, sym, ◌∙◌, ap, subst, arith}
-use Rattle.std.proofs.Math.ListN.{set}
-use Rattle.std.specs.Prelude.{Bool, true, false, Option, None, Some}
+use Rattle.std.proofs.Common.{◌≡◌, ℕ, ◌+◌, ◌*◌, List, [], ◌∷◌, ◌++◌, length, refl, sym, ◌∙◌, ap, subst}
+use Rattle.std.specs.Prelude.{Bool, true, Option, None, Some}
 use Rattle.melt_model.specs.declared.history.Act.{Act}
 use Rattle.melt_model.specs.declared.history.Act.TheVariants.{Write}
 use Rattle.melt_model.specs.declared.history.Slot.{Slot}
 use Rattle.melt_model.specs.declared.history.Slot.TheVariants as slots
-use Rattle.melt_model.specs.declared.history.Value.{Value}
 use Rattle.melt_model.specs.declared.history.Value.TheVariants.{Num}
 use Rattle.melt_model.specs.declared.operations.Op.{Op}
 use Rattle.melt_model.specs.declared.operations.Op.TheVariants as op
@@ -31,11 +29,11 @@ use Rattle.melt_core.specs.Events.{Event, PlaceChanges, writes_place, writes_num
 use Rattle.melt_core.specs.Stages.{Next, MustPause, Fits, LoadsAt, StoresFrom, Applies, change_of, cleared_by}
 use Rattle.melt_core.specs.Changed.{with_call, noted}
 use Rattle.melt_core.specs.Advances.{MayAdvance, Advances, HasRoomFor, InBounds}
-use Rattle.melt_core.specs.Views.{View, maps, state, call_of, stage_of, values_of, held_value, registers_in, claimed_in, base_in, Standing}
+use Rattle.melt_core.specs.Views.{View, maps, state, stage_of, values_of, held_value, registers_in, claimed_in, base_in, Standing}
 use Rattle.melt_core.proofs.Asked.{call_at, fits_at, known_at}
 use Rattle.melt_core.proofs.Claims.{claims_ends}
 use Rattle.melt_core.proofs.Plain.{Plain, MakesNothing}
-use Rattle.melt_core.proofs.Answered.{Replies, answered, use_room}
+use Rattle.melt_core.proofs.Answered.{answered, use_room}
 use Rattle.melt_core.proofs.Answers.{store_answers, gstore_answers, put_answers}
 use Rattle.melt_core.proofs.Loading.{Ends}
 use Rattle.melt_core.proofs.Objects.{object_shape, value_named}

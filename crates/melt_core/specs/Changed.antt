@@ -1,5 +1,5 @@
 -- The small changes of which events are made, as changes of a view.
-use Rattle.std.specs.Prelude.{◌≡◌, ℕ, ◌<◌, true, [], ◌∷◌, ◌++◌, length, slice_set, Option, None, Some}
+use Rattle.std.specs.Prelude.{◌≡◌, ℕ, ◌<◌, true, [], ◌∷◌, ◌++◌, length, slice_set, Option, None}
 use Rattle.melt_model.specs.Thread.{found}
 use Rattle.melt_model.specs.declared.history.Entry.{Entry}
 use Rattle.melt_model.specs.declared.history.Act.TheVariants.{Read}

@@ -1,6 +1,6 @@
 -- What is known of a call between two of its events, whatever other threads did since; without its operation and without
 -- its thread's registers. And what every event leaves, so that this stays.
-use Rattle.std.specs.Prelude.{◌≡◌, ◌≢◌, ℕ, ◌+◌, ◌<◌, ◌≤◌, Bool, true, false, Some}
+use Rattle.std.specs.Prelude.{◌≡◌, ◌≢◌, ℕ, ◌+◌, ◌<◌, ◌≤◌, false, Some}
 use Rattle.melt_model.specs.declared.history.Slot.{Slot}
 use Rattle.melt_model.specs.declared.history.Slot.TheVariants as slot
 use Rattle.melt_word.specs.Words.{IsShape, IsRef, ref_word, cost_of}

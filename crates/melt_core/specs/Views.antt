@@ -1,5 +1,5 @@
 -- What a core shows, and when it stands for its history.
-use Rattle.std.specs.Prelude.{◌≡◌, ◌≢◌, ◌⊎◌, ℕ, zero, suc, ◌+◌, ◌*◌, ◌<◌, ◌≤◌, Bool, true, false, List, [], length, map, sum, slice_index, slice_index_or, vec_capacity, Option, None, Some, IsSome, unwrap_or, if◌then◌else◌}
+use Rattle.std.specs.Prelude.{◌≡◌, ◌≢◌, ◌⊎◌, ℕ, ◌+◌, ◌*◌, ◌≤◌, Bool, true, List, [], length, map, sum, slice_index, slice_index_or, vec_capacity, Option, None, Some, IsSome, unwrap_or, if◌then◌else◌}
 use Rattle.melt_model.specs.History.{made as makes, Legal}
 use Rattle.melt_model.specs.Thread.{value_in}
 use Rattle.melt_model.specs.Alive.{words_of, CostsSum}
@@ -9,7 +9,7 @@ use Rattle.melt_model.specs.declared.history.Entry.{Entry}
 use Rattle.melt_space.specs.Space.{SpaceWords, word_at}
 use Rattle.melt_scion.specs.State.{Base, State}
 use Rattle.melt_scion.specs.Placed.{Maps, MayHold, value_at, Holds}
-use Rattle.melt_scion.specs.Regions.{Region, Apart}
+use Rattle.melt_scion.specs.Regions.{Apart}
 use Rattle.melt_scion.specs.Names.{name_at}
 use Rattle.melt_scion.specs.Heaps.{register_in}
 use Rattle.melt_scion.specs.declared.registers.Registers.{Registers}

@@ -1,4 +1,4 @@
-use Rattle.std.proofs.Common.{ap, arith, ◌≡◌}
+use Rattle.std.proofs.Common.{ap, arith}
 use Rattle.melt_space.specs.Space.{SpaceWords}
 use Rattle.melt_core.specs.Views.{view}
 use Rattle.melt_core.proofs.Resting.{stands_finish}

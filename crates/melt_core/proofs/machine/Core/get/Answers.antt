@@ -1,4 +1,4 @@
-use Rattle.std.proofs.Common.{sym, ◌∙◌, ap, subst, arith, ◌+◌, ◌≡◌}
+use Rattle.std.proofs.Common.{sym, ◌∙◌, ap, subst, arith, ◌≡◌}
 use Rattle.melt_model.specs.declared.operations.Reply.TheVariants as reply
 use Rattle.melt_space.specs.Space.{word_at}
 use Rattle.melt_core.specs.Advances.{Advances}

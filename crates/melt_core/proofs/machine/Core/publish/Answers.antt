@@ -1,6 +1,5 @@
-use Rattle.std.proofs.Common.{sym, ◌∙◌, ap, subst, arith, ◌≡◌, ◌<◌, ◌≤◌, ◌^◌, length}
+use Rattle.std.proofs.Common.{sym, subst, arith, ◌<◌}
 use Rattle.std.specs.Prelude.{None}
-use Rattle.melt_model.specs.History.{made}
 use Rattle.melt_model.specs.declared.operations.Reply.TheVariants as reply
 use Rattle.melt_core.specs.Advances.{Advances}
 use Rattle.melt_core.specs.Changed.{with_call, with_register}

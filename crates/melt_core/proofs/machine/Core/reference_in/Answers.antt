@@ -1,4 +1,4 @@
-use Rattle.std.proofs.Common.{sym, ◌∙◌}
+use Rattle.std.proofs.Common.{◌∙◌}
 use Rattle.melt_core.specs.Views.{view}
 use Rattle.melt_core.proofs.Objects.{place_word}
 use Rattle.melt_core.proofs.machine.Core.reference_in.Goals as goal

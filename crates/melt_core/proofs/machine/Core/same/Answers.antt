@@ -1,5 +1,4 @@
-use Rattle.std.proofs.Common.{◌≢◌, sym, ◌∙◌}
-use Rattle.melt_scion.specs.Heaps.{register_in}
+use Rattle.std.proofs.Common.{sym, ◌∙◌}
 use Rattle.melt_core.specs.Views.{View, view}
 use Rattle.melt_core.proofs.Answered.{differ_advances}
 use Rattle.melt_core.proofs.machine.Core.same.Goals as goal

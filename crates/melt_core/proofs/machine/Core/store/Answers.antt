@@ -9,7 +9,7 @@ use Rattle.melt_core.specs.Changed.{with_call, noted}
 use Rattle.melt_core.specs.Events.{PlaceChanges}
 use Rattle.melt_core.specs.declared.answer.StepResult.TheVariants.{Answered}
 use Rattle.melt_core.specs.Views.{View, state, view}
-use Rattle.melt_core.proofs.Writing.{stores_at, store_advances, store_words, written}
+use Rattle.melt_core.proofs.Writing.{store_advances, store_words, written}
 use Rattle.melt_core.proofs.machine.Core.store.Goals as goal
 
 pub returns : goal.returns
