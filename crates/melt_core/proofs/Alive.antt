@@ -20,7 +20,8 @@ pub placed : (v : View) → Standing true v → Placed v.log (value v) (maps v) 
 placed v s = record {
   formed = record { words = s.holds.formed; registers = s.registers };
   tells = s.holds.tells refl;
-  registers = λ t r. may_value v.names (state v) (register_in v.held t r) (s.registers t r) ∙ ap Some (sym (value_held v.names (registers_in v.held t) r));
+  registers = λ t r. may_value v.names (state v) (register_in v.held t r) (s.registers t r)
+      ∙ ap Some (sym (value_held v.names (registers_in v.held t) r));
 }
 
 pub alive_in_use : (v : View) → Standing true v → (n : ℕ) → Alive v.log (value v) n → InUse (maps v) n
@@ -33,7 +34,8 @@ held_within : (v : View) (t r n : ℕ) → value_in (values_of v t) r ≡ Ref n 
 held_within v t r n is = elim (cases_lt t (length v.held)) [
   | inl below ↦ below
   | inr past ↦ absurd (
-      let size : length (map (λ (x : Registers). x.regs) v.held) ≡ length v.held = length-map v.held (λ (x : Registers). x.regs) in
+      let size : length (map (λ (x : Registers). x.regs) v.held) ≡ length v.held =
+      length-map v.held (λ (x : Registers). x.regs) in
       let none : registers_in v.held t ≡ [] = get_or_past (map (λ (x : Registers). x.regs) v.held) t [] (omega arith) in
       let nil : value_in (values_of v t) r ≡ Nil = ap (λ (regs : List ℕ). value_in (held_values v.names regs) r) none in
       cc

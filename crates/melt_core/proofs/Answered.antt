@@ -46,9 +46,13 @@ pub record Replies (v w : View) (t : ℕ) (o : Op) (reply : Reply) : Type 0 wher
   pub room : Standing true v → HasRoomFor v o
   pub clean : LeavesClean v w t o (Answered reply)
 
-pub answered : (v w : View) (t : ℕ) (o : Op) (reply : Reply) (act : Option Act) → MayAdvance v t o → Plain v w t (cleared_by (stage_of v t)) act None → w.capacity ≡ v.capacity → Applies (maps v) (maps w) (state v) (state w) (change_of (state v) (register_in v.held t) (stage_of v t)) → Replies v w t o reply → Advances v w t o (Answered reply)
+pub answered : (v w : View) (t : ℕ) (o : Op) (reply : Reply) (act : Option Act) → MayAdvance v t o
+    → Plain v w t (cleared_by (stage_of v t)) act None → w.capacity ≡ v.capacity
+    → Applies (maps v) (maps w) (state v) (state w) (change_of (state v) (register_in v.held t) (stage_of v t))
+    → Replies v w t o reply → Advances v w t o (Answered reply)
 answered v w t o reply act asks p capacity applies replies =
-    advances v w t o (Answered reply) asks (plain v w t (cleared_by (stage_of v t)) act None asks.thread p) capacity applies (record {
+    advances v w t o (Answered reply) asks (plain v w t (cleared_by (stage_of v t)) act None asks.thread p) capacity
+    applies (record {
       last = replies.last;
       no_pause = replies.no_pause;
       call = call_here v w t None p.calls (inside v t o asks);
@@ -60,9 +64,11 @@ answered v w t o reply act asks p capacity applies replies =
     }) replies.clean
 
 -- an operation on registers alone
-local_plain : (v : View) (t r address : ℕ) → Standing false v → t < length v.held → call_of v t ≡ None → MayHold (maps v) (state v) address → Plain v (with_register v t r address) t 0 None None
+local_plain : (v : View) (t r address : ℕ) → Standing false v → t < length v.held → call_of v t ≡ None
+    → MayHold (maps v) (state v) address → Plain v (with_register v t r address) t 0 None None
 local_plain v t r address s within first may = record {
-  event = λ told stands. quiet refl (record { base = refl; free = refl; word = λ k. refl; global = λ g. refl; forward = λ p. refl });
+  event = λ told stands. quiet refl
+      (record { base = refl; free = refl; word = λ k. refl; global = λ g. refl; forward = λ p. refl });
   nothing = tt;
   log = refl;
   calls = set_none v.calls t first;
@@ -104,11 +110,15 @@ still_plain v t s first = record {
 }
 
 -- an answer in the first event of a call: nothing of its words is shared
-first_answered : (v w : View) (t : ℕ) (o : Op) (reply : Reply) → MayAdvance v t o → call_of v t ≡ None → Plain v w t 0 None None → w.space ≡ v.space → w.globals ≡ v.globals → w.free ≡ v.free → w.capacity ≡ v.capacity → Replies v w t o reply → Advances v w t o (Answered reply)
+first_answered : (v w : View) (t : ℕ) (o : Op) (reply : Reply) → MayAdvance v t o → call_of v t ≡ None
+    → Plain v w t 0 None None → w.space ≡ v.space → w.globals ≡ v.globals → w.free ≡ v.free → w.capacity ≡ v.capacity
+    → Replies v w t o reply → Advances v w t o (Answered reply)
 first_answered v w t o reply asks first p space globals free capacity replies =
     let none : stage_of v t ≡ None = ap stage_in first in
-    answered v w t o reply None asks (subst (λ (g : Option Stage). Plain v w t (cleared_by g) None None) (sym none) p) capacity
-    (subst (λ (g : Option Stage). Applies (maps v) (maps w) (state v) (state w) (change_of (state v) (register_in v.held t) g)) (sym none) (
+    answered v w t o reply None asks (subst (λ (g : Option Stage). Plain v w t (cleared_by g) None None) (sym none) p)
+    capacity
+    (subst (λ (g : Option Stage). Applies (maps v) (maps w) (state v) (state w)
+    (change_of (state v) (register_in v.held t) g)) (sym none) (
       ap maps_of p.names,
       record {
         base = ap (λ (x : SpaceWords). base_in x w.globals) space ∙ ap (base_in v.space) globals;
@@ -121,67 +131,87 @@ first_answered v w t o reply asks first p space globals free capacity replies =
     replies
 
 -- where the operation has no task, its first event is its last, and it never pauses
-first_last : (v : View) (t : ℕ) (o : Op) (next : Stage) → task_of o ≡ None → call_of v t ≡ None → Next (maps v) (state v) (register_in v.held t) v.stop o (stage_of v t) next → ⊥
+first_last : (v : View) (t : ℕ) (o : Op) (next : Stage) → task_of o ≡ None → call_of v t ≡ None
+    → Next (maps v) (state v) (register_in v.held t) v.stop o (stage_of v t) next → ⊥
 first_last v t o next none first is =
-    let at : Next (maps v) (state v) (register_in v.held t) v.stop o None next = subst (λ (g : Option Stage). Next (maps v) (state v) (register_in v.held t) v.stop o g next) (ap stage_in first) is in
+    let at : Next (maps v) (state v) (register_in v.held t) v.stop o None next =
+    subst (λ (g : Option Stage). Next (maps v) (state v) (register_in v.held t) v.stop o g next)
+    (ap stage_in first) is in
     let some : task_of o ≡ Some at.0 = at.1.0 in
     cc
 
-first_no_pause : (v : View) (t : ℕ) (o : Op) → task_of o ≡ None → call_of v t ≡ None → MustPause (register_in v.held t) v.stop o (stage_of v t) → ⊥
+first_no_pause : (v : View) (t : ℕ) (o : Op) → task_of o ≡ None → call_of v t ≡ None
+    → MustPause (register_in v.held t) v.stop o (stage_of v t) → ⊥
 first_no_pause v t o none first is =
-    let at : MustPause (register_in v.held t) v.stop o None = subst (MustPause (register_in v.held t) v.stop o) (ap stage_in first) is in
+    let at : MustPause (register_in v.held t) v.stop o None =
+    subst (MustPause (register_in v.held t) v.stop o) (ap stage_in first) is in
     let some : task_of o ≡ Some at.0.0 = at.0.1.0 in
     cc
 
 -- a register took the address of another
-pub copy_advances : (v : View) (t dst src address : ℕ) → MayAdvance v t (op.Copy dst src) → call_of v t ≡ None → address ≡ register_in v.held t src → Advances v (with_register v t dst address) t (op.Copy dst src) (Answered reply.Done)
+pub copy_advances : (v : View) (t dst src address : ℕ) → MayAdvance v t (op.Copy dst src) → call_of v t ≡ None
+    → address ≡ register_in v.held t src
+    → Advances v (with_register v t dst address) t (op.Copy dst src) (Answered reply.Done)
 copy_advances v t dst src address asks first is =
     let s : Standing false v = asks.stands in
     let w : View = with_register v t dst address in
     first_answered v w t (op.Copy dst src) reply.Done asks first
-    (local_plain v t dst address s asks.thread first (subst (MayHold (maps v) (state v)) (sym is) (s.registers t src))) refl refl refl refl (record {
+    (local_plain v t dst address s asks.thread first (subst (MayHold (maps v) (state v)) (sym is) (s.registers t src)))
+    refl refl refl refl (record {
       last = λ next. first_last v t (op.Copy dst src) next refl first;
       no_pause = first_no_pause v t (op.Copy dst src) refl first;
-      answers = λ told. copy_answers t v.log (values_of v t) dst src (held_value v.names address) reply.Done v.log (values_of w t)
-          (value_held v.names (registers_in v.held t) src ∙ ap (held_value v.names) (sym is)) refl (values_set v t dst address asks.thread) refl;
+      answers = λ told. copy_answers t v.log (values_of v t) dst src (held_value v.names address) reply.Done v.log
+          (values_of w t)
+          (value_held v.names (registers_in v.held t) src ∙ ap (held_value v.names) (sym is)) refl
+          (values_set v t dst address asks.thread) refl;
       registers = λ r other. register_other v t dst address r asks.thread other;
       room = λ told. tt;
       clean = λ place d loads there tagged. no_load (register_in v.held t) (op.Copy dst src) place d tt loads;
     })
 
-pub drop_advances : (v : View) (t r : ℕ) → MayAdvance v t (op.Drop r) → call_of v t ≡ None → Advances v (with_register v t r 0) t (op.Drop r) (Answered reply.Done)
+pub drop_advances : (v : View) (t r : ℕ) → MayAdvance v t (op.Drop r) → call_of v t ≡ None
+    → Advances v (with_register v t r 0) t (op.Drop r) (Answered reply.Done)
 drop_advances v t r asks first =
     let w : View = with_register v t r 0 in
     first_answered v w t (op.Drop r) reply.Done asks first
     (local_plain v t r 0 asks.stands asks.thread first (inl refl)) refl refl refl refl (record {
       last = λ next. first_last v t (op.Drop r) next refl first;
       no_pause = first_no_pause v t (op.Drop r) refl first;
-      answers = λ told. drop_answers t v.log (values_of v t) r reply.Done v.log (values_of w t) refl (values_set v t r 0 asks.thread) refl;
+      answers = λ told. drop_answers t v.log (values_of v t) r reply.Done v.log (values_of w t) refl
+          (values_set v t r 0 asks.thread) refl;
       registers = λ k other. register_other v t r 0 k asks.thread other;
       room = λ told. tt;
       clean = λ place d loads there tagged. no_load (register_in v.held t) (op.Drop r) place d tt loads;
     })
 
 -- two registers hold different addresses
-pub differ_advances : (v : View) (t a b : ℕ) → MayAdvance v t (op.Same a b) → call_of v t ≡ None → register_in v.held t a ≢ register_in v.held t b → Advances v v t (op.Same a b) (Answered reply.No)
+pub differ_advances : (v : View) (t a b : ℕ) → MayAdvance v t (op.Same a b) → call_of v t ≡ None
+    → register_in v.held t a ≢ register_in v.held t b → Advances v v t (op.Same a b) (Answered reply.No)
 differ_advances v t a b asks first differ =
     let s : Standing false v = asks.stands in
     first_answered v v t (op.Same a b) reply.No asks first (still_plain v t s first) refl refl refl refl (record {
       last = λ next. first_last v t (op.Same a b) next refl first;
       no_pause = first_no_pause v t (op.Same a b) refl first;
-      answers = λ told. differ_answers t v.log v.names (registers_in v.held t) (state v) a b reply.No v.log (values_of v t) ((told.holds.tells refl).one_address) (s.registers t a) (s.registers t b) differ refl refl refl;
+      answers = λ told. differ_answers t v.log v.names (registers_in v.held t) (state v) a b reply.No v.log
+          (values_of v t) ((told.holds.tells refl).one_address) (s.registers t a)
+          (s.registers t b) differ refl refl refl;
       registers = λ k other. refl;
       room = λ told. tt;
       clean = λ place d loads there tagged. no_load (register_in v.held t) (op.Same a b) place d tt loads;
     })
 
 -- an operation on a part of an object, where its register holds none
-holds_nil : (names : Option heap.Names) (regs : List ℕ) (o : Op) (r : ℕ) (access : Access) → task_of o ≡ Some (Use r access) → get_or regs r 0 ≡ 0 → HoldsNil (held_values names regs) o
+holds_nil : (names : Option heap.Names) (regs : List ℕ) (o : Op) (r : ℕ) (access : Access)
+    → task_of o ≡ Some (Use r access) → get_or regs r 0 ≡ 0 → HoldsNil (held_values names regs) o
 holds_nil names regs (op.New dst refs nums) r access is none = absurd (cc)
-holds_nil names regs (op.Load dst src i) r access is none = let same : src ≡ r = cc in value_held names regs src ∙ ap (held_value names) (ap (λ (k : ℕ). get_or regs k 0) same ∙ none)
-holds_nil names regs (op.Store obj i src) r access is none = let same : obj ≡ r = cc in value_held names regs obj ∙ ap (held_value names) (ap (λ (k : ℕ). get_or regs k 0) same ∙ none)
-holds_nil names regs (op.Get src j) r access is none = let same : src ≡ r = cc in value_held names regs src ∙ ap (held_value names) (ap (λ (k : ℕ). get_or regs k 0) same ∙ none)
-holds_nil names regs (op.Put obj j v) r access is none = let same : obj ≡ r = cc in value_held names regs obj ∙ ap (held_value names) (ap (λ (k : ℕ). get_or regs k 0) same ∙ none)
+holds_nil names regs (op.Load dst src i) r access is none = let same : src ≡ r = cc in value_held names regs src
+    ∙ ap (held_value names) (ap (λ (k : ℕ). get_or regs k 0) same ∙ none)
+holds_nil names regs (op.Store obj i src) r access is none = let same : obj ≡ r = cc in value_held names regs obj
+    ∙ ap (held_value names) (ap (λ (k : ℕ). get_or regs k 0) same ∙ none)
+holds_nil names regs (op.Get src j) r access is none = let same : src ≡ r = cc in value_held names regs src
+    ∙ ap (held_value names) (ap (λ (k : ℕ). get_or regs k 0) same ∙ none)
+holds_nil names regs (op.Put obj j v) r access is none = let same : obj ≡ r = cc in value_held names regs obj
+    ∙ ap (held_value names) (ap (λ (k : ℕ). get_or regs k 0) same ∙ none)
 holds_nil names regs (op.GLoad dst g) r access is none = absurd (cc)
 holds_nil names regs (op.GStore g src) r access is none = absurd (cc)
 holds_nil names regs o r access is none = absurd (cc)
@@ -191,28 +221,36 @@ use_room v (op.New dst refs nums) r access is = absurd (cc)
 use_room v o r access is = tt
 
 -- where the register is empty, no reference is loaded
-nil_clean : (v : View) (t : ℕ) (o : Op) (r : ℕ) (access : Access) → Standing false v → task_of o ≡ Some (Use r access) → register_in v.held t r ≡ 0 → LeavesClean v v t o (Answered reply.Nil)
+nil_clean : (v : View) (t : ℕ) (o : Op) (r : ℕ) (access : Access) → Standing false v → task_of o ≡ Some (Use r access)
+    → register_in v.held t r ≡ 0 → LeavesClean v v t o (Answered reply.Nil)
 nil_clean v t o r access s is none (Field object i) dst loads there tagged =
     let same : loads.0 ≡ r = cc in
     let at : object ≡ 0 = sym loads.2 ∙ (ap (register_in v.held t) same ∙ none) in
-    absurd (let named = there.1.named in no_name_at v.names there.1.number (subst (λ (a : ℕ). (maps v).address a ≡ Some there.1.number) at named))
+    absurd (let named = there.1.named in
+    no_name_at v.names there.1.number (subst (λ (a : ℕ). (maps v).address a ≡ Some there.1.number) at named))
 nil_clean v t o r access s is none (Global g) dst loads there tagged = absurd (cc)
 
-pub nil_advances : (v : View) (t : ℕ) (o : Op) (r : ℕ) (access : Access) → MayAdvance v t o → call_of v t ≡ None → task_of o ≡ Some (Use r access) → register_in v.held t r ≡ 0 → Advances v v t o (Answered reply.Nil)
+pub nil_advances : (v : View) (t : ℕ) (o : Op) (r : ℕ) (access : Access) → MayAdvance v t o → call_of v t ≡ None
+    → task_of o ≡ Some (Use r access) → register_in v.held t r ≡ 0 → Advances v v t o (Answered reply.Nil)
 nil_advances v t o r access asks first task none =
     let s : Standing false v = asks.stands in
     let has : (x : Task) → Shares (register_in v.held t) o x → ⊥ = λ x shares.
     let same : x ≡ Use r access = cc in
-    let some : HasObject (register_in v.held t) (Use r access) = subst (HasObject (register_in v.held t)) same shares.1 in
+    let some : HasObject (register_in v.held t) (Use r access) =
+    subst (HasObject (register_in v.held t)) same shares.1 in
     some none in
     first_answered v v t o reply.Nil asks first (still_plain v t s first) refl refl refl refl (record {
       last = λ next is.
-          let at : Next (maps v) (state v) (register_in v.held t) v.stop o None next = subst (λ (g : Option Stage). Next (maps v) (state v) (register_in v.held t) v.stop o g next) (ap stage_in first) is in
+          let at : Next (maps v) (state v) (register_in v.held t) v.stop o None next =
+          subst (λ (g : Option Stage). Next (maps v) (state v) (register_in v.held t) v.stop o g next)
+          (ap stage_in first) is in
           has at.0 at.1;
       no_pause = λ is.
-          let at : MustPause (register_in v.held t) v.stop o None = subst (MustPause (register_in v.held t) v.stop o) (ap stage_in first) is in
+          let at : MustPause (register_in v.held t) v.stop o None =
+          subst (MustPause (register_in v.held t) v.stop o) (ap stage_in first) is in
           has at.0.0 at.0.1;
-      answers = λ told. nil_answers t v.log (values_of v t) o reply.Nil v.log (values_of v t) (holds_nil v.names (registers_in v.held t) o r access task none) refl refl refl;
+      answers = λ told. nil_answers t v.log (values_of v t) o reply.Nil v.log (values_of v t)
+          (holds_nil v.names (registers_in v.held t) o r access task none) refl refl refl;
       registers = λ k other. refl;
       room = λ told. use_room v o r access task;
       clean = nil_clean v t o r access s task none;

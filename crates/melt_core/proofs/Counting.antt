@@ -28,18 +28,27 @@ use Rattle.melt_core.proofs.Values.{named_made}
 use Rattle.melt_core.proofs.Alive.{alive_sum, alive_in_use}
 
 -- what the regions of all calls take when one call is replaced
-claimed-set : (calls : List (Option Call)) (t : ℕ) (call : Option Call) → t < length calls → claimed (set calls t call) + claimed_in (get_or calls t None) ≡ claimed calls + claimed_in call
+claimed-set : (calls : List (Option Call)) (t : ℕ) (call : Option Call) → t < length calls
+    → claimed (set calls t call) + claimed_in (get_or calls t None) ≡ claimed calls + claimed_in call
 claimed-set calls t call within =
-    omega (arith, sum_by-set claimed_in calls t call None within, sum-map claimed_in calls, sum-map claimed_in (set calls t call))
+    omega (
+      arith,
+      sum_by-set claimed_in calls t call None within,
+      sum-map claimed_in calls,
+      sum-map claimed_in
+          (set calls t call),
+    )
 
 -- and so in a view
-claimed_after : (v w : View) (t : ℕ) (call : Option Call) → Standing true v → t < length v.held → w.calls ≡ set v.calls t call → claimed w.calls + claimed_in (call_of v t) ≡ claimed v.calls + claimed_in call
+claimed_after : (v w : View) (t : ℕ) (call : Option Call) → Standing true v → t < length v.held
+    → w.calls ≡ set v.calls t call → claimed w.calls + claimed_in (call_of v t) ≡ claimed v.calls + claimed_in call
 claimed_after v w t call s within calls =
     let inside : t < length v.calls = let each : length v.calls ≡ length v.held = s.each in omega arith in
     ap (λ (cs : List (Option Call)). claimed cs + claimed_in (call_of v t)) calls ∙ claimed-set v.calls t call inside
 
 -- a call in this stage owns so many words
-pub claimed_at : (v : View) (t address stored dst : ℕ) (c : Call) (shape : Shape) → call_of v t ≡ Some c → c.stage ≡ Claimed address shape stored dst → claimed_in (call_of v t) ≡ cost_of shape
+pub claimed_at : (v : View) (t address stored dst : ℕ) (c : Call) (shape : Shape) → call_of v t ≡ Some c
+    → c.stage ≡ Claimed address shape stored dst → claimed_in (call_of v t) ≡ cost_of shape
 claimed_at v t address stored dst c shape at stage = ap claimed_in at ∙ ap (λ (g : Stage). (region_of g).words) stage
 
 -- whatever is in use was made
@@ -48,24 +57,33 @@ in_use_made v n s is = named_made v.log (maps v) (state v) is.0 n s.holds.formed
 
 -- the words of objects that were made stay when the history grows
 words_stay : (h : List Entry) (e : Entry) (n : ℕ) → n < makes h → words_of h n ≡ words_of (h ++ e ∷ []) n
-words_stay h e n below = ap (λ (z : Option ModelShape). option_map_or (λ (x : ModelShape). 2 + x.refs + x.nums) z 0) (sym (shape-append h (e ∷ []) n below))
+words_stay h e n below = ap (λ (z : Option ModelShape). option_map_or (λ (x : ModelShape). 2 + x.refs + x.nums) z 0)
+    (sym (shape-append h (e ∷ []) n below))
 
 -- how many words the object that the entry made takes
-made_words : (h : List Entry) (e : Entry) (refs nums : ℕ) → e.act ≡ Make refs nums → words_of (h ++ e ∷ []) (makes h) ≡ 2 + refs + nums
-made_words h e refs nums act = ap (λ (z : Option ModelShape). option_map_or (λ (x : ModelShape). 2 + x.refs + x.nums) z 0) (made_shape h e refs nums act)
+made_words : (h : List Entry) (e : Entry) (refs nums : ℕ) → e.act ≡ Make refs nums
+    → words_of (h ++ e ∷ []) (makes h) ≡ 2 + refs + nums
+made_words h e refs nums act =
+    ap (λ (z : Option ModelShape). option_map_or (λ (x : ModelShape). 2 + x.refs + x.nums) z 0)
+    (made_shape h e refs nums act)
 
 -- the words of what is in use, by the history with one entry more
-in_use_later : (v : View) (e : Entry) → (s : Standing true v) → CostsSum (words_of (v.log ++ e ∷ [])) (InUse (maps v)) (s.counts refl).in_use
+in_use_later : (v : View) (e : Entry) → (s : Standing true v)
+    → CostsSum (words_of (v.log ++ e ∷ [])) (InUse (maps v)) (s.counts refl).in_use
 in_use_later v e s =
     CostsSum-cost (words_of v.log) (words_of (v.log ++ e ∷ [])) (InUse (maps v)) (s.counts refl).in_use
     (λ n is. words_stay v.log e n (in_use_made v n s is)) (s.counts refl).adds_up
 
 -- the same words of the same objects
-same_use : (v w : View) (total : ℕ) → w.names ≡ v.names → CostsSum (words_of w.log) (InUse (maps v)) total → CostsSum (words_of w.log) (InUse (maps w)) total
-same_use v w total names adds = subst (λ (m : Maps). CostsSum (words_of w.log) (InUse m) total) (sym (ap maps_of names)) adds
+same_use : (v w : View) (total : ℕ) → w.names ≡ v.names → CostsSum (words_of w.log) (InUse (maps v)) total
+    → CostsSum (words_of w.log) (InUse (maps w)) total
+same_use v w total names adds =
+    subst (λ (m : Maps). CostsSum (words_of w.log) (InUse m) total) (sym (ap maps_of names)) adds
 
 -- no region and no object more
-pub Counts_same : (v w : View) (t : ℕ) (call : Option Call) → Standing true v → t < length v.held → w.names ≡ v.names → w.log ≡ v.log → w.free ≡ v.free → length w.space.list ≡ length v.space.list → w.calls ≡ set v.calls t call → claimed_in call ≡ claimed_in (call_of v t) → Counts w
+pub Counts_same : (v w : View) (t : ℕ) (call : Option Call) → Standing true v → t < length v.held → w.names ≡ v.names
+    → w.log ≡ v.log → w.free ≡ v.free → length w.space.list ≡ length v.space.list → w.calls ≡ set v.calls t call
+    → claimed_in call ≡ claimed_in (call_of v t) → Counts w
 Counts_same v w t call s within names log free words calls claimed =
     let total : ℕ = (s.counts refl).in_use in
     let after = claimed_after v w t call s within calls in
@@ -73,13 +91,17 @@ Counts_same v w t call s within names log free words calls claimed =
     let fits = (s.counts refl).within in
     record {
       in_use = total;
-      adds_up = same_use v w total names (subst (λ (h : List Entry). CostsSum (words_of h) (InUse (maps v)) total) (sym log) (s.counts refl).adds_up);
+      adds_up = same_use v w total names
+          (subst (λ (h : List Entry). CostsSum (words_of h) (InUse (maps v)) total) (sym log) (s.counts refl).adds_up);
       below = omega arith;
       within = omega arith;
     }
 
 -- and an entry that makes nothing
-pub Counts_entry : (v w : View) (t : ℕ) (call : Option Call) (e : Entry) → Standing true v → t < length v.held → w.names ≡ v.names → w.log ≡ v.log ++ e ∷ [] → shape_made e.act ≡ None → w.free ≡ v.free → length w.space.list ≡ length v.space.list → w.calls ≡ set v.calls t call → claimed_in call ≡ claimed_in (call_of v t) → Counts w
+pub Counts_entry : (v w : View) (t : ℕ) (call : Option Call) (e : Entry) → Standing true v → t < length v.held
+    → w.names ≡ v.names → w.log ≡ v.log ++ e ∷ [] → shape_made e.act ≡ None → w.free ≡ v.free
+    → length w.space.list ≡ length v.space.list → w.calls ≡ set v.calls t call
+    → claimed_in call ≡ claimed_in (call_of v t) → Counts w
 Counts_entry v w t call e s within names log quiet free words calls claimed =
     let total : ℕ = (s.counts refl).in_use in
     let after = claimed_after v w t call s within calls in
@@ -87,26 +109,33 @@ Counts_entry v w t call e s within names log quiet free words calls claimed =
     let fits = (s.counts refl).within in
     record {
       in_use = total;
-      adds_up = same_use v w total names (subst (λ (h : List Entry). CostsSum (words_of h) (InUse (maps v)) total) (sym log) (in_use_later v e s));
+      adds_up = same_use v w total names
+          (subst (λ (h : List Entry). CostsSum (words_of h) (InUse (maps v)) total) (sym log) (in_use_later v e s));
       below = omega arith;
       within = omega arith;
     }
 
 -- a region is claimed, and ends within the heap
-pub Counts_claimed : (v w : View) (t cost : ℕ) (call : Option Call) → Standing true v → t < length v.held → w.names ≡ v.names → w.log ≡ v.log → w.free ≡ v.free + cost → v.free + cost ≤ length v.space.list + 1 → length w.space.list ≡ length v.space.list → w.calls ≡ set v.calls t call → claimed_in (call_of v t) ≡ 0 → claimed_in call ≡ cost → Counts w
+pub Counts_claimed : (v w : View) (t cost : ℕ) (call : Option Call) → Standing true v → t < length v.held
+    → w.names ≡ v.names → w.log ≡ v.log → w.free ≡ v.free + cost → v.free + cost ≤ length v.space.list + 1
+    → length w.space.list ≡ length v.space.list → w.calls ≡ set v.calls t call → claimed_in (call_of v t) ≡ 0
+    → claimed_in call ≡ cost → Counts w
 Counts_claimed v w t cost call s within names log free fits words calls none claimed =
     let total : ℕ = (s.counts refl).in_use in
     let after = claimed_after v w t call s within calls in
     let below = (s.counts refl).below in
     record {
       in_use = total;
-      adds_up = same_use v w total names (subst (λ (h : List Entry). CostsSum (words_of h) (InUse (maps v)) total) (sym log) (s.counts refl).adds_up);
+      adds_up = same_use v w total names
+          (subst (λ (h : List Entry). CostsSum (words_of h) (InUse (maps v)) total) (sym log) (s.counts refl).adds_up);
       below = omega arith;
       within = omega arith;
     }
 
 -- a region is claimed, and ends past the last word: no call owns it
-pub Counts_lacking : (v w : View) (t : ℕ) (call : Option Call) → Standing true v → t < length v.held → w.names ≡ v.names → w.log ≡ v.log → v.free ≤ w.free → length w.space.list ≡ length v.space.list → w.calls ≡ set v.calls t call → claimed_in (call_of v t) ≡ 0 → claimed_in call ≡ 0 → Counts w
+pub Counts_lacking : (v w : View) (t : ℕ) (call : Option Call) → Standing true v → t < length v.held → w.names ≡ v.names
+    → w.log ≡ v.log → v.free ≤ w.free → length w.space.list ≡ length v.space.list → w.calls ≡ set v.calls t call
+    → claimed_in (call_of v t) ≡ 0 → claimed_in call ≡ 0 → Counts w
 Counts_lacking v w t call s within names log free words calls none still =
     let total : ℕ = (s.counts refl).in_use in
     let after = claimed_after v w t call s within calls in
@@ -114,20 +143,25 @@ Counts_lacking v w t call s within names log free words calls none still =
     let fits = (s.counts refl).within in
     record {
       in_use = total;
-      adds_up = same_use v w total names (subst (λ (h : List Entry). CostsSum (words_of h) (InUse (maps v)) total) (sym log) (s.counts refl).adds_up);
+      adds_up = same_use v w total names
+          (subst (λ (h : List Entry). CostsSum (words_of h) (InUse (maps v)) total) (sym log) (s.counts refl).adds_up);
       below = omega arith;
       within = omega arith;
     }
 
 -- no object stands where a region begins
-region_free : (v : View) (t address stored dst n : ℕ) (c : Call) (shape : Shape) → Standing true v → call_of v t ≡ Some c → c.stage ≡ Claimed address shape stored dst → (b : ℕ) → (maps v).address b ≡ Some n → b ≡ address → ⊥
+region_free : (v : View) (t address stored dst n : ℕ) (c : Call) (shape : Shape) → Standing true v
+    → call_of v t ≡ Some c → c.stage ≡ Claimed address shape stored dst → (b : ℕ) → (maps v).address b ≡ Some n
+    → b ≡ address → ⊥
 region_free v t address stored dst n c shape s at stage b named same =
-    let flight : IsShape shape × HasStored (maps v) (state v) (region address shape) (λ k. 0) stored = subst (Known (maps v) (state v)) stage (s.known t c at) in
+    let flight : IsShape shape × HasStored (maps v) (state v) (region address shape) (λ k. 0) stored =
+    subst (Known (maps v) (state v)) stage (s.known t c at) in
     let object = s.holds.formed.objects b n named in
     (flight.1.owns.outside b n object.0 named object.1.starts).differ (omega arith) (omega arith) same
 
 -- what is in use after one name more
-in_use_more : (old new : Maps) (address n m : ℕ) → ((b : ℕ) → old.address b ≡ Some m → b ≡ address → ⊥) → NameAppears old new address n → (InUse old m ⊎ (m ≡ n)) ↔ InUse new m
+in_use_more : (old new : Maps) (address n m : ℕ) → ((b : ℕ) → old.address b ≡ Some m → b ≡ address → ⊥)
+    → NameAppears old new address n → (InUse old m ⊎ (m ≡ n)) ↔ InUse new m
 in_use_more old new address n m unused appears = (
   λ is. elim is [
     | inl before ↦ (before.0, appears.others before.0 (unused before.0 before.1) ∙ before.1)
@@ -140,13 +174,17 @@ in_use_more old new address n m unused appears = (
 )
 
 -- a region becomes an object
-pub Counts_published : (v w : View) (t address stored dst : ℕ) (c : Call) (shape : Shape) (e : Entry) → Standing true v → t < length v.held → call_of v t ≡ Some c → c.stage ≡ Claimed address shape stored dst → NameAppears (maps v) (maps w) address (makes v.log) → e.act ≡ Make shape.refs shape.nums → w.log ≡ v.log ++ e ∷ [] → w.free ≡ v.free → length w.space.list ≡ length v.space.list → w.calls ≡ set v.calls t None → Counts w
+pub Counts_published : (v w : View) (t address stored dst : ℕ) (c : Call) (shape : Shape) (e : Entry) → Standing true v
+    → t < length v.held → call_of v t ≡ Some c → c.stage ≡ Claimed address shape stored dst
+    → NameAppears (maps v) (maps w) address (makes v.log) → e.act ≡ Make shape.refs shape.nums → w.log ≡ v.log ++ e ∷ []
+    → w.free ≡ v.free → length w.space.list ≡ length v.space.list → w.calls ≡ set v.calls t None → Counts w
 Counts_published v w t address stored dst c shape e s within at stage named act log free words calls =
     let total : ℕ = (s.counts refl).in_use in
     let h : List Entry = v.log ++ e ∷ [] in
     let n : ℕ = makes v.log in
     let cost : words_of h n ≡ cost_of shape = made_words v.log e shape.refs shape.nums act in
-    let after : claimed w.calls + claimed_in (call_of v t) ≡ claimed v.calls + 0 = claimed_after v w t None s within calls in
+    let after : claimed w.calls + claimed_in (call_of v t) ≡ claimed v.calls + 0 =
+    claimed_after v w t None s within calls in
     let owned : claimed_in (call_of v t) ≡ cost_of shape = claimed_at v t address stored dst c shape at stage in
     let below = (s.counts refl).below in
     let fits = (s.counts refl).within in
@@ -157,21 +195,27 @@ Counts_published v w t address stored dst c shape e s within at stage named act 
     let all : CostsSum (words_of h) (InUse (maps w)) (total + cost_of shape) =
     subst (λ (k : ℕ). CostsSum (words_of h) (InUse (maps w)) (total + k)) cost
     (CostsSum-same (words_of h) (λ m. InUse (maps v) m ⊎ (m ≡ n)) (InUse (maps w)) (total + words_of h n)
-    (λ m. in_use_more (maps v) (maps w) address n m (region_free v t address stored dst m c shape s at stage) named) more) in
+    (λ m. in_use_more (maps v) (maps w) address n m (region_free v t address stored dst m c shape s at stage) named)
+    more) in
     record {
       in_use = total + cost_of shape;
-      adds_up = subst (λ (k : List Entry). CostsSum (words_of k) (InUse (maps w)) (total + cost_of shape)) (sym log) all;
+      adds_up = subst (λ (k : List Entry). CostsSum (words_of k) (InUse (maps w)) (total + cost_of shape))
+          (sym log) all;
       below = omega arith;
       within = omega arith;
     }
 
 -- what was made had room beside all that is alive: its region and the objects in use lie in the heap
-pub room_for : (v : View) (t address stored dst : ℕ) (c : Call) (shape : Shape) → Standing true v → t < length v.held → call_of v t ≡ Some c → c.stage ≡ Claimed address shape stored dst → HasRoom v (2 + shape.refs + shape.nums)
+pub room_for : (v : View) (t address stored dst : ℕ) (c : Call) (shape : Shape) → Standing true v → t < length v.held
+    → call_of v t ≡ Some c → c.stage ≡ Claimed address shape stored dst → HasRoom v (2 + shape.refs + shape.nums)
 room_for v t address stored dst c shape s within at stage =
     let inside : t < length v.calls = let each : length v.calls ≡ length v.held = s.each in omega arith in
-    let without : claimed (set v.calls t None) + claimed_in (call_of v t) ≡ claimed v.calls + 0 = claimed-set v.calls t None inside in
+    let without : claimed (set v.calls t None) + claimed_in (call_of v t) ≡ claimed v.calls + 0 =
+    claimed-set v.calls t None inside in
     let owned : claimed_in (call_of v t) ≡ cost_of shape = claimed_at v t address stored dst c shape at stage in
     let fits : (s.counts refl).in_use + claimed v.calls ≤ length v.space.list = (s.counts refl).within in
     let sum = alive_sum v s in
-    let part : sum.0 ≤ (s.counts refl).in_use = CostsSum-part (words_of v.log) (Alive v.log (value v)) (InUse (maps v)) sum.0 (s.counts refl).in_use (alive_in_use v s) sum.1 (s.counts refl).adds_up in
+    let part : sum.0 ≤ (s.counts refl).in_use =
+    CostsSum-part (words_of v.log) (Alive v.log (value v)) (InUse (maps v)) sum.0 (s.counts refl).in_use
+    (alive_in_use v s) sum.1 (s.counts refl).adds_up in
     record { alive = sum.0; adds_up = sum.1; fits = omega arith }

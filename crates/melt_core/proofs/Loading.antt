@@ -54,7 +54,8 @@ use Rattle.melt_core.proofs.Tasks.{load_is, gload_is}
 
 -- the view behind a read: what the address stands for was read at the slot, and the register holds it
 abbrev pub behind : View → ℕ → Slot → ℕ → ℕ → View
-behind m t at dst address = with_call (with_register (noted m (entry t (Read at (held_value m.names address)))) t dst address) t None
+behind m t at dst address =
+    with_call (with_register (noted m (entry t (Read at (held_value m.names address)))) t dst address) t None
 
 -- What a load knows where it is answered: its place, and the address that it found there.
 pub record Finds (v : View) (t : ℕ) (o : Op) (place : Place) (dst address : ℕ) : Type 0 where
@@ -73,51 +74,83 @@ pub record Ends (v : View) (t : ℕ) (o : Op) (stage : Stage) : Type 0 where
   pub no_lack : (need : ℕ) → stage ≡ Lacking need → ⊥
 
 -- a load is of one place
-one_place : (register : ℕ → ℕ) (o : Op) (place other : Place) (dst d : ℕ) → LoadsAt register o place dst → LoadsAt register o other d → place ≡ other
+one_place : (register : ℕ → ℕ) (o : Op) (place other : Place) (dst d : ℕ) → LoadsAt register o place dst
+    → LoadsAt register o other d → place ≡ other
 one_place register o (Field a i) (Field b j) dst d first second =
-    let same : op.Load dst first.0 i ≡ op.Load d second.0 j = sym (load_is o first.0 dst i first.1) ∙ load_is o second.0 d j second.1 in
+    let same : op.Load dst first.0 i ≡ op.Load d second.0 j =
+    sym (load_is o first.0 dst i first.1) ∙ load_is o second.0 d j second.1 in
     let slot : i ≡ j = cc in
     let r : first.0 ≡ second.0 = cc in
     let object : a ≡ b = sym first.2 ∙ (ap register r ∙ second.2) in
     ap (λ (x : ℕ). Field x i) object ∙ ap (Field b) slot
-one_place register o (Field a i) (Global k) dst d first second = absurd (let e : op.Load dst first.0 i ≡ op.GLoad d k = sym (load_is o first.0 dst i first.1) ∙ gload_is o d k second in cc)
-one_place register o (Global g) (Field b j) dst d first second = absurd (let e : op.GLoad dst g ≡ op.Load d second.0 j = sym (gload_is o dst g first) ∙ load_is o second.0 d j second.1 in cc)
-one_place register o (Global g) (Global k) dst d first second = let e : op.GLoad dst g ≡ op.GLoad d k = sym (gload_is o dst g first) ∙ gload_is o d k second in let same : g ≡ k = cc in ap Global same
+one_place register o (Field a i) (Global k) dst d first second =
+    absurd (let e : op.Load dst first.0 i ≡ op.GLoad d k =
+    sym (load_is o first.0 dst i first.1) ∙ gload_is o d k second in cc)
+one_place register o (Global g) (Field b j) dst d first second =
+    absurd (let e : op.GLoad dst g ≡ op.Load d second.0 j =
+    sym (gload_is o dst g first) ∙ load_is o second.0 d j second.1 in cc)
+one_place register o (Global g) (Global k) dst d first second = let e : op.GLoad dst g ≡ op.GLoad d k =
+    sym (gload_is o dst g first) ∙ gload_is o d k second in let same : g ≡ k = cc in ap Global same
 
 -- the answer to a load, by its place
-read_answers : (v m : View) (t : ℕ) (o : Op) (place : Place) (at : Slot) (dst address : ℕ) → t < length v.held → Standing true v → Finds v t o place dst address → SlotAt (maps v) place at → OnlyWords v m → Answers t v.log (values_of v t) o (found (held_value m.names address)) (behind m t at dst address).log (values_of (behind m t at dst address) t)
+read_answers : (v m : View) (t : ℕ) (o : Op) (place : Place) (at : Slot) (dst address : ℕ) → t < length v.held
+    → Standing true v → Finds v t o place dst address → SlotAt (maps v) place at → OnlyWords v m
+    → Answers t v.log (values_of v t) o (found (held_value m.names address)) (behind m t at dst address).log
+    (values_of (behind m t at dst address) t)
 read_answers v m t o (Field object i) at dst address within told finds slot only =
-    subst (λ (x : View). Answers t v.log (values_of v t) o (found (held_value x.names address)) (behind x t at dst address).log (values_of (behind x t at dst address) t)) (sym only)
-    (subst (λ (q : Slot). Answers t v.log (values_of v t) o (found (held_value v.names address)) (v.log ++ entry t (Read q (held_value v.names address)) ∷ []) (values_of (with_register v t dst address) t)) (sym slot.2)
-    (subst (λ (p : Op). Answers t v.log (values_of v t) p (found (held_value v.names address)) (v.log ++ entry t (Read (slots.Field slot.0 i) (held_value v.names address)) ∷ []) (values_of (with_register v t dst address) t)) (sym (load_is o finds.loads.0 dst i finds.loads.1))
-    (load_answers t v.log (values_of v t) dst finds.loads.0 i slot.0 finds.there.0 (held_value v.names address) (found (held_value v.names address)) _ _
-    (value_named v t finds.loads.0 object slot.0 finds.loads.2 slot.1) (object_shape v object slot.0 finds.there.0 told finds.there.1 slot.1) finds.there.2 refl
+    subst (λ (x : View). Answers t v.log (values_of v t) o (found (held_value x.names address))
+    (behind x t at dst address).log (values_of (behind x t at dst address) t)) (sym only)
+    (subst (λ (q : Slot). Answers t v.log (values_of v t) o (found (held_value v.names address))
+    (v.log ++ entry t (Read q (held_value v.names address)) ∷ []) (values_of (with_register v t dst address) t))
+    (sym slot.2)
+    (subst (λ (p : Op). Answers t v.log (values_of v t) p (found (held_value v.names address))
+    (v.log ++ entry t (Read (slots.Field slot.0 i) (held_value v.names address)) ∷ [])
+    (values_of (with_register v t dst address) t)) (sym (load_is o finds.loads.0 dst i finds.loads.1))
+    (load_answers t v.log (values_of v t) dst finds.loads.0 i slot.0 finds.there.0 (held_value v.names address)
+    (found (held_value v.names address)) _ _
+    (value_named v t finds.loads.0 object slot.0 finds.loads.2 slot.1)
+    (object_shape v object slot.0 finds.there.0 told finds.there.1 slot.1) finds.there.2 refl
     (values_set v t dst address within) refl)))
 read_answers v m t o (Global g) at dst address within told finds slot only =
-    subst (λ (x : View). Answers t v.log (values_of v t) o (found (held_value x.names address)) (behind x t at dst address).log (values_of (behind x t at dst address) t)) (sym only)
-    (subst (λ (q : Slot). Answers t v.log (values_of v t) o (found (held_value v.names address)) (v.log ++ entry t (Read q (held_value v.names address)) ∷ []) (values_of (with_register v t dst address) t)) (sym slot)
-    (subst (λ (p : Op). Answers t v.log (values_of v t) p (found (held_value v.names address)) (v.log ++ entry t (Read (slots.Global g) (held_value v.names address)) ∷ []) (values_of (with_register v t dst address) t)) (sym (gload_is o dst g finds.loads))
-    (gload_answers t v.log (values_of v t) dst g (held_value v.names address) (found (held_value v.names address)) _ _ refl (values_set v t dst address within) refl)))
+    subst (λ (x : View). Answers t v.log (values_of v t) o (found (held_value x.names address))
+    (behind x t at dst address).log (values_of (behind x t at dst address) t)) (sym only)
+    (subst (λ (q : Slot). Answers t v.log (values_of v t) o (found (held_value v.names address))
+    (v.log ++ entry t (Read q (held_value v.names address)) ∷ []) (values_of (with_register v t dst address) t))
+    (sym slot)
+    (subst (λ (p : Op). Answers t v.log (values_of v t) p (found (held_value v.names address))
+    (v.log ++ entry t (Read (slots.Global g) (held_value v.names address)) ∷ [])
+    (values_of (with_register v t dst address) t)) (sym (gload_is o dst g finds.loads))
+    (gload_answers t v.log (values_of v t) dst g (held_value v.names address) (found (held_value v.names address)) _ _
+    refl (values_set v t dst address within) refl)))
 
 sets_dst : (register : ℕ → ℕ) (o : Op) (place : Place) (dst : ℕ) → LoadsAt register o place dst → Sets o dst
-sets_dst register o (Field object i) dst loads = subst (λ (p : Op). Sets p dst) (sym (load_is o loads.0 dst i loads.1)) refl
+sets_dst register o (Field object i) dst loads =
+    subst (λ (p : Op). Sets p dst) (sym (load_is o loads.0 dst i loads.1)) refl
 sets_dst register o (Global g) dst loads = subst (λ (p : Op). Sets p dst) (sym (gload_is o dst g loads)) refl
 
-load_room : (v : View) (register : ℕ → ℕ) (o : Op) (place : Place) (dst : ℕ) → LoadsAt register o place dst → HasRoomFor v o
+load_room : (v : View) (register : ℕ → ℕ) (o : Op) (place : Place) (dst : ℕ) → LoadsAt register o place dst
+    → HasRoomFor v o
 load_room v register o (Field object i) dst loads = subst (HasRoomFor v) (sym (load_is o loads.0 dst i loads.1)) tt
 load_room v register o (Global g) dst loads = subst (HasRoomFor v) (sym (gload_is o dst g loads)) tt
 
 -- A load was answered, where words of the space or a global may have changed.
-pub read_advances : (v m : View) (t : ℕ) (o : Op) (stage : Stage) (place : Place) (at : Slot) (dst address : ℕ) → MayAdvance v t o → Ends v t o stage → Finds v t o place dst address → SlotAt (maps v) place at → OnlyWords v m → length m.space.list ≡ length v.space.list →
-    ((told : Bool) → Standing told v → Event told v.log (maps v) (maps m) (state v) (state (behind m t at dst address)) no_region 0 (Some (Read at (held_value m.names address)))) →
-    Applies (maps v) (maps m) (state v) (state (behind m t at dst address)) (change_of (state v) (register_in v.held t) (Some stage)) →
-    (IsTagged (word_in (state m) place) → ⊥) → Advances v (behind m t at dst address) t o (Answered (found (held_value m.names address)))
+pub read_advances : (v m : View) (t : ℕ) (o : Op) (stage : Stage) (place : Place) (at : Slot) (dst address : ℕ)
+    → MayAdvance v t o → Ends v t o stage → Finds v t o place dst address → SlotAt (maps v) place at → OnlyWords v m
+    → length m.space.list ≡ length v.space.list →
+    ((told : Bool) → Standing told v
+    → Event told v.log (maps v) (maps m) (state v) (state (behind m t at dst address)) no_region 0
+    (Some (Read at (held_value m.names address)))) →
+    Applies (maps v) (maps m) (state v) (state (behind m t at dst address))
+    (change_of (state v) (register_in v.held t) (Some stage)) →
+    (IsTagged (word_in (state m) place) → ⊥)
+    → Advances v (behind m t at dst address) t o (Answered (found (held_value m.names address)))
 read_advances v m t o stage place at dst address asks ends finds slot only words event applies clean =
     let w : View = behind m t at dst address in
     let act : Act = Read at (held_value m.names address) in
     let same : m ≡ record v { space = m.space; globals = m.globals } = only in
     answered v w t o (found (held_value m.names address)) (Some act) asks (record {
-      event = λ told s. subst (λ (k : ℕ). Event told v.log (maps v) (maps w) (state v) (state w) no_region k (Some act)) (sym (ap cleared_by ends.at ∙ ends.clears)) (event told s);
+      event = λ told s. subst (λ (k : ℕ). Event told v.log (maps v) (maps w) (state v) (state w) no_region k (Some act))
+          (sym (ap cleared_by ends.at ∙ ends.clears)) (event told s);
       nothing = refl;
       log = ap (λ (x : View). x.log ++ entry t act ∷ []) same;
       calls = ap (λ (x : View). set x.calls t None) same;
@@ -127,33 +160,45 @@ read_advances v m t o stage place at dst address asks ends finds slot only words
       stop = ap (λ (x : View). x.stop) same;
       words = words;
       threads = threads_set m t dst address ∙ ap (λ (x : View). length x.held) same;
-      others = λ u differ. registers_other m.held t u (set (registers_in m.held t) dst address) differ ∙ ap (λ (x : View). registers_in x.held u) same;
-      may_hold = register_keeps (MayHold (maps v) (state v)) m t dst address (subst (λ (x : View). t < length x.held) (sym same) asks.thread) finds.may_hold
-          (subst (λ (x : View). (k : ℕ) → MayHold (maps v) (state v) (register_in x.held t k)) (sym same) (asks.stands.registers t));
+      others = λ u differ. registers_other m.held t u (set (registers_in m.held t) dst address) differ
+          ∙ ap (λ (x : View). registers_in x.held u) same;
+      may_hold = register_keeps (MayHold (maps v) (state v)) m t dst address
+          (subst (λ (x : View). t < length x.held) (sym same) asks.thread) finds.may_hold
+          (subst (λ (x : View). (k : ℕ) → MayHold (maps v) (state v) (register_in x.held t k)) (sym same)
+          (asks.stands.registers t));
       known = λ c none. absurd (cc);
       fits = λ c none. absurd (cc);
       unclaimed = refl;
       unclaimed_before = ap claimed_in (call_at v t o stage asks ends.at) ∙ ends.unclaimed;
-      claims = claims_ends v.stop (stage_of v t) (λ need lacks. ends.no_lack need (let e : Some stage ≡ Some (Lacking need) = sym ends.at ∙ lacks in cc));
+      claims = claims_ends v.stop (stage_of v t)
+          (λ need lacks. ends.no_lack need (let e : Some stage ≡ Some (Lacking need) = sym ends.at ∙ lacks in cc));
     }) (ap (λ (x : View). x.capacity) same)
-    (subst (λ (g : Option Stage). Applies (maps v) (maps w) (state v) (state w) (change_of (state v) (register_in v.held t) g)) (sym ends.at) applies)
+    (subst (λ (g : Option Stage). Applies (maps v) (maps w) (state v) (state w)
+    (change_of (state v) (register_in v.held t) g)) (sym ends.at) applies)
     (record {
-      last = λ next goes. ends.last next (subst (λ (g : Option Stage). Next (maps v) (state v) (register_in v.held t) v.stop o g next) ends.at goes);
+      last = λ next goes. ends.last next
+          (subst (λ (g : Option Stage). Next (maps v) (state v) (register_in v.held t) v.stop o g next) ends.at goes);
       no_pause = λ pause. ends.no_pause (subst (MustPause (register_in v.held t) v.stop o) ends.at pause);
       answers = λ told. read_answers v m t o place at dst address asks.thread told finds slot only;
       registers = λ r other.
-          register_other m t dst address r (subst (λ (x : View). t < length x.held) (sym same) asks.thread) (λ is. other (subst (Sets o) (sym is) (sets_dst (register_in v.held t) o place dst finds.loads)))
+          register_other m t dst address r (subst (λ (x : View). t < length x.held) (sym same) asks.thread)
+          (λ is. other (subst (Sets o) (sym is) (sets_dst (register_in v.held t) o place dst finds.loads)))
           ∙ ap (λ (x : View). register_in x.held t r) same;
       room = λ told. load_room v (register_in v.held t) o place dst finds.loads;
-      clean = λ other d loads there tagged. clean (subst (λ (p : Place). IsTagged (word_in (state m) p)) (one_place (register_in v.held t) o other place d dst loads finds.loads) (same_word m t at dst address other tagged));
+      clean = λ other d loads there tagged. clean
+          (subst (λ (p : Place). IsTagged (word_in (state m) p))
+          (one_place (register_in v.held t) o other place d dst loads finds.loads)
+          (same_word m t at dst address other tagged));
     })
   where
-    same_word : (m : View) (t : ℕ) (at : Slot) (dst address : ℕ) (place : Place) → IsTagged (word_in (state (behind m t at dst address)) place) → IsTagged (word_in (state m) place)
+    same_word : (m : View) (t : ℕ) (at : Slot) (dst address : ℕ) (place : Place)
+        → IsTagged (word_in (state (behind m t at dst address)) place) → IsTagged (word_in (state m) place)
     same_word m t at dst address (Field object i) tagged = tagged
     same_word m t at dst address (Global g) tagged = tagged
 
 -- the place at which a load looks, and its operation
-pub looks_at : (v : View) (t : ℕ) (o : Op) (place : Place) (dst : ℕ) → MayAdvance v t o → LooksFrom (stage_of v t) place dst → LoadsAt (register_in v.held t) o place dst × IsPlace (maps v) (state v) place
+pub looks_at : (v : View) (t : ℕ) (o : Op) (place : Place) (dst : ℕ) → MayAdvance v t o
+    → LooksFrom (stage_of v t) place dst → LoadsAt (register_in v.held t) o place dst × IsPlace (maps v) (state v) place
 looks_at v t o (Field object i) dst asks looks =
     let stage : Stage = Headed object looks.0 (Load dst i) in
     let fits : Fits (register_in v.held t) o stage = fits_at v t o stage asks looks.1 in
@@ -162,18 +207,22 @@ looks_at v t o (Field object i) dst asks looks =
 looks_at v t o (Global g) dst asks looks =
     let stage : Stage = Polled (LoadGlobal dst g) in
     let fits : Fits (register_in v.held t) o stage = fits_at v t o stage asks looks in
-    let bounds : InBounds (length v.globals) (op.GLoad dst g) = subst (InBounds (length v.globals)) (gload_is o dst g fits.0) asks.bounds in
+    let bounds : InBounds (length v.globals) (op.GLoad dst g) =
+    subst (InBounds (length v.globals)) (gload_is o dst g fits.0) asks.bounds in
     (fits.0, bounds.1)
 
 -- what a reference without a tag tells of an address
 null_value : (v : View) (x : Value) → Some Nil ≡ Some x → held_value v.names 0 ≡ x
 null_value v x is = ap (λ (y : Option Value). unwrap_or y Nil) is
 
-clean_value : (v : View) (a : ℕ) (x : Value) → IsRef (Clean a) → value_of (maps v) (Clean a) ≡ Some x → held_value v.names a ≡ x
+clean_value : (v : View) (a : ℕ) (x : Value) → IsRef (Clean a) → value_of (maps v) (Clean a) ≡ Some x
+    → held_value v.names a ≡ x
 clean_value v zero x range is = absurd (let some : 0 < 0 = range.not_null in omega arith)
 clean_value v (suc a) x range is = ap (λ (y : Option Value). unwrap_or y Nil) is
 
-pub finds_null : (v : View) (t : ℕ) (o : Op) (place : Place) (dst : ℕ) → Standing false v → LoadsAt (register_in v.held t) o place dst → IsPlace (maps v) (state v) place → HoldsRef (word_in (state v) place) Null → Finds v t o place dst 0
+pub finds_null : (v : View) (t : ℕ) (o : Op) (place : Place) (dst : ℕ) → Standing false v
+    → LoadsAt (register_in v.held t) o place dst → IsPlace (maps v) (state v) place
+    → HoldsRef (word_in (state v) place) Null → Finds v t o place dst 0
 finds_null v t o place dst s loads there holds = record {
   loads = loads;
   there = there;
@@ -181,27 +230,45 @@ finds_null v t o place dst s loads there holds = record {
   value = λ told at slot. null_value v (last v.log at) (value_there v place at Null told there slot holds);
 }
 
-pub finds_clean : (v : View) (t : ℕ) (o : Op) (place : Place) (dst a : ℕ) → Standing false v → LoadsAt (register_in v.held t) o place dst → IsPlace (maps v) (state v) place → HoldsRef (word_in (state v) place) (Clean a) → Finds v t o place dst a
+pub finds_clean : (v : View) (t : ℕ) (o : Op) (place : Place) (dst a : ℕ) → Standing false v
+    → LoadsAt (register_in v.held t) o place dst → IsPlace (maps v) (state v) place
+    → HoldsRef (word_in (state v) place) (Clean a) → Finds v t o place dst a
 finds_clean v t o place dst a s loads there holds = record {
   loads = loads;
   there = there;
   may_hold = inr (may_stand_there v place (Clean a) s there holds);
-  value = λ told at slot. clean_value v a (last v.log at) holds.in_range (value_there v place at (Clean a) told there slot holds);
+  value = λ told at slot. clean_value v a (last v.log at) holds.in_range
+      (value_there v place at (Clean a) told there slot holds);
 }
 
 -- the event of a read that changes no word
-pub quiet_read : (told : Bool) (v : View) (t : ℕ) (o : Op) (place : Place) (at : Slot) (dst address : ℕ) → Standing told v → Finds v t o place dst address → SlotAt (maps v) place at → (IsTagged (word_in (state v) place) → ⊥) → Event told v.log (maps v) (maps v) (state v) (state (behind v t at dst address)) no_region 0 (Some (Read at (held_value v.names address)))
+pub quiet_read : (told : Bool) (v : View) (t : ℕ) (o : Op) (place : Place) (at : Slot) (dst address : ℕ)
+    → Standing told v → Finds v t o place dst address → SlotAt (maps v) place at
+    → (IsTagged (word_in (state v) place) → ⊥)
+    → Event told v.log (maps v) (maps v) (state v) (state (behind v t at dst address)) no_region 0
+    (Some (Read at (held_value v.names address)))
 quiet_read told v t o place at dst address s finds slot clean =
-    reads_place place at (held_value v.names address) refl (record { base = refl; free = refl; word = λ k. refl; global = λ g. refl; forward = λ p. refl }) finds.there clean
+    reads_place place at (held_value v.names address) refl
+    (record { base = refl; free = refl; word = λ k. refl; global = λ g. refl; forward = λ p. refl }) finds.there
+    clean
     (λ is. record { slot = slot; last = finds.value (subst (λ (b : Bool). Standing b v) is s) at slot })
 
 -- a look that found no tag is the last event of its load
-look_stage : (v : View) (t : ℕ) (o : Op) (place : Place) (dst : ℕ) → Standing false v → IsPlace (maps v) (state v) place → LooksFrom (stage_of v t) place dst → (IsTagged (word_in (state v) place) → ⊥) → (stage : Stage) × Ends v t o stage × (change_of (state v) (register_in v.held t) (Some stage) ≡ Nothing)
+look_stage : (v : View) (t : ℕ) (o : Op) (place : Place) (dst : ℕ) → Standing false v → IsPlace (maps v) (state v) place
+    → LooksFrom (stage_of v t) place dst → (IsTagged (word_in (state v) place) → ⊥) → (stage : Stage) × Ends v t o stage
+    × (change_of (state v) (register_in v.held t) (Some stage) ≡ Nothing)
 look_stage v t o (Field object i) dst s there looks clean = (
   Headed object looks.0 (Load dst i),
   record {
     at = looks.1;
-    last = λ next goes. clean (record { reference = Stale goes.0; in_range = stale_address v (Field object i) goes.0 s there goes.1; tag = tt; is = goes.1 });
+    last = λ next goes. clean
+        (record {
+          reference = Stale goes.0;
+          in_range = stale_address v (Field object i) goes.0 s there goes.1;
+          tag =
+              tt;
+          is = goes.1;
+        });
     no_pause = λ pause. pause;
     clears = refl;
     unclaimed = refl;
@@ -213,7 +280,14 @@ look_stage v t o (Global g) dst s there looks clean = (
   Polled (LoadGlobal dst g),
   record {
     at = looks;
-    last = λ next goes. clean (record { reference = Stale goes.0; in_range = stale_address v (Global g) goes.0 s there goes.1; tag = tt; is = goes.1 });
+    last = λ next goes. clean
+        (record {
+          reference = Stale goes.0;
+          in_range = stale_address v (Global g) goes.0 s there goes.1;
+          tag = tt;
+          is =
+              goes.1;
+        });
     no_pause = λ pause. pause;
     clears = refl;
     unclaimed = refl;
@@ -223,7 +297,8 @@ look_stage v t o (Global g) dst s there looks clean = (
 )
 
 -- a look found a stale address
-pub looked_known : (v : View) (t : ℕ) (place : Place) (target : ℕ) → Standing false v → IsPlace (maps v) (state v) place → HoldsRef (word_in (state v) place) (Stale target) → HasLooked (maps v) (state v) place (Stale target)
+pub looked_known : (v : View) (t : ℕ) (place : Place) (target : ℕ) → Standing false v → IsPlace (maps v) (state v) place
+    → HoldsRef (word_in (state v) place) (Stale target) → HasLooked (maps v) (state v) place (Stale target)
 looked_known v t place target s there holds = record {
   at = there;
   in_range = holds.in_range;
@@ -233,7 +308,12 @@ looked_known v t place target s there holds = record {
 }
 
 -- the stale bit of the object was cleared
-pub clear_advances : (v : View) (space : SpaceWords) (t : ℕ) (o : Op) (place : Place) (target dst word : ℕ) (shape : Shape) → MayAdvance v t o → stage_of v t ≡ Some (Looked place target dst) → ((h : Header) → IsHeader h → word_at v.space target ≡ header_word h → shape ≡ h.shape) → word ≡ header_word (record { shape = shape; stale = false }) → SetsWord v.space space target word → Advances v (with_call (record v { space = space }) t (Some (record { op = o; stage = Cleared place target dst }))) t o Going
+pub clear_advances : (v : View) (space : SpaceWords) (t : ℕ) (o : Op) (place : Place) (target dst word : ℕ)
+    (shape : Shape) → MayAdvance v t o → stage_of v t ≡ Some (Looked place target dst)
+    → ((h : Header) → IsHeader h → word_at v.space target ≡ header_word h → shape ≡ h.shape)
+    → word ≡ header_word (record { shape = shape; stale = false }) → SetsWord v.space space target word
+    → Advances v (with_call (record v { space = space }) t (Some (record { op = o; stage = Cleared place target dst })))
+    t o Going
 clear_advances v space t o place target dst word shape asks at shaped is sets =
     let s : Standing false v = asks.stands in
     let stage : Stage = Looked place target dst in
@@ -244,7 +324,8 @@ clear_advances v space t o place target dst word shape asks at shaped is sets =
     let starts : HeaderAt (state v) target object.0 = object.1.starts in
     let same : shape ≡ object.0.shape = shaped object.0 starts.in_range starts.word in
     let cleared : Header = record { shape = object.0.shape; stale = false } in
-    let here : word ≡ header_word cleared = is ∙ ap (λ (z : Shape). header_word (record { shape = z; stale = false })) same in
+    let here : word ≡ header_word cleared =
+    is ∙ ap (λ (z : Shape). header_word (record { shape = z; stale = false })) same in
     let changes : WordChanges (state v) (state w) target (header_word cleared) = record {
       base = ap (λ (n : ℕ). record (base_in v.space v.globals) { size = n }) sets.size;
       free = refl;
@@ -255,10 +336,15 @@ clear_advances v space t o place target dst word shape asks at shaped is sets =
     } in
     let event : (told : Bool) → Event told v.log (maps v) (maps w) (state v) (state w) no_region target None =
     λ told. clears target object.0 refl looked.may_stand starts changes in
-    let evolves : Evolves (maps v) (maps w) (state v) (state w) target = evolves_event false v.log (maps v) (maps w) (state v) (state w) no_region target None s.holds.formed (event false) in
-    let next : Next (maps v) (state v) (register_in v.held t) v.stop o (stage_of v t) (Cleared place target dst) = subst (λ (g : Option Stage). Next (maps v) (state v) (register_in v.held t) v.stop o g (Cleared place target dst)) (sym at) refl in
+    let evolves : Evolves (maps v) (maps w) (state v) (state w) target =
+    evolves_event false v.log (maps v) (maps w) (state v) (state w) no_region target None s.holds.formed
+    (event false) in
+    let next : Next (maps v) (state v) (register_in v.held t) v.stop o (stage_of v t) (Cleared place target dst) =
+    subst (λ (g : Option Stage). Next (maps v) (state v) (register_in v.held t) v.stop o g
+    (Cleared place target dst)) (sym at) refl in
     let p : Plain v w t (cleared_by (stage_of v t)) None (Some after) = record {
-      event = λ told stands. subst (λ (k : ℕ). Event told v.log (maps v) (maps w) (state v) (state w) no_region k None) (sym (ap cleared_by at)) (event told);
+      event = λ told stands. subst (λ (k : ℕ). Event told v.log (maps v) (maps w) (state v) (state w) no_region k None)
+          (sym (ap cleared_by at)) (event told);
       nothing = tt;
       log = refl;
       calls = refl;
@@ -272,32 +358,47 @@ clear_advances v space t o place target dst word shape asks at shaped is sets =
       may_hold = s.registers t;
       known = λ c x. subst (λ (d : Call). Known (maps w) (state w) d.stage) (let e : after ≡ c = cc in e) (
         looked_stays (maps v) (maps w) (state v) (state w) target s.holds.formed evolves place (Stale target) looked,
-        λ header stands. ap (λ (h : Header). h.stale) (one_header (state w) target header cleared stands (evolves.clears looked.may_stand.0 object.0 looked.may_stand.1 starts)),
+        λ header stands. ap (λ (h : Header). h.stale)
+            (one_header (state w) target header cleared stands
+            (evolves.clears looked.may_stand.0 object.0 looked.may_stand.1 starts)),
       );
-      fits = λ c x. subst (λ (d : Call). Fits (register_in v.held t) d.op d.stage) (let e : after ≡ c = cc in e) (fits_at v t o stage asks at);
+      fits = λ c x. subst (λ (d : Call). Fits (register_in v.held t) d.op d.stage) (let e : after ≡ c = cc in e)
+          (fits_at v t o stage asks at);
       unclaimed = refl;
       unclaimed_before = ap claimed_in (call_at v t o stage asks at);
-      claims = claims_next (maps v) (state v) (register_in v.held t) v.stop o (stage_of v t) (Cleared place target dst) next;
+      claims = claims_next (maps v) (state v) (register_in v.held t) v.stop o (stage_of v t)
+          (Cleared place target dst) next;
     } in
     advances v w t o Going asks (plain v w t (cleared_by (stage_of v t)) None (Some after) asks.thread p) refl
-    (subst (λ (g : Option Stage). Applies (maps v) (maps w) (state v) (state w) (change_of (state v) (register_in v.held t) g)) (sym at)
-    (refl, λ header stands. subst (λ (h : Header). WordChanges (state v) (state w) target (header_word (record { shape = h.shape; stale = false }))) (one_header (state v) target object.0 header starts stands) changes))
-    (goes v w t o (Cleared place target dst) asks next refl (record { history = refl; registers = refl; values = refl }) refl)
+    (subst (λ (g : Option Stage). Applies (maps v) (maps w) (state v) (state w)
+    (change_of (state v) (register_in v.held t) g)) (sym at) (
+      refl,
+      λ header stands. subst
+          (λ (h : Header). WordChanges (state v) (state w) target
+          (header_word (record { shape = h.shape; stale = false })))
+          (one_header (state v) target object.0 header starts stands) changes,
+    ))
+    (goes v w t o (Cleared place target dst) asks next refl (record { history = refl; registers = refl; values = refl })
+    refl)
     tt
 
 -- a load was answered by its look
-pub look_reads : (v w : View) (t : ℕ) (o : Op) (place : Place) (dst address : ℕ) (result : StepResult) → MayAdvance v t o → LooksFrom (stage_of v t) place dst → Finds v t o place dst address → (IsTagged (word_in (state v) place) → ⊥) → HasRead v w t place dst address result → Advances v w t o result
+pub look_reads : (v w : View) (t : ℕ) (o : Op) (place : Place) (dst address : ℕ) (result : StepResult)
+    → MayAdvance v t o → LooksFrom (stage_of v t) place dst → Finds v t o place dst address
+    → (IsTagged (word_in (state v) place) → ⊥) → HasRead v w t place dst address result → Advances v w t o result
 look_reads v w t o place dst address result asks looks finds clean read =
     let stage = look_stage v t o place dst asks.stands finds.there looks clean in
     subst (λ (r : StepResult). Advances v w t o r) (sym read.told)
     (subst (λ (x : View). Advances v x t o (Answered (found (held_value v.names address)))) (sym read.is)
     (read_advances v v t o stage.0 place read.slot dst address asks stage.1 finds read.is_slot refl refl
     (λ told s. quiet_read told v t o place read.slot dst address s finds read.is_slot clean)
-    (subst (Applies (maps v) (maps v) (state v) (state (behind v t read.slot dst address))) (sym stage.2) (refl, record { base = refl; free = refl; word = λ k. refl; global = λ g. refl; forward = λ p. refl }))
+    (subst (Applies (maps v) (maps v) (state v) (state (behind v t read.slot dst address))) (sym stage.2)
+    (refl, record { base = refl; free = refl; word = λ k. refl; global = λ g. refl; forward = λ p. refl }))
     clean))
 
 -- a load that has cleared has no further event than the untag
-cleared_ends : (v : View) (t : ℕ) (o : Op) (place : Place) (target dst : ℕ) → stage_of v t ≡ Some (Cleared place target dst) → Ends v t o (Cleared place target dst)
+cleared_ends : (v : View) (t : ℕ) (o : Op) (place : Place) (target dst : ℕ)
+    → stage_of v t ≡ Some (Cleared place target dst) → Ends v t o (Cleared place target dst)
 cleared_ends v t o place target dst at = record {
   at = at;
   last = λ next goes. goes;
@@ -308,21 +409,32 @@ cleared_ends v t o place target dst at = record {
 }
 
 -- what such a load knows
-pub cleared_known : (v : View) (t : ℕ) (o : Op) (place : Place) (target dst : ℕ) → MayAdvance v t o → stage_of v t ≡ Some (Cleared place target dst) → HasLooked (maps v) (state v) place (Stale target) × IsFresh (state v) target
+pub cleared_known : (v : View) (t : ℕ) (o : Op) (place : Place) (target dst : ℕ) → MayAdvance v t o
+    → stage_of v t ≡ Some (Cleared place target dst) → HasLooked (maps v) (state v) place (Stale target)
+    × IsFresh (state v) target
 cleared_known v t o place target dst asks at = known_at v t o (Cleared place target dst) asks at
 
-pub cleared_loads : (v : View) (t : ℕ) (o : Op) (place : Place) (target dst : ℕ) → MayAdvance v t o → stage_of v t ≡ Some (Cleared place target dst) → LoadsAt (register_in v.held t) o place dst
+pub cleared_loads : (v : View) (t : ℕ) (o : Op) (place : Place) (target dst : ℕ) → MayAdvance v t o
+    → stage_of v t ≡ Some (Cleared place target dst) → LoadsAt (register_in v.held t) o place dst
 cleared_loads v t o place target dst asks at = fits_at v t o (Cleared place target dst) asks at
 
 -- an exchange was lost: the word that stands there is answered
-pub untag_lost : (v w : View) (t : ℕ) (o : Op) (place : Place) (target dst address : ℕ) (result : StepResult) → MayAdvance v t o → stage_of v t ≡ Some (Cleared place target dst) → Finds v t o place dst address → (IsTagged (word_in (state v) place) → ⊥) → HasRead v w t place dst address result → Advances v w t o result
+pub untag_lost : (v w : View) (t : ℕ) (o : Op) (place : Place) (target dst address : ℕ) (result : StepResult)
+    → MayAdvance v t o → stage_of v t ≡ Some (Cleared place target dst) → Finds v t o place dst address
+    → (IsTagged (word_in (state v) place) → ⊥) → HasRead v w t place dst address result → Advances v w t o result
 untag_lost v w t o place target dst address result asks at finds clean read =
     let known = cleared_known v t o place target dst asks at in
     subst (λ (r : StepResult). Advances v w t o r) (sym read.told)
     (subst (λ (x : View). Advances v x t o (Answered (found (held_value v.names address)))) (sym read.is)
-    (read_advances v v t o (Cleared place target dst) place read.slot dst address asks (cleared_ends v t o place target dst at) finds read.is_slot refl refl
-    (λ told s. quiet_read told v t o place read.slot dst address s finds read.is_slot clean)
-    (refl, (λ is. absurd (clean (record { reference = Stale target; in_range = known.0.in_range; tag = tt; is = is })), λ differ. record { base = refl; free = refl; word = λ k. refl; global = λ g. refl; forward = λ p. refl }))
+    (read_advances v v t o (Cleared place target dst) place read.slot dst address asks
+    (cleared_ends v t o place target dst at) finds read.is_slot refl refl
+    (λ told s. quiet_read told v t o place read.slot dst address s finds read.is_slot clean) (
+      refl,
+      (
+        λ is. absurd (clean (record { reference = Stale target; in_range = known.0.in_range; tag = tt; is = is })),
+        λ differ. record { base = refl; free = refl; word = λ k. refl; global = λ g. refl; forward = λ p. refl },
+      ),
+    )
     clean))
 
 -- only words of the space and globals differ
@@ -330,12 +442,17 @@ abbrev pub over : View → SpaceWords → List ℕ → View
 over v space globals = record v { space = space; globals = globals }
 
 -- the stale address is still there
-pub untag_is : (v : View) (t : ℕ) (o : Op) (place : Place) (target dst x : ℕ) → MayAdvance v t o → stage_of v t ≡ Some (Cleared place target dst) → HoldsRef (word_in (state v) place) (Stale x) → word_in (state v) place ≡ ref_word (Stale target)
+pub untag_is : (v : View) (t : ℕ) (o : Op) (place : Place) (target dst x : ℕ) → MayAdvance v t o
+    → stage_of v t ≡ Some (Cleared place target dst) → HoldsRef (word_in (state v) place) (Stale x)
+    → word_in (state v) place ≡ ref_word (Stale target)
 untag_is v t o place target dst x asks at holds =
-    (cleared_known v t o place target dst asks at).0.unless_clean (record { reference = Stale x; in_range = holds.in_range; tag = tt; is = holds.is })
+    (cleared_known v t o place target dst asks at).0.unless_clean
+    (record { reference = Stale x; in_range = holds.in_range; tag = tt; is = holds.is })
 
 -- the load's object
-untag_finds : (v : View) (t : ℕ) (o : Op) (place : Place) (target dst x : ℕ) → MayAdvance v t o → stage_of v t ≡ Some (Cleared place target dst) → HoldsRef (word_in (state v) place) (Stale x) → Finds v t o place dst target
+untag_finds : (v : View) (t : ℕ) (o : Op) (place : Place) (target dst x : ℕ) → MayAdvance v t o
+    → stage_of v t ≡ Some (Cleared place target dst) → HoldsRef (word_in (state v) place) (Stale x)
+    → Finds v t o place dst target
 untag_finds v t o place target dst x asks at holds =
     let known = cleared_known v t o place target dst asks at in
     record {
@@ -343,53 +460,95 @@ untag_finds v t o place target dst x asks at holds =
       there = known.0.at;
       may_hold = inr (known.0.may_stand, known.1);
       value = λ told slot is. clean_value v target (last v.log slot) known.0.in_range
-          (value_there v place slot (Stale target) told known.0.at is (record { in_range = known.0.in_range; is = untag_is v t o place target dst x asks at holds }));
+          (value_there v place slot (Stale target) told known.0.at is
+          (record { in_range = known.0.in_range; is = untag_is v t o place target dst x asks at holds }));
     }
 
 -- the exchange, as an event
-untag_event : (told : Bool) (v m : View) (t : ℕ) (o : Op) (place : Place) (at : Slot) (target dst x : ℕ) → MayAdvance v t o → Standing told v → stage_of v t ≡ Some (Cleared place target dst) → SlotAt (maps v) place at → HoldsRef (word_in (state v) place) (Stale x) → PlaceChanges (state v) (state m) place (ref_word (Clean target)) →
+untag_event : (told : Bool) (v m : View) (t : ℕ) (o : Op) (place : Place) (at : Slot) (target dst x : ℕ)
+    → MayAdvance v t o → Standing told v → stage_of v t ≡ Some (Cleared place target dst) → SlotAt (maps v) place at
+    → HoldsRef (word_in (state v) place) (Stale x) → PlaceChanges (state v) (state m) place (ref_word (Clean target)) →
     Event told v.log (maps v) (maps v) (state v) (state m) no_region 0 (Some (Read at (held_value v.names target)))
 untag_event told v m t o place at target dst x asks s stage slot holds changes =
     let known = cleared_known v t o place target dst asks stage in
     let finds = untag_finds v t o place target dst x asks stage holds in
-    untags place at (Stale target) target (held_value v.names target) refl known.0.at known.0.in_range (untag_is v t o place target dst x asks stage holds) known.0.may_stand known.1
-    (λ is. refl) (λ is. record { slot = slot; last = finds.value (subst (λ (b : Bool). Standing b v) is s) at slot }) changes
+    untags place at (Stale target) target (held_value v.names target) refl known.0.at known.0.in_range
+    (untag_is v t o place target dst x asks stage holds) known.0.may_stand known.1
+    (λ is. refl) (λ is. record { slot = slot; last = finds.value (subst (λ (b : Bool). Standing b v) is s) at slot })
+    changes
 
 -- the place is one behind it
-pub untag_place : (v : View) (space : SpaceWords) (globals : List ℕ) (t : ℕ) (o : Op) (place : Place) (target dst x : ℕ) → MayAdvance v t o → stage_of v t ≡ Some (Cleared place target dst) → HoldsRef (word_in (state v) place) (Stale x) → PlaceChanges (state v) (state (over v space globals)) place (ref_word (Clean target)) → IsPlace (maps v) (state (over v space globals)) place
+pub untag_place : (v : View) (space : SpaceWords) (globals : List ℕ) (t : ℕ) (o : Op) (place : Place) (target dst x : ℕ)
+    → MayAdvance v t o → stage_of v t ≡ Some (Cleared place target dst) → HoldsRef (word_in (state v) place) (Stale x)
+    → PlaceChanges (state v) (state (over v space globals)) place (ref_word (Clean target))
+    → IsPlace (maps v) (state (over v space globals)) place
 untag_place v space globals t o place target dst x asks at holds changes =
     let known = cleared_known v t o place target dst asks at in
     let m : View = over v space globals in
     let slot = some_slot v place known.0.at in
     place_stays (maps v) (maps v) (state v) (state m) 0 asks.stands.holds.formed
-    (evolves_event false v.log (maps v) (maps v) (state v) (state m) no_region 0 _ asks.stands.holds.formed (untag_event false v m t o place slot.0 target dst x asks asks.stands at slot.1 holds changes)) place known.0.at
+    (evolves_event false v.log (maps v) (maps v) (state v) (state m) no_region 0 _ asks.stands.holds.formed
+    (untag_event false v m t o place slot.0 target dst x asks asks.stands at slot.1 holds changes)) place known.0.at
   where
     some_slot : (v : View) (place : Place) → IsPlace (maps v) (state v) place → (at : Slot) × SlotAt (maps v) place at
     some_slot v (Field object i) there = (slots.Field there.1.number i, (there.1.number, there.1.named, refl))
     some_slot v (Global g) there = (slots.Global g, refl)
 
 -- registers aside, the view behind a read is that before it
-behind_changes : (v m : View) (t : ℕ) (place : Place) (at : Slot) (dst address word : ℕ) → PlaceChanges (state v) (state m) place word → PlaceChanges (state v) (state (behind m t at dst address)) place word
-behind_changes v m t (Field object i) at dst address word changes = record { base = changes.base; free = changes.free; here = changes.here; others = changes.others; global = changes.global; forward = changes.forward }
-behind_changes v m t (Global g) at dst address word changes = record { base = changes.base; free = changes.free; word_stays = changes.word_stays; here = changes.here; others = changes.others; forward = changes.forward }
+behind_changes : (v m : View) (t : ℕ) (place : Place) (at : Slot) (dst address word : ℕ)
+    → PlaceChanges (state v) (state m) place word
+    → PlaceChanges (state v) (state (behind m t at dst address)) place word
+behind_changes v m t (Field object i) at dst address word changes =
+    record {
+      base = changes.base;
+      free = changes.free;
+      here = changes.here;
+      others = changes.others;
+      global =
+          changes.global;
+      forward = changes.forward;
+    }
+behind_changes v m t (Global g) at dst address word changes =
+    record {
+      base = changes.base;
+      free = changes.free;
+      word_stays = changes.word_stays;
+      here = changes.here;
+      others =
+          changes.others;
+      forward = changes.forward;
+    }
 
 changed_word : (s t : State) (place : Place) (word : ℕ) → PlaceChanges s t place word → word_in t place ≡ word
 changed_word s t (Field object i) word changes = changes.here
 changed_word s t (Global g) word changes = changes.here
 
-changed_size : (v m : View) (place : Place) (word : ℕ) → PlaceChanges (state v) (state m) place word → length m.space.list ≡ length v.space.list
+changed_size : (v m : View) (place : Place) (word : ℕ) → PlaceChanges (state v) (state m) place word
+    → length m.space.list ≡ length v.space.list
 changed_size v m (Field object i) word changes = ap (λ (b : Base). b.size) changes.base
 changed_size v m (Global g) word changes = ap (λ (b : Base). b.size) changes.base
 
 -- an exchange was won
-pub untag_won : (v : View) (space : SpaceWords) (globals : List ℕ) (w : View) (t : ℕ) (o : Op) (place : Place) (target dst x : ℕ) (result : StepResult) → MayAdvance v t o → stage_of v t ≡ Some (Cleared place target dst) → HoldsRef (word_in (state v) place) (Stale x) → PlaceChanges (state v) (state (over v space globals)) place (ref_word (Clean target)) → HasRead (over v space globals) w t place dst target result → Advances v w t o result
+pub untag_won : (v : View) (space : SpaceWords) (globals : List ℕ) (w : View) (t : ℕ) (o : Op) (place : Place)
+    (target dst x : ℕ) (result : StepResult) → MayAdvance v t o → stage_of v t ≡ Some (Cleared place target dst)
+    → HoldsRef (word_in (state v) place) (Stale x)
+    → PlaceChanges (state v) (state (over v space globals)) place (ref_word (Clean target))
+    → HasRead (over v space globals) w t place dst target result → Advances v w t o result
 untag_won v space globals w t o place target dst x result asks at holds changes read =
     let m : View = over v space globals in
-    let after : PlaceChanges (state v) (state (behind m t read.slot dst target)) place (ref_word (Clean target)) = behind_changes v m t place read.slot dst target (ref_word (Clean target)) changes in
+    let after : PlaceChanges (state v) (state (behind m t read.slot dst target)) place (ref_word (Clean target)) =
+    behind_changes v m t place read.slot dst target (ref_word (Clean target)) changes in
     subst (λ (r : StepResult). Advances v w t o r) (sym read.told)
     (subst (λ (y : View). Advances v y t o (Answered (found (held_value v.names target)))) (sym read.is)
-    (read_advances v m t o (Cleared place target dst) place read.slot dst target asks (cleared_ends v t o place target dst at) (untag_finds v t o place target dst x asks at holds) read.is_slot refl
+    (read_advances v m t o (Cleared place target dst) place read.slot dst target asks
+    (cleared_ends v t o place target dst at) (untag_finds v t o place target dst x asks at holds) read.is_slot refl
     (changed_size v m place (ref_word (Clean target)) changes)
-    (λ told s. untag_event told v (behind m t read.slot dst target) t o place read.slot target dst x asks s at read.is_slot holds after)
+    (λ told s. untag_event told v (behind m t read.slot dst target) t o place read.slot target dst x asks s at
+    read.is_slot holds after)
     (refl, (λ is. after, λ differ. absurd (differ (untag_is v t o place target dst x asks at holds))))
-    (λ tagged. tagged_is (word_in (state m) place) (Clean target) (record { in_range = (cleared_known v t o place target dst asks at).0.in_range; is = changed_word (state v) (state m) place (ref_word (Clean target)) changes }) tagged)))
+    (λ tagged. tagged_is (word_in (state m) place) (Clean target)
+    (record {
+      in_range = (cleared_known v t o place target dst asks at).0.in_range;
+      is =
+          changed_word (state v) (state m) place (ref_word (Clean target)) changes;
+    }) tagged)))

@@ -58,42 +58,70 @@ abbrev pub claiming : View → ℕ → ℕ → Call → View
 claiming v free t call = with_call (record v { free = free }) t (Some call)
 
 -- the object that an operation makes is small
-pub small_shape : (v : View) (t : ℕ) (o : Op) (dst : ℕ) (shape : Shape) → MayAdvance v t o → task_of o ≡ Some (Making dst shape) → IsShape shape
+pub small_shape : (v : View) (t : ℕ) (o : Op) (dst : ℕ) (shape : Shape) → MayAdvance v t o
+    → task_of o ≡ Some (Making dst shape) → IsShape shape
 small_shape v t o dst shape asks task =
-    let bounds : InBounds (length v.globals) (op.New dst shape.refs shape.nums) = subst (InBounds (length v.globals)) (new_is o dst shape task) asks.bounds in
+    let bounds : InBounds (length v.globals) (op.New dst shape.refs shape.nums) =
+    subst (InBounds (length v.globals)) (new_is o dst shape task) asks.bounds in
     record { refs = bounds.1; nums = bounds.2 }
 
 -- one object more was made
-made_one : (h : List Entry) (t : ℕ) (shape : Shape) → makes h + 1 ≡ makes (h ++ entry t (Make shape.refs shape.nums) ∷ [])
+made_one : (h : List Entry) (t : ℕ) (shape : Shape)
+    → makes h + 1 ≡ makes (h ++ entry t (Make shape.refs shape.nums) ∷ [])
 made_one h t shape = omega (arith, made-append h (entry t (Make shape.refs shape.nums) ∷ []))
 
 -- what may stand in a register, where words stay
-pub hold_words : (m : Maps) (s t : State) (address : ℕ) → ((k : ℕ) → t.word k ≡ s.word k) → MayHold m s address → MayHold m t address
+pub hold_words : (m : Maps) (s t : State) (address : ℕ) → ((k : ℕ) → t.word k ≡ s.word k) → MayHold m s address
+    → MayHold m t address
 hold_words m s t address same (inl nothing) = inl nothing
-hold_words m s t address same (inr holds) = inr (holds.0, λ header starts. holds.1 header (record { in_range = starts.in_range; word = sym (same address) ∙ starts.word }))
+hold_words m s t address same (inr holds) =
+    inr (
+      holds.0,
+      λ header starts. holds.1 header
+          (record { in_range = starts.in_range; word = sym (same address) ∙ starts.word }),
+    )
 
 -- new words are apart from what a call owns
-claimed_from : (v : View) (words : ℕ) (stage : Stage) → FormedWords (maps v) (state v) → Known (maps v) (state v) stage → Apart (record { at = v.free; words = words }) (region_of stage)
-claimed_from v words (Polled task) formed known = apart_sym no_region (record { at = v.free; words = words }) (no_region_apart (record { at = v.free; words = words }))
-claimed_from v words (Headed address shape access) formed known = apart_sym no_region (record { at = v.free; words = words }) (no_region_apart (record { at = v.free; words = words }))
-claimed_from v words (Looked place target dst) formed known = apart_sym no_region (record { at = v.free; words = words }) (no_region_apart (record { at = v.free; words = words }))
-claimed_from v words (Cleared place target dst) formed known = apart_sym no_region (record { at = v.free; words = words }) (no_region_apart (record { at = v.free; words = words }))
-claimed_from v words (Claimed address shape stored dst) formed known = apart_sym (region address shape) (record { at = v.free; words = words }) (claimed_apart (maps v) (state v) words (region address shape) known.1.owns)
-claimed_from v words (Lacking need) formed known = apart_sym no_region (record { at = v.free; words = words }) (no_region_apart (record { at = v.free; words = words }))
+claimed_from : (v : View) (words : ℕ) (stage : Stage) → FormedWords (maps v) (state v) → Known (maps v) (state v) stage
+    → Apart (record { at = v.free; words = words }) (region_of stage)
+claimed_from v words (Polled task) formed known =
+    apart_sym no_region (record { at = v.free; words = words })
+    (no_region_apart (record { at = v.free; words = words }))
+claimed_from v words (Headed address shape access) formed known =
+    apart_sym no_region (record { at = v.free; words = words })
+    (no_region_apart (record { at = v.free; words = words }))
+claimed_from v words (Looked place target dst) formed known =
+    apart_sym no_region (record { at = v.free; words = words })
+    (no_region_apart (record { at = v.free; words = words }))
+claimed_from v words (Cleared place target dst) formed known =
+    apart_sym no_region (record { at = v.free; words = words })
+    (no_region_apart (record { at = v.free; words = words }))
+claimed_from v words (Claimed address shape stored dst) formed known =
+    apart_sym (region address shape) (record { at = v.free; words = words })
+    (claimed_apart (maps v) (state v) words (region address shape) known.1.owns)
+claimed_from v words (Lacking need) formed known =
+    apart_sym no_region (record { at = v.free; words = words })
+    (no_region_apart (record { at = v.free; words = words }))
 
 -- how a claim happens
-claim_happens : (told : Bool) (v : View) (t free need : ℕ) (o : Op) (shape : Shape) (dst : ℕ) (stage : Stage) → MayAdvance v t o → stage_of v t ≡ Some (Polled (Making dst shape)) → Standing told v → IsShape shape → free ≡ v.free + cost_of shape → need ≡ cost_of shape →
-    (free ≤ length v.space.list + 1 → stage ≡ Claimed v.free shape 0 dst) → (length v.space.list + 1 < free → stage ≡ Lacking need) →
+claim_happens : (told : Bool) (v : View) (t free need : ℕ) (o : Op) (shape : Shape) (dst : ℕ) (stage : Stage)
+    → MayAdvance v t o → stage_of v t ≡ Some (Polled (Making dst shape)) → Standing told v → IsShape shape
+    → free ≡ v.free + cost_of shape → need ≡ cost_of shape →
+    (free ≤ length v.space.list + 1 → stage ≡ Claimed v.free shape 0 dst)
+    → (length v.space.list + 1 < free → stage ≡ Lacking need) →
     FreeMoves (state v) (state (claiming v free t (record { op = o; stage = stage }))) (v.free + cost_of shape) →
-    Next (maps v) (state v) (register_in v.held t) v.stop o (stage_of v t) stage → claimed_in (call_of v t) ≡ 0 → t < length v.calls →
-    Happens told v (claiming v free t (record { op = o; stage = stage })) t no_region (cleared_by (stage_of v t)) None (Some (record { op = o; stage = stage }))
+    Next (maps v) (state v) (register_in v.held t) v.stop o (stage_of v t) stage → claimed_in (call_of v t) ≡ 0
+    → t < length v.calls →
+    Happens told v (claiming v free t (record { op = o; stage = stage })) t no_region (cleared_by (stage_of v t)) None
+    (Some (record { op = o; stage = stage }))
 claim_happens told v t free need o shape dst stage asks at s small whole needed fits lacks moves next unclaimed within =
     let after : Call = record { op = o; stage = stage } in
     let w : View = claiming v free t after in
     let first : 1 ≤ v.free = s.first in
     let clears : cleared_by (stage_of v t) ≡ 0 = ap cleared_by at in
     record {
-      event = subst (λ (k : ℕ). Event told v.log (maps v) (maps w) (state v) (state w) no_region k None) (sym clears) (claims_words (cost_of shape) refl moves);
+      event = subst (λ (k : ℕ). Event told v.log (maps v) (maps w) (state v) (state w) no_region k None) (sym clears)
+          (claims_words (cost_of shape) refl moves);
       log = refl;
       calls = refl;
       threads = refl;
@@ -104,40 +132,52 @@ claim_happens told v t free need o shape dst stage asks at s small whole needed 
       first = omega arith;
       bounded = elim (cases_lt (length v.space.list + 1) free) [
         | inl above ↦
-            let few : need ≤ 126 = let refs : shape.refs ≤ 62 = small.refs in let nums : shape.nums ≤ 62 = small.nums in omega arith in
+            let few : need ≤ 126 = let refs : shape.refs ≤ 62 = small.refs in let nums : shape.nums ≤ 62 =
+            small.nums in omega arith in
             let sum : v.free + need ≡ free = omega arith in
-            bounded_is w (length v.space.list) (v.free + need) v.stop (set v.calls t (Some after)) refl (sym sum) refl refl
-            (bounded_lacking (length v.space.list) v.free need v.stop v.calls t (Some after) (Making dst shape) within at (ap Some (lacks above)) few s.bounded)
+            bounded_is w (length v.space.list) (v.free + need) v.stop (set v.calls t (Some after)) refl
+            (sym sum) refl refl
+            (bounded_lacking (length v.space.list) v.free need v.stop v.calls t (Some after)
+            (Making dst shape) within at (ap Some (lacks above)) few s.bounded)
         | inr below ↦ inl below
       ];
       may_hold = λ r. hold_words (maps v) (state v) (state w) (register_in v.held t r) (λ k. refl) (s.registers t r);
-      known = λ c is. subst (λ (d : Call). Known (maps w) (state w) d.stage) (let e : after ≡ c = cc in e) (elim (cases_lt (length v.space.list + 1) free) [
-        | inl above ↦ subst (Known (maps w) (state w)) (sym (lacks above)) above
-        | inr below ↦ subst (Known (maps w) (state w)) (sym (fits below)) (
-          small,
-          record {
-            owns = claimed_owned (maps v) (state v) (state w) (cost_of shape) s.holds.formed first (omega arith) moves;
-            few = omega arith;
-            are = λ k one none. absurd (omega arith);
-          },
-        )
-      ]);
+      known = λ c is. subst (λ (d : Call). Known (maps w) (state w) d.stage) (let e : after ≡ c = cc in e)
+          (elim (cases_lt (length v.space.list + 1) free) [
+            | inl above ↦ subst (Known (maps w) (state w)) (sym (lacks above)) above
+            | inr below ↦ subst (Known (maps w) (state w)) (sym (fits below)) (
+              small,
+              record {
+                owns = claimed_owned (maps v) (state v) (state w) (cost_of shape) s.holds.formed first (omega arith) moves;
+                few = omega arith;
+                are = λ k one none. absurd (omega arith);
+              },
+            )
+          ]);
       fits = λ c is. subst (λ (d : Call). Fits (register_in v.held t) d.op d.stage) (let e : after ≡ c = cc in e)
-          (next_fits (maps v) (state v) (register_in v.held t) v.stop o (call_of v t) stage asks.continued (λ d is_d. s.fits t d is_d) next);
+          (next_fits (maps v) (state v) (register_in v.held t) v.stop o (call_of v t) stage asks.continued
+          (λ d is_d. s.fits t d is_d) next);
       mine_is = λ u d differ is. no_region_apart (region_of d.stage);
-      apart = λ c is u d differ other. subst (λ (x : Call). Apart (region_of x.stage) (region_of d.stage)) (let e : after ≡ c = cc in e) (elim (cases_lt (length v.space.list + 1) free) [
-        | inl above ↦ subst (λ (g : Stage). Apart (region_of g) (region_of d.stage)) (sym (lacks above)) (no_region_apart (region_of d.stage))
-        | inr below ↦ subst (λ (g : Stage). Apart (region_of g) (region_of d.stage)) (sym (fits below)) (claimed_from v (cost_of shape) d.stage s.holds.formed (s.known u d other))
-      ]);
+      apart = λ c is u d differ other. subst (λ (x : Call). Apart (region_of x.stage) (region_of d.stage))
+          (let e : after ≡ c = cc in e) (elim (cases_lt (length v.space.list + 1) free) [
+            | inl above ↦ subst (λ (g : Stage). Apart (region_of g) (region_of d.stage)) (sym (lacks above))
+                (no_region_apart (region_of d.stage))
+            | inr below ↦ subst (λ (g : Stage). Apart (region_of g) (region_of d.stage)) (sym (fits below))
+                (claimed_from v (cost_of shape) d.stage s.holds.formed (s.known u d other))
+          ]);
       counts = λ is. elim (cases_lt (length v.space.list + 1) free) [
-        | inl above ↦ Counts_lacking v w t (Some after) (as_told told v is s) asks.thread refl refl (omega arith) refl refl unclaimed (ap (λ (g : Stage). (region_of g).words) (lacks above))
-        | inr below ↦ Counts_claimed v w t (cost_of shape) (Some after) (as_told told v is s) asks.thread refl refl whole (omega arith) refl refl unclaimed (ap (λ (g : Stage). (region_of g).words) (fits below))
+        | inl above ↦ Counts_lacking v w t (Some after) (as_told told v is s) asks.thread refl refl
+            (omega arith) refl refl unclaimed (ap (λ (g : Stage). (region_of g).words) (lacks above))
+        | inr below ↦ Counts_claimed v w t (cost_of shape) (Some after) (as_told told v is s) asks.thread refl refl
+            whole (omega arith) refl refl unclaimed (ap (λ (g : Stage). (region_of g).words) (fits below))
       ];
     }
 
 -- Words were claimed, and the call knows whether they end past the last one.
-pub claim_advances : (v : View) (t free need : ℕ) (o : Op) (shape : Shape) (dst : ℕ) (stage : Stage) → MayAdvance v t o → stage_of v t ≡ Some (Polled (Making dst shape)) → need ≡ cost_of shape → free ≡ v.free + need →
-    (free ≤ length v.space.list + 1 → stage ≡ Claimed v.free shape 0 dst) → (length v.space.list + 1 < free → stage ≡ Lacking need) →
+pub claim_advances : (v : View) (t free need : ℕ) (o : Op) (shape : Shape) (dst : ℕ) (stage : Stage) → MayAdvance v t o
+    → stage_of v t ≡ Some (Polled (Making dst shape)) → need ≡ cost_of shape → free ≡ v.free + need →
+    (free ≤ length v.space.list + 1 → stage ≡ Claimed v.free shape 0 dst)
+    → (length v.space.list + 1 < free → stage ≡ Lacking need) →
     Advances v (claiming v free t (record { op = o; stage = stage })) t o Going
 claim_advances v t free need o shape dst stage asks at needed sum fits lacks =
     let s : Standing false v = asks.stands in
@@ -147,52 +187,73 @@ claim_advances v t free need o shape dst stage asks at needed sum fits lacks =
     let task : task_of o ≡ Some (Making dst shape) = (fits_at v t o (Polled (Making dst shape)) asks at).0 in
     let small : IsShape shape = small_shape v t o dst shape asks task in
     let whole : free ≡ v.free + cost_of shape = omega arith in
-    let next : Next (maps v) (state v) (register_in v.held t) v.stop o (stage_of v t) stage = subst (λ (g : Option Stage). Next (maps v) (state v) (register_in v.held t) v.stop o g stage) (sym at)
+    let next : Next (maps v) (state v) (register_in v.held t) v.stop o (stage_of v t) stage =
+    subst (λ (g : Option Stage). Next (maps v) (state v) (register_in v.held t) v.stop o g stage) (sym at)
     (λ below. fits (omega arith), λ above. lacks (omega arith) ∙ ap Lacking needed) in
-    let moves : FreeMoves (state v) (state w) (v.free + cost_of shape) = record { base = refl; is = whole; word = λ k. refl; global = λ g. refl; forward = λ p. refl } in
+    let moves : FreeMoves (state v) (state w) (v.free + cost_of shape) =
+    record { base = refl; is = whole; word = λ k. refl; global = λ g. refl; forward = λ p. refl } in
     let unclaimed : claimed_in (call_of v t) ≡ 0 = ap claimed_in (call_at v t o (Polled (Making dst shape)) asks at) in
     let made : Made v w t (cleared_by (stage_of v t)) = record {
       mine = no_region;
       act = None;
       after = Some after;
-      happens = λ told stands. claim_happens told v t free need o shape dst stage asks at stands small whole needed fits lacks moves next unclaimed within;
+      happens = λ told stands. claim_happens told v t free need o shape dst stage asks at stands small whole needed fits
+          lacks moves next unclaimed within;
     } in
     advances v w t o Going asks made refl
-    (subst (λ (g : Option Stage). Applies (maps v) (maps w) (state v) (state w) (change_of (state v) (register_in v.held t) g)) (sym at) (refl, moves))
+    (subst (λ (g : Option Stage). Applies (maps v) (maps w) (state v) (state w)
+    (change_of (state v) (register_in v.held t) g)) (sym at) (refl, moves))
     (goes v w t o stage asks next refl (record { history = refl; registers = refl; values = refl }) refl)
     tt
 
 -- an object apart from a region does not start in it
-outside_at : (b cost at : ℕ) (r : Region) → Apart (record { at = b; words = 2 + cost }) r → r.at ≤ at → at < r.at + r.words → b ≢ at
+outside_at : (b cost at : ℕ) (r : Region) → Apart (record { at = b; words = 2 + cost }) r → r.at ≤ at
+    → at < r.at + r.words → b ≢ at
 outside_at b cost at r apart from to = λ same. elim (cases_eq b r.at) [
   | inl first ↦ apart.differ (omega arith) (omega arith) first
   | inr other ↦ let past : r.at + r.words ≤ b = apart.behind (omega arith) in omega arith
 ]
 
 -- the region of a thread, where one of its own words is stored
-owns_stored : (m : Maps) (s t : State) (r : Region) (at word : ℕ) → FormedWords m s → Owns m s r → r.at ≤ at → at < r.at + r.words → WordChanges s t at word → Owns m t r
+owns_stored : (m : Maps) (s t : State) (r : Region) (at word : ℕ) → FormedWords m s → Owns m s r → r.at ≤ at
+    → at < r.at + r.words → WordChanges s t at word → Owns m t r
 owns_stored m s t r at word formed owns from to changes = record {
   first = owns.first;
   below = let e : t.free ≡ s.free = changes.free in let below : r.at + r.words ≤ s.free = owns.below in omega arith;
   within = subst (λ (b : Base). r.at + r.words ≤ b.size + 1) (sym changes.base) owns.within;
   outside = λ b n header named starts.
       let object = formed.objects b n named in
-      let apart : Apart (record { at = b; words = cost_of object.0.shape }) r = owns.outside b n object.0 named object.1.starts in
-      let other : b ≢ at = outside_at b (object.0.shape.refs + object.0.shape.nums) at r (subst (λ (n : ℕ). Apart (record { at = b; words = n }) r) (let e : cost_of object.0.shape ≡ 2 + (object.0.shape.refs + object.0.shape.nums) = omega arith in e) apart) from to in
-      let same : object.0 ≡ header = one_header s b object.0 header object.1.starts (header_moves s t b header (sym (changes.others b other)) starts) in
+      let apart : Apart (record { at = b; words = cost_of object.0.shape }) r =
+      owns.outside b n object.0 named object.1.starts in
+      let other : b ≢ at = outside_at b (object.0.shape.refs + object.0.shape.nums) at r
+      (subst (λ (n : ℕ). Apart (record { at = b; words = n }) r)
+      (let e : cost_of object.0.shape ≡ 2 + (object.0.shape.refs + object.0.shape.nums) = omega arith in e) apart)
+      from to in
+      let same : object.0 ≡ header =
+      one_header s b object.0 header object.1.starts
+      (header_moves s t b header (sym (changes.others b other)) starts) in
       subst (λ (h : Header). Apart (record { at = b; words = cost_of h.shape }) r) same apart;
 }
 
 -- a call whose region is at a place
-claimed_known : (v : View) (t : ℕ) (o : Op) (address stored dst : ℕ) (shape : Shape) → MayAdvance v t o → stage_of v t ≡ Some (Claimed address shape stored dst) → IsShape shape × HasStored (maps v) (state v) (region address shape) (λ k. 0) stored
+claimed_known : (v : View) (t : ℕ) (o : Op) (address stored dst : ℕ) (shape : Shape) → MayAdvance v t o
+    → stage_of v t ≡ Some (Claimed address shape stored dst) → IsShape shape
+    × HasStored (maps v) (state v) (region address shape) (λ k. 0) stored
 claimed_known v t o address stored dst shape asks at = known_at v t o (Claimed address shape stored dst) asks at
 
 -- the words of others are apart from it
-others_apart : (v : View) (t : ℕ) (o : Op) (stage : Stage) → MayAdvance v t o → stage_of v t ≡ Some stage → (u : ℕ) (d : Call) → u ≢ t → call_of v u ≡ Some d → Apart (region_of stage) (region_of d.stage)
-others_apart v t o stage asks at u d differ is = asks.stands.apart t u (record { op = o; stage = stage }) d (λ same. differ (sym same)) (call_at v t o stage asks at) is
+others_apart : (v : View) (t : ℕ) (o : Op) (stage : Stage) → MayAdvance v t o → stage_of v t ≡ Some stage
+    → (u : ℕ) (d : Call) → u ≢ t → call_of v u ≡ Some d → Apart (region_of stage) (region_of d.stage)
+others_apart v t o stage asks at u d differ is =
+    asks.stands.apart t u (record { op = o; stage = stage }) d (λ same. differ (sym same))
+    (call_at v t o stage asks at) is
 
 -- A word behind the header was stored.
-pub store_zero_advances : (v : View) (space : SpaceWords) (t : ℕ) (o : Op) (address stored dst : ℕ) (shape : Shape) → MayAdvance v t o → stage_of v t ≡ Some (Claimed address shape stored dst) → stored + 1 < cost_of shape → SetsWord v.space space (address + 1 + stored) 0 → Advances v (with_call (record v { space = space }) t (Some (record { op = o; stage = Claimed address shape (stored + 1) dst }))) t o Going
+pub store_zero_advances : (v : View) (space : SpaceWords) (t : ℕ) (o : Op) (address stored dst : ℕ) (shape : Shape)
+    → MayAdvance v t o → stage_of v t ≡ Some (Claimed address shape stored dst) → stored + 1 < cost_of shape
+    → SetsWord v.space space (address + 1 + stored) 0
+    → Advances v (with_call (record v { space = space }) t
+    (Some (record { op = o; stage = Claimed address shape (stored + 1) dst }))) t o Going
 store_zero_advances v space t o address stored dst shape asks at few sets =
     let s : Standing false v = asks.stands in
     let stage : Stage = Claimed address shape stored dst in
@@ -209,15 +270,22 @@ store_zero_advances v space t o address stored dst shape asks at few sets =
       global = λ g. refl;
       forward = λ p. refl;
     } in
-    let owns : Owns (maps w) (state w) (region address shape) = owns_stored (maps v) (state v) (state w) (region address shape) (address + 1 + stored) 0 s.holds.formed known.1.owns (omega arith) (omega arith) changes in
-    let next : Next (maps v) (state v) (register_in v.held t) v.stop o (stage_of v t) next_stage = subst (λ (g : Option Stage). Next (maps v) (state v) (register_in v.held t) v.stop o g next_stage) (sym at) (few, refl) in
-    let claimed : claimed_in (Some after) ≡ claimed_in (call_of v t) = sym (ap claimed_in (call_at v t o stage asks at)) in
+    let owns : Owns (maps w) (state w) (region address shape) =
+    owns_stored (maps v) (state v) (state w) (region address shape)
+    (address + 1 + stored) 0 s.holds.formed known.1.owns (omega arith) (omega arith) changes in
+    let next : Next (maps v) (state v) (register_in v.held t) v.stop o (stage_of v t) next_stage =
+    subst (λ (g : Option Stage). Next (maps v) (state v) (register_in v.held t) v.stop o g next_stage) (sym at)
+    (few, refl) in
+    let claimed : claimed_in (Some after) ≡ claimed_in (call_of v t) =
+    sym (ap claimed_in (call_at v t o stage asks at)) in
     let made : Made v w t (cleared_by (stage_of v t)) = record {
       mine = region address shape;
       act = None;
       after = Some after;
       happens = λ told stands. record {
-        event = subst (λ (k : ℕ). Event told v.log (maps v) (maps w) (state v) (state w) (region address shape) k None) (sym (ap cleared_by at)) (stores (region address shape) (address + 1 + stored) 0 refl known.1.owns (omega arith) (omega arith) changes);
+        event = subst (λ (k : ℕ). Event told v.log (maps v) (maps w) (state v) (state w) (region address shape) k None)
+            (sym (ap cleared_by at)) (stores (region address shape) (address + 1 + stored) 0 refl known.1.owns
+            (omega arith) (omega arith) changes);
         log = refl;
         calls = refl;
         threads = refl;
@@ -227,9 +295,14 @@ store_zero_advances v space t o address stored dst shape asks at few sets =
         made = stands.counted;
         first = stands.first;
         bounded = bounded_is w (length v.space.list) v.free v.stop (set v.calls t (Some after)) sets.size refl refl refl
-            (bounded_call (length v.space.list) v.free v.stop v.calls t (Some after) within (claims_next (maps v) (state v) (register_in v.held t) v.stop o (stage_of v t) next_stage next) stands.bounded);
+            (bounded_call (length v.space.list) v.free v.stop v.calls t (Some after) within
+            (claims_next (maps v) (state v) (register_in v.held t) v.stop o (stage_of v t) next_stage next)
+            stands.bounded);
         may_hold = λ r. hold_stays (maps v) (maps w) (state v) (state w) 0 stands.holds.formed
-            (evolves_event false v.log (maps v) (maps w) (state v) (state w) (region address shape) 0 None s.holds.formed (stores (region address shape) (address + 1 + stored) 0 refl known.1.owns (omega arith) (omega arith) changes))
+            (evolves_event false v.log (maps v) (maps w) (state v) (state w)
+            (region address shape) 0 None s.holds.formed
+            (stores (region address shape) (address + 1 + stored) 0 refl known.1.owns (omega arith)
+            (omega arith) changes))
             (register_in v.held t r) (s.registers t r);
         known = λ c is. subst (λ (d : Call). Known (maps w) (state w) d.stage) (let e : after ≡ c = cc in e) (
           known.0,
@@ -237,25 +310,33 @@ store_zero_advances v space t o address stored dst shape asks at few sets =
             owns = owns;
             few = omega arith;
             are = λ k one up_to. elim (cases_eq k (stored + 1)) [
-              | inl same ↦ subst (λ (x : ℕ). (state w).word x ≡ 0) (let e : address + 1 + stored ≡ address + k = omega arith in e) changes.here
+              | inl same ↦ subst (λ (x : ℕ). (state w).word x ≡ 0) (let e : address + 1 + stored ≡ address + k =
+                  omega arith in e) changes.here
               | inr other ↦ changes.others (address + k) (λ e. other (omega arith)) ∙ known.1.are k one (omega arith)
             ];
           },
         );
-        fits = λ c is. subst (λ (d : Call). Fits (register_in v.held t) d.op d.stage) (let e : after ≡ c = cc in e) (fits_at v t o stage asks at);
+        fits = λ c is. subst (λ (d : Call). Fits (register_in v.held t) d.op d.stage) (let e : after ≡ c = cc in e)
+            (fits_at v t o stage asks at);
         mine_is = others_apart v t o stage asks at;
-        apart = λ c is u d differ other. subst (λ (x : Call). Apart (region_of x.stage) (region_of d.stage)) (let e : after ≡ c = cc in e) (others_apart v t o stage asks at u d differ other);
-        counts = λ is. Counts_same v w t (Some after) (as_told told v is stands) asks.thread refl refl refl sets.size refl claimed;
+        apart = λ c is u d differ other. subst (λ (x : Call). Apart (region_of x.stage) (region_of d.stage))
+            (let e : after ≡ c = cc in e) (others_apart v t o stage asks at u d differ other);
+        counts = λ is. Counts_same v w t (Some after) (as_told told v is stands) asks.thread refl refl refl sets.size
+            refl claimed;
       };
     } in
     advances v w t o Going asks made refl
-    (subst (λ (g : Option Stage). Applies (maps v) (maps w) (state v) (state w) (change_of (state v) (register_in v.held t) g)) (sym at)
-    (subst (λ (b : Bool). Applies (maps v) (maps w) (state v) (state w) (if b then Publish address shape else Word (address + 1 + stored) 0)) (sym (ne_eqb (stored + 1) (cost_of shape) (λ e. omega arith))) (refl, changes)))
+    (subst (λ (g : Option Stage). Applies (maps v) (maps w) (state v) (state w)
+    (change_of (state v) (register_in v.held t) g)) (sym at)
+    (subst (λ (b : Bool). Applies (maps v) (maps w) (state v) (state w)
+    (if b then Publish address shape else Word (address + 1 + stored) 0))
+    (sym (ne_eqb (stored + 1) (cost_of shape) (λ e. omega arith))) (refl, changes)))
     (goes v w t o next_stage asks next refl (record { history = refl; registers = refl; values = refl }) refl)
     tt
 
 -- The call is refused for want of room, and the stop word is set.
-pub lack_advances : (v : View) (t need : ℕ) (o : Op) → MayAdvance v t o → stage_of v t ≡ Some (Lacking need) → Advances v (with_call (record v { stop = true }) t None) t o (Refused (Pause (Space need)))
+pub lack_advances : (v : View) (t need : ℕ) (o : Op) → MayAdvance v t o → stage_of v t ≡ Some (Lacking need)
+    → Advances v (with_call (record v { stop = true }) t None) t o (Refused (Pause (Space need)))
 lack_advances v t need o asks at =
     let s : Standing false v = asks.stands in
     let w : View = with_call (record v { stop = true }) t None in
@@ -265,7 +346,8 @@ lack_advances v t need o asks at =
       act = None;
       after = None;
       happens = λ told stands. record {
-        event = subst (λ (k : ℕ). Event told v.log (maps v) (maps w) (state v) (state w) no_region k None) (sym (ap cleared_by at)) (quiet refl (same_words v));
+        event = subst (λ (k : ℕ). Event told v.log (maps v) (maps w) (state v) (state w) no_region k None)
+            (sym (ap cleared_by at)) (quiet refl (same_words v));
         log = refl;
         calls = refl;
         threads = refl;
@@ -280,22 +362,36 @@ lack_advances v t need o asks at =
         fits = λ c is. absurd (cc);
         mine_is = λ u d differ is. no_region_apart (region_of d.stage);
         apart = λ c is. absurd (cc);
-        counts = λ is. Counts_same v w t None (as_told told v is stands) asks.thread refl refl refl refl refl (sym (ap claimed_in (call_at v t o (Lacking need) asks at)));
+        counts = λ is. Counts_same v w t None (as_told told v is stands) asks.thread refl refl refl refl refl
+            (sym (ap claimed_in (call_at v t o (Lacking need) asks at)));
       };
     } in
     advances v w t o (Refused (Pause (Space need))) asks made refl
-    (subst (λ (g : Option Stage). Applies (maps v) (maps w) (state v) (state w) (change_of (state v) (register_in v.held t) g)) (sym at) (refl, same_words v))
-    (record { stage = at; call = call_here v w t None refl within; own = record { history = refl; registers = refl; values = refl }; stop = refl })
+    (subst (λ (g : Option Stage). Applies (maps v) (maps w) (state v) (state w)
+    (change_of (state v) (register_in v.held t) g)) (sym at) (refl, same_words v))
+    (record {
+      stage = at;
+      call = call_here v w t None refl within;
+      own =
+          record { history = refl; registers = refl; values = refl };
+      stop = refl;
+    })
     tt
 
 -- the view behind the publication of an object
 abbrev pub published : View → SpaceWords → Option heap.Names → ℕ → Shape → ℕ → ℕ → View
 published v space names t shape dst address =
-    with_call (with_register (noted (record v { space = space; names = names; made = v.made + 1 }) (entry t (Make shape.refs shape.nums))) t dst address) t None
+    with_call (with_register (noted (record v { space = space; names = names; made = v.made + 1 })
+    (entry t (Make shape.refs shape.nums))) t dst address) t None
 
 -- An object was made.
-pub publish_advances : (v : View) (space : SpaceWords) (names : Option heap.Names) (t word : ℕ) (o : Op) (address stored dst : ℕ) (shape : Shape) → MayAdvance v t o → stage_of v t ≡ Some (Claimed address shape stored dst) → stored + 1 ≡ cost_of shape → word ≡ header_word (record { shape = shape; stale = false }) → SetsWord v.space space address word →
-    IsSome names → length (numbers_of names) ≡ length (numbers_of v.names) → NameAppears (maps_of v.names) (maps_of names) address v.made → Advances v (published v space names t shape dst address) t o (Answered reply.Done)
+pub publish_advances : (v : View) (space : SpaceWords) (names : Option heap.Names) (t word : ℕ) (o : Op)
+    (address stored dst : ℕ) (shape : Shape) → MayAdvance v t o → stage_of v t ≡ Some (Claimed address shape stored dst)
+    → stored + 1 ≡ cost_of shape → word ≡ header_word (record { shape = shape; stale = false })
+    → SetsWord v.space space address word →
+    IsSome names → length (numbers_of names) ≡ length (numbers_of v.names)
+    → NameAppears (maps_of v.names) (maps_of names) address v.made
+    → Advances v (published v space names t shape dst address) t o (Answered reply.Done)
 publish_advances v space names t word o address stored dst shape asks at all is sets some size appears =
     let s : Standing false v = asks.stands in
     let stage : Stage = Claimed address shape stored dst in
@@ -315,18 +411,26 @@ publish_advances v space names t word o address stored dst shape asks at all is 
       global = λ g. refl;
       forward = λ p. refl;
     } in
-    let named : NameAppears (maps v) (maps w) address (makes v.log) = subst (NameAppears (maps v) (maps w) address) s.counted appears in
-    let event : (told : Bool) → Event told v.log (maps v) (maps w) (state v) (state w) (region address shape) 0 (Some (Make shape.refs shape.nums)) =
+    let named : NameAppears (maps v) (maps w) address (makes v.log) =
+    subst (NameAppears (maps v) (maps w) address) s.counted appears in
+    let event : (told : Bool) → Event told v.log (maps v) (maps w) (state v) (state w) (region address shape) 0
+    (Some (Make shape.refs shape.nums)) =
     λ told. publishes address stored shape known.0 known.1 all changes named in
-    let evolves : Evolves (maps v) (maps w) (state v) (state w) 0 = evolves_event false v.log (maps v) (maps w) (state v) (state w) (region address shape) 0 (Some (Make shape.refs shape.nums)) s.holds.formed (event false) in
-    let fresh : IsFresh (state w) address = λ h starts. ap (λ (x : Header). x.stale) (one_header (state w) address h header starts (record { in_range = known.0; word = changes.here })) in
-    let object : held_value names address ≡ Ref (makes v.log) = held_is names address (Ref v.made) (named_value names address v.made appears.here) ∙ ap Ref s.counted in
+    let evolves : Evolves (maps v) (maps w) (state v) (state w) 0 =
+    evolves_event false v.log (maps v) (maps w) (state v) (state w) (region address shape) 0
+    (Some (Make shape.refs shape.nums)) s.holds.formed (event false) in
+    let fresh : IsFresh (state w) address =
+    λ h starts. ap (λ (x : Header). x.stale)
+    (one_header (state w) address h header starts (record { in_range = known.0; word = changes.here })) in
+    let object : held_value names address ≡ Ref (makes v.log) =
+    held_is names address (Ref v.made) (named_value names address v.made appears.here) ∙ ap Ref s.counted in
     let made : Made v w t (cleared_by (stage_of v t)) = record {
       mine = region address shape;
       act = Some (Make shape.refs shape.nums);
       after = None;
       happens = λ told stands. record {
-        event = subst (λ (k : ℕ). Event told v.log (maps v) (maps w) (state v) (state w) (region address shape) k (Some (Make shape.refs shape.nums))) (sym (ap cleared_by at)) (event told);
+        event = subst (λ (k : ℕ). Event told v.log (maps v) (maps w) (state v) (state w) (region address shape) k
+            (Some (Make shape.refs shape.nums))) (sym (ap cleared_by at)) (event told);
         log = refl;
         calls = refl;
         threads = threads_set (record v { names = names }) t dst address;
@@ -336,33 +440,59 @@ publish_advances v space names t word o address stored dst shape asks at all is 
         made = ap (λ (n : ℕ). n + 1) stands.counted ∙ made_one v.log t shape;
         first = stands.first;
         bounded = bounded_is w (length v.space.list) v.free v.stop (set v.calls t None) sets.size refl refl refl
-            (bounded_call (length v.space.list) v.free v.stop v.calls t None within (claims_ends v.stop (stage_of v t) (λ need lacks. let e : Some stage ≡ Some (Lacking need) = sym at ∙ lacks in cc)) stands.bounded);
-        may_hold = register_keeps (MayHold (maps w) (state w)) v t dst address asks.thread (inr ((makes v.log, named.here), fresh))
-            (λ k. hold_stays (maps v) (maps w) (state v) (state w) 0 s.holds.formed evolves (register_in v.held t k) (s.registers t k));
+            (bounded_call (length v.space.list) v.free v.stop v.calls t None within
+            (claims_ends v.stop (stage_of v t) (λ need lacks. let e : Some stage ≡ Some (Lacking need) =
+            sym at ∙ lacks in cc)) stands.bounded);
+        may_hold = register_keeps (MayHold (maps w) (state w)) v t dst address asks.thread
+            (inr ((makes v.log, named.here), fresh))
+            (λ k. hold_stays (maps v) (maps w) (state v) (state w) 0 s.holds.formed evolves (register_in v.held t k)
+            (s.registers t k));
         known = λ c none. absurd (cc);
         fits = λ c none. absurd (cc);
         mine_is = others_apart v t o stage asks at;
         apart = λ c none. absurd (cc);
-        counts = λ x. Counts_published v w t address stored dst before shape (entry t (Make shape.refs shape.nums)) (as_told told v x stands) asks.thread call refl named refl refl refl sets.size refl;
+        counts = λ x. Counts_published v w t address stored dst before shape (entry t (Make shape.refs shape.nums))
+            (as_told told v x stands) asks.thread call refl named refl refl refl sets.size refl;
       };
     } in
-    let stay : (u : ℕ) → held_values names (registers_in v.held u) ≡ values_of v u = λ u. values_stay v (record w { held = v.held }) u 0 s
-    (evolves_event false v.log (maps v) (maps w) (state v) (state (record w { held = v.held })) (region address shape) 0 (Some (Make shape.refs shape.nums)) s.holds.formed
-    (publishes address stored shape known.0 known.1 all (record { base = changes.base; free = changes.free; here = changes.here; others = changes.others; global = changes.global; forward = changes.forward }) named)) refl in
-    advances v w t o (Answered reply.Done) asks made refl
-    (subst (λ (g : Option Stage). Applies (maps v) (maps w) (state v) (state w) (change_of (state v) (register_in v.held t) g)) (sym at)
-    (subst (λ (b : Bool). Applies (maps v) (maps w) (state v) (state w) (if b then Publish address shape else Word (address + 1 + stored) 0)) (sym (eq-eqb (stored + 1) (cost_of shape) all)) (changes, (v.made, appears))))
+    let stay : (u : ℕ) → held_values names (registers_in v.held u) ≡ values_of v u =
+    λ u. values_stay v (record w { held = v.held }) u 0 s
+    (evolves_event false v.log (maps v) (maps w) (state v) (state (record w { held = v.held })) (region address shape) 0
+    (Some (Make shape.refs shape.nums)) s.holds.formed
+    (publishes address stored shape known.0 known.1 all
     (record {
-      last = λ next goes. let more : (stored + 1 < cost_of shape) × (next ≡ Claimed address shape (stored + 1) dst) = subst (λ (g : Option Stage). Next (maps v) (state v) (register_in v.held t) v.stop o g next) at goes in let few : stored + 1 < cost_of shape = more.0 in omega arith;
+      base = changes.base;
+      free = changes.free;
+      here = changes.here;
+      others = changes.others;
+      global =
+          changes.global;
+      forward = changes.forward;
+    }) named)) refl in
+    advances v w t o (Answered reply.Done) asks made refl
+    (subst (λ (g : Option Stage). Applies (maps v) (maps w) (state v) (state w)
+    (change_of (state v) (register_in v.held t) g)) (sym at)
+    (subst (λ (b : Bool). Applies (maps v) (maps w) (state v) (state w)
+    (if b then Publish address shape else Word (address + 1 + stored) 0))
+    (sym (eq-eqb (stored + 1) (cost_of shape) all)) (changes, (v.made, appears))))
+    (record {
+      last = λ next goes. let more : (stored + 1 < cost_of shape) × (next ≡ Claimed address shape (stored + 1) dst) =
+          subst (λ (g : Option Stage). Next (maps v) (state v) (register_in v.held t) v.stop o g next) at goes in
+          let few : stored + 1 < cost_of shape = more.0 in omega arith;
       no_pause = λ pause. subst (MustPause (register_in v.held t) v.stop o) at pause;
       call = call_here v w t None refl within;
-      answers = λ told. subst (λ (p : Op). Answers t v.log (values_of v t) p reply.Done w.log (values_of w t)) (sym same)
+      answers = λ told. subst (λ (p : Op). Answers t v.log (values_of v t) p reply.Done w.log (values_of w t))
+          (sym same)
           (new_answers t v.log (values_of v t) dst shape.refs shape.nums reply.Done _ _ refl
-          (values_set (record v { names = names }) t dst address asks.thread ∙ (ap (λ (vs : List Value). set vs dst (held_value names address)) (stay t) ∙ ap (set (values_of v t) dst) object)) refl);
+          (values_set (record v { names = names }) t dst address asks.thread
+          ∙ (ap (λ (vs : List Value). set vs dst (held_value names address)) (stay t)
+          ∙ ap (set (values_of v t) dst) object)) refl);
       history = (Some (Make shape.refs shape.nums), refl);
-      registers = λ r other. register_other v t dst address r asks.thread (λ e. other (subst (λ (p : Op). Sets p r) (sym same) e));
+      registers = λ r other. register_other v t dst address r asks.thread
+          (λ e. other (subst (λ (p : Op). Sets p r) (sym same) e));
       stop = refl;
-      room = λ told. subst (HasRoomFor v) (sym same) (room_for v t address stored dst before shape told asks.thread call refl);
+      room = λ told. subst (HasRoomFor v) (sym same)
+          (room_for v t address stored dst before shape told asks.thread call refl);
     })
     (λ place d loads there tagged. no_load (register_in v.held t) o place d (subst LoadsNothing (sym task) tt) loads)
 

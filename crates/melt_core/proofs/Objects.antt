@@ -23,32 +23,57 @@ use Rattle.melt_core.proofs.Answers.{shape_of}
 use Rattle.melt_core.proofs.Values.{value_held, held_is, named_value}
 
 -- an object stands where a register points
-pub object_held : (v : View) (t r : ℕ) → Standing false v → register_in v.held t r ≢ 0 → (header : Header) × IsObjectAt (maps v) (state v) (register_in v.held t r) header.shape
+pub object_held : (v : View) (t r : ℕ) → Standing false v → register_in v.held t r ≢ 0 → (header : Header)
+    × IsObjectAt (maps v) (state v) (register_in v.held t r) header.shape
 object_held v t r s some = elim (s.registers t r) [
   | inl nothing ↦ absurd (some nothing)
   | inr holds ↦
-      let object = s.holds.formed.objects (register_in v.held t r) holds.0.0 holds.0.1 in
-      (object.0, record { number = holds.0.0; named = holds.0.1; header = object.0; starts = object.1.starts; shape_is = refl })
+      let object = s.holds.formed.objects (register_in v.held t r) holds.0.0 holds.0.1 in (
+        object.0,
+        record {
+          number = holds.0.0;
+          named = holds.0.1;
+          header = object.0;
+          starts =
+              object.1.starts;
+          shape_is = refl;
+        },
+      )
 ]
 
 -- the object of a shape that was read off its header
-pub object_of : (v : View) (address : ℕ) (header : Header) (shape : Shape) → IsObjectAt (maps v) (state v) address header.shape → ((h : Header) → IsHeader h → word_at v.space address ≡ header_word h → shape ≡ h.shape) → IsObjectAt (maps v) (state v) address shape
+pub object_of : (v : View) (address : ℕ) (header : Header) (shape : Shape)
+    → IsObjectAt (maps v) (state v) address header.shape
+    → ((h : Header) → IsHeader h → word_at v.space address ≡ header_word h → shape ≡ h.shape)
+    → IsObjectAt (maps v) (state v) address shape
 object_of v address header shape is shaped =
-    record { number = is.number; named = is.named; header = is.header; starts = is.starts; shape_is = sym (shaped is.header is.starts.in_range is.starts.word) }
+    record {
+      number = is.number;
+      named = is.named;
+      header = is.header;
+      starts = is.starts;
+      shape_is =
+          sym (shaped is.header is.starts.in_range is.starts.word);
+    }
 
 -- the value in the register that holds an object
-pub value_named : (v : View) (t r address n : ℕ) → register_in v.held t r ≡ address → (maps v).address address ≡ Some n → value_in (values_of v t) r ≡ Object n
+pub value_named : (v : View) (t r address n : ℕ) → register_in v.held t r ≡ address → (maps v).address address ≡ Some n
+    → value_in (values_of v t) r ≡ Object n
 value_named v t r address n holds named =
     value_held v.names (registers_in v.held t) r
     ∙ (ap (held_value v.names) holds ∙ held_is v.names address (Object n) (named_value v.names address n named))
 
 -- the history's shape of an object
-pub object_shape : (v : View) (address n : ℕ) (shape : Shape) → Standing true v → IsObjectAt (maps v) (state v) address shape → (maps v).address address ≡ Some n → shape_in v.log n ≡ Some (shape_of shape)
+pub object_shape : (v : View) (address n : ℕ) (shape : Shape) → Standing true v
+    → IsObjectAt (maps v) (state v) address shape → (maps v).address address ≡ Some n
+    → shape_in v.log n ≡ Some (shape_of shape)
 object_shape v address n shape s object named =
-    (s.holds.tells refl).shapes address n object.header named object.starts ∙ ap (λ (z : Shape). Some (shape_of z)) object.shape_is
+    (s.holds.tells refl).shapes address n object.header named object.starts
+    ∙ ap (λ (z : Shape). Some (shape_of z)) object.shape_is
 
 -- the word at a place is one of a reference
-pub place_word : (v : View) (place : Place) → Standing false v → IsPlace (maps v) (state v) place → IsReferenceWord (maps v) (state v) (word_in (state v) place)
+pub place_word : (v : View) (place : Place) → Standing false v → IsPlace (maps v) (state v) place
+    → IsReferenceWord (maps v) (state v) (word_in (state v) place)
 place_word v (Field object i) s there =
     let refs : there.1.header.shape.refs ≡ there.0.refs = ap (λ (x : Shape). x.refs) there.1.shape_is in
     let below : i < there.0.refs = there.2 in
@@ -56,39 +81,50 @@ place_word v (Field object i) s there =
 place_word v (Global g) s there = s.holds.formed.globals g there
 
 -- and stands for what was last written there
-pub place_stands : (v : View) (place : Place) (slot : Slot) → Standing true v → IsPlace (maps v) (state v) place → SlotAt (maps v) place slot → Stands (maps v) (word_in (state v) place) (last v.log slot)
+pub place_stands : (v : View) (place : Place) (slot : Slot) → Standing true v → IsPlace (maps v) (state v) place
+    → SlotAt (maps v) place slot → Stands (maps v) (word_in (state v) place) (last v.log slot)
 place_stands v (Field object i) slot s there at =
     let refs : there.1.header.shape.refs ≡ there.0.refs = ap (λ (x : Shape). x.refs) there.1.shape_is in
     let below : i < there.0.refs = there.2 in
     let inside : i < there.1.header.shape.refs = omega arith in
-    subst (λ (x : Slot). Stands (maps v) (word_in (state v) (Field object i)) (last v.log x)) (sym at.2) ((s.holds.tells refl).slots object at.0 i there.1.header at.1 there.1.starts inside)
+    subst (λ (x : Slot). Stands (maps v) (word_in (state v) (Field object i)) (last v.log x)) (sym at.2)
+    ((s.holds.tells refl).slots object at.0 i there.1.header at.1 there.1.starts inside)
 place_stands v (Global g) slot s there at =
-    subst (λ (x : Slot). Stands (maps v) (word_in (state v) (Global g)) (last v.log x)) (sym at) ((s.holds.tells refl).globals g there)
+    subst (λ (x : Slot). Stands (maps v) (word_in (state v) (Global g)) (last v.log x)) (sym at)
+    ((s.holds.tells refl).globals g there)
 
 -- no home stands anywhere yet: word 1 on disk is past all of them
-pub place_no_home : (v : View) (place : Place) (home : ℕ) → Standing false v → IsPlace (maps v) (state v) place → HoldsRef (word_in (state v) place) (Disk home) → ⊥
+pub place_no_home : (v : View) (place : Place) (home : ℕ) → Standing false v → IsPlace (maps v) (state v) place
+    → HoldsRef (word_in (state v) place) (Disk home) → ⊥
 place_no_home v place home s there holds =
     let word = place_word v place s there in
-    let same : word.reference ≡ Disk home = same_ref word.reference (Disk home) word.in_range holds.in_range (sym word.is ∙ holds.is) in
+    let same : word.reference ≡ Disk home =
+    same_ref word.reference (Disk home) word.in_range holds.in_range (sym word.is ∙ holds.is) in
     let stands : (1 ≤ home) × (home < 1) = subst (MayStand (maps v) (state v)) same word.stands in
     let first : 1 ≤ home = stands.0 in
     let last : home < 1 = stands.1 in
     omega arith
 
 -- what a reference that was decoded may be
-pub may_stand_there : (v : View) (place : Place) (r : Ref) → Standing false v → IsPlace (maps v) (state v) place → HoldsRef (word_in (state v) place) r → MayStand (maps v) (state v) r
+pub may_stand_there : (v : View) (place : Place) (r : Ref) → Standing false v → IsPlace (maps v) (state v) place
+    → HoldsRef (word_in (state v) place) r → MayStand (maps v) (state v) r
 may_stand_there v place r s there holds =
     let word = place_word v place s there in
-    subst (MayStand (maps v) (state v)) (same_ref word.reference r word.in_range holds.in_range (sym word.is ∙ holds.is)) word.stands
+    subst (MayStand (maps v) (state v))
+    (same_ref word.reference r word.in_range holds.in_range (sym word.is ∙ holds.is)) word.stands
 
-pub value_there : (v : View) (place : Place) (slot : Slot) (r : Ref) → Standing true v → IsPlace (maps v) (state v) place → SlotAt (maps v) place slot → HoldsRef (word_in (state v) place) r → value_of (maps v) r ≡ Some (last v.log slot)
+pub value_there : (v : View) (place : Place) (slot : Slot) (r : Ref) → Standing true v
+    → IsPlace (maps v) (state v) place → SlotAt (maps v) place slot → HoldsRef (word_in (state v) place) r
+    → value_of (maps v) r ≡ Some (last v.log slot)
 value_there v place slot r s there at holds =
     let stands = place_stands v place slot s there at in
-    subst (λ (x : Ref). value_of (maps v) x ≡ Some (last v.log slot)) (same_ref stands.reference r stands.in_range holds.in_range (sym stands.is ∙ holds.is)) stands.stands_for
+    subst (λ (x : Ref). value_of (maps v) x ≡ Some (last v.log slot))
+    (same_ref stands.reference r stands.in_range holds.in_range (sym stands.is ∙ holds.is)) stands.stands_for
 
 -- a word with a tag, and words without
 pub tagged_is : (word : ℕ) (r : Ref) → HoldsRef word r → IsTagged word → HasTag r
-tagged_is word r holds tagged = subst HasTag (same_ref tagged.reference r tagged.in_range holds.in_range (sym tagged.is ∙ holds.is)) tagged.tag
+tagged_is word r holds tagged =
+    subst HasTag (same_ref tagged.reference r tagged.in_range holds.in_range (sym tagged.is ∙ holds.is)) tagged.tag
 
 -- a number behind the tag of a stale address is an address
 stale_number : (r : Ref) (a : ℕ) → IsRef r → 4 * a + 1 ≡ ref_word r → IsAddress a
@@ -97,7 +133,8 @@ stale_number (Clean b) a range is = absurd (omega arith)
 stale_number (Stale b) a range is = let same : b ≡ a = omega arith in subst IsAddress same range
 stale_number (Disk b) a range is = absurd (omega arith)
 
-pub stale_address : (v : View) (place : Place) (a : ℕ) → Standing false v → IsPlace (maps v) (state v) place → word_in (state v) place ≡ ref_word (Stale a) → IsAddress a
+pub stale_address : (v : View) (place : Place) (a : ℕ) → Standing false v → IsPlace (maps v) (state v) place
+    → word_in (state v) place ≡ ref_word (Stale a) → IsAddress a
 stale_address v place a s there is =
     let word = place_word v place s there in
     stale_number word.reference a word.in_range (sym is ∙ word.is)

@@ -32,7 +32,8 @@ MakesNothing None = Unit {0}
 MakesNothing (Some act) = shape_made act ≡ None
 
 pub record Plain (v w : View) (t : ℕ) (cleared : ℕ) (act : Option Act) (after : Option Call) : Type 0 where
-  pub event : (told : Bool) → Standing told v → Event told v.log (maps v) (maps w) (state v) (state w) no_region cleared act
+  pub event : (told : Bool) → Standing told v
+      → Event told v.log (maps v) (maps w) (state v) (state w) no_region cleared act
   pub nothing : MakesNothing act
   pub log : w.log ≡ with_entry t v.log act
   pub calls : w.calls ≡ set v.calls t after
@@ -68,17 +69,20 @@ unclaimed_region (Cleared place target dst) none = refl
 unclaimed_region (Claimed address shape stored dst) none = absurd (omega arith)
 unclaimed_region (Lacking need) none = refl
 
-counts_plain : (v w : View) (t cleared : ℕ) (act : Option Act) (after : Option Call) → Standing true v → t < length v.held → Plain v w t cleared act after → Counts w
+counts_plain : (v w : View) (t cleared : ℕ) (act : Option Act) (after : Option Call) → Standing true v
+    → t < length v.held → Plain v w t cleared act after → Counts w
 counts_plain v w t cleared None after s within p =
     Counts_same v w t after s within p.names p.log p.free p.words p.calls (p.unclaimed ∙ sym p.unclaimed_before)
 counts_plain v w t cleared (Some act) after s within p =
-    Counts_entry v w t after (entry t act) s within p.names p.log p.nothing p.free p.words p.calls (p.unclaimed ∙ sym p.unclaimed_before)
+    Counts_entry v w t after (entry t act) s within p.names p.log p.nothing p.free p.words p.calls
+    (p.unclaimed ∙ sym p.unclaimed_before)
 
 -- where it is told, it is told so
 pub as_told : (told : Bool) (v : View) → told ≡ true → Standing told v → Standing true v
 as_told told v is s = subst (λ (b : Bool). Standing b v) is s
 
-pub plain : (v w : View) (t cleared : ℕ) (act : Option Act) (after : Option Call) → t < length v.held → Plain v w t cleared act after → Made v w t cleared
+pub plain : (v w : View) (t cleared : ℕ) (act : Option Act) (after : Option Call) → t < length v.held
+    → Plain v w t cleared act after → Made v w t cleared
 plain v w t cleared act after within p = record {
   mine = no_region;
   act = act;
@@ -98,12 +102,15 @@ plain v w t cleared act after within p = record {
         bounded = bounded_is w (length v.space.list) v.free v.stop (set v.calls t after) p.words p.free p.stop p.calls
             (bounded_call (length v.space.list) v.free v.stop v.calls t after inside p.claims s.bounded);
         may_hold = λ r. hold_stays (maps v) (maps w) (state v) (state w) cleared s.holds.formed
-            (event_keeps told t v.log (maps v) (maps w) (state v) (state w) no_region cleared act s.legal s.holds (p.event told s)).evolves (register_in w.held t r) (p.may_hold r);
+            (event_keeps told t v.log (maps v) (maps w) (state v) (state w) no_region cleared act s.legal s.holds
+            (p.event told s)).evolves (register_in w.held t r) (p.may_hold r);
         known = p.known;
         fits = p.fits;
         mine_is = λ u d differ is. no_region_apart (region_of d.stage);
         apart = λ c is u d differ other.
-            subst (λ (r : Region). Apart r (region_of d.stage)) (sym (unclaimed_region c.stage (sym (ap claimed_in is) ∙ p.unclaimed))) (no_region_apart (region_of d.stage));
+            subst (λ (r : Region). Apart r (region_of d.stage))
+            (sym (unclaimed_region c.stage (sym (ap claimed_in is) ∙ p.unclaimed)))
+            (no_region_apart (region_of d.stage));
         counts = λ is. counts_plain v w t cleared act after (as_told told v is s) within p;
       };
 }

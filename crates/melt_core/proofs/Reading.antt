@@ -42,33 +42,51 @@ use Rattle.melt_core.proofs.Tasks.{LoadsNothing, get_is, no_load}
 past : (i n : ℕ) → (i < n → ⊥) → n ≤ i
 past i n lacks = elim (cases_lt i n) [ inl below ↦ absurd (lacks below) | inr above ↦ above ]
 
-lacks_part : (rs : List Value) (o : Op) (r n : ℕ) (access : Access) (z : Shape) → task_of o ≡ Some (Use r access) → value_in rs r ≡ Object n → (HasPart access z → ⊥) → LacksPart rs o n z
+lacks_part : (rs : List Value) (o : Op) (r n : ℕ) (access : Access) (z : Shape) → task_of o ≡ Some (Use r access)
+    → value_in rs r ≡ Object n → (HasPart access z → ⊥) → LacksPart rs o n z
 lacks_part rs (op.New dst refs nums) r n access z is value lacks = absurd (cc)
 lacks_part rs (op.Load dst src i) r n access z is value lacks =
-    let same : access ≡ Load dst i = cc in
-    (let e : src ≡ r = cc in ap (value_in rs) e ∙ value, past i z.refs (λ below. lacks (subst (λ (a : Access). HasPart a z) (sym same) below)))
+    let same : access ≡ Load dst i = cc in (
+      let e : src ≡ r = cc in ap (value_in rs) e
+          ∙ value,
+      past i z.refs (λ below. lacks (subst (λ (a : Access). HasPart a z) (sym same) below)),
+    )
 lacks_part rs (op.Store obj i src) r n access z is value lacks =
-    let same : access ≡ Store i src = cc in
-    (let e : obj ≡ r = cc in ap (value_in rs) e ∙ value, past i z.refs (λ below. lacks (subst (λ (a : Access). HasPart a z) (sym same) below)))
+    let same : access ≡ Store i src = cc in (
+      let e : obj ≡ r = cc in ap (value_in rs) e
+          ∙ value,
+      past i z.refs (λ below. lacks (subst (λ (a : Access). HasPart a z) (sym same) below)),
+    )
 lacks_part rs (op.Get src j) r n access z is value lacks =
-    let same : access ≡ Get j = cc in
-    (let e : src ≡ r = cc in ap (value_in rs) e ∙ value, past j z.nums (λ below. lacks (subst (λ (a : Access). HasPart a z) (sym same) below)))
+    let same : access ≡ Get j = cc in (
+      let e : src ≡ r = cc in ap (value_in rs) e
+          ∙ value,
+      past j z.nums (λ below. lacks (subst (λ (a : Access). HasPart a z) (sym same) below)),
+    )
 lacks_part rs (op.Put obj j v) r n access z is value lacks =
-    let same : access ≡ Put j v = cc in
-    (let e : obj ≡ r = cc in ap (value_in rs) e ∙ value, past j z.nums (λ below. lacks (subst (λ (a : Access). HasPart a z) (sym same) below)))
+    let same : access ≡ Put j v = cc in (
+      let e : obj ≡ r = cc in ap (value_in rs) e
+          ∙ value,
+      past j z.nums (λ below. lacks (subst (λ (a : Access). HasPart a z) (sym same) below)),
+    )
 lacks_part rs (op.GLoad dst g) r n access z is value lacks = absurd (cc)
 lacks_part rs (op.GStore g src) r n access z is value lacks = absurd (cc)
 lacks_part rs o r n access z is value lacks = absurd (cc)
 
 -- objects at one address have one shape
-pub one_shape : (v : View) (address : ℕ) (y z : Shape) → IsObjectAt (maps v) (state v) address y → IsObjectAt (maps v) (state v) address z → y ≡ z
+pub one_shape : (v : View) (address : ℕ) (y z : Shape) → IsObjectAt (maps v) (state v) address y
+    → IsObjectAt (maps v) (state v) address z → y ≡ z
 one_shape v address y z first second =
-    sym first.shape_is ∙ (ap (λ (h : Header). h.shape) (one_header (state v) address first.header second.header first.starts second.starts) ∙ second.shape_is)
+    sym first.shape_is ∙ (ap (λ (h : Header). h.shape)
+    (one_header (state v) address first.header second.header first.starts second.starts) ∙ second.shape_is)
 
 -- the call is over, and nothing else changes
-over_plain : (v : View) (t : ℕ) (o : Op) (stage : Stage) → MayAdvance v t o → stage_of v t ≡ Some stage → cleared_by (Some stage) ≡ 0 → claimed_in (Some (record { op = o; stage = stage })) ≡ 0 → ((need : ℕ) → stage ≡ Lacking need → ⊥) → Plain v (with_call v t None) t (cleared_by (stage_of v t)) None None
+over_plain : (v : View) (t : ℕ) (o : Op) (stage : Stage) → MayAdvance v t o → stage_of v t ≡ Some stage
+    → cleared_by (Some stage) ≡ 0 → claimed_in (Some (record { op = o; stage = stage })) ≡ 0
+    → ((need : ℕ) → stage ≡ Lacking need → ⊥) → Plain v (with_call v t None) t (cleared_by (stage_of v t)) None None
 over_plain v t o stage asks at clears unclaimed no_lack = record {
-  event = λ told stands. subst (λ (k : ℕ). Event told v.log (maps v) (maps v) (state v) (state v) no_region k None) (sym (ap cleared_by at ∙ clears)) (quiet refl (same_words v));
+  event = λ told stands. subst (λ (k : ℕ). Event told v.log (maps v) (maps v) (state v) (state v) no_region k None)
+      (sym (ap cleared_by at ∙ clears)) (quiet refl (same_words v));
   nothing = tt;
   log = refl;
   calls = refl;
@@ -84,40 +102,56 @@ over_plain v t o stage asks at clears unclaimed no_lack = record {
   fits = λ c is. absurd (cc);
   unclaimed = refl;
   unclaimed_before = ap claimed_in (call_at v t o stage asks at) ∙ unclaimed;
-  claims = claims_ends v.stop (stage_of v t) (λ need is. no_lack need (let e : Some stage ≡ Some (Lacking need) = sym at ∙ is in cc));
+  claims = claims_ends v.stop (stage_of v t)
+      (λ need is. no_lack need (let e : Some stage ≡ Some (Lacking need) = sym at ∙ is in cc));
 }
 
-pub range_advances : (v : View) (t : ℕ) (o : Op) (r : ℕ) (access : Access) (shape : Shape) → MayAdvance v t o → stage_of v t ≡ Some (Polled (Use r access)) → IsObjectAt (maps v) (state v) (register_in v.held t r) shape → (HasPart access shape → ⊥) → Advances v (with_call v t None) t o (Answered reply.Range)
+pub range_advances : (v : View) (t : ℕ) (o : Op) (r : ℕ) (access : Access) (shape : Shape) → MayAdvance v t o
+    → stage_of v t ≡ Some (Polled (Use r access)) → IsObjectAt (maps v) (state v) (register_in v.held t r) shape
+    → (HasPart access shape → ⊥) → Advances v (with_call v t None) t o (Answered reply.Range)
 range_advances v t o r access shape asks at object lacks =
     let w : View = with_call v t None in
     let task : task_of o ≡ Some (Use r access) = (fits_at v t o (Polled (Use r access)) asks at).0 in
-    answered v w t o reply.Range None asks (over_plain v t o (Polled (Use r access)) asks at refl refl (λ need is. cc)) refl
-    (subst (λ (g : Option Stage). Applies (maps v) (maps w) (state v) (state w) (change_of (state v) (register_in v.held t) g)) (sym at) (refl, same_words v))
+    answered v w t o reply.Range None asks (over_plain v t o (Polled (Use r access)) asks at refl refl (λ need is. cc))
+    refl
+    (subst (λ (g : Option Stage). Applies (maps v) (maps w) (state v) (state w)
+    (change_of (state v) (register_in v.held t) g)) (sym at) (refl, same_words v))
     (record {
       last = λ next is.
-          let goes : Next (maps v) (state v) (register_in v.held t) v.stop o (Some (Polled (Use r access))) next = subst (λ (g : Option Stage). Next (maps v) (state v) (register_in v.held t) v.stop o g next) at is in
+          let goes : Next (maps v) (state v) (register_in v.held t) v.stop o (Some (Polled (Use r access))) next =
+          subst (λ (g : Option Stage). Next (maps v) (state v) (register_in v.held t) v.stop o g next) at is in
           lacks (subst (HasPart access) (one_shape v (register_in v.held t r) goes.0 shape goes.1 object) goes.2);
       no_pause = λ is. subst (MustPause (register_in v.held t) v.stop o) at is;
       answers = λ told. range_answers t v.log (values_of v t) o object.number shape reply.Range v.log (values_of v t)
-          (lacks_part (values_of v t) o r object.number access shape task (value_named v t r (register_in v.held t r) object.number refl object.named) lacks)
+          (lacks_part (values_of v t) o r object.number access shape task
+          (value_named v t r (register_in v.held t r) object.number refl object.named) lacks)
           (object_shape v (register_in v.held t r) object.number shape told object object.named) refl refl refl;
       registers = λ k other. refl;
       room = λ told. use_room v o r access task;
       clean = range_clean v t o r access shape task object lacks;
     })
   where
-    range_clean : (v : View) (t : ℕ) (o : Op) (r : ℕ) (access : Access) (shape : Shape) → task_of o ≡ Some (Use r access) → IsObjectAt (maps v) (state v) (register_in v.held t r) shape → (HasPart access shape → ⊥) → LeavesClean v (with_call v t None) t o (Answered reply.Range)
+    range_clean : (v : View) (t : ℕ) (o : Op) (r : ℕ) (access : Access) (shape : Shape)
+        → task_of o ≡ Some (Use r access) → IsObjectAt (maps v) (state v) (register_in v.held t r) shape
+        → (HasPart access shape → ⊥) → LeavesClean v (with_call v t None) t o (Answered reply.Range)
     range_clean v t o r access shape task object lacks (Field address i) dst loads there tagged =
-        let same : Use loads.0 (Load dst i) ≡ Use r access = (let e : Some (Use loads.0 (Load dst i)) ≡ Some (Use r access) = sym loads.1 ∙ task in cc) in
+        let same : Use loads.0 (Load dst i) ≡ Use r access =
+        (let e : Some (Use loads.0 (Load dst i)) ≡ Some (Use r access) = sym loads.1 ∙ task in cc) in
         let register : loads.0 ≡ r = cc in
         let part : access ≡ Load dst i = cc in
         let at : register_in v.held t r ≡ address = ap (register_in v.held t) (sym register) ∙ loads.2 in
-        let shapes : there.0 ≡ shape = one_shape v address there.0 shape there.1 (subst (λ (a : ℕ). IsObjectAt (maps v) (state v) a shape) at object) in
+        let shapes : there.0 ≡ shape =
+        one_shape v address there.0 shape there.1
+        (subst (λ (a : ℕ). IsObjectAt (maps v) (state v) a shape) at object) in
         lacks (subst (λ (a : Access). HasPart a shape) (sym part) (subst (λ (z : Shape). i < z.refs) shapes there.2))
     range_clean v t o r access shape task object lacks (Global g) dst loads there tagged = absurd (cc)
 
 -- a number word of an object was read
-pub get_advances : (v : View) (t : ℕ) (o : Op) (address j n number : ℕ) (shape : Shape) → MayAdvance v t o → stage_of v t ≡ Some (Headed address shape (Get j)) → (maps v).address address ≡ Some n → number ≡ (state v).word (number_place address shape j) → Advances v (with_call (noted v (entry t (Read (slots.Cell n j) (Num number)))) t None) t o (Answered (reply.Num number))
+pub get_advances : (v : View) (t : ℕ) (o : Op) (address j n number : ℕ) (shape : Shape) → MayAdvance v t o
+    → stage_of v t ≡ Some (Headed address shape (Get j)) → (maps v).address address ≡ Some n
+    → number ≡ (state v).word (number_place address shape j)
+    → Advances v (with_call (noted v (entry t (Read (slots.Cell n j) (Num number)))) t None) t o
+    (Answered (reply.Num number))
 get_advances v t o address j n number shape asks at named is =
     let stage : Stage = Headed address shape (Get j) in
     let w : View = with_call (noted v (entry t (Read (slots.Cell n j) (Num number)))) t None in
@@ -125,9 +159,13 @@ get_advances v t o address j n number shape asks at named is =
     let object : IsObjectAt (maps v) (state v) address shape = known_at v t o stage asks at in
     let same : o ≡ op.Get fits.0 j = get_is o fits.0 j fits.1 in
     answered v w t o (reply.Num number) (Some (Read (slots.Cell n j) (Num number))) asks (record {
-      event = λ told stands. subst (λ (k : ℕ). Event told v.log (maps v) (maps v) (state v) (state v) no_region k (Some (Read (slots.Cell n j) (Num number)))) (sym (ap cleared_by at))
-          (subst (λ (x : ℕ). Event told v.log (maps v) (maps v) (state v) (state v) no_region 0 (Some (Read (slots.Cell n j) (Num x)))) (sym is)
-          (reads_number address n j shape refl (same_words v) (record { object_is = object; below = fits.3; named = named })));
+      event = λ told stands. subst
+          (λ (k : ℕ). Event told v.log (maps v) (maps v) (state v) (state v) no_region k
+          (Some (Read (slots.Cell n j) (Num number)))) (sym (ap cleared_by at))
+          (subst (λ (x : ℕ). Event told v.log (maps v) (maps v) (state v) (state v) no_region 0
+          (Some (Read (slots.Cell n j) (Num x)))) (sym is)
+          (reads_number address n j shape refl (same_words v)
+          (record { object_is = object; below = fits.3; named = named })));
       nothing = refl;
       log = refl;
       calls = refl;
@@ -143,23 +181,33 @@ get_advances v t o address j n number shape asks at named is =
       fits = λ c none. absurd (cc);
       unclaimed = refl;
       unclaimed_before = ap claimed_in (call_at v t o stage asks at);
-      claims = claims_ends v.stop (stage_of v t) (λ need lacks. let e : Some stage ≡ Some (Lacking need) = sym at ∙ lacks in cc);
+      claims = claims_ends v.stop (stage_of v t) (λ need lacks. let e : Some stage ≡ Some (Lacking need) =
+          sym at ∙ lacks in cc);
     }) refl
-    (subst (λ (g : Option Stage). Applies (maps v) (maps w) (state v) (state w) (change_of (state v) (register_in v.held t) g)) (sym at) (refl, same_words v))
+    (subst (λ (g : Option Stage). Applies (maps v) (maps w) (state v) (state w)
+    (change_of (state v) (register_in v.held t) g)) (sym at) (refl, same_words v))
     (record {
-      last = λ next goes. subst (λ (g : Option Stage). Next (maps v) (state v) (register_in v.held t) v.stop o g next) at goes;
+      last = λ next goes. subst (λ (g : Option Stage). Next (maps v) (state v) (register_in v.held t) v.stop o g next)
+          at goes;
       no_pause = λ pause. subst (MustPause (register_in v.held t) v.stop o) at pause;
-      answers = λ told. subst (λ (p : Op). Answers t v.log (values_of v t) p (reply.Num number) w.log (values_of v t)) (sym same)
+      answers = λ told. subst (λ (p : Op). Answers t v.log (values_of v t) p (reply.Num number) w.log (values_of v t))
+          (sym same)
           (get_answers t v.log (values_of v t) fits.0 j n number shape (reply.Num number) w.log (values_of v t)
-          (value_named v t fits.0 address n fits.2 named) (object_shape v address n shape told object named) fits.3 refl refl refl);
+          (value_named v t fits.0 address n fits.2 named) (object_shape v address n shape told object named) fits.3 refl
+          refl refl);
       registers = λ k other. refl;
       room = λ told. use_room v o fits.0 (Get j) fits.1;
-      clean = λ place dst loads there tagged. no_load (register_in v.held t) o place dst (subst LoadsNothing (sym fits.1) tt) loads;
+      clean = λ place dst loads there tagged. no_load (register_in v.held t) o place dst
+          (subst LoadsNothing (sym fits.1) tt) loads;
     })
 
 -- the object whose header was read
-pub head_object : (v : View) (t : ℕ) (o : Op) (r address : ℕ) (access : Access) (shape : Shape) → MayAdvance v t o → stage_of v t ≡ Some (Polled (Use r access)) → address ≡ register_in v.held t r → ((h : Header) → IsHeader h → word_at v.space address ≡ header_word h → shape ≡ h.shape) → IsObjectAt (maps v) (state v) address shape
+pub head_object : (v : View) (t : ℕ) (o : Op) (r address : ℕ) (access : Access) (shape : Shape) → MayAdvance v t o
+    → stage_of v t ≡ Some (Polled (Use r access)) → address ≡ register_in v.held t r
+    → ((h : Header) → IsHeader h → word_at v.space address ≡ header_word h → shape ≡ h.shape)
+    → IsObjectAt (maps v) (state v) address shape
 head_object v t o r address access shape asks at is shaped =
     let fits : Fits (register_in v.held t) o (Polled (Use r access)) = fits_at v t o (Polled (Use r access)) asks at in
     let held = object_held v t r asks.stands fits.1 in
-    object_of v address held.0 shape (subst (λ (a : ℕ). IsObjectAt (maps v) (state v) a held.0.shape) (sym is) held.1) shaped
+    object_of v address held.0 shape (subst (λ (a : ℕ). IsObjectAt (maps v) (state v) a held.0.shape) (sym is) held.1)
+    shaped

@@ -53,21 +53,27 @@ same_word space after (suc k) same = ap (λ (words : List ℕ). get_or words k 0
 
 -- all holds as before where only the first free place is another, before which all ends that ended before the old one,
 -- and within the words
-holds_shifts : (told : Bool) (h : List Entry) (m : Maps) (s t : State) → FreeMoves s t t.free → ((end : ℕ) → end ≤ s.free → end ≤ s.base.size + 1 → end ≤ t.free) → Holds told h m s → Holds told h m t
-holds_shifts told h m s t moves ends holds = holds_same told h h m s t (free_shifts m s t moves ends) (same_history h) holds
+holds_shifts : (told : Bool) (h : List Entry) (m : Maps) (s t : State) → FreeMoves s t t.free
+    → ((end : ℕ) → end ≤ s.free → end ≤ s.base.size + 1 → end ≤ t.free) → Holds told h m s → Holds told h m t
+holds_shifts told h m s t moves ends holds =
+    holds_same told h h m s t (free_shifts m s t moves ends) (same_history h) holds
 
 -- The epoch ends, and the words in use are those up to here. Whatever ended before the first free place, and within
 -- the words, is among them.
-pub stands_finish : (told : Bool) (v : View) (space : SpaceWords) → Standing told v → IsQuiet v → space.list ≡ v.space.list → space.used ≡ min (v.free - 1) (length v.space.list) → Standing told (record v { space = space; free = space.used + 1; stop = false })
+pub stands_finish : (told : Bool) (v : View) (space : SpaceWords) → Standing told v → IsQuiet v
+    → space.list ≡ v.space.list → space.used ≡ min (v.free - 1) (length v.space.list)
+    → Standing told (record v { space = space; free = space.used + 1; stop = false })
 stands_finish told v space s still words used =
     let w : View = record v { space = space; free = space.used + 1; stop = false } in
     let size : length space.list ≡ length v.space.list = ap length words in
     let first : 1 ≤ v.free = s.first in
-    let ends : (end : ℕ) → end ≤ v.free → end ≤ length v.space.list + 1 → end ≤ space.used + 1 = λ end below within. omega (arith, used, below, within, first) in
+    let ends : (end : ℕ) → end ≤ v.free → end ≤ length v.space.list + 1 → end ≤ space.used + 1 =
+    λ end below within. omega (arith, used, below, within, first) in
     let base : (state w).base ≡ (state v).base = ap (λ (n : ℕ). record (state v).base { size = n }) size in
     let word : (k : ℕ) → (state w).word k ≡ (state v).word k = λ k. same_word v.space space k words in
     let unclaimed : claimed v.calls ≡ 0 = claimed_none v.calls still in
-    let gone : (t : ℕ) (c : Call) → call_of w t ≡ Some c → ⊥ = λ t c is. (let none : call_of v t ≡ None = still t in let e : None ≡ Some c = sym none ∙ is in cc) in
+    let gone : (t : ℕ) (c : Call) → call_of w t ≡ Some c → ⊥ =
+    λ t c is. (let none : call_of v t ≡ None = still t in let e : None ≡ Some c = sym none ∙ is in cc) in
     record {
       named = s.named;
       room = s.room ∙ sym size;
@@ -76,7 +82,8 @@ stands_finish told v space s still words used =
       counted = s.counted;
       first = omega arith;
       bounded = inl (omega (arith, used, size));
-      holds = holds_shifts told v.log (maps v) (state v) (state w) (record { base = base; is = refl; word = word; global = λ g. refl; forward = λ p. refl }) ends s.holds;
+      holds = holds_shifts told v.log (maps v) (state v) (state w)
+          (record { base = base; is = refl; word = word; global = λ g. refl; forward = λ p. refl }) ends s.holds;
       legal = s.legal;
       registers = λ t r. hold_words (maps v) (state v) (state w) (register_in v.held t r) word (s.registers t r);
       known = λ t c is. absurd (gone t c is);
@@ -85,20 +92,24 @@ stands_finish told v space s still words used =
       counts = λ is. let c = s.counts is in record {
         in_use = c.in_use;
         adds_up = c.adds_up;
-        below = let before : c.in_use + 1 ≤ space.used + 1 = ends (c.in_use + 1) (let b = c.below in omega arith) (let i = c.within in omega arith) in omega arith;
+        below = let before : c.in_use + 1 ≤ space.used + 1 =
+            ends (c.in_use + 1) (let b = c.below in omega arith) (let i = c.within in omega arith) in omega arith;
         within = let i = c.within in omega (arith, i, size, unclaimed);
       };
     }
 
 -- what is known of a call stays where only registers change
-known_words : (m : Maps) (s t : State) (stage : Stage) → SameWords s t → FormedWords m s → Known m s stage → Known m t stage
+known_words : (m : Maps) (s t : State) (stage : Stage) → SameWords s t → FormedWords m s → Known m s stage
+    → Known m t stage
 known_words m s t stage same formed known =
     let event : Event false [] m m s t no_region 0 None = quiet refl same in
     known_stays m m s t 0 formed (evolves_event false [] m m s t no_region 0 None formed event) stage
-    (λ owns. regions_event false [] m m s t no_region 0 None formed event (region_of stage) owns (no_region_apart (region_of stage))) known
+    (λ owns. regions_event false [] m m s t no_region 0 None formed event (region_of stage) owns
+    (no_region_apart (region_of stage))) known
 
 -- a thread without a call holds nothing now
-pub dropped : (v : View) (t : ℕ) → t < length v.held → call_of v t ≡ None → HasDropped v (record v { held = slice_set v.held t no_registers }) t
+pub dropped : (v : View) (t : ℕ) → t < length v.held → call_of v t ≡ None
+    → HasDropped v (record v { held = slice_set v.held t no_registers }) t
 dropped v t within none = record {
   keeps = λ told s. stands_dropped told v t within none s;
   only = refl;
@@ -106,7 +117,8 @@ dropped v t within none = record {
   others = λ u other. ap (held_values v.names) (registers_other v.held t u (replicate 16 0) other);
 }
   where
-    stands_dropped : (told : Bool) (v : View) (t : ℕ) → t < length v.held → call_of v t ≡ None → Standing told v → Standing told (record v { held = slice_set v.held t no_registers })
+    stands_dropped : (told : Bool) (v : View) (t : ℕ) → t < length v.held → call_of v t ≡ None → Standing told v
+        → Standing told (record v { held = slice_set v.held t no_registers })
     stands_dropped told v t within none s =
         let w : View = record v { held = slice_set v.held t no_registers } in
         let size : length w.held ≡ length v.held = length-set v.held t no_registers in
@@ -118,19 +130,29 @@ dropped v t within none = record {
           counted = s.counted;
           first = s.first;
           bounded = s.bounded;
-          holds = holds_shifts told v.log (maps v) (state v) (state w) (record { base = refl; is = refl; word = λ k. refl; global = λ g. refl; forward = λ p. refl }) (λ end below inside. below) s.holds;
+          holds = holds_shifts told v.log (maps v) (state v) (state w)
+              (record { base = refl; is = refl; word = λ k. refl; global = λ g. refl; forward = λ p. refl })
+              (λ end below inside. below) s.holds;
           legal = s.legal;
-          registers = λ u r. hold_words (maps v) (state v) (state w) (register_in w.held u r) (λ k. refl) (elim (cases_eq u t) [
-            | inl same ↦ inl (ap (λ (k : ℕ). register_in w.held k r) same ∙ (ap (λ (regs : List ℕ). get_or regs r 0) (registers_set v.held t (replicate 16 0) within) ∙ get_or_replicate 16 r 0))
-            | inr other ↦ subst (λ (regs : List ℕ). MayHold (maps v) (state v) (get_or regs r 0)) (sym (registers_other v.held t u (replicate 16 0) other)) (s.registers u r)
-          ]);
-          known = λ u c is. known_words (maps v) (state v) (state w) c.stage (record { base = refl; free = refl; word = λ k. refl; global = λ g. refl; forward = λ p. refl }) s.holds.formed (s.known u c is);
+          registers = λ u r. hold_words (maps v) (state v) (state w) (register_in w.held u r) (λ k. refl)
+              (elim (cases_eq u t) [
+                | inl same ↦ inl (ap (λ (k : ℕ). register_in w.held k r) same
+                    ∙ (ap (λ (regs : List ℕ). get_or regs r 0) (registers_set v.held t (replicate 16 0) within)
+                    ∙ get_or_replicate 16 r 0))
+                | inr other ↦ subst (λ (regs : List ℕ). MayHold (maps v) (state v) (get_or regs r 0))
+                    (sym (registers_other v.held t u (replicate 16 0) other)) (s.registers u r)
+              ]);
+          known = λ u c is. known_words (maps v) (state v) (state w) c.stage
+              (record { base = refl; free = refl; word = λ k. refl; global = λ g. refl; forward = λ p. refl })
+              s.holds.formed (s.known u c is);
           fits = λ u c is. elim (cases_eq u t) [
             | inl same ↦ absurd (let e : None ≡ Some c = sym none ∙ (ap (call_of v) (sym same) ∙ is) in cc)
-            | inr other ↦ subst (λ (regs : List ℕ). Fits (slice_index regs) c.op c.stage) (sym (registers_other v.held t u (replicate 16 0) other)) (s.fits u c is)
+            | inr other ↦ subst (λ (regs : List ℕ). Fits (slice_index regs) c.op c.stage)
+                (sym (registers_other v.held t u (replicate 16 0) other)) (s.fits u c is)
           ];
           apart = s.apart;
-          counts = λ is. let c = s.counts is in record { in_use = c.in_use; adds_up = c.adds_up; below = c.below; within = c.within };
+          counts = λ is. let c = s.counts is in
+              record { in_use = c.in_use; adds_up = c.adds_up; below = c.below; within = c.within };
         }
 
 -- the stop word was set
@@ -149,7 +171,8 @@ stands_stopped told v s = record {
   known = s.known;
   fits = s.fits;
   apart = s.apart;
-  counts = λ is. let c = s.counts is in record { in_use = c.in_use; adds_up = c.adds_up; below = c.below; within = c.within };
+  counts = λ is. let c = s.counts is in
+      record { in_use = c.in_use; adds_up = c.adds_up; below = c.below; within = c.within };
 }
 
 -- each register of threads whose registers hold nothing is 0
@@ -177,12 +200,14 @@ new_view space words globals threads capacity = record {
   stop = false;
 }
 
-stands_new : (told : Bool) (space : SpaceWords) (words globals threads capacity : ℕ) → length space.list ≡ words → space.used ≡ 0 → words < 2 ^ 30 → threads ≤ 8 → Standing told (new_view space words globals threads capacity)
+stands_new : (told : Bool) (space : SpaceWords) (words globals threads capacity : ℕ) → length space.list ≡ words
+    → space.used ≡ 0 → words < 2 ^ 30 → threads ≤ 8 → Standing told (new_view space words globals threads capacity)
 unfolding new_view
 stands_new told space words globals threads capacity size unused small few =
     let v : View = new_view space words globals threads capacity in
     let still : IsQuiet v = λ t. get_or_replicate threads t None in
-    let gone : (t : ℕ) (c : Call) → call_of v t ≡ Some c → ⊥ = λ t c is. (let e : None ≡ Some c = sym (still t) ∙ is in cc) in
+    let gone : (t : ℕ) (c : Call) → call_of v t ≡ Some c → ⊥ =
+    λ t c is. (let e : None ≡ Some c = sym (still t) ∙ is in cc) in
     let unclaimed : claimed v.calls ≡ 0 = claimed_none v.calls still in
     let objects : NoObjects (maps v) = record { address = no_name words; home = λ home. refl } in
     let empty : IsEmpty (state v) = record {
@@ -214,18 +239,23 @@ stands_new told space words globals threads capacity size unused small few =
       apart = λ t u c d other is at. absurd (gone t c is);
       counts = λ is. record {
         in_use = 0;
-        adds_up = CostsSum-empty (words_of []) (InUse (maps v)) (λ n named. let e : None ≡ Some n = sym (no_name words named.0) ∙ named.1 in cc);
+        adds_up = CostsSum-empty (words_of []) (InUse (maps v)) (λ n named. let e : None ≡ Some n =
+            sym (no_name words named.0) ∙ named.1 in cc);
         below = omega (arith, unclaimed);
         within = omega (arith, unclaimed);
       };
     }
 
 -- before the first event
-pub start_at_rest : (told : Bool) (words globals threads entries : ℕ) (heap : Heap) (rest : Rest) → words < 2 ^ 30 → threads ≤ 8 → IsNewHeap words globals true heap → IsNewRest threads entries rest → AtRest told heap rest
+pub start_at_rest : (told : Bool) (words globals threads entries : ℕ) (heap : Heap) (rest : Rest) → words < 2 ^ 30
+    → threads ≤ 8 → IsNewHeap words globals true heap → IsNewRest threads entries rest → AtRest told heap rest
 unfolding new_view
 start_at_rest told words globals threads entries heap rest small few is_new is_rest =
     let same : new_view heap.space words globals threads (vec_capacity rest.log) ≡ view (core_of heap rest) = cc in
     record {
-      stands = subst (Standing told) same (stands_new told heap.space words globals threads (vec_capacity rest.log) is_new.space.size is_new.space.used small few);
-      quiet = λ t. ap (λ (calls : List (Option Call)). get_or calls t None) is_rest.calls ∙ get_or_replicate threads t None;
+      stands = subst (Standing told) same
+          (stands_new told heap.space words globals threads (vec_capacity rest.log) is_new.space.size is_new.space.used
+          small few);
+      quiet = λ t. ap (λ (calls : List (Option Call)). get_or calls t None) is_rest.calls
+          ∙ get_or_replicate threads t None;
     }

@@ -28,7 +28,8 @@ use Rattle.melt_core.proofs.Values.{same_values, value_held, may_value}
 use Rattle.melt_core.proofs.Regions.{apart_sym}
 
 -- One event of a thread, whose call is this behind it.
-pub record Happens (told : Bool) (v w : View) (t : ℕ) (mine : Region) (cleared : ℕ) (act : Option Act) (after : Option Call) : Type 0 where
+pub record Happens (told : Bool) (v w : View) (t : ℕ) (mine : Region) (cleared : ℕ) (act : Option Act)
+    (after : Option Call) : Type 0 where
   pub event : Event told v.log (maps v) (maps w) (state v) (state w) mine cleared act
   pub log : w.log ≡ with_entry t v.log act
   pub calls : w.calls ≡ set v.calls t after
@@ -43,35 +44,50 @@ pub record Happens (told : Bool) (v w : View) (t : ℕ) (mine : Region) (cleared
   pub known : (c : Call) → after ≡ Some c → Known (maps w) (state w) c.stage
   pub fits : (c : Call) → after ≡ Some c → Fits (register_in w.held t) c.op c.stage
   pub mine_is : (u : ℕ) (d : Call) → u ≢ t → call_of v u ≡ Some d → Apart mine (region_of d.stage)
-  pub apart : (c : Call) → after ≡ Some c → (u : ℕ) (d : Call) → u ≢ t → call_of v u ≡ Some d → Apart (region_of c.stage) (region_of d.stage)
+  pub apart : (c : Call) → after ≡ Some c → (u : ℕ) (d : Call) → u ≢ t → call_of v u ≡ Some d
+      → Apart (region_of c.stage) (region_of d.stage)
   pub counts : told ≡ true → Counts w
 
 -- a call in flight where one thread's call was set is that one, or was there before
-set_call : (calls : List (Option Call)) (t u : ℕ) (call : Option Call) (c : Call) → get_or (set calls t call) u None ≡ Some c → ((u ≡ t) × (call ≡ Some c)) ⊎ ((u ≢ t) × (get_or calls u None ≡ Some c))
+set_call : (calls : List (Option Call)) (t u : ℕ) (call : Option Call) (c : Call)
+    → get_or (set calls t call) u None ≡ Some c → ((u ≡ t) × (call ≡ Some c))
+    ⊎ ((u ≢ t) × (get_or calls u None ≡ Some c))
 set_call calls t u call c is =
     let size : length (set calls t call) ≡ length calls = length-set calls t call in
     elim (cases_eq u t) [
       | inl same ↦ elim (cases_lt u (length calls)) [
-        | inl below ↦ inl (same, sym (get_or-set_same calls t call None (omega arith)) ∙ (ap (λ (k : ℕ). get_or (set calls t call) k None) (sym same) ∙ is))
-        | inr past ↦ absurd (let none : get_or (set calls t call) u None ≡ None = get_or_past (set calls t call) u None (omega arith) in cc)
+        | inl below ↦ inl (
+          same,
+          sym (get_or-set_same calls t call None (omega arith))
+              ∙ (ap (λ (k : ℕ). get_or (set calls t call) k None) (sym same) ∙ is),
+        )
+        | inr past ↦ absurd (let none : get_or (set calls t call) u None ≡ None =
+            get_or_past (set calls t call) u None (omega arith) in cc)
       ]
       | inr differ ↦ inr (differ, sym (get_or-set_other calls t u call None differ) ∙ is)
     ]
 
 -- a call in flight behind the event
-call_behind : (v w : View) (t u : ℕ) (call : Option Call) (c : Call) → w.calls ≡ set v.calls t call → call_of w u ≡ Some c → ((u ≡ t) × (call ≡ Some c)) ⊎ ((u ≢ t) × (call_of v u ≡ Some c))
-call_behind v w t u call c sets is = set_call v.calls t u call c (ap (λ (cs : List (Option Call)). get_or cs u None) (sym sets) ∙ is)
+call_behind : (v w : View) (t u : ℕ) (call : Option Call) (c : Call) → w.calls ≡ set v.calls t call
+    → call_of w u ≡ Some c → ((u ≡ t) × (call ≡ Some c)) ⊎ ((u ≢ t) × (call_of v u ≡ Some c))
+call_behind v w t u call c sets is =
+    set_call v.calls t u call c (ap (λ (cs : List (Option Call)). get_or cs u None) (sym sets) ∙ is)
 
 -- the call of the thread is the one that was set
-pub call_here : (v w : View) (t : ℕ) (call : Option Call) → w.calls ≡ set v.calls t call → t < length v.calls → call_of w t ≡ call
-call_here v w t call sets within = ap (λ (cs : List (Option Call)). get_or cs t None) sets ∙ get_or-set_same v.calls t call None within
+pub call_here : (v w : View) (t : ℕ) (call : Option Call) → w.calls ≡ set v.calls t call → t < length v.calls
+    → call_of w t ≡ call
+call_here v w t call sets within = ap (λ (cs : List (Option Call)). get_or cs t None) sets
+    ∙ get_or-set_same v.calls t call None within
 
 -- and those of the others stay
-pub call_there : (v w : View) (t u : ℕ) (call : Option Call) → w.calls ≡ set v.calls t call → u ≢ t → call_of w u ≡ call_of v u
-call_there v w t u call sets differ = ap (λ (cs : List (Option Call)). get_or cs u None) sets ∙ get_or-set_other v.calls t u call None differ
+pub call_there : (v w : View) (t u : ℕ) (call : Option Call) → w.calls ≡ set v.calls t call → u ≢ t
+    → call_of w u ≡ call_of v u
+call_there v w t u call sets differ = ap (λ (cs : List (Option Call)). get_or cs u None) sets
+    ∙ get_or-set_other v.calls t u call None differ
 
 -- behind such an event all stands
-pub stands_behind : (told : Bool) (v w : View) (t : ℕ) (mine : Region) (cleared : ℕ) (act : Option Act) (after : Option Call) → Standing told v → Happens told v w t mine cleared act after → Standing told w
+pub stands_behind : (told : Bool) (v w : View) (t : ℕ) (mine : Region) (cleared : ℕ) (act : Option Act)
+    (after : Option Call) → Standing told v → Happens told v w t mine cleared act after → Standing told w
 stands_behind told v w t mine cleared act after s e =
     let keeps : Keeps told v.log (with_entry t v.log act) (maps v) (maps w) (state v) (state w) mine cleared =
     event_keeps told t v.log (maps v) (maps w) (state v) (state w) mine cleared act s.legal s.holds e.event in
@@ -91,7 +107,8 @@ stands_behind told v w t mine cleared act after s e =
         | inl same ↦ subst (λ (k : ℕ). MayHold (maps w) (state w) (register_in w.held k r)) (sym same) (e.may_hold r)
         | inr differ ↦
             subst (λ (regs : List ℕ). MayHold (maps w) (state w) (slice_index regs r)) (sym (e.others u differ))
-            (hold_stays (maps v) (maps w) (state v) (state w) cleared s.holds.formed evolves (register_in v.held u r) (s.registers u r))
+            (hold_stays (maps v) (maps w) (state v) (state w) cleared s.holds.formed evolves (register_in v.held u r)
+            (s.registers u r))
       ];
       known = λ u c is. elim (call_behind v w t u after c e.calls is) [
         | inl here ↦ e.known c here.1
@@ -100,7 +117,8 @@ stands_behind told v w t mine cleared act after s e =
       ];
       fits = λ u c is. elim (call_behind v w t u after c e.calls is) [
         | inl here ↦ subst (λ (k : ℕ). Fits (register_in w.held k) c.op c.stage) (sym here.0) (e.fits c here.1)
-        | inr there ↦ subst (λ (regs : List ℕ). Fits (slice_index regs) c.op c.stage) (sym (e.others u there.0)) (s.fits u c there.1)
+        | inr there ↦ subst (λ (regs : List ℕ). Fits (slice_index regs) c.op c.stage) (sym (e.others u there.0))
+            (s.fits u c there.1)
       ];
       apart = λ a b c d differ first second. elim (call_behind v w t a after c e.calls first) [
         | inl here ↦ elim (call_behind v w t b after d e.calls second) [
@@ -123,24 +141,34 @@ pub record Made (v w : View) (t : ℕ) (cleared : ℕ) : Type 0 where
   pub happens : (told : Bool) → Standing told v → Happens told v w t mine cleared act after
 
 -- the values of the others stay
-pub values_stay : (v w : View) (u cleared : ℕ) → Standing false v → Evolves (maps v) (maps w) (state v) (state w) cleared → registers_in w.held u ≡ registers_in v.held u → values_of w u ≡ values_of v u
+pub values_stay : (v w : View) (u cleared : ℕ) → Standing false v
+    → Evolves (maps v) (maps w) (state v) (state w) cleared → registers_in w.held u ≡ registers_in v.held u
+    → values_of w u ≡ values_of v u
 values_stay v w u cleared s evolves same =
     let may : (r : ℕ) → MayHold (maps v) (state v) (register_in v.held u r) = s.registers u in
     same_values v.names w.names (registers_in v.held u) (registers_in w.held u) (ap length same)
-    (λ r. subst (λ (regs : List ℕ). value_at (maps_of w.names) (get_or regs r 0) ≡ Some (value_in (held_values v.names (registers_in v.held u)) r)) (sym same)
-    (subst (λ (x : Value). value_at (maps_of w.names) (get_or (registers_in v.held u) r 0) ≡ Some x) (sym (value_held v.names (registers_in v.held u) r))
-    (held_value_stays (maps v) (maps w) (state v) (state w) cleared s.holds.formed evolves (register_in v.held u r) (held_value v.names (register_in v.held u r)) (may_value v.names (state v) (register_in v.held u r) (may r)))))
+    (λ r. subst (λ (regs : List ℕ). value_at (maps_of w.names) (get_or regs r 0) ≡ Some
+    (value_in (held_values v.names (registers_in v.held u)) r)) (sym same)
+    (subst (λ (x : Value). value_at (maps_of w.names) (get_or (registers_in v.held u) r 0) ≡ Some x)
+    (sym (value_held v.names (registers_in v.held u) r))
+    (held_value_stays (maps v) (maps w) (state v) (state w) cleared s.holds.formed evolves (register_in v.held u r)
+    (held_value v.names (register_in v.held u r)) (may_value v.names (state v) (register_in v.held u r) (may r)))))
 
 -- One event was made.
-pub advances : (v w : View) (t : ℕ) (o : Op) (result : StepResult) → (asks : MayAdvance v t o) → (made : Made v w t (cleared_by (stage_of v t))) → w.capacity ≡ v.capacity → Applies (maps v) (maps w) (state v) (state w) (change_of (state v) (register_in v.held t) (stage_of v t)) → Outcome v w t o result → LeavesClean v w t o result → Advances v w t o result
+pub advances : (v w : View) (t : ℕ) (o : Op) (result : StepResult) → (asks : MayAdvance v t o)
+    → (made : Made v w t (cleared_by (stage_of v t))) → w.capacity ≡ v.capacity
+    → Applies (maps v) (maps w) (state v) (state w) (change_of (state v) (register_in v.held t) (stage_of v t))
+    → Outcome v w t o result → LeavesClean v w t o result → Advances v w t o result
 advances v w t o result asks made capacity applies outcome clean =
     let s : Standing false v = asks.stands in
     let cleared : ℕ = cleared_by (stage_of v t) in
     let h : Happens false v w t made.mine cleared made.act made.after = made.happens false s in
     let evolves : Evolves (maps v) (maps w) (state v) (state w) cleared =
-    (event_keeps false t v.log (maps v) (maps w) (state v) (state w) made.mine cleared made.act s.legal s.holds h.event).evolves in
+    (event_keeps false t v.log (maps v) (maps w) (state v) (state w) made.mine cleared made.act s.legal s.holds
+    h.event).evolves in
     record {
-      keeps = λ told stands. stands_behind told v w t made.mine cleared made.act made.after stands (made.happens told stands);
+      keeps = λ told stands. stands_behind told v w t made.mine cleared made.act made.after stands
+          (made.happens told stands);
       changes = applies;
       evolves = evolves;
       others = record {

@@ -16,7 +16,8 @@ shape_made_by : Option Task → Shape → Shape
 shape_made_by (Some (Make dst shape)) other = shape
 shape_made_by task other = other
 
-pub new_is : (o : Op) (dst : ℕ) (shape : Shape) → task_of o ≡ Some (Make dst shape) → o ≡ op.New dst shape.refs shape.nums
+pub new_is : (o : Op) (dst : ℕ) (shape : Shape) → task_of o ≡ Some (Make dst shape)
+    → o ≡ op.New dst shape.refs shape.nums
 unfolding shape_made_by
 new_is (op.New dst refs nums) d shape is =
     let made : Shape = record { refs = refs; nums = nums } in
@@ -100,6 +101,7 @@ LoadsNothing (Some (Use r access)) = Unit {0}
 LoadsNothing (Some (LoadGlobal dst g)) = ⊥
 LoadsNothing (Some (StoreGlobal g src)) = Unit {0}
 
-pub no_load : (register : ℕ → ℕ) (o : Op) (place : Place) (dst : ℕ) → LoadsNothing (task_of o) → LoadsAt register o place dst → ⊥
+pub no_load : (register : ℕ → ℕ) (o : Op) (place : Place) (dst : ℕ) → LoadsNothing (task_of o)
+    → LoadsAt register o place dst → ⊥
 no_load register o (Field object i) dst none loads = subst LoadsNothing loads.1 none
 no_load register o (Global g) dst none loads = subst LoadsNothing loads none

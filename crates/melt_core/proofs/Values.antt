@@ -19,7 +19,8 @@ use Rattle.melt_scion.proofs.Entries.{was_made}
 use Rattle.melt_core.specs.Views.{maps_of, numbers_of, held_value, held_values}
 
 -- what holds of a value and of all elements holds of all elements after the value was set
-pub get_or_set_keeps : {A : Type 0} (P : A → Type 0) (xs : List A) (i : ℕ) (v : A) (k : ℕ) (d : A) → P v → P (get_or xs k d) → P (get_or (set xs i v) k d)
+pub get_or_set_keeps : {A : Type 0} (P : A → Type 0) (xs : List A) (i : ℕ) (v : A) (k : ℕ) (d : A) → P v
+    → P (get_or xs k d) → P (get_or (set xs i v) k d)
 get_or_set_keeps P [] i v k d new old = old
 get_or_set_keeps P (x ∷ xs) zero v zero d new old = new
 get_or_set_keeps P (x ∷ xs) zero v (suc k) d new old = old
@@ -32,10 +33,12 @@ get_or_replicate (suc n) zero d = refl
 get_or_replicate (suc n) (suc k) d = get_or_replicate n k d
 
 -- the value in a register
-pub value_held : (names : Option heap.Names) (regs : List ℕ) (r : ℕ) → value_in (held_values names regs) r ≡ held_value names (get_or regs r 0)
+pub value_held : (names : Option heap.Names) (regs : List ℕ) (r : ℕ)
+    → value_in (held_values names regs) r ≡ held_value names (get_or regs r 0)
 value_held names regs r = get_or-map (held_value names) regs r 0
 
-pub held_values-set : (names : Option heap.Names) (regs : List ℕ) (r address : ℕ) → held_values names (set regs r address) ≡ set (held_values names regs) r (held_value names address)
+pub held_values-set : (names : Option heap.Names) (regs : List ℕ) (r address : ℕ)
+    → held_values names (set regs r address) ≡ set (held_values names regs) r (held_value names address)
 held_values-set names regs r address = map-set (held_value names) regs r address
 
 some_stays : (o : Option Value) (v : Value) → o ≡ Some v → o ≡ Some (unwrap_or o Nil)
@@ -46,19 +49,23 @@ unwrap_same : (o : Option Value) (v : Value) → o ≡ Some v → unwrap_or o Ni
 unwrap_same o v is = ap (λ (x : Option Value). unwrap_or x Nil) is
 
 -- an address that stands for a value
-pub held_is : (names : Option heap.Names) (address : ℕ) (v : Value) → value_at (maps_of names) address ≡ Some v → held_value names address ≡ v
+pub held_is : (names : Option heap.Names) (address : ℕ) (v : Value) → value_at (maps_of names) address ≡ Some v
+    → held_value names address ≡ v
 held_is names address v is = unwrap_same (value_at (maps_of names) address) v is
 
-pub named_value : (names : Option heap.Names) (address n : ℕ) → name_at (numbers_of names) address ≡ Some n → value_at (maps_of names) address ≡ Some (Ref n)
+pub named_value : (names : Option heap.Names) (address n : ℕ) → name_at (numbers_of names) address ≡ Some n
+    → value_at (maps_of names) address ≡ Some (Ref n)
 named_value names zero n named = absurd (cc)
 named_value names (suc address) n named = ap (option_map Ref) named
 
 -- what may stand in a register stands for a value
-pub may_value : (names : Option heap.Names) (s : State) (address : ℕ) → MayHold (maps_of names) s address → value_at (maps_of names) address ≡ Some (held_value names address)
+pub may_value : (names : Option heap.Names) (s : State) (address : ℕ) → MayHold (maps_of names) s address
+    → value_at (maps_of names) address ≡ Some (held_value names address)
 may_value names s address (inl nothing) =
     let at_zero : value_at (maps_of names) 0 ≡ Some (held_value names 0) = refl in
     subst (λ (a : ℕ). value_at (maps_of names) a ≡ Some (held_value names a)) (sym nothing) at_zero
-may_value names s address (inr holds) = some_stays (value_at (maps_of names) address) (Ref holds.0.0) (named_value names address holds.0.0 holds.0.1)
+may_value names s address (inr holds) =
+    some_stays (value_at (maps_of names) address) (Ref holds.0.0) (named_value names address holds.0.0 holds.0.1)
 
 -- nothing stands at address 0
 pub no_name_at : (names : Option heap.Names) (n : ℕ) → name_at (numbers_of names) 0 ≡ Some n → ⊥
@@ -69,28 +76,35 @@ unwrap_ref None n is = absurd (cc)
 unwrap_ref (Some m) n is = cc
 
 -- the address of an object
-pub held_named : (names : Option heap.Names) (address n : ℕ) → held_value names address ≡ Ref n → (maps_of names).address address ≡ Some n
+pub held_named : (names : Option heap.Names) (address n : ℕ) → held_value names address ≡ Ref n
+    → (maps_of names).address address ≡ Some n
 held_named names zero n is = absurd (cc)
 held_named names (suc address) n is = unwrap_ref (name_at (numbers_of names) (suc address)) n is
 
 -- an object of the map was made
-pub named_made : (h : List Entry) (maps : Maps) (s : State) (address n : ℕ) → FormedWords maps s → Tells h maps s → maps.address address ≡ Some n → n < made h
+pub named_made : (h : List Entry) (maps : Maps) (s : State) (address n : ℕ) → FormedWords maps s → Tells h maps s
+    → maps.address address ≡ Some n → n < made h
 named_made h maps s address n formed tells named =
     let object = formed.objects address n named in
     was_made h n _ (tells.shapes address n object.0 named object.1.starts)
 
 -- what may stand in a register is Nil or an object that was made
-pub may_reference : (h : List Entry) (names : Option heap.Names) (s : State) (address : ℕ) → FormedWords (maps_of names) s → Tells h (maps_of names) s → MayHold (maps_of names) s address → IsReference h (held_value names address)
+pub may_reference : (h : List Entry) (names : Option heap.Names) (s : State) (address : ℕ)
+    → FormedWords (maps_of names) s → Tells h (maps_of names) s → MayHold (maps_of names) s address
+    → IsReference h (held_value names address)
 may_reference h names s address formed tells (inl nothing) =
     let at_zero : IsReference h (held_value names 0) = tt in
     subst (λ (a : ℕ). IsReference h (held_value names a)) (sym nothing) at_zero
 may_reference h names s address formed tells (inr holds) =
-    let is : held_value names address ≡ Ref holds.0.0 = held_is names address (Ref holds.0.0) (named_value names address holds.0.0 holds.0.1) in
-    let made_it : IsReference h (Ref holds.0.0) = named_made h (maps_of names) s address holds.0.0 formed tells holds.0.1 in
+    let is : held_value names address ≡ Ref holds.0.0 =
+    held_is names address (Ref holds.0.0) (named_value names address holds.0.0 holds.0.1) in
+    let made_it : IsReference h (Ref holds.0.0) =
+    named_made h (maps_of names) s address holds.0.0 formed tells holds.0.1 in
     subst (IsReference h) (sym is) made_it
 
 -- an address that may stand in a register is small
-pub may_small : (maps : Maps) (s : State) (address : ℕ) → FormedWords maps s → MayHold maps s address → address ≤ s.base.size
+pub may_small : (maps : Maps) (s : State) (address : ℕ) → FormedWords maps s → MayHold maps s address
+    → address ≤ s.base.size
 may_small maps s address formed (inl nothing) = omega arith
 may_small maps s address formed (inr holds) =
     let object = formed.objects address holds.0.0 holds.0.1 in
@@ -98,8 +112,10 @@ may_small maps s address formed (inr holds) =
     omega arith
 
 -- the word of a clean reference to what may stand in a register
-pub may_stand : (maps : Maps) (s : State) (address : ℕ) → FormedWords maps s → MayHold maps s address → IsReferenceWord maps s (4 * address)
-may_stand maps s address formed (inl nothing) = record { reference = Null; in_range = tt; is = omega arith; stands = tt }
+pub may_stand : (maps : Maps) (s : State) (address : ℕ) → FormedWords maps s → MayHold maps s address
+    → IsReferenceWord maps s (4 * address)
+may_stand maps s address formed (inl nothing) =
+    record { reference = Null; in_range = tt; is = omega arith; stands = tt }
 may_stand maps s address formed (inr holds) =
     let object = formed.objects address holds.0.0 holds.0.1 in
     let within : address + cost_of object.0.shape ≤ s.base.size + 1 = object.1.within in
@@ -112,7 +128,8 @@ may_stand maps s address formed (inr holds) =
       stands = holds;
     }
 
-pub stands_for_held : (maps : Maps) (s : State) (address : ℕ) (v : Value) → FormedWords maps s → MayHold maps s address → value_at maps address ≡ Some v → Stands maps (4 * address) v
+pub stands_for_held : (maps : Maps) (s : State) (address : ℕ) (v : Value) → FormedWords maps s → MayHold maps s address
+    → value_at maps address ≡ Some v → Stands maps (4 * address) v
 stands_for_held maps s zero v formed may is = record { reference = Null; in_range = tt; is = refl; stands_for = is }
 stands_for_held maps s (suc address) v formed may is =
     let below : suc address ≤ s.base.size = may_small maps s (suc address) formed may in
@@ -125,7 +142,9 @@ stands_for_held maps s (suc address) v formed may is =
     }
 
 -- the values of registers that stand for the same
-pub same_values : (old new : Option heap.Names) (regs after : List ℕ) → length after ≡ length regs → ((r : ℕ) → value_at (maps_of new) (get_or after r 0) ≡ Some (value_in (held_values old regs) r)) → held_values new after ≡ held_values old regs
+pub same_values : (old new : Option heap.Names) (regs after : List ℕ) → length after ≡ length regs
+    → ((r : ℕ) → value_at (maps_of new) (get_or after r 0) ≡ Some (value_in (held_values old regs) r))
+    → held_values new after ≡ held_values old regs
 same_values old new regs after size each =
     ext_get_or Nil (held_values new after) (held_values old regs)
     (length-map after (held_value new) ∙ (size ∙ sym (length-map regs (held_value old))))

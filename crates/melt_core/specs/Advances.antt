@@ -41,8 +41,8 @@ abbrev pub Continues : Option Call → Op → Type 0
 Continues None o = Unit {0}
 Continues (Some c) o = o ≡ c.op
 
--- What each event of a thread asks: the words are well formed; operation and thread are in range, and the operation is no
--- collection; a call that is in flight is continued; and the history has room for an entry.
+-- What each event of a thread asks: the words are well formed; operation and thread are in range, and the operation is
+-- no collection; a call that is in flight is continued; and the history has room for an entry.
 pub record MayAdvance (v : View) (t : ℕ) (o : Op) : Type 0 where
   pub stands : Standing false v
   pub thread : t < length v.held
@@ -97,8 +97,8 @@ Sets (op.Copy dst src) r = r ≡ dst
 Sets (op.Drop dst) r = r ≡ dst
 Sets o r = ⊥
 
--- The call of the thread is answered, in an event that neither goes on nor has to pause. Reply, history and registers are
--- those of the operation, where the words stand for the history; otherwise there is one entry more at most.
+-- The call of the thread is answered, in an event that neither goes on nor has to pause. Reply, history and registers
+-- are those of the operation, where the words stand for the history; otherwise there is one entry more at most.
 pub record IsAnswered (v w : View) (t : ℕ) (o : Op) (reply : Reply) : Type 0 where
   pub last : (next : Stage) → Next (maps v) (state v) (register_in v.held t) v.stop o (stage_of v t) next → ⊥
   pub no_pause : MustPause (register_in v.held t) v.stop o (stage_of v t) → ⊥
@@ -139,7 +139,8 @@ Outcome v w t o (Refused refusal) = Refuses v w t o refusal
 
 -- where a load was answered, the reference that it read has no tag
 abbrev pub LeavesClean : View → View → ℕ → Op → StepResult → Type 0
-LeavesClean v w t o (Answered reply) = (place : Place) (dst : ℕ) → LoadsAt (register_in v.held t) o place dst → IsPlace (maps v) (state v) place → IsTagged (word_in (state w) place) → ⊥
+LeavesClean v w t o (Answered reply) = (place : Place) (dst : ℕ) → LoadsAt (register_in v.held t) o place dst
+    → IsPlace (maps v) (state v) place → IsTagged (word_in (state w) place) → ⊥
 LeavesClean v w t o Going = Unit {0}
 LeavesClean v w t o (Refused refusal) = Unit {0}
 
@@ -147,7 +148,8 @@ LeavesClean v w t o (Refused refusal) = Unit {0}
 -- changes them, and in no other way.
 pub record Advances (v w : View) (t : ℕ) (o : Op) (result : StepResult) : Type 0 where
   pub keeps : (told : Bool) → Standing told v → Standing told w
-  pub changes : Applies (maps v) (maps w) (state v) (state w) (change_of (state v) (register_in v.held t) (stage_of v t))
+  pub changes : Applies (maps v) (maps w) (state v) (state w)
+      (change_of (state v) (register_in v.held t) (stage_of v t))
   pub evolves : Evolves (maps v) (maps w) (state v) (state w) (cleared_by (stage_of v t))
   pub others : KeepsOthers v w t
   pub outcome : Outcome v w t o result

@@ -25,7 +25,8 @@ gives log (Some act) = unwrap_or (given log act) Nil
 
 -- An operation of a thread was answered: the reply, its registers and the history after it are those that the
 -- operation has by its meaning.
-pub record Answers (t : ℕ) (log : List Entry) (rs : List Value) (o : Op) (reply : Reply) (log_after : List Entry) (rs_after : List Value) : Type 0 where
+pub record Answers (t : ℕ) (log : List Entry) (rs : List Value) (o : Op) (reply : Reply) (log_after : List Entry)
+    (rs_after : List Value) : Type 0 where
   pub value : Value
   pub given : gives log (does log rs o value).act ≡ value
   pub told : (does log rs o value).reply ≡ reply

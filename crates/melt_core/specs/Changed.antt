@@ -33,7 +33,8 @@ with_call v t call = record v { calls = slice_set v.calls t call }
 
 -- a register of a thread holds this address
 abbrev pub with_register : View → ℕ → ℕ → ℕ → View
-with_register v t r address = record v { held = slice_set v.held t (record { regs = slice_set (registers_in v.held t) r address }) }
+with_register v t r address =
+    record v { held = slice_set v.held t (record { regs = slice_set (registers_in v.held t) r address }) }
 
 -- the history has one entry more
 abbrev pub noted : View → Entry → View
@@ -48,4 +49,5 @@ pub record HasRead (v w : View) (t : ℕ) (place : Place) (dst address : ℕ) (r
   pub slot : Slot
   pub is_slot : SlotAt (maps v) place slot
   pub told : result ≡ Answered (found (held_value v.names address))
-  pub is : w ≡ with_call (with_register (noted v (entry t (Read slot (held_value v.names address)))) t dst address) t None
+  pub is : w ≡ with_call (with_register (noted v (entry t (Read slot (held_value v.names address)))) t dst address) t
+      None

@@ -1,5 +1,5 @@
--- What is known of a call between two of its events, whatever other threads did since; without its operation and without
--- its thread's registers. And what every event leaves, so that this stays.
+-- What is known of a call between two of its events, whatever other threads did since; without its operation and
+-- without its thread's registers. And what every event leaves, so that this stays.
 use Rattle.std.specs.Prelude.{◌≡◌, ◌≢◌, ℕ, ◌+◌, ◌<◌, ◌≤◌, false, Some}
 use Rattle.melt_model.specs.declared.history.Slot.{Slot}
 use Rattle.melt_model.specs.declared.history.Slot.TheVariants as slot
@@ -71,7 +71,8 @@ Known maps s (Polled task) = Unit {0}
 Known maps s (Headed address shape access) = IsObjectAt maps s address shape
 Known maps s (Looked place target dst) = HasLooked maps s place (Stale target)
 Known maps s (Cleared place target dst) = HasLooked maps s place (Stale target) × IsFresh s target
-Known maps s (Claimed address shape stored dst) = IsShape shape × HasStored maps s (region address shape) (λ k. 0) stored
+Known maps s (Claimed address shape stored dst) =
+    IsShape shape × HasStored maps s (region address shape) (λ k. 0) stored
 Known maps s (Lacking need) = s.base.size + 1 < s.free
 
 -- the words that a call owns
@@ -83,14 +84,17 @@ region_of stage = no_region
 abbrev pub Settles : ℕ → ℕ → Type 0
 Settles old new = IsTagged new → new ≡ old
 
--- What every event leaves: objects stay where they are; each header does, but for the one whose stale bit the event clears,
--- if it clears one; no tag is put on a reference; a forwarding word that is filled stays; no place becomes free.
+-- What every event leaves: objects stay where they are; each header does, but for the one whose stale bit the event
+-- clears, if it clears one; no tag is put on a reference; a forwarding word that is filled stays; no place becomes
+-- free.
 pub record Evolves (maps new : Maps) (s t : State) (cleared : ℕ) : Type 0 where
   pub base : t.base ≡ s.base
   pub homes : (home : ℕ) → new.home home ≡ maps.home home
   pub names : (a n : ℕ) → maps.address a ≡ Some n → new.address a ≡ Some n
-  pub header : (a n : ℕ) (header : Header) → maps.address a ≡ Some n → a ≢ cleared → HeaderAt s a header → HeaderAt t a header
-  pub clears : (n : ℕ) (header : Header) → maps.address cleared ≡ Some n → HeaderAt s cleared header → HeaderAt t cleared (record { shape = header.shape; stale = false })
+  pub header : (a n : ℕ) (header : Header) → maps.address a ≡ Some n → a ≢ cleared → HeaderAt s a header
+      → HeaderAt t a header
+  pub clears : (n : ℕ) (header : Header) → maps.address cleared ≡ Some n → HeaderAt s cleared header
+      → HeaderAt t cleared (record { shape = header.shape; stale = false })
   pub places : (place : Place) → IsPlace maps s place → Settles (word_in s place) (word_in t place)
   pub forwards : (p : ℕ) → p < s.base.forwards → s.forward p ≢ 0 → t.forward p ≡ s.forward p
   pub free : s.free ≤ t.free

@@ -1,5 +1,5 @@
--- The events of an operation, one after the other: what it has to do, the stages that its call reaches, what each of its
--- events changes, and which stage comes next.
+-- The events of an operation, one after the other: what it has to do, the stages that its call reaches, what each of
+-- its events changes, and which stage comes next.
 use Rattle.std.specs.Prelude.{◌≡◌, ◌≢◌, ℕ, ◌+◌, ◌*◌, ◌-◌, ◌<◌, ◌≤◌, ◌==◌, if◌then◌else◌, Bool, true, false, Option, None, Some}
 use Rattle.melt_model.specs.declared.operations.Op.{Op}
 use Rattle.melt_model.specs.declared.operations.Op.TheVariants as op
@@ -59,14 +59,16 @@ LoadsAt register o (Global g) dst = task_of o ≡ Some (LoadGlobal dst g)
 -- the call of the operation, with what its thread's registers hold, may be at the stage
 abbrev pub Fits : (ℕ → ℕ) → Op → Stage → Type 0
 Fits register o (Polled task) = Shares register o task
-Fits register o (Headed address shape access) = (r : ℕ) × (task_of o ≡ Some (Use r access)) × (register r ≡ address) × HasPart access shape
+Fits register o (Headed address shape access) = (r : ℕ) × (task_of o ≡ Some (Use r access)) × (register r ≡ address)
+    × HasPart access shape
 Fits register o (Looked place target dst) = LoadsAt register o place dst
 Fits register o (Cleared place target dst) = LoadsAt register o place dst
 Fits register o (Claimed address shape stored dst) = task_of o ≡ Some (Make dst shape)
-Fits register o (Lacking need) = (dst : ℕ) × (shape : Shape) × (task_of o ≡ Some (Make dst shape)) × (need ≡ cost_of shape)
+Fits register o (Lacking need) = (dst : ℕ) × (shape : Shape) × (task_of o ≡ Some (Make dst shape))
+    × (need ≡ cost_of shape)
 
--- What the next event changes of the words that threads share. An exchange of a tagged word changes nothing where another
--- word stands there by then.
+-- What the next event changes of the words that threads share. An exchange of a tagged word changes nothing where
+-- another word stands there by then.
 pub data Change : Type 0 where
   Nothing : Change
   Word : (at word : ℕ) → Change
@@ -88,7 +90,8 @@ change_of s register (Some (Headed address shape (Get j))) = Nothing
 change_of s register (Some (Headed address shape (Put j v))) = Word (number_place address shape j) v
 change_of s register (Some (Looked place target dst)) = Clear target
 change_of s register (Some (Cleared place target dst)) = Untag place target
-change_of s register (Some (Claimed address shape stored dst)) = if stored + 1 == cost_of shape then Publish address shape else Word (address + 1 + stored) 0
+change_of s register (Some (Claimed address shape stored dst)) =
+    if stored + 1 == cost_of shape then Publish address shape else Word (address + 1 + stored) 0
 change_of s register (Some (Lacking need)) = Nothing
 
 -- the change was made, and no other
@@ -97,31 +100,42 @@ Applies maps new s t Nothing = (new ≡ maps) × SameWords s t
 Applies maps new s t (Word at word) = (new ≡ maps) × WordChanges s t at word
 Applies maps new s t (SetGlobal g word) = (new ≡ maps) × GlobalChanges s t g word
 Applies maps new s t (Free free) = (new ≡ maps) × FreeMoves s t free
-Applies maps new s t (Clear address) = (new ≡ maps) × ((header : Header) → HeaderAt s address header → WordChanges s t address (header_word (record { shape = header.shape; stale = false })))
-Applies maps new s t (Untag place target) = (new ≡ maps) × ((word_in s place ≡ ref_word (Stale target) → PlaceChanges s t place (ref_word (Clean target))) × (word_in s place ≢ ref_word (Stale target) → SameWords s t))
-Applies maps new s t (Publish address shape) = WordChanges s t address (header_word (record { shape = shape; stale = false })) × ((n : ℕ) × NameAppears maps new address n)
+Applies maps new s t (Clear address) =
+    (new ≡ maps) × ((header : Header) → HeaderAt s address header
+    → WordChanges s t address (header_word (record { shape = header.shape; stale = false })))
+Applies maps new s t (Untag place target) =
+    (new ≡ maps) × ((word_in s place ≡ ref_word (Stale target) → PlaceChanges s t place (ref_word (Clean target)))
+    × (word_in s place ≢ ref_word (Stale target) → SameWords s t))
+Applies maps new s t (Publish address shape) =
+    WordChanges s t address (header_word (record { shape = shape; stale = false }))
+    × ((n : ℕ) × NameAppears maps new address n)
 
 -- the object whose stale bit the next event clears, or 0
 abbrev pub cleared_by : Option Stage → ℕ
 cleared_by (Some (Looked place target dst)) = target
 cleared_by stage = 0
 
--- The next event is not the last of the call, which reaches this stage by it. An event of a call that has made none needs the
--- stop word not to be set.
+-- The next event is not the last of the call, which reaches this stage by it. An event of a call that has made none
+-- needs the stop word not to be set.
 abbrev pub Next : Maps → State → (ℕ → ℕ) → Bool → Op → Option Stage → Stage → Type 0
 Next maps s register stop o None next = (task : Task) × Shares register o task × (stop ≡ false) × (next ≡ Polled task)
 Next maps s register stop o (Some (Polled (Make dst shape))) next =
-    (s.free + cost_of shape ≤ s.base.size + 1 → next ≡ Claimed s.free shape 0 dst) × (s.base.size + 1 < s.free + cost_of shape → next ≡ Lacking (cost_of shape))
-Next maps s register stop o (Some (Polled (Use r access))) next = (shape : Shape) × IsObjectAt maps s (register r) shape × HasPart access shape × (next ≡ Headed (register r) shape access)
-Next maps s register stop o (Some (Polled (LoadGlobal dst g))) next = (target : ℕ) × (s.global g ≡ ref_word (Stale target)) × (next ≡ Looked (Global g) target dst)
+    (s.free + cost_of shape ≤ s.base.size + 1 → next ≡ Claimed s.free shape 0 dst)
+    × (s.base.size + 1 < s.free + cost_of shape → next ≡ Lacking (cost_of shape))
+Next maps s register stop o (Some (Polled (Use r access))) next = (shape : Shape) × IsObjectAt maps s (register r) shape
+    × HasPart access shape × (next ≡ Headed (register r) shape access)
+Next maps s register stop o (Some (Polled (LoadGlobal dst g))) next =
+    (target : ℕ) × (s.global g ≡ ref_word (Stale target)) × (next ≡ Looked (Global g) target dst)
 Next maps s register stop o (Some (Polled (StoreGlobal g src))) next = ⊥
-Next maps s register stop o (Some (Headed address shape (Load dst i))) next = (target : ℕ) × (s.word (address + 2 + i) ≡ ref_word (Stale target)) × (next ≡ Looked (Field address i) target dst)
+Next maps s register stop o (Some (Headed address shape (Load dst i))) next =
+    (target : ℕ) × (s.word (address + 2 + i) ≡ ref_word (Stale target)) × (next ≡ Looked (Field address i) target dst)
 Next maps s register stop o (Some (Headed address shape (Store i src))) next = ⊥
 Next maps s register stop o (Some (Headed address shape (Get j))) next = ⊥
 Next maps s register stop o (Some (Headed address shape (Put j v))) next = ⊥
 Next maps s register stop o (Some (Looked place target dst)) next = next ≡ Cleared place target dst
 Next maps s register stop o (Some (Cleared place target dst)) next = ⊥
-Next maps s register stop o (Some (Claimed address shape stored dst)) next = (stored + 1 < cost_of shape) × (next ≡ Claimed address shape (stored + 1) dst)
+Next maps s register stop o (Some (Claimed address shape stored dst)) next =
+    (stored + 1 < cost_of shape) × (next ≡ Claimed address shape (stored + 1) dst)
 Next maps s register stop o (Some (Lacking need)) next = ⊥
 
 -- the call has to pause in its next event

@@ -79,8 +79,8 @@ value v t r = value_in (values_of v t) r
 abbrev pub maps : View → Maps
 maps v = maps_of v.names
 
--- The state that these parts show. There are no scions and no forwarding words yet, and no homes: word 1 on disk is past
--- all of them.
+-- The state that these parts show. There are no scions and no forwarding words yet, and no homes: word 1 on disk is
+-- past all of them.
 abbrev pub base_in : SpaceWords → List ℕ → Base
 base_in space globals = record {
   size = length space.list;
@@ -147,13 +147,15 @@ claims_left stop (Some (Polled task)) = 1
 claims_left stop (Some (Lacking need)) = 0
 claims_left stop stage = if stop then 0 else 1
 
--- The first free place lies past the last word only by claims that ended there, at most one for each thread: with such a
--- claim the stop word is set, and a thread that reads it claims no more.
+-- The first free place lies past the last word only by claims that ended there, at most one for each thread: with such
+-- a claim the stop word is set, and a thread that reads it claims no more.
 abbrev pub Bounded : View → Type 0
-Bounded v = (v.free ≤ length v.space.list + 1) ⊎ (v.free + 126 * sum (map (λ (c : Option Call). claims_left v.stop (stage_in c)) v.calls) ≤ length v.space.list + 1 + 126 * length v.calls)
+Bounded v = (v.free ≤ length v.space.list + 1)
+    ⊎ (v.free + 126 * sum (map (λ (c : Option Call). claims_left v.stop (stage_in c)) v.calls) ≤ length
+    v.space.list + 1 + 126 * length v.calls)
 
--- What stands between two events, told or not. The words hold as they are, and so do registers; each call in flight knows
--- what its stage says, and fits its operation; regions of calls are apart.
+-- What stands between two events, told or not. The words hold as they are, and so do registers; each call in flight
+-- knows what its stage says, and fits its operation; regions of calls are apart.
 pub record Standing (told : Bool) (v : View) : Type 0 where
   pub named : IsSome v.names
   pub room : length (numbers_of v.names) ≡ length v.space.list
@@ -167,7 +169,8 @@ pub record Standing (told : Bool) (v : View) : Type 0 where
   pub registers : (t r : ℕ) → MayHold (maps v) (state v) (register_in v.held t r)
   pub known : (t : ℕ) (c : Call) → call_of v t ≡ Some c → Known (maps v) (state v) c.stage
   pub fits : (t : ℕ) (c : Call) → call_of v t ≡ Some c → Fits (register_in v.held t) c.op c.stage
-  pub apart : (t u : ℕ) (c d : Call) → t ≢ u → call_of v t ≡ Some c → call_of v u ≡ Some d → Apart (region_of c.stage) (region_of d.stage)
+  pub apart : (t u : ℕ) (c d : Call) → t ≢ u → call_of v t ≡ Some c → call_of v u ≡ Some d
+      → Apart (region_of c.stage) (region_of d.stage)
   pub counts : told ≡ true → Counts v
 
 -- no call is in flight

@@ -10,6 +10,13 @@ pub returns : goal.returns
 returns c =
     let v : View = view c.args.self.now in
     subst (λ (w : View). Advances v w c.args.thread c.args.op Going) (sym c.set_call.ensures)
-    (claim_advances v c.args.thread (v.free + c.cost-need.result) c.cost-need.result c.args.op c.args.shape c.args.dst c.if-self-words.stage c.requires.asks c.requires.stage c.cost-need.ensures refl
-    (λ below. elim c.if-self-words.branch [ then-self-words w ↦ absurd (omega (arith, below, w.if-self-words.true, c.words.ensures.value)) | else-self-words w ↦ w.stage-is ])
-    (λ above. elim c.if-self-words.branch [ then-self-words w ↦ w.stage-is | else-self-words w ↦ absurd (omega (arith, above, w.if-self-words.false, c.words.ensures.value)) ]))
+    (claim_advances v c.args.thread (v.free + c.cost-need.result) c.cost-need.result c.args.op c.args.shape c.args.dst
+    c.if-self-words.stage c.requires.asks c.requires.stage c.cost-need.ensures refl
+    (λ below. elim c.if-self-words.branch [
+      | then-self-words w ↦ absurd (omega (arith, below, w.if-self-words.true, c.words.ensures.value))
+      | else-self-words w ↦ w.stage-is
+    ])
+    (λ above. elim c.if-self-words.branch [
+      | then-self-words w ↦ w.stage-is
+      | else-self-words w ↦ absurd (omega (arith, above, w.if-self-words.false, c.words.ensures.value))
+    ]))

@@ -9,4 +9,6 @@ pub returns : goal.returns
 returns c =
     let v : View = view c.args.self.now in
     subst (λ (w : View). Advances v w c.args.thread c.args.op Going) (sym c.set_call.ensures)
-    (clear_advances v c.set_word.new.self c.args.thread c.args.op c.args.place c.args.target c.args.dst c.encode_header.result c.shape.result c.requires.asks c.requires.stage c.shape.ensures c.encode_header.ensures c.set_word.ensures)
+    (clear_advances v c.set_word.new.self c.args.thread c.args.op c.args.place c.args.target c.args.dst
+    c.encode_header.result c.shape.result c.requires.asks c.requires.stage c.shape.ensures c.encode_header.ensures
+    c.set_word.ensures)

@@ -9,5 +9,7 @@ use Rattle.melt_core.proofs.machine.Core.copy.Goals as goal
 
 pub returns : goal.returns
 returns c =
-    subst (λ (w : View). Advances (view c.args.self.now) w c.args.thread (op.Copy c.args.dst c.args.src) (Answered reply.Done)) (sym c.set_register.ensures)
-    (copy_advances (view c.args.self.now) c.args.thread c.args.dst c.args.src c.register-address.result c.requires.asks c.requires.first c.register-address.ensures)
+    subst (λ (w : View). Advances (view c.args.self.now) w c.args.thread (op.Copy c.args.dst c.args.src)
+    (Answered reply.Done)) (sym c.set_register.ensures)
+    (copy_advances (view c.args.self.now) c.args.thread c.args.dst c.args.src c.register-address.result c.requires.asks
+    c.requires.first c.register-address.ensures)

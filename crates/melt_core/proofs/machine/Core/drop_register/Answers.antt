@@ -9,5 +9,6 @@ use Rattle.melt_core.proofs.machine.Core.drop_register.Goals as goal
 
 pub returns : goal.returns
 returns c =
-    subst (λ (w : View). Advances (view c.args.self.now) w c.args.thread (op.Drop c.args.r) (Answered reply.Done)) (sym c.set_register.ensures)
+    subst (λ (w : View). Advances (view c.args.self.now) w c.args.thread (op.Drop c.args.r) (Answered reply.Done))
+    (sym c.set_register.ensures)
     (drop_advances (view c.args.self.now) c.args.thread c.args.r c.requires.asks c.requires.first)

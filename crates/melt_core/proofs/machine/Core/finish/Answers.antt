@@ -8,6 +8,12 @@ pub returns-clause-rests : goal.returns-clause-rests
 returns-clause-rests c = λ told stands. record {
   stands = stands_finish told (view c.args.self) c.set_used.new.self stands c.requires.quiet
       (ap (λ (x : SpaceWords). x.list) c.set_used.ensures)
-      (omega (arith, ap (λ (x : SpaceWords). x.used) c.set_used.ensures, c.min-used.ensures, c.saturating_sub.ensures, c.words.ensures.value));
+      (omega (
+        arith,
+        ap (λ (x : SpaceWords). x.used) c.set_used.ensures,
+        c.min-used.ensures,
+        c.saturating_sub.ensures,
+        c.words.ensures.value,
+      ));
   quiet = c.requires.quiet;
 }

@@ -13,7 +13,11 @@ use Rattle.std.specs.Prelude.{None}
 pub returns : goal.returns
 returns c =
     let v : View = view c.args.self.now in
-    subst (λ (w : View). Advances v w c.args.thread c.args.op (Answered (reply.Num c.word-number.result))) (sym c.set_call.ensures)
-    (subst (λ (m : View). Advances v (with_call m c.args.thread None) c.args.thread c.args.op (Answered (reply.Num c.word-number.result))) (sym c.note.ensures)
-    (get_advances v c.args.thread c.args.op c.args.address c.args.j c.number_at.result c.word-number.result c.args.shape c.requires.asks c.requires.stage c.number_at.ensures
-    (c.word-number.ensures ∙ ap (word_at v.space) (let e : _ ≡ number_place c.args.address c.args.shape c.args.j = omega (arith, c.from.ensures, c.from-2.ensures) in e))))
+    subst (λ (w : View). Advances v w c.args.thread c.args.op (Answered (reply.Num c.word-number.result)))
+    (sym c.set_call.ensures)
+    (subst (λ (m : View). Advances v (with_call m c.args.thread None) c.args.thread c.args.op
+    (Answered (reply.Num c.word-number.result))) (sym c.note.ensures)
+    (get_advances v c.args.thread c.args.op c.args.address c.args.j c.number_at.result c.word-number.result c.args.shape
+    c.requires.asks c.requires.stage c.number_at.ensures
+    (c.word-number.ensures ∙ ap (word_at v.space) (let e : _ ≡ number_place c.args.address c.args.shape c.args.j =
+    omega (arith, c.from.ensures, c.from-2.ensures) in e))))

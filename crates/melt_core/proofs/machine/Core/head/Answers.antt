@@ -9,13 +9,16 @@ use Rattle.melt_core.proofs.machine.Core.head.Goals as goal
 
 pub go-requires-clause-known : goal.go-requires-clause-known
 go-requires-clause-known c =
-    head_object (view c.args.self.now) c.args.thread c.args.op c.args.r c.register-address.result c.args.access c.shape-shape.result c.requires.asks c.requires.stage c.register-address.ensures c.shape-shape.ensures
+    head_object (view c.args.self.now) c.args.thread c.args.op c.args.r c.register-address.result c.args.access
+    c.shape-shape.result c.requires.asks c.requires.stage c.register-address.ensures c.shape-shape.ensures
 
 pub returns : goal.returns
 returns c =
     let v : View = view c.args.self.now in
     subst (λ (w : View). Advances v w c.args.thread c.args.op (Answered reply.Range)) (sym c.set_call.ensures)
-    (range_advances v c.args.thread c.args.op c.args.r c.args.access c.shape-shape.result c.requires.asks c.requires.stage
+    (range_advances v c.args.thread c.args.op c.args.r c.args.access c.shape-shape.result c.requires.asks
+    c.requires.stage
     (subst (λ a. IsObjectAt (maps v) (state v) a c.shape-shape.result) c.register-address.ensures
-    (head_object v c.args.thread c.args.op c.args.r c.register-address.result c.args.access c.shape-shape.result c.requires.asks c.requires.stage c.register-address.ensures c.shape-shape.ensures))
+    (head_object v c.args.thread c.args.op c.args.r c.register-address.result c.args.access c.shape-shape.result
+    c.requires.asks c.requires.stage c.register-address.ensures c.shape-shape.ensures))
     (λ part. let e = (c.if-is_within.ensures).1 part in cc))

@@ -10,5 +10,6 @@ use Rattle.melt_core.proofs.machine.Core.lack.Goals as goal
 pub returns : goal.returns
 returns c =
     let v : View = view c.args.self.now in
-    subst (λ (w : View). Advances v w c.args.thread c.args.op (Refused (Pause (Space c.args.need)))) (sym c.set_call.ensures)
+    subst (λ (w : View). Advances v w c.args.thread c.args.op (Refused (Pause (Space c.args.need))))
+    (sym c.set_call.ensures)
     (lack_advances v c.args.thread c.args.need c.args.op c.requires.asks c.requires.stage)

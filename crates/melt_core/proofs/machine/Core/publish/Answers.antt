@@ -12,12 +12,21 @@ pub overflow_cast-self : goal.overflow_cast-self
 overflow_cast-self c = record { fits = made_few (view c.args.self.now) c.args.thread c.args.op c.requires.asks }
 
 pub overflow_add-self : goal.overflow_add-self
-overflow_add-self c = record { fits = (let few : (view c.args.self.now).made < 4294967296 = made_few (view c.args.self.now) c.args.thread c.args.op c.requires.asks in omega arith) }
+overflow_add-self c = record {
+  fits = (let few : (view c.args.self.now).made < 4294967296 =
+      made_few (view c.args.self.now) c.args.thread c.args.op c.requires.asks in omega arith);
+}
 
 pub returns : goal.returns
 returns c =
     let v : View = view c.args.self.now in
     subst (λ (w : View). Advances v w c.args.thread c.args.op (Answered reply.Done)) (sym c.set_call.ensures)
-    (subst (λ (w : View). Advances v (with_call w c.args.thread None) c.args.thread c.args.op (Answered reply.Done)) (sym c.set_register.ensures)
-    (subst (λ (w : View). Advances v (with_call (with_register w c.args.thread c.args.dst c.args.address) c.args.thread None) c.args.thread c.args.op (Answered reply.Done)) (sym c.note.ensures)
-    (publish_advances v c.set_word.new.self c.set_name.new.names c.args.thread c.encode_header.result c.args.op c.args.address c.args.stored c.args.dst c.args.shape c.requires.asks c.requires.stage c.requires.all c.encode_header.ensures c.set_word.ensures c.set_name.ensures.named c.set_name.ensures.size c.set_name.ensures.appears)))
+    (subst (λ (w : View). Advances v (with_call w c.args.thread None) c.args.thread c.args.op (Answered reply.Done))
+    (sym c.set_register.ensures)
+    (subst (λ (w : View). Advances v
+    (with_call (with_register w c.args.thread c.args.dst c.args.address) c.args.thread None) c.args.thread c.args.op
+    (Answered reply.Done)) (sym c.note.ensures)
+    (publish_advances v c.set_word.new.self c.set_name.new.names c.args.thread c.encode_header.result c.args.op
+    c.args.address c.args.stored c.args.dst c.args.shape c.requires.asks c.requires.stage c.requires.all
+    c.encode_header.ensures c.set_word.ensures c.set_name.ensures.named c.set_name.ensures.size
+    c.set_name.ensures.appears)))

@@ -17,12 +17,20 @@ returns c =
     let v : View = view c.args.self.now in
     let m : View = view c.set_word_in.new.self in
     let only : m ≡ record v { space = m.space; globals = m.globals } = c.set_word_in.ensures.only in
-    let changes : PlaceChanges (state v) (state (record v { space = m.space; globals = m.globals })) c.args.place (4 * c.register-address.result) =
-    subst (λ (word : ℕ). PlaceChanges (state v) (state (record v { space = m.space; globals = m.globals })) c.args.place word) c.reference_word.ensures
-    (subst (λ (x : View). PlaceChanges (state v) (state x) c.args.place c.reference_word.result) only c.set_word_in.ensures.changes) in
+    let changes : PlaceChanges (state v) (state (record v { space = m.space; globals = m.globals })) c.args.place
+    (4 * c.register-address.result) =
+    subst (λ (word : ℕ). PlaceChanges (state v) (state (record v { space = m.space; globals = m.globals })) c.args.place
+    word) c.reference_word.ensures
+    (subst (λ (x : View). PlaceChanges (state v) (state x) c.args.place c.reference_word.result) only
+    c.set_word_in.ensures.changes) in
     subst (λ (w : View). Advances v w c.args.thread c.args.op (Answered reply.Done)) (sym c.set_call.ensures)
-    (subst (λ (n : View). Advances v (with_call n c.args.thread None) c.args.thread c.args.op (Answered reply.Done)) (sym c.note.ensures)
-    (subst (λ (x : View). Advances v (with_call (noted x (entry c.args.thread (Write c.slot_at-slot.result c.value_at-value.result))) c.args.thread None) c.args.thread c.args.op (Answered reply.Done)) (sym only)
-    (subst (λ (x : Value). Advances v (written v m.space m.globals c.args.thread (Write c.slot_at-slot.result x)) c.args.thread c.args.op (Answered reply.Done)) (sym c.value_at-value.ensures)
-    (store_advances v m.space m.globals c.args.thread c.args.op c.args.place c.slot_at-slot.result c.args.src c.register-address.result c.requires.asks c.requires.stage c.register-address.ensures c.slot_at-slot.ensures
+    (subst (λ (n : View). Advances v (with_call n c.args.thread None) c.args.thread c.args.op (Answered reply.Done))
+    (sym c.note.ensures)
+    (subst (λ (x : View). Advances v
+    (with_call (noted x (entry c.args.thread (Write c.slot_at-slot.result c.value_at-value.result))) c.args.thread
+    None) c.args.thread c.args.op (Answered reply.Done)) (sym only)
+    (subst (λ (x : Value). Advances v (written v m.space m.globals c.args.thread (Write c.slot_at-slot.result x))
+    c.args.thread c.args.op (Answered reply.Done)) (sym c.value_at-value.ensures)
+    (store_advances v m.space m.globals c.args.thread c.args.op c.args.place c.slot_at-slot.result c.args.src
+    c.register-address.result c.requires.asks c.requires.stage c.register-address.ensures c.slot_at-slot.ensures
     (store_words v m.space m.globals c.args.place (4 * c.register-address.result) changes) changes))))

@@ -9,4 +9,5 @@ pub returns : goal.returns
 returns c =
     let v : View = view c.args.self.now in
     subst (λ (w : View). Advances v w c.args.thread c.args.op Going) (sym c.set_call.ensures)
-    (store_zero_advances v c.set_word.new.self c.args.thread c.args.op c.args.address c.args.stored c.args.dst c.args.shape c.requires.asks c.requires.stage c.requires.few c.set_word.ensures)
+    (store_zero_advances v c.set_word.new.self c.args.thread c.args.op c.args.address c.args.stored c.args.dst
+    c.args.shape c.requires.asks c.requires.stage c.requires.few c.set_word.ensures)
