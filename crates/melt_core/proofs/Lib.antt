@@ -24,3 +24,4 @@ pub mod Loading
 pub mod Writing
 pub mod Making
 pub mod Resting
+pub mod Sharing
