@@ -38,7 +38,7 @@ held_within v t r n is = elim (cases_lt t (length v.held)) [
       let none : registers_in v.held t ≡ [] = get_or_past (map (λ (x : Registers). x.regs) v.held) t [] (omega arith) in
       let nil : value_in (values_of v t) r ≡ Nil = ap (λ (regs : List ℕ). value_in (held_values v.names regs) r) none in
       cc
-  )
+      )
 ]
 
 pub alive_sum : (v : View) → Standing true v → (total : ℕ) × CostsSum (words_of v.log) (Alive v.log (value v)) total

@@ -206,9 +206,9 @@ pub nil_advances : (v : View) (t : ℕ) (o : Op) (r : ℕ) (access : Access) →
 nil_advances v t o r access asks first task none =
     let s : Standing false v = asks.stands in
     let has : (x : Task) → Shares (register_in v.held t) o x → ⊥ = λ x shares.
-        let same : x ≡ Use r access = cc in
-        let some : HasObject (register_in v.held t) (Use r access) = subst (HasObject (register_in v.held t)) same shares.1 in
-        some none in
+    let same : x ≡ Use r access = cc in
+    let some : HasObject (register_in v.held t) (Use r access) = subst (HasObject (register_in v.held t)) same shares.1 in
+    some none in
     first_answered v v t o reply.Nil asks first (still_plain v t s first) refl refl refl refl (record {
       last = λ next is.
           let at : Next (maps v) (state v) (register_in v.held t) v.stop o None next = subst (λ (g : Option Stage). Next (maps v) (state v) (register_in v.held t) v.stop o g next) (ap stage_in first) is in

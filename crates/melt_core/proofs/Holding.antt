@@ -127,7 +127,7 @@ module _ (told : Bool) (thread : ℕ) (h : List Entry) (maps new : Maps) (s t : 
       (Event.reads_place place at value is same slot clean lasts) =
       same_maps told _ maps new t is
       (holds_same told h _ maps s t (same_words maps s t same) (quiet_entry h (entry thread (Read at value)) refl)
-          holds)
+      holds)
   holds_event mine cleared act holds legal
       (Event.reads_number object n j shape is same number) =
       same_maps told _ maps new t is

@@ -25,3 +25,4 @@ pub mod Writing
 pub mod Making
 pub mod Resting
 pub mod Sharing
+pub mod Onward

@@ -200,22 +200,30 @@ quiet_read told v t o place at dst address s finds slot clean =
 
 -- a look that found no tag is the last event of its load
 look_stage : (v : View) (t : ℕ) (o : Op) (place : Place) (dst : ℕ) → Standing false v → IsPlace (maps v) (state v) place → LooksFrom (stage_of v t) place dst → (IsTagged (word_in (state v) place) → ⊥) → (stage : Stage) × Ends v t o stage × (change_of (state v) (register_in v.held t) (Some stage) ≡ Nothing)
-look_stage v t o (Field object i) dst s there looks clean = (Headed object looks.0 (Load dst i), record {
-  at = looks.1;
-  last = λ next goes. clean (record { reference = Stale goes.0; in_range = stale_address v (Field object i) goes.0 s there goes.1; tag = tt; is = goes.1 });
-  no_pause = λ pause. pause;
-  clears = refl;
-  unclaimed = refl;
-  no_lack = λ need is. cc;
-}, refl)
-look_stage v t o (Global g) dst s there looks clean = (Polled (LoadGlobal dst g), record {
-  at = looks;
-  last = λ next goes. clean (record { reference = Stale goes.0; in_range = stale_address v (Global g) goes.0 s there goes.1; tag = tt; is = goes.1 });
-  no_pause = λ pause. pause;
-  clears = refl;
-  unclaimed = refl;
-  no_lack = λ need is. cc;
-}, refl)
+look_stage v t o (Field object i) dst s there looks clean = (
+  Headed object looks.0 (Load dst i),
+  record {
+    at = looks.1;
+    last = λ next goes. clean (record { reference = Stale goes.0; in_range = stale_address v (Field object i) goes.0 s there goes.1; tag = tt; is = goes.1 });
+    no_pause = λ pause. pause;
+    clears = refl;
+    unclaimed = refl;
+    no_lack = λ need is. cc;
+  },
+  refl,
+)
+look_stage v t o (Global g) dst s there looks clean = (
+  Polled (LoadGlobal dst g),
+  record {
+    at = looks;
+    last = λ next goes. clean (record { reference = Stale goes.0; in_range = stale_address v (Global g) goes.0 s there goes.1; tag = tt; is = goes.1 });
+    no_pause = λ pause. pause;
+    clears = refl;
+    unclaimed = refl;
+    no_lack = λ need is. cc;
+  },
+  refl,
+)
 
 -- a look found a stale address
 pub looked_known : (v : View) (t : ℕ) (place : Place) (target : ℕ) → Standing false v → IsPlace (maps v) (state v) place → HoldsRef (word_in (state v) place) (Stale target) → HasLooked (maps v) (state v) place (Stale target)

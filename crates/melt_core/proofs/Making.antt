@@ -114,11 +114,14 @@ claim_happens told v t free need o shape dst stage asks at s small whole needed 
       may_hold = λ r. hold_words (maps v) (state v) (state w) (register_in v.held t r) (λ k. refl) (s.registers t r);
       known = λ c is. subst (λ (d : Call). Known (maps w) (state w) d.stage) (let e : after ≡ c = cc in e) (elim (cases_lt (length v.space.list + 1) free) [
         | inl above ↦ subst (Known (maps w) (state w)) (sym (lacks above)) above
-        | inr below ↦ subst (Known (maps w) (state w)) (sym (fits below)) (small, record {
+        | inr below ↦ subst (Known (maps w) (state w)) (sym (fits below)) (
+          small,
+          record {
             owns = claimed_owned (maps v) (state v) (state w) (cost_of shape) s.holds.formed first (omega arith) moves;
             few = omega arith;
             are = λ k one none. absurd (omega arith);
-          })
+          },
+        )
       ]);
       fits = λ c is. subst (λ (d : Call). Fits (register_in v.held t) d.op d.stage) (let e : after ≡ c = cc in e)
           (next_fits (maps v) (state v) (register_in v.held t) v.stop o (call_of v t) stage asks.continued (λ d is_d. s.fits t d is_d) next);
@@ -146,7 +149,7 @@ claim_advances v t free need o shape dst stage asks at needed sum fits lacks =
     let small : IsShape shape = small_shape v t o dst shape asks task in
     let whole : free ≡ v.free + cost_of shape = omega arith in
     let next : Next (maps v) (state v) (register_in v.held t) v.stop o (stage_of v t) stage = subst (λ (g : Option Stage). Next (maps v) (state v) (register_in v.held t) v.stop o g stage) (sym at)
-        (λ below. fits (omega arith), λ above. lacks (omega arith) ∙ ap Lacking needed) in
+    (λ below. fits (omega arith), λ above. lacks (omega arith) ∙ ap Lacking needed) in
     let moves : FreeMoves (state v) (state w) (v.free + cost_of shape) = record { base = refl; is = whole; word = λ k. refl; global = λ g. refl; forward = λ p. refl } in
     let unclaimed : claimed_in (call_of v t) ≡ 0 = ap claimed_in (call_at v t o (Polled (Making dst shape)) asks at) in
     let made : Made v w t (cleared_by (stage_of v t)) = record {
@@ -229,14 +232,17 @@ store_zero_advances v space t o address stored dst shape asks at few sets =
         may_hold = λ r. hold_stays (maps v) (maps w) (state v) (state w) 0 stands.holds.formed
             (evolves_event false v.log (maps v) (maps w) (state v) (state w) (region address shape) 0 None s.holds.formed (stores (region address shape) (address + 1 + stored) 0 refl known.1.owns (omega arith) (omega arith) changes))
             (register_in v.held t r) (s.registers t r);
-        known = λ c is. subst (λ (d : Call). Known (maps w) (state w) d.stage) (let e : after ≡ c = cc in e) (known.0, record {
-          owns = owns;
-          few = omega arith;
-          are = λ k one up_to. elim (cases_eq k (stored + 1)) [
-            | inl same ↦ subst (λ (x : ℕ). (state w).word x ≡ 0) (let e : address + 1 + stored ≡ address + k = omega arith in e) changes.here
-            | inr other ↦ changes.others (address + k) (λ e. other (omega arith)) ∙ known.1.are k one (omega arith)
-          ];
-        });
+        known = λ c is. subst (λ (d : Call). Known (maps w) (state w) d.stage) (let e : after ≡ c = cc in e) (
+          known.0,
+          record {
+            owns = owns;
+            few = omega arith;
+            are = λ k one up_to. elim (cases_eq k (stored + 1)) [
+              | inl same ↦ subst (λ (x : ℕ). (state w).word x ≡ 0) (let e : address + 1 + stored ≡ address + k = omega arith in e) changes.here
+              | inr other ↦ changes.others (address + k) (λ e. other (omega arith)) ∙ known.1.are k one (omega arith)
+            ];
+          },
+        );
         fits = λ c is. subst (λ (d : Call). Fits (register_in v.held t) d.op d.stage) (let e : after ≡ c = cc in e) (fits_at v t o stage asks at);
         mine_is = others_apart v t o stage asks at;
         apart = λ c is u d differ other. subst (λ (x : Call). Apart (region_of x.stage) (region_of d.stage)) (let e : after ≡ c = cc in e) (others_apart v t o stage asks at u d differ other);
@@ -342,8 +348,8 @@ publish_advances v space names t word o address stored dst shape asks at all is 
       };
     } in
     let stay : (u : ℕ) → held_values names (registers_in v.held u) ≡ values_of v u = λ u. values_stay v (record w { held = v.held }) u 0 s
-        (evolves_event false v.log (maps v) (maps w) (state v) (state (record w { held = v.held })) (region address shape) 0 (Some (Make shape.refs shape.nums)) s.holds.formed
-        (publishes address stored shape known.0 known.1 all (record { base = changes.base; free = changes.free; here = changes.here; others = changes.others; global = changes.global; forward = changes.forward }) named)) refl in
+    (evolves_event false v.log (maps v) (maps w) (state v) (state (record w { held = v.held })) (region address shape) 0 (Some (Make shape.refs shape.nums)) s.holds.formed
+    (publishes address stored shape known.0 known.1 all (record { base = changes.base; free = changes.free; here = changes.here; others = changes.others; global = changes.global; forward = changes.forward }) named)) refl in
     advances v w t o (Answered reply.Done) asks made refl
     (subst (λ (g : Option Stage). Applies (maps v) (maps w) (state v) (state w) (change_of (state v) (register_in v.held t) g)) (sym at)
     (subst (λ (b : Bool). Applies (maps v) (maps w) (state v) (state w) (if b then Publish address shape else Word (address + 1 + stored) 0)) (sym (eq-eqb (stored + 1) (cost_of shape) all)) (changes, (v.made, appears))))

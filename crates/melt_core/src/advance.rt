@@ -26,7 +26,14 @@ impl Core {
     }
 
     /// The event after the header of an object was read.
-    fn after_head(&mut self, thread: u32, op: Op, address: u32, shape: Shape, access: Access) -> StepResult
+    fn after_head(
+        &mut self,
+        thread: u32,
+        op: Op,
+        address: u32,
+        shape: Shape,
+        access: Access,
+    ) -> StepResult
         requires asks { MayAdvance (view self.old) thread op }
         requires stage { stage_of (view self.old) thread ≡ Some (Stage.Headed address shape access) }
         ensures { Advances (view self.old) (view self.new) thread op result }

@@ -59,7 +59,9 @@ pub enum Task {
 #[derive(Clone, Copy, Debug, PartialEq, Eq)]
 pub enum Stage {
     /// The stop word was not set.
-    Polled { task: Task },
+    Polled {
+        task: Task,
+    },
     /// The object stands at the address, has this shape, and has the part that is used.
     Headed {
         address: u32,
@@ -67,9 +69,17 @@ pub enum Stage {
         access: Access,
     },
     /// The word at the place, which is loaded into register `dst`, was that of the stale address `target`.
-    Looked { place: Place, target: u32, dst: u8 },
+    Looked {
+        place: Place,
+        target: u32,
+        dst: u8,
+    },
     /// And the object at `target` has no stale bit any more.
-    Cleared { place: Place, target: u32, dst: u8 },
+    Cleared {
+        place: Place,
+        target: u32,
+        dst: u8,
+    },
     /// The words from the address on are for a new object of this shape, which is to come into register `dst`. So many of
     /// those behind its header were stored.
     Claimed {
@@ -79,7 +89,9 @@ pub enum Stage {
         dst: u8,
     },
     /// The `need` words that were claimed end past the last word of the heap.
-    Lacking { need: u32 },
+    Lacking {
+        need: u32,
+    },
 }
 
 /// A call in flight: its operation, and the stage that it has reached.

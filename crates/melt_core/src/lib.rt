@@ -15,3 +15,6 @@ mod write;
 pub use answer::{Pause, Refusal, StepResult};
 pub use laws::shared_words;
 pub use machine::{Core, Rest};
+
+#[cfg(test)]
+mod tests;

@@ -40,7 +40,14 @@ impl Core {
     }
 
     /// Reads a number word of an object.
-    pub(crate) fn get(&mut self, thread: u32, op: Op, address: u32, shape: Shape, j: u8) -> StepResult
+    pub(crate) fn get(
+        &mut self,
+        thread: u32,
+        op: Op,
+        address: u32,
+        shape: Shape,
+        j: u8,
+    ) -> StepResult
         requires asks { MayAdvance (view self.old) thread op }
         requires stage { stage_of (view self.old) thread ≡ Some (Stage.Headed address shape (Access.Get j)) }
         ensures { Advances (view self.old) (view self.new) thread op result }
@@ -91,16 +98,25 @@ impl Core {
             Ref::Null => self.read(thread, place, dst, 0),
             Ref::Clean(address) => self.read(thread, place, dst, address),
             Ref::Stale(target) => self.go(thread, op, Stage::Looked { place, target, dst }),
+            // (no object has a home yet)
             Ref::Disk(_) => unreachable!(),
         }
     }
 
     /// Clears the stale bit of the object that a load found.
-    pub(crate) fn clear(&mut self, thread: u32, op: Op, place: Place, target: u32, dst: u8) -> StepResult
+    pub(crate) fn clear(
+        &mut self,
+        thread: u32,
+        op: Op,
+        place: Place,
+        target: u32,
+        dst: u8,
+    ) -> StepResult
         requires asks { MayAdvance (view self.old) thread op }
         requires stage { stage_of (view self.old) thread ≡ Some (Stage.Looked place target dst) }
         ensures { Advances (view self.old) (view self.new) thread op result }
     {
+        // Nothing but this bit of a header ever changes, and it is only ever cleared in an epoch: a plain store will do.
         let header = Header {
             shape: self.heap.space.shape(target),
             stale: false,
@@ -113,7 +129,14 @@ impl Core {
 
     /// Exchanges the word at a place for that of the clean address, if it is still that of the stale one. The load is
     /// answered with the reference that stands there then.
-    pub(crate) fn untag(&mut self, thread: u32, op: Op, place: Place, target: u32, dst: u8) -> StepResult
+    pub(crate) fn untag(
+        &mut self,
+        thread: u32,
+        op: Op,
+        place: Place,
+        target: u32,
+        dst: u8,
+    ) -> StepResult
         requires asks { MayAdvance (view self.old) thread op }
         requires stage { stage_of (view self.old) thread ≡ Some (Stage.Cleared place target dst) }
         ensures { Advances (view self.old) (view self.new) thread op result }
@@ -121,6 +144,7 @@ impl Core {
         match self.reference_in(place) {
             Ref::Null => self.read(thread, place, dst, 0),
             Ref::Clean(current) => self.read(thread, place, dst, current),
+            // A word with a tag never becomes another one with a tag, so that this is the word of the look.
             Ref::Stale(_) => {
                 self.set_word_in(place, encode_ref(Ref::Clean(target)));
                 self.read(thread, place, dst, target)

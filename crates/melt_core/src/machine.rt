@@ -63,7 +63,8 @@ pub struct Core {
 }
 
 impl Core {
-    /// Begins an epoch with the stop word not set. The words behind those in use are free.
+    /// Begins an epoch with the stop word not set. The words behind those in use are free. The heap has names, since the
+    /// history speaks of objects by their numbers.
     pub fn begin(heap: Heap, rest: Rest) -> Core
         requires names { IsSome heap.names }
         ensures { result ≡ core_of heap rest }
@@ -77,7 +78,8 @@ impl Core {
         }
     }
 
-    /// How many words stand before the first free place.
+    /// How many words stand before the first free place. These are more than the heap has where a claim ended past its
+    /// last word.
     pub fn used(&self) -> u32
         ensures { result ≡ (view self.now).free - 1 }
     {

@@ -24,6 +24,7 @@ impl Core {
     {
         let address = self.free;
         let need = cost(shape);
+        // Each thread claims past the last word at most once before it reads the stop word, so that the sum stays small.
         self.free = address + need;
         let stage = if self.free > self.heap.space.words() + 1 {
             Stage::Lacking { need }
@@ -40,7 +41,15 @@ impl Core {
     }
 
     /// Stores 0 in the next word of the region of a call.
-    fn store_zero(&mut self, thread: u32, op: Op, address: u32, shape: Shape, stored: u32, dst: u8) -> StepResult
+    fn store_zero(
+        &mut self,
+        thread: u32,
+        op: Op,
+        address: u32,
+        shape: Shape,
+        stored: u32,
+        dst: u8,
+    ) -> StepResult
         requires asks { MayAdvance (view self.old) thread op }
         requires stage { stage_of (view self.old) thread ≡ Some (Stage.Claimed address shape stored dst) }
         requires few { stored + 1 < cost_of shape }
@@ -58,7 +67,15 @@ impl Core {
     }
 
     /// Stores the header: the words are an object now, which has the next number.
-    fn publish(&mut self, thread: u32, op: Op, address: u32, shape: Shape, stored: u32, dst: u8) -> StepResult
+    fn publish(
+        &mut self,
+        thread: u32,
+        op: Op,
+        address: u32,
+        shape: Shape,
+        stored: u32,
+        dst: u8,
+    ) -> StepResult
         requires asks { MayAdvance (view self.old) thread op }
         requires stage { stage_of (view self.old) thread ≡ Some (Stage.Claimed address shape stored dst) }
         requires all { stored + 1 ≡ cost_of shape }
@@ -69,6 +86,7 @@ impl Core {
             stale: false,
         };
         self.heap.space.set_word(address, encode_header(header));
+        // (each object has an entry in the history, of fewer than 2^32, so that its number fits)
         set_name(&mut self.heap.names, address, self.rest.made as u32);
         self.rest.made += 1;
         let Shape { refs, nums } = shape;
@@ -79,7 +97,15 @@ impl Core {
     }
 
     /// Stores the next word of the region of a call, the header last.
-    pub(crate) fn fill(&mut self, thread: u32, op: Op, address: u32, shape: Shape, stored: u32, dst: u8) -> StepResult
+    pub(crate) fn fill(
+        &mut self,
+        thread: u32,
+        op: Op,
+        address: u32,
+        shape: Shape,
+        stored: u32,
+        dst: u8,
+    ) -> StepResult
         requires asks { MayAdvance (view self.old) thread op }
         requires stage { stage_of (view self.old) thread ≡ Some (Stage.Claimed address shape stored dst) }
         ensures { Advances (view self.old) (view self.new) thread op result }

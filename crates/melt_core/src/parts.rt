@@ -78,6 +78,7 @@ pub(crate) fn found(value: Value) -> Reply
 {
     match value {
         Value::Nil => Reply::Null,
+        // (no address stands for a number)
         Value::Ref(_) | Value::Num(_) => Reply::Ref,
     }
 }
@@ -109,7 +110,8 @@ impl Core {
         self.rest.calls[thread as usize] = call;
     }
 
-    /// Writes the entry of a call into the history: the only place where it grows.
+    /// Writes the entry of a call into the history: the only place where it grows. Its room was taken when the core was
+    /// made, so that an event takes no memory.
     pub(crate) fn note(&mut self, thread: u32, act: Act)
         requires thread { thread < 256 }
         requires room { length (view self.old).log < (view self.old).capacity }

@@ -68,6 +68,7 @@ impl Core {
         }
     }
 
+    /// No other thread sees a register, so that the copy needs no shared word.
     fn copy(&mut self, thread: u32, dst: u8, src: u8) -> StepResult
         requires asks { MayAdvance (view self.old) thread (Op.Copy dst src) }
         requires first { call_of (view self.old) thread ≡ None }
@@ -78,6 +79,7 @@ impl Core {
         StepResult::Answered(Reply::Done)
     }
 
+    /// The register holds nothing now. What it held stays where it is until a collection.
     fn drop_register(&mut self, thread: u32, r: u8) -> StepResult
         requires asks { MayAdvance (view self.old) thread (Op.Drop r) }
         requires first { call_of (view self.old) thread ≡ None }
@@ -109,6 +111,7 @@ impl Core {
             Op::Same { a, b } => self.same(thread, a, b),
             Op::Copy { dst, src } => self.copy(thread, dst, src),
             Op::Drop { r } => self.drop_register(thread, r),
+            // (a collection is no call: the threads meet for it)
             Op::Collect => unreachable!(),
         }
     }

@@ -31,7 +31,15 @@ impl Core {
     }
 
     /// Writes a number word of an object.
-    pub(crate) fn put(&mut self, thread: u32, op: Op, address: u32, shape: Shape, j: u8, number: u64) -> StepResult
+    pub(crate) fn put(
+        &mut self,
+        thread: u32,
+        op: Op,
+        address: u32,
+        shape: Shape,
+        j: u8,
+        number: u64,
+    ) -> StepResult
         requires asks { MayAdvance (view self.old) thread op }
         requires stage { stage_of (view self.old) thread ≡ Some (Stage.Headed address shape (Access.Put j number)) }
         ensures { Advances (view self.old) (view self.new) thread op result }

@@ -71,9 +71,9 @@ KeepsOthers-apart (Some old) at n None told = elim told [ ]
 KeepsOthers-apart (Some old) at n (Some new) told = SameOutside-apart old at n new told
 
 -- whether a write of n words ends well or fails
-pub write-apart : {E : Type 0} (result : Result Unit E) (old : Option (List ℕ)) (at n : ℕ) (words : List ℕ) (new : Option (List ℕ)) → length words ≡ n → OnOk result (Writes old at words new) → OnErr result (KeepsOthers old at n new) → KeepsApart old at n new
-write-apart (Ok done) old at n words new len written others = subst (λ (m : ℕ). KeepsApart old at m new) len (Writes-apart old at words new written)
-write-apart (Err failed) old at n words new len written others = KeepsOthers-apart old at n new others
+pub write_apart : {E : Type 0} (result : Result Unit E) (old : Option (List ℕ)) (at n : ℕ) (words : List ℕ) (new : Option (List ℕ)) → length words ≡ n → OnOk result (Writes old at words new) → OnErr result (KeepsOthers old at n new) → KeepsApart old at n new
+write_apart (Ok done) old at n words new len written others = subst (λ (m : ℕ). KeepsApart old at m new) len (Writes-apart old at words new written)
+write_apart (Err failed) old at n words new len written others = KeepsOthers-apart old at n new others
 
 words_at-with_words : (image : List ℕ) (at : ℕ) (words : List ℕ) → words_at (with_words image at words) at (length words) ≡ words
 words_at-with_words image at words =
@@ -91,10 +91,10 @@ words_at-with_words image at words =
     ∙ ap (λ n. get_or (front ++ words) n 0) place ∙ get_or-append-add front words i 0)
 
 -- a write of n words that ends well
-pub write-read : {E : Type 0} (result : Result Unit E) (old : Option (List ℕ)) (at n : ℕ) (words : List ℕ) (new : Option (List ℕ)) → length words ≡ n → OnOk result (Writes old at words new) → OnOk result (IfSome new (λ image. words_at image at n ≡ words))
-write-read (Err failed) old at n words new len written = tt
-write-read (Ok done) None at n words None len written = tt
-write-read (Ok done) None at n words (Some new) len written = elim written [ ]
-write-read (Ok done) (Some old) at n words None len written = elim written [ ]
-write-read (Ok done) (Some old) at n words (Some new) len written =
+pub write_read : {E : Type 0} (result : Result Unit E) (old : Option (List ℕ)) (at n : ℕ) (words : List ℕ) (new : Option (List ℕ)) → length words ≡ n → OnOk result (Writes old at words new) → OnOk result (IfSome new (λ image. words_at image at n ≡ words))
+write_read (Err failed) old at n words new len written = tt
+write_read (Ok done) None at n words None len written = tt
+write_read (Ok done) None at n words (Some new) len written = elim written [ ]
+write_read (Ok done) (Some old) at n words None len written = elim written [ ]
+write_read (Ok done) (Some old) at n words (Some new) len written =
     ap (λ m. words_at new at m) (sym len) ∙ ap (λ image. words_at image at (length words)) written ∙ words_at-with_words old at words

@@ -1,7 +1,38 @@
--- Homes on a disk of words: the stretches of words that writes leave as they are, and the words that homes need.
-use Rattle.std.specs.Prelude.{◌≡◌, ℕ, ◌+◌, ◌*◌, ◌≤◌, ◌⊎◌, List, Option, None, Some, sum_by}
+-- Homes on a disk of words, the space that gives them, the stretches of words that writes leave as they are, and the
+-- words that homes need.
+use Rattle.std.specs.Prelude.{◌≡◌, ℕ, ◌+◌, ◌*◌, ◌≤◌, ◌⊎◌, List, [], ◌∷◌, Option, None, Some, sum_by, Contains}
 use Rattle.std.specs.List.{enumerate_from}
+use Rattle.std.specs.Borrow.{MutBor}
 use Rattle.melt_io.specs.Outside.{words_at}
+use Rattle.melt_word.specs.Words.{IsShape, cost_of}
+use Rattle.melt_word.specs.declared.header.Shape.{Shape}
+
+-- What a stale space is: the disk that it writes to, with its image; the first word past all homes; and the first word
+-- that no home may reach.
+pub record Stale (Disk : Type 0) : Type 0 where
+  pub disk : MutBor Disk
+  pub end : ℕ
+  pub limit : ℕ
+
+-- the home of an object of a shape: its first word
+pub record Home : Type 0 where
+  pub at : ℕ
+  pub shape : Shape
+
+-- These homes follow one another from a word on, up to the end.
+abbrev pub Follow : ℕ → List Home → ℕ → Type 0
+Follow from [] end = from ≡ end
+Follow from (home ∷ homes) end = (home.at ≡ from) × IsShape home.shape × Follow (from + cost_of home.shape) homes end
+
+-- These are all homes of a space, in ascending order.
+abbrev pub AreHomes : {Disk : Type 0} → Stale Disk → List Home → Type 0
+AreHomes space homes = Follow 1 homes space.end
+
+-- the home was reserved for an object of this shape
+pub record IsReserved {Disk : Type 0} (space : Stale Disk) (home : Home) : Type 0 where
+  pub homes : List Home
+  pub all : AreHomes space homes
+  pub one : Contains homes home
 
 -- n words from word `at` on and m words from word `home` on have none in common
 abbrev pub IsApart : ℕ → ℕ → ℕ → ℕ → Type 0

@@ -1,14 +1,16 @@
-//! Homes on a disk, and the records that are written at them.
-ghost use Rattle.std.specs.Prelude.{◌≡◌, ◌↔◌, ◌+◌, ◌^◌, ◌<◌, ◌≤◌, length, IsErr, IfSome, IfOk, IfErr, OnOk, OnErr, IsErrOf};
-ghost use Rattle.melt_disk.specs.Homes.{KeepsApart, need_of};
+//! Homes on a disk, and the records that are written at them. Homes follow one another from word 1 to the end, so
+//! two of them are one or have no word in common, and no list of them is kept.
+ghost use Rattle.std.specs.Prelude.{◌≡◌, ◌↔◌, ◌+◌, ◌^◌, ◌<◌, ◌≤◌, List, [], ◌∷◌, ◌++◌, length, IsErr, IfSome, IfOk, IfErr, OnOk, OnErr, IsErrOf};
+ghost use Rattle.melt_disk.specs.Homes.{AreHomes, Home, IsReserved, KeepsApart, Stale, need_of};
 ghost use Rattle.melt_io.specs.Outside.{KeepsOthers, Rose, Writes, counted, words_at};
 ghost use Rattle.melt_record.specs.Records.{AreSlots, IsScion, body_words, stub_words};
-ghost use Rattle.melt_word.specs.Words.{IsShape, cost_of};
+ghost use Rattle.melt_word.specs.Words.{IsDiskHome, IsShape, cost_of};
 
 use melt_io::{Failed, LendRefusal, StaleDisk};
 use melt_record::{encode_body, encode_stub};
 use melt_word::{Shape, cost};
 use std::alloc::Global;
+use std::marker::Model;
 
 /// The greatest cost of an object, in words.
 const MAX_COST: usize = 126;
@@ -35,6 +37,14 @@ pub struct StaleSpace<'d, D: StaleDisk> {
     limit: u32,
 }
 
+impl<'d, D: StaleDisk> Model for StaleSpace<'d, D> {
+    ghost Value = { Stale D };
+
+    ghost view = { λ space. record { disk = space.disk; end = space.end; limit = space.limit } };
+
+    ghost invariant = { λ space. (1 ≤ space.end) × (space.end < 2 ^ 32) };
+}
+
 impl<'d, D: StaleDisk> StaleSpace<'d, D> {
     /// A space with no homes. `limit` is the first word that no home may reach.
     pub fn new(disk: &'d mut D, limit: u32) -> StaleSpace<'d, D>
@@ -42,6 +52,7 @@ impl<'d, D: StaleDisk> StaleSpace<'d, D> {
         ensures disk { result.disk.now ≡ disk.old }
         ensures end { result.end ≡ 1 }
         ensures limit { result.limit ≡ limit }
+        ensures homes { AreHomes result [] }
     {
         StaleSpace {
             disk,
@@ -68,7 +79,10 @@ impl<'d, D: StaleDisk> StaleSpace<'d, D> {
     pub fn reserve_home(&mut self, shape: Shape) -> Result<u32, DiskFull>
         requires { IsShape shape }
         ensures home { IfOk result (λ home. home ≡ self.old.end) }
+        ensures number { IfOk result (λ home. IsDiskHome home) }
         ensures raised { OnOk result (self.new.end ≡ self.old.end + cost_of shape) }
+        ensures homes { IfOk result (λ home. (homes : List Home) → AreHomes self.old homes →
+            AreHomes self.new (homes ++ record { at = home; shape = shape } ∷ [])) }
         ensures full { IsErr result ↔ (self.old.limit < self.old.end + cost_of shape) }
         ensures refusal { IfErr result (λ full.
             full ≡ record { end = self.old.end; need = cost_of shape; limit = self.old.limit }) }
@@ -93,11 +107,10 @@ impl<'d, D: StaleDisk> StaleSpace<'d, D> {
     /// Writes the Body of an object of the shape at its home. `slots` has the reference slots and then
     /// the number words. After an `Err` the words of the home may be anything.
     pub fn write_body(&mut self, home: u32, shape: Shape, slots: &[u64]) -> Result<(), Failed>
-        requires home { 1 ≤ home }
-        requires shape { IsShape shape }
-        requires within { home + cost_of shape ≤ self.old.end }
+        requires reserved { IsReserved self.old (record { at = home; shape = shape }) }
         requires slots { length slots.now ≡ shape.refs + shape.nums }
         requires refs { AreSlots (2 ^ 32) shape.refs slots.now }
+        ensures one_write { D.writes self.new.disk.now ≡ counted (D.writes self.old.disk.now) 1 }
         ensures written { OnOk result (Writes (D.image self.old.disk.now) home
             (body_words home shape slots.now) (D.image self.new.disk.now)) }
         ensures read { OnOk result (IfSome (D.image self.new.disk.now) (λ image.
@@ -114,20 +127,18 @@ impl<'d, D: StaleDisk> StaleSpace<'d, D> {
         ensures limit { self.new.limit ≡ self.old.limit }
         ensures same_disk { self.new.disk.ghost_name ≡ self.old.disk.ghost_name }
     {
-        prove!(home < self.end);
         let len = cost(shape) as usize;
         let mut words = [0; MAX_COST];
         encode_body(home, shape, slots, &mut words[..len]);
-        self.disk.write_at(home, &words[..len])
+        write_record(self.disk, home, &words[..len])
     }
 
     /// Writes the head of the Stub of an object of the shape at its home, and leaves the words behind
     /// the head as they are. After an `Err` the two words of the head may be anything.
     pub fn write_stub(&mut self, home: u32, shape: Shape, scion: u32) -> Result<(), Failed>
-        requires home { 1 ≤ home }
-        requires shape { IsShape shape }
-        requires within { home + cost_of shape ≤ self.old.end }
+        requires reserved { IsReserved self.old (record { at = home; shape = shape }) }
         requires scion { IsScion scion }
+        ensures one_write { D.writes self.new.disk.now ≡ counted (D.writes self.old.disk.now) 1 }
         ensures written { OnOk result (Writes (D.image self.old.disk.now) home
             (stub_words home shape scion) (D.image self.new.disk.now)) }
         ensures read { OnOk result (IfSome (D.image self.new.disk.now) (λ image.
@@ -143,10 +154,9 @@ impl<'d, D: StaleDisk> StaleSpace<'d, D> {
         ensures limit { self.new.limit ≡ self.old.limit }
         ensures same_disk { self.new.disk.ghost_name ≡ self.old.disk.ghost_name }
     {
-        prove!(home < self.end);
         let mut words = [0; STUB_WORDS];
         encode_stub(home, shape, scion, &mut words);
-        self.disk.write_at(home, &words)
+        write_record(self.disk, home, &words)
     }
 
     /// Lends a reader of the disk's words as they are now.
@@ -160,6 +170,7 @@ impl<'d, D: StaleDisk> StaleSpace<'d, D> {
         ensures count { D.faults self.old.disk.now ≤ D.faults self.new.disk.now }
         ensures read_faults { D.read_faults self.new.disk.now ≡ D.read_faults self.old.disk.now }
         ensures lends { D.lends self.new.disk.now ≡ counted (D.lends self.old.disk.now) 1 }
+        ensures writes { D.writes self.new.disk.now ≡ D.writes self.old.disk.now }
         ensures end { self.new.end ≡ self.old.end }
         ensures limit { self.new.limit ≡ self.old.limit }
         ensures same_disk { self.new.disk.ghost_name ≡ self.old.disk.ghost_name }
@@ -174,6 +185,7 @@ impl<'d, D: StaleDisk> StaleSpace<'d, D> {
         ensures read_faults { D.read_faults self.new.disk.now ≡
             counted (D.read_faults self.old.disk.now) (D.Reader.faults reader) }
         ensures lends { D.lends self.new.disk.now ≡ D.lends self.old.disk.now }
+        ensures writes { D.writes self.new.disk.now ≡ D.writes self.old.disk.now }
         ensures end { self.new.end ≡ self.old.end }
         ensures limit { self.new.limit ≡ self.old.limit }
         ensures same_disk { self.new.disk.ghost_name ≡ self.old.disk.ghost_name }
@@ -192,4 +204,24 @@ impl<'d, D: StaleDisk> StaleSpace<'d, D> {
         }
         need
     }
+}
+
+/// Writes the words of a record at its home, by one write.
+#[tactic(auto, using(crate::proofs::Apart::write_apart, crate::proofs::Apart::write_read))]
+fn write_record<D: StaleDisk>(disk: &mut D, home: u32, words: &[u64]) -> Result<(), Failed>
+    requires some { 0 < length words.now }
+    requires in_range { home + length words.now ≤ 2 ^ 32 }
+    ensures one_write { D.writes disk.new ≡ counted (D.writes disk.old) 1 }
+    ensures written { OnOk result (Writes (D.image disk.old) home words.now (D.image disk.new)) }
+    ensures read { OnOk result (IfSome (D.image disk.new) (λ image.
+        words_at image home (length words.now) ≡ words.now)) }
+    ensures others { OnErr result (KeepsOthers (D.image disk.old) home (length words.now)
+        (D.image disk.new)) }
+    ensures apart { KeepsApart (D.image disk.old) home (length words.now) (D.image disk.new) }
+    ensures failed { OnErr result (Rose (D.faults disk.old) (D.faults disk.new)) }
+    ensures count { D.faults disk.old ≤ D.faults disk.new }
+    ensures read_faults { D.read_faults disk.new ≡ D.read_faults disk.old }
+    ensures lends { D.lends disk.new ≡ D.lends disk.old }
+{
+    disk.write_at(home, words)
 }

@@ -35,6 +35,7 @@ fn a_stub_leaves_the_slots_of_the_body(rt: HostRuntime) -> Result<(), Fail> {
     );
     space.give_back(reader);
     assert_eq!(rt; disk.image.as_slice(), [0, 4_295_032_834, 1, 7].as_slice());
+    assert_eq!(rt; disk.writes, 2);
     assert_eq!(rt; (disk.lends, disk.faults, disk.read_faults), (1, 0, 0));
     Ok(())
 }

@@ -4,6 +4,7 @@
 
 ghost use Rattle.std.specs.Prelude.{◌≡◌, ◌^◌, ◌<◌, ◌≤◌};
 ghost use Rattle.melt_record.specs.Records.{AreSlots};
+ghost use Rattle.melt_word.specs.Words.{IsDiskHome};
 
 use anyhow::{Context, Result, anyhow, ensure};
 use melt_disk::StaleSpace;
@@ -28,7 +29,7 @@ const PRIME: u64 = 0x100_0000_01b3;
 
 /// The slots of the object at `home`: a reference to itself, null, and four numbers.
 fn slots_of(home: u32) -> [u64; 6]
-    requires { 0 < home }
+    requires { IsDiskHome home }
     ensures { AreSlots (2 ^ 32) SHAPE.refs result }
 {
     let number = u64::from(home);

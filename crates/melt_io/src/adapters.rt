@@ -19,6 +19,7 @@ const PATH: &str = "melt.stale";
 pub struct StdSource<R> {
     pub reader: R,
     pub faults: u64,
+    ghost word: { faults < 2 ^ 64 },
 }
 
 /// Writes to a writer, as `StdSink::new(rt.stdout())`. Each call makes one write of the size given, with
@@ -28,6 +29,7 @@ pub struct StdSource<R> {
 pub struct StdSink<W> {
     pub writer: W,
     pub faults: u64,
+    ghost word: { faults < 2 ^ 64 },
 }
 
 /// The file `melt.stale` of the current folder, which is not touched before `create`. Each call makes one
@@ -38,6 +40,7 @@ pub struct StdFile<R: Files> {
     pub runtime: R,
     pub file: Option<R::File>,
     pub faults: u64,
+    ghost word: { faults < 2 ^ 64 },
 }
 
 /// Reads from the same file, by one read of std for each call. It tells no content: what is written after
@@ -46,6 +49,7 @@ pub struct StdFile<R: Files> {
 pub struct StdFileReader<F> {
     pub file: F,
     pub faults: u64,
+    ghost word: { faults < 2 ^ 64 },
 }
 
 /// Does nothing.
@@ -83,13 +87,11 @@ impl<R: Read> Source for StdSource<R> {
         ensures no_fault { OnOk result (self.new.faults ≡ self.old.faults) }
         ensures failed { OnErr result (Rose self.old.faults self.new.faults) }
         ensures count { self.old.faults ≤ self.new.faults }
+        ensures word { self.new.faults < 2 ^ 64 }
     {
         match self.reader.read(buf) {
             Ok(n) => Ok(n),
-            Err(_) => {
-                self.faults = self.faults.saturating_add(1);
-                Err(Failed)
-            }
+            Err(_) => Err(Failed::counted(&mut self.faults)),
         }
     }
 }
@@ -106,13 +108,11 @@ impl<W: Write> Sink for StdSink<W> {
         ensures no_fault { OnOk result (self.new.faults ≡ self.old.faults) }
         ensures failed { OnErr result (Rose self.old.faults self.new.faults) }
         ensures count { self.old.faults ≤ self.new.faults }
+        ensures word { self.new.faults < 2 ^ 64 }
     {
         match self.writer.write(piece) {
             Ok(n) if n > 0 || piece.is_empty() => Ok(n),
-            _ => {
-                self.faults = self.faults.saturating_add(1);
-                Err(Failed)
-            }
+            _ => Err(Failed::counted(&mut self.faults)),
         }
     }
 }
@@ -140,10 +140,7 @@ impl<F: FileExt> PositionedReader for StdFileReader<F> {
     fn read_at(&mut self, buf: &mut [u8], at: u64) -> Result<usize, Failed> {
         match self.file.read_at(buf, at) {
             Ok(n) => Ok(n),
-            Err(_) => {
-                self.faults = self.faults.saturating_add(1);
-                Err(Failed)
-            }
+            Err(_) => Err(Failed::counted(&mut self.faults)),
         }
     }
 }
@@ -172,30 +169,21 @@ where
                 self.file = Some(file);
                 Ok(())
             }
-            Err(_) => {
-                self.faults = self.faults.saturating_add(1);
-                Err(Failed)
-            }
+            Err(_) => Err(Failed::counted(&mut self.faults)),
         }
     }
 
     fn write_all_at(&mut self, piece: &[u8], at: u64) -> Result<(), Failed> {
         match &self.file {
             Some(file) if file.write_all_at(piece, at).is_ok() => Ok(()),
-            _ => {
-                self.faults = self.faults.saturating_add(1);
-                Err(Failed)
-            }
+            _ => Err(Failed::counted(&mut self.faults)),
         }
     }
 
     fn open(&mut self) -> Result<StdFileReader<R::File>, Failed> {
         match fs::open(&self.runtime, PATH) {
             Ok(file) => Ok(StdFileReader { file, faults: 0 }),
-            Err(_) => {
-                self.faults = self.faults.saturating_add(1);
-                Err(Failed)
-            }
+            Err(_) => Err(Failed::counted(&mut self.faults)),
         }
     }
 }

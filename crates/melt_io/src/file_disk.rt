@@ -8,7 +8,8 @@ use crate::outside::{
     Failed, LendRefusal, PositionedFile, PositionedReader, RecordReader, StaleDisk,
 };
 use crate::words::{get_words, put_words};
-use std::alloc::{AllocError, Global};
+use melt_model::NoMemory;
+use std::alloc::Global;
 use std::rt::Files;
 
 /// How many words are moved at once.
@@ -22,10 +23,12 @@ const PIECE: usize = 4096;
 pub struct FileDisk<F> {
     pub file: F,
     pub piece: Vec<u8>,
+    pub writes: u64,
     pub lends: u64,
     pub faults: u64,
     pub read_faults: u64,
     ghost roomy: { 8 ≤ vec_len piece },
+    ghost word: { faults < 2 ^ 64 },
 }
 
 /// Reads the words that stand in a file, and zeros past its end. Up to 4,096 words are read by one read of
@@ -39,16 +42,18 @@ pub struct FileReader<F> {
     pub reads: u64,
     pub faults: u64,
     ghost roomy: { 8 ≤ vec_len piece },
+    ghost word: { faults < 2 ^ 64 },
 }
 
 impl<R: Files + Drop> FileDisk<StdFile<R>> {
     /// A disk in the file `melt.stale` of the current folder, of which nothing was written. The file is not
     /// touched yet.
-    pub fn new(alloc: Global, runtime: R) -> Result<FileDisk<StdFile<R>>, AllocError>
+    pub fn new(alloc: Global, runtime: R) -> Result<FileDisk<StdFile<R>>, NoMemory>
         ensures runtime { IfOk result (λ disk. disk.file.runtime ≡ runtime) }
         ensures no_file { IfOk result (λ disk. IsNone disk.file.file) }
         ensures no_file_faults { IfOk result (λ disk. disk.file.faults ≡ 0) }
         ensures piece { IfOk result (λ disk. vec_len disk.piece ≡ 32768) }
+        ensures no_writes { IfOk result (λ disk. disk.writes ≡ 0) }
         ensures no_lends { IfOk result (λ disk. disk.lends ≡ 0) }
         ensures no_faults { IfOk result (λ disk. disk.faults ≡ 0) }
         ensures no_read_faults { IfOk result (λ disk. disk.read_faults ≡ 0) }
@@ -59,9 +64,10 @@ impl<R: Files + Drop> FileDisk<StdFile<R>> {
 
 impl<F: Drop> FileDisk<F> {
     /// A disk in this file, of which nothing was written. The file is not touched yet.
-    pub fn over(alloc: Global, file: F) -> Result<FileDisk<F>, AllocError>
+    pub fn over(alloc: Global, file: F) -> Result<FileDisk<F>, NoMemory>
         ensures file { IfOk result (λ disk. disk.file ≡ file) }
         ensures piece { IfOk result (λ disk. vec_len disk.piece ≡ 32768) }
+        ensures no_writes { IfOk result (λ disk. disk.writes ≡ 0) }
         ensures no_lends { IfOk result (λ disk. disk.lends ≡ 0) }
         ensures no_faults { IfOk result (λ disk. disk.faults ≡ 0) }
         ensures no_read_faults { IfOk result (λ disk. disk.read_faults ≡ 0) }
@@ -69,6 +75,7 @@ impl<F: Drop> FileDisk<F> {
         Ok(FileDisk {
             file,
             piece: vec![in alloc; 0; 8 * PIECE]?,
+            writes: 0,
             lends: 0,
             faults: 0,
             read_faults: 0,
@@ -95,14 +102,15 @@ impl<F: PositionedReader> RecordReader for FileReader<F> {
         ensures no_fault { OnOk result (self.new.faults ≡ self.old.faults) }
         ensures failed { OnErr result (Rose self.old.faults self.new.faults) }
         ensures count { self.old.faults ≤ self.new.faults }
+        ensures word { self.new.faults < 2 ^ 64 }
         ensures reads { self.new.reads ≡ counted self.old.reads 1 }
         ensures reads_rise { self.old.reads ≤ self.new.reads }
+        ensures reads_word { self.new.reads < 2 ^ 64 }
     {
         self.reads = self.reads.saturating_add(1);
         let piece = &mut self.piece;
         if read_file(&mut self.file, piece, at, words).is_err() {
-            self.faults = self.faults.saturating_add(1);
-            return Err(Failed);
+            return Err(Failed::counted(&mut self.faults));
         }
         Ok(())
     }
@@ -122,6 +130,8 @@ where
 
     ghost lends = { λ d. d.lends };
 
+    ghost writes = { λ d. d.writes };
+
     fn write_at(&mut self, at: u32, words: &[u64]) -> Result<(), Failed>
         requires some { 0 < length words.now }
         requires in_range { at + length words.now ≤ 2 ^ 32 }
@@ -134,13 +144,15 @@ where
         ensures no_fault { OnOk result (self.new.faults ≡ self.old.faults) }
         ensures failed { OnErr result (Rose self.old.faults self.new.faults) }
         ensures count { self.old.faults ≤ self.new.faults }
+        ensures word { self.new.faults < 2 ^ 64 }
         ensures read_faults { self.new.read_faults ≡ self.old.read_faults }
         ensures lends { self.new.lends ≡ self.old.lends }
+        ensures writes { self.new.writes ≡ counted self.old.writes 1 }
     {
+        self.writes = self.writes.saturating_add(1);
         let piece = &mut self.piece;
         if write_file(&mut self.file, piece, at, words).is_err() {
-            self.faults = self.faults.saturating_add(1);
-            return Err(Failed);
+            return Err(Failed::counted(&mut self.faults));
         }
         Ok(())
     }
@@ -158,8 +170,10 @@ where
         ensures no_fault { OnOk result (self.new.faults ≡ self.old.faults) }
         ensures failed { IsErrOf result LendRefusal.Failed → Rose self.old.faults self.new.faults }
         ensures count { self.old.faults ≤ self.new.faults }
+        ensures word { self.new.faults < 2 ^ 64 }
         ensures read_faults { self.new.read_faults ≡ self.old.read_faults }
         ensures lends { self.new.lends ≡ counted self.old.lends 1 }
+        ensures writes { self.new.writes ≡ self.old.writes }
     {
         self.lends = self.lends.saturating_add(1);
         let piece = vec![in alloc; 0; 8 * PIECE].map_err(|_| LendRefusal::NoMemory)?;
@@ -171,7 +185,7 @@ where
                 faults: 0,
             }),
             Err(_) => {
-                self.faults = self.faults.saturating_add(1);
+                Failed::counted(&mut self.faults);
                 Err(LendRefusal::Failed)
             }
         }
@@ -182,6 +196,7 @@ where
         ensures count { self.new.faults ≡ self.old.faults }
         ensures read_faults { self.new.read_faults ≡ counted self.old.read_faults reader.faults }
         ensures lends { self.new.lends ≡ self.old.lends }
+        ensures writes { self.new.writes ≡ self.old.writes }
     {
         self.read_faults = self.read_faults.saturating_add(reader.faults);
     }

@@ -5,7 +5,8 @@
 //!
 //! Two kinds of meaning stand on each trait. What an object tells of its content is an `Option`: the
 //! forms in memory tell theirs, the adapters tell none, and no call changes whether an object tells.
-//! Counts of faults are always there. They never fall, and a fault is answered only where one rose.
+//! Counts of faults are always there. They never fall and stay below 2^64, and a fault is answered only where
+//! one rose, or stood at its end.
 #![tactic(auto)]
 
 pub mod adapters;

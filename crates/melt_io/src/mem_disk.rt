@@ -28,6 +28,7 @@ pub struct MemDisk {
     pub lies: Vec<(u64, u32, u64)>,
     pub faults: u64,
     pub read_faults: u64,
+    ghost word: { faults < 2 ^ 64 },
 }
 
 /// Reads a copy of a disk's words, made at the lend whose number is `lend`. Of the disk's reads that
@@ -40,6 +41,7 @@ pub struct MemReader {
     pub fail_reads: Vec<(u64, u64)>,
     pub lies: Vec<(u64, u32, u64)>,
     pub faults: u64,
+    ghost word: { faults < 2 ^ 64 },
 }
 
 impl MemDisk {
@@ -80,16 +82,17 @@ impl RecordReader for MemReader {
         ensures no_fault { OnOk result (self.new.faults ≡ self.old.faults) }
         ensures failed { OnErr result (Rose self.old.faults self.new.faults) }
         ensures count { self.old.faults ≤ self.new.faults }
+        ensures word { self.new.faults < 2 ^ 64 }
         ensures reads { self.new.reads ≡ counted self.old.reads 1 }
         ensures reads_rise { self.old.reads ≤ self.new.reads }
+        ensures reads_word { self.new.reads < 2 ^ 64 }
 
         ensures due { IsErr result ↔ Contains self.old.fail_reads.items (self.old.lend, counted self.old.reads 1) }
         ensures kept { (self.new.lend ≡ self.old.lend) × (self.new.fail_reads.items ≡ self.old.fail_reads.items) }
     {
         self.reads = self.reads.saturating_add(1);
         if self.fail_reads.contains(&(self.lend, self.reads)) {
-            self.faults = self.faults.saturating_add(1);
-            return Err(Failed);
+            return Err(Failed::counted(&mut self.faults));
         }
         copy_words(&self.image, at as usize, words);
         tell_lies(&self.lies, self.lend, at, words);
@@ -108,6 +111,8 @@ impl StaleDisk for MemDisk {
 
     ghost lends = { λ d. d.lends };
 
+    ghost writes = { λ d. d.writes };
+
     fn write_at(&mut self, at: u32, words: &[u64]) -> Result<(), Failed>
         requires some { 0 < length words.now }
         requires in_range { at + length words.now ≤ 2 ^ 32 }
@@ -116,6 +121,7 @@ impl StaleDisk for MemDisk {
         ensures no_fault { OnOk result (self.new.faults ≡ self.old.faults) }
         ensures failed { OnErr result (Rose self.old.faults self.new.faults) }
         ensures count { self.old.faults ≤ self.new.faults }
+        ensures word { self.new.faults < 2 ^ 64 }
         ensures read_faults { self.new.read_faults ≡ self.old.read_faults }
         ensures lends { self.new.lends ≡ self.old.lends }
 
@@ -128,8 +134,7 @@ impl StaleDisk for MemDisk {
         if is_due(&mut self.writes, &self.fail_writes)
             || write_image(&mut self.image, at as usize, words).is_err()
         {
-            self.faults = self.faults.saturating_add(1);
-            return Err(Failed);
+            return Err(Failed::counted(&mut self.faults));
         }
         Ok(())
     }
@@ -142,6 +147,7 @@ impl StaleDisk for MemDisk {
         ensures no_fault { OnOk result (self.new.faults ≡ self.old.faults) }
         ensures failed { IsErrOf result LendRefusal.Failed → Rose self.old.faults self.new.faults }
         ensures count { self.old.faults ≤ self.new.faults }
+        ensures word { self.new.faults < 2 ^ 64 }
         ensures read_faults { self.new.read_faults ≡ self.old.read_faults }
         ensures lends { self.new.lends ≡ counted self.old.lends 1 }
 
@@ -153,7 +159,7 @@ impl StaleDisk for MemDisk {
         ensures lies { self.new.lies.items ≡ self.old.lies.items }
     {
         if is_due(&mut self.lends, &self.fail_lends) {
-            self.faults = self.faults.saturating_add(1);
+            Failed::counted(&mut self.faults);
             return Err(LendRefusal::Failed);
         }
         reader_of(self, alloc).map_err(|_| LendRefusal::NoMemory)

@@ -2,7 +2,6 @@
 ghost use Rattle.std.specs.Prelude.{◌≡◌, ◌+◌, ◌-◌, ◌^◌, ◌<◌, ◌≤◌, ◌↔◌, [], ◌++◌, length, take, drop, min, max, replicate, true, false, is_some, Some, vec_len, IsErr, IsNone, IfOk, IfSome, OnOk, OnErr, Contains};
 ghost use Rattle.std.specs.Vec.{vec_capacity};
 ghost use Rattle.melt_io.specs.Outside.{Rose, counted, with_words};
-ghost use Rattle.melt_io.specs.MemFile.{bytes_of};
 ghost use Rattle.std.proofs.Common.{rules};
 
 use crate::memory::is_due;
@@ -24,6 +23,7 @@ pub struct MemFile {
     pub fail_reads: Vec<u64>,
     pub most: usize,
     pub faults: u64,
+    ghost word: { faults < 2 ^ 64 },
 }
 
 /// Reads a copy of a file's bytes. The fields are as in `MemFile`; the calls are its own reads.
@@ -34,6 +34,7 @@ pub struct MemFileReader {
     pub fail: Vec<u64>,
     pub most: usize,
     pub faults: u64,
+    ghost word: { faults < 2 ^ 64 },
 }
 
 impl MemFile {
@@ -56,6 +57,31 @@ impl MemFile {
     }
 }
 
+impl MemFile {
+    ghost use Rattle.melt_io.specs.MemFile.{bytes_of};
+
+    /// A reader of the bytes as they are now.
+    fn reader(&self) -> Result<MemFileReader, AllocError>
+        requires { is_some self.now.bytes ≡ true }
+        ensures bytes { IfOk result (λ reader. reader.bytes.items ≡ bytes_of self.now) }
+        ensures uncalled { IfOk result (λ reader. reader.calls ≡ 0) }
+        ensures reads { IfOk result (λ reader. (reader.fail.items ≡ self.now.fail_reads.items) × (reader.most ≡ self.now.most)) }
+        ensures no_faults { IfOk result (λ reader. reader.faults ≡ 0) }
+    {
+        let Some(bytes) = &self.bytes else {
+            unreachable!()
+        };
+        let alloc = *bytes.allocator();
+        Ok(MemFileReader {
+            bytes: Vec::from_slice(alloc, bytes)?,
+            calls: 0,
+            fail: Vec::from_slice(alloc, &self.fail_reads)?,
+            most: self.most,
+            faults: 0,
+        })
+    }
+}
+
 impl PositionedReader for MemFileReader {
     ghost bytes = { λ r. Some r.bytes.items };
 
@@ -68,14 +94,14 @@ impl PositionedReader for MemFileReader {
         ensures no_fault { OnOk result (self.new.faults ≡ self.old.faults) }
         ensures failed { OnErr result (Rose self.old.faults self.new.faults) }
         ensures count { self.old.faults ≤ self.new.faults }
+        ensures word { self.new.faults < 2 ^ 64 }
 
         ensures due { IsErr result ↔ Contains self.old.fail.items (counted self.old.calls 1) }
         ensures calls { self.new.calls ≡ counted self.old.calls 1 }
         ensures lists { (self.new.fail.items ≡ self.old.fail.items) × (self.new.most ≡ self.old.most) }
     {
         if is_due(&mut self.calls, &self.fail) {
-            self.faults = self.faults.saturating_add(1);
-            return Err(Failed);
+            return Err(Failed::counted(&mut self.faults));
         }
         let end = buf.len().min(self.most.max(1));
         Ok(copy_bytes(&self.bytes, at as usize, &mut buf[..end]))
@@ -83,6 +109,8 @@ impl PositionedReader for MemFileReader {
 }
 
 impl PositionedFile for MemFile {
+    ghost use Rattle.melt_io.specs.MemFile.{bytes_of};
+
     type Reader = MemFileReader;
 
     ghost made = { λ f. is_some f.bytes };
@@ -105,14 +133,14 @@ impl PositionedFile for MemFile {
         ensures no_fault { OnOk result (self.new.faults ≡ self.old.faults) }
         ensures failed { OnErr result (Rose self.old.faults self.new.faults) }
         ensures count { self.old.faults ≤ self.new.faults }
+        ensures word { self.new.faults < 2 ^ 64 }
 
         ensures due { IsErr result ↔ Contains self.old.fail.items (counted self.old.calls 1) }
         ensures calls { self.new.calls ≡ counted self.old.calls 1 }
         ensures lists { (self.new.fail.items ≡ self.old.fail.items) × (self.new.fail_reads.items ≡ self.old.fail_reads.items) × (self.new.most ≡ self.old.most) }
     {
         if is_due(&mut self.calls, &self.fail) {
-            self.faults = self.faults.saturating_add(1);
-            return Err(Failed);
+            return Err(Failed::counted(&mut self.faults));
         }
         let alloc = *self.fail.allocator();
         self.bytes = Some(Vec::new(alloc));
@@ -129,6 +157,7 @@ impl PositionedFile for MemFile {
         ensures no_fault { OnOk result (self.new.faults ≡ self.old.faults) }
         ensures failed { OnErr result (Rose self.old.faults self.new.faults) }
         ensures count { self.old.faults ≤ self.new.faults }
+        ensures word { self.new.faults < 2 ^ 64 }
 
         ensures due { Contains self.old.fail.items (counted self.old.calls 1) → IsErr result }
         ensures full { IsErr result → ¬ Contains self.old.fail.items (counted self.old.calls 1) → IfSome self.old.bytes (λ bytes. vec_capacity bytes < at + length piece.now) }
@@ -140,8 +169,7 @@ impl PositionedFile for MemFile {
             unreachable!()
         };
         if is_refused || write_bytes(bytes, at as usize, piece).is_err() {
-            self.faults = self.faults.saturating_add(1);
-            return Err(Failed);
+            return Err(Failed::counted(&mut self.faults));
         }
         Ok(())
     }
@@ -156,41 +184,18 @@ impl PositionedFile for MemFile {
         ensures no_fault { OnOk result (self.new.faults ≡ self.old.faults) }
         ensures failed { OnErr result (Rose self.old.faults self.new.faults) }
         ensures count { self.old.faults ≤ self.new.faults }
+        ensures word { self.new.faults < 2 ^ 64 }
 
         ensures due { Contains self.old.fail.items (counted self.old.calls 1) → IsErr result }
         ensures calls { self.new.calls ≡ counted self.old.calls 1 }
         ensures lists { (self.new.fail.items ≡ self.old.fail.items) × (self.new.fail_reads.items ≡ self.old.fail_reads.items) × (self.new.most ≡ self.old.most) }
     {
         let is_refused = is_due(&mut self.calls, &self.fail);
-        match reader_of(self) {
+        match self.reader() {
             Ok(reader) if !is_refused => Ok(reader),
-            _ => {
-                self.faults = self.faults.saturating_add(1);
-                Err(Failed)
-            }
+            _ => Err(Failed::counted(&mut self.faults)),
         }
     }
-}
-
-/// A reader of the bytes as they are now.
-fn reader_of(file: &MemFile) -> Result<MemFileReader, AllocError>
-    requires { is_some file.now.bytes ≡ true }
-    ensures bytes { IfOk result (λ reader. reader.bytes.items ≡ bytes_of file.now) }
-    ensures uncalled { IfOk result (λ reader. reader.calls ≡ 0) }
-    ensures reads { IfOk result (λ reader. (reader.fail.items ≡ file.now.fail_reads.items) × (reader.most ≡ file.now.most)) }
-    ensures no_faults { IfOk result (λ reader. reader.faults ≡ 0) }
-{
-    let Some(bytes) = &file.bytes else {
-        unreachable!()
-    };
-    let alloc = *bytes.allocator();
-    Ok(MemFileReader {
-        bytes: Vec::from_slice(alloc, bytes)?,
-        calls: 0,
-        fail: Vec::from_slice(alloc, &file.fail_reads)?,
-        most: file.most,
-        faults: 0,
-    })
 }
 
 /// Copies the bytes from byte `at` on into the front of `buf`, as many as there are and as fit, and answers

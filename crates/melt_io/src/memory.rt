@@ -1,5 +1,5 @@
 //! A source and a sink in memory, of which calls can be made to fail.
-ghost use Rattle.std.specs.Prelude.{◌≡◌, ℕ, ◌+◌, ◌<◌, ◌≤◌, ◌↔◌, Some, [], ◌++◌, length, take, drop, min, vec_len, IsTrue, IsOk, IsErr, IfOk, OnOk, OnErr, Contains};
+ghost use Rattle.std.specs.Prelude.{◌^◌, ◌≡◌, ℕ, ◌+◌, ◌<◌, ◌≤◌, ◌↔◌, Some, [], ◌++◌, length, take, drop, min, vec_len, IsTrue, IsOk, IsErr, IfOk, OnOk, OnErr, Contains};
 ghost use Rattle.std.specs.Vec.{vec_capacity};
 ghost use Rattle.melt_io.specs.Outside.{Rose, counted};
 
@@ -15,6 +15,7 @@ pub struct MemSource {
     pub calls: u64,
     pub fail: Vec<u64>,
     pub faults: u64,
+    ghost word: { faults < 2 ^ 64 },
 }
 
 /// Appends each piece to `bytes`, whole. The writes whose numbers, from 1, stand in `fail` answer
@@ -25,6 +26,7 @@ pub struct MemSink {
     pub calls: u64,
     pub fail: Vec<u64>,
     pub faults: u64,
+    ghost word: { faults < 2 ^ 64 },
 }
 
 impl MemSource {
@@ -76,6 +78,7 @@ impl Source for MemSource {
         ensures failed { OnErr result (Rose self.old.faults self.new.faults) }
         ensures untouched { OnErr result (drop self.new.pos self.new.bytes.items ≡ drop self.old.pos self.old.bytes.items) }
         ensures count { self.old.faults ≤ self.new.faults }
+        ensures word { self.new.faults < 2 ^ 64 }
 
         ensures whole { IfOk result (λ n. n ≡ min (length buf.old) (length (drop self.old.pos self.old.bytes.items))) }
         ensures due { IsErr result ↔ Contains self.old.fail.items (counted self.old.calls 1) }
@@ -83,8 +86,7 @@ impl Source for MemSource {
         ensures kept { (self.new.bytes.items ≡ self.old.bytes.items) × (self.new.fail.items ≡ self.old.fail.items) }
     {
         if is_due(&mut self.calls, &self.fail) {
-            self.faults = self.faults.saturating_add(1);
-            return Err(Failed);
+            return Err(Failed::counted(&mut self.faults));
         }
         Ok(take_next(&self.bytes, &mut self.pos, buf))
     }
@@ -101,6 +103,7 @@ impl Sink for MemSink {
         ensures failed { OnErr result (Rose self.old.faults self.new.faults) }
         ensures untouched { OnErr result (self.new.bytes.items ≡ self.old.bytes.items) }
         ensures count { self.old.faults ≤ self.new.faults }
+        ensures word { self.new.faults < 2 ^ 64 }
 
         ensures whole { IfOk result (λ n. n ≡ length piece.now) }
         ensures due { Contains self.old.fail.items (counted self.old.calls 1) → IsErr result }
@@ -109,8 +112,7 @@ impl Sink for MemSink {
         ensures kept { self.new.fail.items ≡ self.old.fail.items }
     {
         if is_due(&mut self.calls, &self.fail) || self.bytes.extend_from_slice(piece).is_err() {
-            self.faults = self.faults.saturating_add(1);
-            return Err(Failed);
+            return Err(Failed::counted(&mut self.faults));
         }
         Ok(piece.len())
     }

@@ -20,10 +20,22 @@ impl fmt::Display for Failed {
 
 impl Error for Failed {}
 
+impl Failed {
+    /// A failure, with which a count of faults rises.
+    pub(crate) fn counted(faults: &mut u64) -> Failed
+        ensures { faults.new ≡ counted faults.old 1 }
+    {
+        *faults = faults.saturating_add(1);
+        Failed
+    }
+}
+
 /// Why a disk lent no reader.
-#[derive(Clone, Copy, Debug, PartialEq, Eq)]
+#[derive(Clone, Copy, Debug, PartialEq, Eq, thiserror::Error)]
 pub enum LendRefusal {
+    #[error("the disk failed to lend a reader")]
     Failed,
+    #[error("no memory for a reader")]
     NoMemory,
 }
 
@@ -43,7 +55,8 @@ pub trait Source {
         ensures end { IfOk result (λ n. n ≡ 0 → 0 < length buf.old → IfSome (left self.old) (λ bytes. bytes ≡ [])) }
         ensures failed { OnErr result (Rose (faults self.old) (faults self.new)) }
         ensures untouched { OnErr result (left self.new ≡ left self.old) }
-        ensures count { faults self.old ≤ faults self.new };
+        ensures count { faults self.old ≤ faults self.new }
+        ensures word { faults self.new < 2 ^ 64 };
 }
 
 /// Takes bytes in the order in which they are written.
@@ -62,7 +75,8 @@ pub trait Sink {
         ensures appended { IfOk result (λ n. Appends (written self.old) (take n piece.now) (written self.new)) }
         ensures failed { OnErr result (Rose (faults self.old) (faults self.new)) }
         ensures untouched { OnErr result (written self.new ≡ written self.old) }
-        ensures count { faults self.old ≤ faults self.new };
+        ensures count { faults self.old ≤ faults self.new }
+        ensures word { faults self.new < 2 ^ 64 };
 }
 
 /// Reads the words of a disk as they were when the reader was lent.
@@ -85,7 +99,9 @@ pub trait RecordReader {
         ensures image { image self.new ≡ image self.old }
         ensures failed { OnErr result (Rose (faults self.old) (faults self.new)) }
         ensures count { faults self.old ≤ faults self.new }
+        ensures word { faults self.new < 2 ^ 64 }
         ensures reads_rise { reads self.old ≤ reads self.new }
+        ensures reads_word { reads self.new < 2 ^ 64 }
         ensures one_read { reads self.new ≤ reads self.old + 1 };
 }
 
@@ -105,6 +121,9 @@ pub trait StaleDisk {
     /// How many calls of `lend` there were.
     ghost lends: { Self → ℕ };
 
+    /// How many calls of `write_at` there were, failed ones too.
+    ghost writes: { Self → ℕ };
+
     /// Writes the words from word `at` on. After an `Err` the words in that range may be anything.
     fn write_at(&mut self, at: u32, words: &[u64]) -> Result<(), Failed>
         requires some { 0 < length words.now }
@@ -113,8 +132,10 @@ pub trait StaleDisk {
         ensures others { OnErr result (KeepsOthers (image self.old) at (length words.now) (image self.new)) }
         ensures failed { OnErr result (Rose (faults self.old) (faults self.new)) }
         ensures count { faults self.old ≤ faults self.new }
+        ensures word { faults self.new < 2 ^ 64 }
         ensures read_faults { read_faults self.new ≡ read_faults self.old }
-        ensures lends { lends self.new ≡ lends self.old };
+        ensures lends { lends self.new ≡ lends self.old }
+        ensures writes { writes self.new ≡ counted (writes self.old) 1 };
 
     /// Lends a reader of the words as they are now.
     fn lend(&mut self, alloc: Global) -> Result<Self::Reader, LendRefusal>
@@ -124,15 +145,18 @@ pub trait StaleDisk {
         ensures image { image self.new ≡ image self.old }
         ensures failed { IsErrOf result LendRefusal.Failed → Rose (faults self.old) (faults self.new) }
         ensures count { faults self.old ≤ faults self.new }
+        ensures word { faults self.new < 2 ^ 64 }
         ensures read_faults { read_faults self.new ≡ read_faults self.old }
-        ensures lends { lends self.new ≡ counted (lends self.old) 1 };
+        ensures lends { lends self.new ≡ counted (lends self.old) 1 }
+        ensures writes { writes self.new ≡ writes self.old };
 
     /// Takes a reader back.
     fn give_back(&mut self, reader: Self::Reader)
         ensures image { image self.new ≡ image self.old }
         ensures count { faults self.new ≡ faults self.old }
         ensures read_faults { read_faults self.new ≡ counted (read_faults self.old) (Self.Reader.faults reader) }
-        ensures lends { lends self.new ≡ lends self.old };
+        ensures lends { lends self.new ≡ lends self.old }
+        ensures writes { writes self.new ≡ writes self.old };
 }
 
 /// Reads the bytes of a file at any place.
@@ -154,7 +178,8 @@ pub trait PositionedReader {
         ensures kept { bytes self.new ≡ bytes self.old }
         ensures no_fault { OnOk result (faults self.new ≡ faults self.old) }
         ensures failed { OnErr result (Rose (faults self.old) (faults self.new)) }
-        ensures count { faults self.old ≤ faults self.new };
+        ensures count { faults self.old ≤ faults self.new }
+        ensures word { faults self.new < 2 ^ 64 };
 }
 
 /// A file of bytes that are written at any place, and read only by readers that it opens.
@@ -182,7 +207,8 @@ pub trait PositionedFile {
         ensures kept { bytes self.new ≡ bytes self.old }
         ensures no_fault { OnOk result (faults self.new ≡ faults self.old) }
         ensures failed { OnErr result (Rose (faults self.old) (faults self.new)) }
-        ensures count { faults self.old ≤ faults self.new };
+        ensures count { faults self.old ≤ faults self.new }
+        ensures word { faults self.new < 2 ^ 64 };
 
     /// Writes the bytes from byte `at` on, with zeros before them where the file is shorter. After an
     /// `Err` the bytes in that range may be anything.
@@ -195,7 +221,8 @@ pub trait PositionedFile {
         ensures made { made self.new ≡ true }
         ensures no_fault { OnOk result (faults self.new ≡ faults self.old) }
         ensures failed { OnErr result (Rose (faults self.old) (faults self.new)) }
-        ensures count { faults self.old ≤ faults self.new };
+        ensures count { faults self.old ≤ faults self.new }
+        ensures word { faults self.new < 2 ^ 64 };
 
     /// Opens a reader of the bytes as they are now.
     fn open(&mut self) -> Result<Self::Reader, Failed>
@@ -206,7 +233,8 @@ pub trait PositionedFile {
         ensures made { made self.new ≡ true }
         ensures no_fault { OnOk result (faults self.new ≡ faults self.old) }
         ensures failed { OnErr result (Rose (faults self.old) (faults self.new)) }
-        ensures count { faults self.old ≤ faults self.new };
+        ensures count { faults self.old ≤ faults self.new }
+        ensures word { faults self.new < 2 ^ 64 };
 
     /// Before the file is made it tells no bytes, or that there are none.
     ghost none_before: { (file : Self) → made file ≡ false → IfSome (bytes file) (λ bytes. bytes ≡ []) };

@@ -19,6 +19,7 @@ pub struct SteadySource {
 pub struct SteadySink {
     pub bytes: Vec<u8>,
     pub faults: u64,
+    ghost word: { faults < 2 ^ 64 },
 }
 
 /// A disk in memory, of which `image` has the words from word 0 on. A write past its end fills it with
@@ -27,9 +28,11 @@ pub struct SteadySink {
 #[derive(Debug, Drop)]
 pub struct SteadyDisk {
     pub image: Vec<u64>,
+    pub writes: u64,
     pub lends: u64,
     pub faults: u64,
     pub read_faults: u64,
+    ghost word: { faults < 2 ^ 64 },
 }
 
 /// Reads a copy of a disk's words. It never fails.
@@ -66,12 +69,14 @@ impl SteadyDisk {
     /// A disk of zeros.
     pub fn new(alloc: Global) -> SteadyDisk
         ensures image { result.image.items ≡ [] }
+        ensures no_writes { result.writes ≡ 0 }
         ensures no_lends { result.lends ≡ 0 }
         ensures no_faults { result.faults ≡ 0 }
         ensures no_read_faults { result.read_faults ≡ 0 }
     {
         SteadyDisk {
             image: Vec::new(alloc),
+            writes: 0,
             lends: 0,
             faults: 0,
             read_faults: 0,
@@ -106,11 +111,11 @@ impl Sink for SteadySink {
         ensures failed { OnErr result (Rose self.old.faults self.new.faults) }
         ensures untouched { OnErr result (self.new.bytes.items ≡ self.old.bytes.items) }
         ensures count { self.old.faults ≤ self.new.faults }
+        ensures word { self.new.faults < 2 ^ 64 }
         ensures full { OnErr result (vec_capacity self.old.bytes < vec_len self.old.bytes + length piece.now) }
     {
         if self.bytes.extend_from_slice(piece).is_err() {
-            self.faults = self.faults.saturating_add(1);
-            return Err(Failed);
+            return Err(Failed::counted(&mut self.faults));
         }
         Ok(piece.len())
     }
@@ -129,6 +134,7 @@ impl RecordReader for SteadyReader {
         ensures image { self.new.image.items ≡ self.old.image.items }
         ensures reads { self.new.reads ≡ counted self.old.reads 1 }
         ensures reads_rise { self.old.reads ≤ self.new.reads }
+        ensures reads_word { self.new.reads < 2 ^ 64 }
     {
         self.reads = self.reads.saturating_add(1);
         copy_words(&self.image, at as usize, words);
@@ -147,6 +153,8 @@ impl StaleDisk for SteadyDisk {
 
     ghost lends = { λ d. d.lends };
 
+    ghost writes = { λ d. d.writes };
+
     fn write_at(&mut self, at: u32, words: &[u64]) -> Result<(), Failed>
         requires some { 0 < length words.now }
         requires in_range { at + length words.now ≤ 2 ^ 32 }
@@ -155,13 +163,15 @@ impl StaleDisk for SteadyDisk {
         ensures no_fault { OnOk result (self.new.faults ≡ self.old.faults) }
         ensures failed { OnErr result (Rose self.old.faults self.new.faults) }
         ensures count { self.old.faults ≤ self.new.faults }
+        ensures word { self.new.faults < 2 ^ 64 }
         ensures full { OnErr result (vec_capacity self.old.image < at + length words.now) }
         ensures read_faults { self.new.read_faults ≡ self.old.read_faults }
         ensures lends { self.new.lends ≡ self.old.lends }
+        ensures writes { self.new.writes ≡ counted self.old.writes 1 }
     {
+        self.writes = self.writes.saturating_add(1);
         if write_image(&mut self.image, at as usize, words).is_err() {
-            self.faults = self.faults.saturating_add(1);
-            return Err(Failed);
+            return Err(Failed::counted(&mut self.faults));
         }
         Ok(())
     }
@@ -174,6 +184,7 @@ impl StaleDisk for SteadyDisk {
         ensures faults { self.new.faults ≡ self.old.faults }
         ensures read_faults { self.new.read_faults ≡ self.old.read_faults }
         ensures lends { self.new.lends ≡ counted self.old.lends 1 }
+        ensures writes { self.new.writes ≡ self.old.writes }
     {
         self.lends = self.lends.saturating_add(1);
         let image = Vec::from_slice(alloc, &self.image).map_err(|_| LendRefusal::NoMemory)?;

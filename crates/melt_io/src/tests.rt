@@ -71,7 +71,8 @@ fn a_reader_keeps_the_words_of_its_lending(rt: HostRuntime) -> Result<(), Fail> 
     assert_eq!(rt; words, [0, 7, 8, 0]);
     assert_eq!(rt; reader.reads, 1);
     disk.give_back(reader);
-    assert_eq!(rt; (disk.lends, disk.faults, disk.read_faults), (1, 0, 0));
+    assert_eq!(rt; (disk.writes, disk.lends), (2, 1));
+    assert_eq!(rt; (disk.faults, disk.read_faults), (0, 0));
     Ok(())
 }
 
@@ -186,7 +187,7 @@ fn a_call_of_the_file_that_fails_is_a_fault(rt: HostRuntime) -> Result<(), Fail>
     assert_eq!(rt; words, [0, 5]);
     assert_eq!(rt; reader.read_at(0, &mut words), Err(Failed));
     disk.give_back(reader);
-    assert_eq!(rt; (disk.lends, disk.read_faults), (2, 1));
+    assert_eq!(rt; (disk.writes, disk.lends, disk.read_faults), (3, 2, 1));
     Ok(())
 }
 

@@ -55,9 +55,15 @@ same_sums : (number cost words : ℕ → ℕ) (xs : List ℕ) → ((a : ℕ) →
     → sum (map cost xs) ≡ sum (map words (map number xs))
 same_sums number cost words [] same = refl
 same_sums number cost words (x ∷ xs) same =
-    omega (arith, same x (first x xs), same_sums number cost words xs (λ a is. same a (behind x xs a is)), sum_by-cons
-        (λ (n : ℕ). n) (cost x) (map cost xs), sum_by-cons (λ (n : ℕ). n) (words (number x))
-        (map words (map number xs)))
+    omega (
+      arith,
+      same x (first x xs),
+      same_sums number cost words xs (λ a is. same a (behind x xs a is)),
+      sum_by-cons
+          (λ (n : ℕ). n) (cost x) (map cost xs),
+      sum_by-cons (λ (n : ℕ). n) (words (number x))
+          (map words (map number xs)),
+    )
 
 module _ (h : List Entry) (maps : Maps) (s : State) (formed : FormedWords maps s) (tells : Tells h maps s) where
   number_at : ℕ → ℕ
@@ -72,8 +78,8 @@ module _ (h : List Entry) (maps : Maps) (s : State) (formed : FormedWords maps s
   cost_is Is total counts a n named =
       let object = formed.objects a n named in
       let words : words_of h n ≡ 2 + object.0.shape.refs + object.0.shape.nums =
-          ap (λ (z : Option Shape). option_map_or (λ (x : Shape). 2 + x.refs + x.nums) z 0)
-          (tells.shapes a n object.0 named object.1.starts) in
+      ap (λ (z : Option Shape). option_map_or (λ (x : Shape). 2 + x.refs + x.nums) z 0)
+      (tells.shapes a n object.0 named object.1.starts) in
       counts.costs.is a object.0 object.1.starts ∙ (sym words ∙ ap (words_of h) (sym (number_is a n named)))
 
   -- the words of objects with addresses, each counted once, are the costs of their numbers

@@ -32,7 +32,7 @@ named_in : (maps : Maps) (s : State) (word address : ℕ) → IsReferenceWord ma
     → IsNamed maps address
 named_in maps s word address is refers =
     let e : is.reference ≡ refers.reference =
-        same_ref is.reference refers.reference is.in_range refers.in_range (sym is.is ∙ refers.is) in
+    same_ref is.reference refers.reference is.in_range refers.in_range (sym is.is ∙ refers.is) in
     named_by maps s address is.reference is.stands (ap address_in e ∙ refers.at)
 
 -- an address in a register is that of an object
@@ -65,7 +65,7 @@ value_in_word : (maps : Maps) (word address n : ℕ) (value : Value) → Stands 
     → maps.address address ≡ Some n → value ≡ Ref n
 value_in_word maps word address n value stands refers named =
     let e : stands.reference ≡ refers.reference =
-        same_ref stands.reference refers.reference stands.in_range refers.in_range (sym stands.is ∙ refers.is) in
+    same_ref stands.reference refers.reference stands.in_range refers.in_range (sym stands.is ∙ refers.is) in
     value_by maps address n stands.reference value stands.stands_for (ap address_in e ∙ refers.at) named
 
 -- the value of a register with the address of an object is that object
@@ -80,11 +80,15 @@ pub reached_alive : (h : List Entry) (value : ℕ → ℕ → Value) (maps : Map
     → Placed h value maps s → ((k : ℕ) → s.base.scion k ≡ None) → Reached s address → maps.address address ≡ Some n
     → Alive h value n
 reached_alive h value maps s address n placed no_scions (Reached.in_register t r a e first) named =
-    Alive.in_register n (record { thread = t; register = r; holds =
-        value_held maps a n (value t r) (ap (value_at maps) (sym e) ∙ placed.registers t r) first named })
+    Alive.in_register n (record {
+      thread = t;
+      register = r;
+      holds =
+          value_held maps a n (value t r) (ap (value_at maps) (sym e) ∙ placed.registers t r) first named;
+    })
 reached_alive h value maps s address n placed no_scions (Reached.in_global g a below refers) named =
     Alive.in_global g n (value_in_word maps (s.global g) a n (last h (Global g))
-        (placed.tells.globals g below) refers named)
+    (placed.tells.globals g below) refers named)
 reached_alive h value maps s address n placed no_scions (Reached.at_scion k x live) named =
     absurd (let dead = no_scions k in cc)
 reached_alive h value maps s address n placed no_scions
@@ -92,7 +96,7 @@ reached_alive h value maps s address n placed no_scions
     let object = reached_named maps s from placed.formed found in
     Alive.in_slot object.0 i n (reached_alive h value maps s from object.0 placed no_scions found object.1)
     (value_in_word maps (s.word (from + 2 + i)) a n (last h (Field object.0 i))
-        (placed.tells.slots from object.0 i header object.1 starts below) refers named)
+    (placed.tells.slots from object.0 i header object.1 starts below) refers named)
 
 -- the word refers to the address of the object
 abbrev FoundIn : Maps → ℕ → ℕ → Type 0
@@ -147,18 +151,18 @@ module _ (h : List Entry) (value : ℕ → ℕ
       → last h (Field m i) ≡ Ref n → (i < header.shape.refs) ⊎ (header.shape.refs ≤ i) → FoundAt maps s n
   found_slot from m i n header named starts reaches is (inl below) =
       let found = found_in maps (s.word (from + 2 + i)) n (last h (Field m i)) homeless
-          (placed.tells.slots from m i header named starts below) is in
+      (placed.tells.slots from m i header named starts below) is in
       (found.0, found.1, Reached.in_slot from i found.0 header reaches starts below found.2)
   found_slot from m i n header named starts reaches is (inr above) =
       absurd (not_nil (last h (Field m i)) n
-          (last_no_field h s.base.globals m i _ legal (placed.tells.shapes from m header named starts) above) is)
+      (last_no_field h s.base.globals m i _ legal (placed.tells.shapes from m header named starts) above) is)
 
   -- where no object has a home, what is alive is reached at its address
   pub alive_reached : (n : ℕ) → Alive h value n → (address : ℕ) × (maps.address address ≡ Some n) × Reached s address
   alive_reached n (Alive.in_register k held) =
       let at = s.register held.thread held.register in
       let is = held_address maps k at (value held.thread held.register)
-          (placed.registers held.thread held.register) held.holds in
+      (placed.registers held.thread held.register) held.holds in
       (at, is.1, Reached.in_register held.thread held.register at refl is.0)
   alive_reached n (Alive.in_global g k is) = found_global g k is (cases_lt g s.base.globals)
   alive_reached n (Alive.in_slot m i k lives is) =

@@ -25,14 +25,19 @@ module _ (h : List Entry) (value : ℕ → ℕ → Value) (maps : Maps) (s : Sta
     λ held.
         let a = s.register held.thread held.register in
         let at = held_address maps n a (value held.thread held.register)
-            (placed.registers held.thread held.register) held.holds in
-        (a, (record { thread = held.thread; register = held.register; holds = refl },
-            λ none. omega (arith, none, at.0)), at.1),
+        (placed.registers held.thread held.register) held.holds in (
+          a,
+          (
+            record { thread = held.thread; register = held.register; holds = refl },
+            λ none. omega (arith, none, at.0),
+          ),
+          at.1,
+        ),
     λ is.
         let t = is.1.0.thread in
         let r = is.1.0.register in
         let stands : value_at maps is.0 ≡ Some (value t r) = ap (value_at maps) (sym is.1.0.holds)
-            ∙ placed.registers t r in
+        ∙ placed.registers t r in
         let first : 1 ≤ is.0 = let some = is.1.1 in omega (arith, some) in
         record { thread = t; register = r; holds = value_held maps is.0 n (value t r) stands first is.2 },
   )
@@ -60,6 +65,6 @@ module _ (h : List Entry) (value : ℕ → ℕ → Value) (maps : Maps) (s : Sta
             let from = collected.goes.only is.0 is.1 in
             let some : to from.0 ≢ 0 = λ nought. from.2 (sym from.1 ∙ nought) in
             let at : maps.address from.0 ≡ Some n = sym (collected.goes.named from.0 some)
-                ∙ (ap new.address from.1 ∙ is.2) in
+            ∙ (ap new.address from.1 ∙ is.2) in
             reached_alive h value maps s from.0 n placed none.scions ((collected.goes.stays from.0).0 some).0 at,
       )) counts

@@ -1,14 +1,17 @@
-use Rattle.std.proofs.Common.{refl, rules}
-use Rattle.melt_record.specs.Records.{stub_words}
-use Rattle.melt_disk.proofs.Apart.{write-apart, write-read}
+use Rattle.std.proofs.Common.{◌≡◌, length, ap, arith}
+use Rattle.melt_disk.specs.Homes.{Stale}
+use Rattle.melt_disk.proofs.Reserved.{reserved_lies}
 use Rattle.melt_disk.proofs.space.StaleSpace.write_stub.Goals as goal
 
-pub returns-clause-read : goal.returns-clause-read
-returns-clause-read g c =
-    let words = stub_words c.args.home c.args.shape c.args.scion in
-    write-read c.write_at.result (g.D.StaleDisk.image c.args.self.now.disk.now) c.args.home 2 words _ refl (search rules)
+pub encode_stub-requires-clause-home : goal.encode_stub-requires-clause-home
+encode_stub-requires-clause-home g c = let lies = reserved_lies _ _ c.requires.reserved in record { not_null = lies.begins; small = c.ranges.home.fits }
 
-pub returns-clause-apart : goal.returns-clause-apart
-returns-clause-apart g c =
-    let words = stub_words c.args.home c.args.shape c.args.scion in
-    write-apart c.write_at.result _ c.args.home 2 words _ refl (search rules) (search rules)
+pub encode_stub-requires-clause-shape : goal.encode_stub-requires-clause-shape
+encode_stub-requires-clause-shape g c = (reserved_lies _ _ c.requires.reserved).shape
+
+pub write_record-requires-clause-in_range : goal.write_record-requires-clause-in_range
+write_record-requires-clause-in_range g c κs within =
+    let lies = reserved_lies _ _ c.requires.reserved in
+    let end : c.self.inside.end ≡ c.args.self.now.end = ap (λ (space : Stale g.row.D.Denot). space.end) c.self.view_is in
+    let len : length c.encode_stub.new.out ≡ 2 = ap length c.encode_stub.ensures in
+    omega (arith, lies.ends, end, len, c.self.invariant.1)

@@ -1,0 +1,120 @@
+-- What an event leaves for the next one, and a call for the next call.
+use Rattle.std.proofs.Common.{◌≡◌, ◌≢◌, ℕ, ◌+◌, ◌≤◌, inl, inr, List, [], ◌∷◌, ◌++◌, length, refl, sym, ◌∙◌, ap, subst, arith, length-append}
+use Rattle.std.proofs.lemmas.Bool.{cases_eq}
+use Rattle.std.specs.Prelude.{false, Option, None, Some}
+use Rattle.melt_model.specs.declared.history.Entry.{Entry}
+use Rattle.melt_model.specs.declared.history.Act.{Act}
+use Rattle.melt_model.specs.declared.operations.Op.{Op}
+use Rattle.melt_core.specs.declared.answer.Pause.TheVariants.{Asked, Space, Forward}
+use Rattle.melt_core.specs.declared.answer.Refusal.{Refusal}
+use Rattle.melt_core.specs.declared.answer.Refusal.TheVariants as refusal
+use Rattle.melt_core.specs.declared.answer.StepResult.{StepResult}
+use Rattle.melt_core.specs.declared.answer.StepResult.TheVariants.{Going, Answered, Refused}
+use Rattle.melt_core.specs.declared.call.Call.{Call}
+use Rattle.melt_core.specs.Answering.{entry, with_entry}
+use Rattle.melt_core.specs.Advances.{Advances, Continues, Goes, KeepsOthers, Outcome}
+use Rattle.melt_core.specs.Stages.{events_left}
+use Rattle.melt_core.specs.Views.{View, call_of, stage_in, stage_of, Standing}
+
+pub KeepsOthers_both : (u v w : View) (t : ℕ) → KeepsOthers u v t → KeepsOthers v w t → KeepsOthers u w t
+KeepsOthers_both u v w t one two = record {
+  globals = two.globals ∙ one.globals;
+  words = two.words ∙ one.words;
+  threads = two.threads ∙ one.threads;
+  capacity = two.capacity ∙ one.capacity;
+  calls = λ k differ. two.calls k differ ∙ one.calls k differ;
+  registers = λ k differ. two.registers k differ ∙ one.registers k differ;
+  values = λ k differ. two.values k differ ∙ one.values k differ;
+}
+
+-- the call is over, and the history has at most one entry more
+pub record IsOver (v w : View) (t : ℕ) : Type 0 where
+  pub call : call_of w t ≡ None
+  pub history : length w.log ≤ length v.log + 1
+
+entry_longer : (t : ℕ) (log after : List Entry) (act : Option Act) → after ≡ with_entry t log act
+    → length after ≤ length log + 1
+entry_longer t log after None is = let same : length after ≡ length log = ap length is in omega arith
+entry_longer t log after (Some act) is =
+    let same : length after ≡ length (log ++ entry t act ∷ []) = ap length is in
+    omega (arith, length-append log (entry t act ∷ []))
+
+refused_over : (v w : View) (t : ℕ) (o : Op) (why : Refusal) → Outcome v w t o (Refused why) → IsOver v w t
+refused_over v w t o (refusal.Pause Asked) is =
+    subst (λ (x : View). IsOver v x t) (sym is.same) (record { call = is.first; history = omega arith })
+refused_over v w t o (refusal.Pause (Space need)) is =
+    record {
+      call = is.call;
+      history = let same : length w.log ≡ length v.log =
+          ap length is.own.history in omega arith;
+    }
+refused_over v w t o (refusal.Pause Forward) is = absurd is
+refused_over v w t o refusal.DiskFault is = absurd is
+refused_over v w t o (refusal.Damaged damaged) is = absurd is
+
+-- an event that does not leave the call going ends it
+pub event_over : (v w : View) (t : ℕ) (o : Op) (result : StepResult) → (result ≡ Going → ⊥) → Outcome v w t o result
+    → IsOver v w t
+event_over v w t o Going ends is = absurd (ends refl)
+event_over v w t o (Answered reply) ends is =
+    record { call = is.call; history = entry_longer t v.log w.log is.history.0 is.history.1 }
+event_over v w t o (Refused why) ends is = refused_over v w t o why is
+
+-- an event after which the call goes on
+pub going : (v w : View) (t : ℕ) (o : Op) (result : StepResult) → result ≡ Going → Outcome v w t o result → Goes v w t o
+going v w t o result is outcome = subst (Outcome v w t o) is outcome
+
+pub going_continues : (v w : View) (t : ℕ) (o : Op) → Goes v w t o → Continues (call_of w t) o
+going_continues v w t o is = subst (λ (c : Option Call). Continues c o) (sym is.call) refl
+
+pub going_nearer : (v w : View) (t : ℕ) (o : Op) → Goes v w t o
+    → events_left (stage_of w t) + 1 ≤ events_left (stage_of v t)
+going_nearer v w t o is =
+    let at : events_left (stage_of w t) ≡ events_left (Some is.stage) =
+    ap (λ (c : Option Call). events_left (stage_in c)) is.call in
+    omega (arith, at, is.nearer)
+
+-- what an event leaves of the call, and of the history
+record Leaves (v w : View) (t : ℕ) (o : Op) : Type 0 where
+  pub continues : Continues (call_of w t) o
+  pub history : length w.log ≤ length v.log + 1
+
+over_leaves : (v w : View) (t : ℕ) (o : Op) → IsOver v w t → Leaves v w t o
+over_leaves v w t o over =
+    record { continues = subst (λ (c : Option Call). Continues c o) (sym over.call) tt; history = over.history }
+
+leaves : (v w : View) (t : ℕ) (o : Op) (result : StepResult) → Outcome v w t o result → Leaves v w t o
+leaves v w t o Going is = record {
+  continues = going_continues v w t o is;
+  history = let same : length w.log ≡ length v.log = ap length is.own.history in omega arith;
+}
+leaves v w t o (Answered reply) is =
+    over_leaves v w t o (event_over v w t o (Answered reply) (λ e. absurd (cc)) is)
+leaves v w t o (Refused why) is = over_leaves v w t o (event_over v w t o (Refused why) (λ e. absurd (cc)) is)
+
+-- The words stand after some events, each call in flight is of the operation, the history has at most so many entries
+-- more, and all else that a call needs is as before.
+pub record Onward (u w : View) (o : Op) (entries : ℕ) : Type 0 where
+  pub stands : Standing false w
+  pub globals : length w.globals ≡ length u.globals
+  pub threads : length w.held ≡ length u.held
+  pub capacity : w.capacity ≡ u.capacity
+  pub continues : (t : ℕ) → Continues (call_of w t) o
+  pub history : length w.log ≤ length u.log + entries
+
+-- so it is after one event more
+pub onward_event : (u v w : View) (t : ℕ) (o : Op) (entries : ℕ) (result : StepResult) → Advances v w t o result
+    → Onward u v o entries → Onward u w o (entries + 1)
+onward_event u v w t o entries result event before =
+    let left : Leaves v w t o = leaves v w t o result event.outcome in
+    record {
+      stands = event.keeps false before.stands;
+      globals = event.others.globals ∙ before.globals;
+      threads = event.others.threads ∙ before.threads;
+      capacity = event.others.capacity ∙ before.capacity;
+      continues = λ k. elim (cases_eq k t) [
+        | inl same ↦ subst (λ (j : ℕ). Continues (call_of w j) o) (sym same) left.continues
+        | inr other ↦ subst (λ (c : Option Call). Continues c o) (sym (event.others.calls k other)) (before.continues k)
+      ];
+      history = omega (arith, left.history, before.history);
+    }

@@ -1,0 +1,13 @@
+use Rattle.std.proofs.Common.{◌≡◌, ◌+◌, ◌≤◌, length}
+use Rattle.std.specs.Prelude.{false}
+use Rattle.melt_core.specs.Views.{IsQuiet, Standing, view}
+use Rattle.melt_core.proofs.tests.expect.Given as goal
+
+abbrev pub invariant-loop-at : goal.invariant-loop-at
+invariant-loop-at g l =
+    Standing false (view l.core) ×
+    IsQuiet (view l.core) ×
+    (length (view l.core).globals ≡ length (view l.initial.core).globals) ×
+    (length (view l.core).held ≡ length (view l.initial.core).held) ×
+    ((view l.core).capacity ≡ (view l.initial.core).capacity) ×
+    (length (view l.core).log ≤ length (view l.initial.core).log + l.at-counter)
