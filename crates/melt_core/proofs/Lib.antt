@@ -24,4 +24,5 @@ pub mod Loading
 pub mod Writing
 pub mod Making
 pub mod Resting
+pub mod Sharing
 pub mod Onward

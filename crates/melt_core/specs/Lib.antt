@@ -7,3 +7,4 @@ pub mod Changed
 pub mod Advances
 pub mod Epochs
 pub mod Lending
+pub mod Shared

@@ -4,6 +4,7 @@
 mod advance;
 pub mod answer;
 pub mod call;
+mod laws;
 mod load;
 pub mod machine;
 mod make;
@@ -12,6 +13,7 @@ mod poll;
 mod write;
 
 pub use answer::{Pause, Refusal, StepResult};
+pub use laws::shared_words;
 pub use machine::{Core, Rest};
 
 #[cfg(test)]

@@ -1,0 +1,5 @@
+use Rattle.melt_core.proofs.Sharing.{shared_laws}
+use Rattle.melt_core.proofs.laws.shared_words.Goals as goal
+
+pub returns : goal.returns
+returns c = shared_laws
