@@ -15,7 +15,7 @@ use Rattle.melt_scion.proofs.Keeping.{KeepsObjects, NoGaps_stays}
 use Rattle.melt_scion.proofs.Parts.{PartAt, slot_part, number_part, part_outside}
 use Rattle.melt_scion.proofs.Following.{SameValues}
 use Rattle.melt_scion.proofs.Homes.{BodyKeeps}
-use Rattle.melt_scion.proofs.Frame.{WordsMayStand, WordsTell, FormedWords_stay, Tells_stay}
+use Rattle.melt_scion.proofs.Frame.{FormedWords_stay, Tells_stay}
 use Rattle.melt_scion.proofs.Changing.{keeps_words, keeps_free, keeps_ends, keeps_outside, behind_cleared, keeps_cleared}
 
 -- objects are kept, and with them all words behind their home words, globals and forwarding words

@@ -1,5 +1,5 @@
 -- When a state stands for a history, and what is kept of this whatever a disk gives.
-use Rattle.std.specs.Prelude.{◌≡◌, ◌≢◌, ◌↔◌, ◌⊎◌, ◌^◌, ℕ, zero, suc, ◌+◌, ◌<◌, ◌≤◌, Bool, true, List, Option, None, Some, Contains}
+use Rattle.std.specs.Prelude.{◌≡◌, ◌≢◌, ◌↔◌, ◌⊎◌, ◌^◌, ℕ, zero, suc, ◌+◌, ◌<◌, ◌≤◌, Bool, true, List, Option, Some, Contains}
 use Rattle.std.specs.Option.{option_map}
 use Rattle.melt_model.specs.History.{shape, last}
 use Rattle.melt_model.specs.declared.history.Entry.{Entry}
@@ -11,7 +11,6 @@ use Rattle.melt_word.specs.declared.reference.Ref as words
 use Rattle.melt_word.specs.declared.reference.Ref.TheVariants.{Null, Clean, Stale, Disk}
 use Rattle.melt_word.specs.declared.header.Shape.{Shape}
 use Rattle.melt_word.specs.declared.header.Header.{Header}
-use Rattle.melt_word.specs.declared.home.HomeWord.{HomeWord}
 use Rattle.melt_record.specs.declared.head.Head.{Head}
 use Rattle.melt_record.specs.declared.head.Kind.TheVariants.{Body, Stub}
 use Rattle.melt_record.specs.Records.{IsHead, IsSlotWord}

@@ -1,5 +1,5 @@
 -- A call that a thread makes alone.
-use Rattle.std.proofs.Common.{◌≡◌, ◌≢◌, ℕ, ◌+◌, ◌<◌, ◌≤◌, false, length, refl, sym, ◌∙◌, ap, subst, arith, inl, inr}
+use Rattle.std.proofs.Common.{◌≡◌, ◌≢◌, ℕ, ◌+◌, ◌<◌, false, length, refl, sym, ◌∙◌, ap, subst, arith, inl, inr}
 use Rattle.std.specs.Prelude.{Bool, true, Option, None, Some}
 use Rattle.std.proofs.lemmas.Bool.{cases_eq}
 use Rattle.std.proofs.lemmas.Option.{same_Some}
@@ -14,7 +14,7 @@ use Rattle.melt_core.specs.declared.call.Stage.TheVariants.{Polled, Headed, Look
 use Rattle.melt_core.specs.declared.answer.Pause.TheVariants.{Space}
 use Rattle.melt_core.specs.declared.answer.Refusal.TheVariants.{Pause}
 use Rattle.melt_core.specs.declared.answer.StepResult.TheVariants.{Going, Refused}
-use Rattle.melt_word.specs.Words.{IsShape, cost_of}
+use Rattle.melt_word.specs.Words.{cost_of}
 use Rattle.melt_word.specs.declared.header.Shape.{Shape}
 use Rattle.melt_scion.specs.State.{State}
 use Rattle.melt_scion.specs.Placed.{Maps}
@@ -27,7 +27,6 @@ use Rattle.std.proofs.lemmas.Bool.{cases_lt}
 use Rattle.melt_core.specs.Views.{View, values_of, call_of, maps, state, Standing}
 use Rattle.melt_core.specs.Advances.{Advances, Continues, KeepsOthers, IsAnswered, IsRefused, Goes}
 use Rattle.melt_core.specs.Views.{stage_in}
-use Rattle.melt_core.specs.Stages.{events_left}
 use Rattle.melt_step.specs.declared.seat.Seat.{Seat}
 use Rattle.melt_step.specs.declared.seat.Mode.TheVariants.{Lacking}
 use Rattle.melt_step.specs.Seats.{owes_silent, TakesReply, DropsIfEnded, LacksAlone, CalledAlone}

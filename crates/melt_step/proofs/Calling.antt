@@ -16,7 +16,6 @@ use Rattle.melt_core.specs.Views.{View, value, values_of, call_of, stage_in, Sta
 use Rattle.melt_core.specs.Advances.{Advances, KeepsOthers, HasRoom, HasRoomFor, IsAnswered, Goes, IsRefused}
 use Rattle.melt_core.specs.Stages.{events_left}
 use Rattle.melt_core.specs.declared.call.Call.{Call}
-use Rattle.melt_core.specs.declared.call.Stage.{Stage}
 use Rattle.melt_core.specs.declared.answer.Pause.TheVariants as pause
 use Rattle.melt_core.specs.declared.answer.Refusal.TheVariants as refusal
 use Rattle.melt_core.specs.declared.answer.StepResult.{StepResult}
@@ -27,7 +26,7 @@ use Rattle.melt_core.proofs.Resting.{stands_stopped}
 use Rattle.melt_step.specs.declared.seat.Seat.{Seat}
 use Rattle.melt_step.specs.declared.seat.Mode.{Mode}
 use Rattle.melt_step.specs.declared.seat.Mode.TheVariants.{Running, Due, Silent, Collecting, Asked, Lacking, Ended}
-use Rattle.melt_step.specs.Seats.{owes_silent, paused_as, Waits, SeatGoes, SeatRefused, IsEnded, TakesReply, DropsIfEnded, SeatTold, SeatStep, SetsStop}
+use Rattle.melt_step.specs.Seats.{owes_silent, Waits, IsEnded, TakesReply, DropsIfEnded, SeatTold, SeatStep, SetsStop}
 use Rattle.melt_step.proofs.Cuts.{alive_same}
 use Rattle.melt_step.proofs.Modes.{dropped_keeps}
 

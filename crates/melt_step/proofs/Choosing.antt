@@ -1,5 +1,5 @@
 -- All threads stand in one history, by whatever choices.
-use Rattle.std.proofs.Common.{ℕ, List, refl, subst}
+use Rattle.std.proofs.Common.{List, refl, subst}
 use Rattle.melt_model.specs.History.{Legal}
 use Rattle.melt_model.specs.declared.config.Config.{Config}
 use Rattle.melt_trace.specs.Script.{Script}

@@ -1,10 +1,10 @@
 -- A collection between two epochs.
-use Rattle.std.proofs.Common.{◌≡◌, ℕ, ◌+◌, ◌^◌, ◌<◌, ◌≤◌, suc, List, [], ◌∷◌, ◌++◌, length, get_or, ◌⊎◌, inl, inr, refl, sym, ◌∙◌, ap, subst, arith, length-append, true}
+use Rattle.std.proofs.Common.{◌≡◌, ℕ, ◌+◌, ◌<◌, ◌≤◌, suc, List, [], ◌∷◌, ◌++◌, length, get_or, ◌⊎◌, inl, inr, refl, sym, ◌∙◌, ap, subst, arith, true}
 use Rattle.std.proofs.Math.Path.{fun_ext}
 use Rattle.std.proofs.Math.ListN.{get_or-map}
 use Rattle.std.proofs.lemmas.Bool.{cases_lt}
 use Rattle.std.proofs.lemmas.List.{get_or_past}
-use Rattle.std.specs.Prelude.{◌↔◌, ◌≢◌, All, Option, None, Some, IsSome}
+use Rattle.std.specs.Prelude.{◌≢◌, All, Option, None, Some, IsSome}
 use Rattle.std.proofs.lemmas.List.Sums.{sum-map, sum_by-cons}
 use Rattle.std.proofs.lemmas.List.Elements.{All-append, All-from_recursion}
 use Rattle.melt_model.specs.History.{Legal}
@@ -15,7 +15,7 @@ use Rattle.melt_model.specs.declared.history.Value.{Value}
 use Rattle.melt_model.specs.declared.reports.Phase.{Phase}
 use Rattle.melt_model.specs.declared.reports.Phase.TheVariants.{Inactive, Mark, Move}
 use Rattle.melt_model.specs.declared.reports.Journal.{Journal}
-use Rattle.melt_model.proofs.Sums.{CostsSum-same, CostsSum-part}
+use Rattle.melt_model.proofs.Sums.{CostsSum-part}
 use Rattle.melt_scion.specs.State.{State}
 use Rattle.melt_scion.specs.Placed.{Maps, IsNamed, Placed}
 use Rattle.melt_scion.specs.Collected.{Leaves, Collected as Gone, CountsWords}

@@ -11,7 +11,6 @@ use Rattle.melt_model.specs.declared.reports.ThreadEnd.TheVariants as end
 use Rattle.melt_trace.specs.Script.{Script}
 use Rattle.melt_core.specs.Views.{View, view, values_of, call_of, IsQuiet, Standing}
 use Rattle.melt_core.specs.Epochs.{HasDropped}
-use Rattle.melt_core.specs.declared.machine.Core.{Core}
 use Rattle.melt_step.specs.declared.collector.Collector.{Collector}
 use Rattle.melt_step.specs.declared.run.Run.{Run}
 use Rattle.melt_step.specs.declared.seat.Seat.{Seat}

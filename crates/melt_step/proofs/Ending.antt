@@ -25,7 +25,7 @@ use Rattle.melt_scion.proofs.Staying.{SameParts, same_words, FormedWords_same, T
 use Rattle.melt_scion.proofs.Following.{same_history}
 use Rattle.melt_trace.specs.Script.{Script, operations}
 use Rattle.melt_core.specs.declared.machine.Rest.{Rest}
-use Rattle.melt_core.specs.Views.{View, view, maps, maps_of, value, state}
+use Rattle.melt_core.specs.Views.{View, view, maps, maps_of, state}
 use Rattle.melt_core.specs.Epochs.{AtRest, HasFinished, core_of}
 use Rattle.melt_step.specs.declared.seat.Seat.{Seat}
 use Rattle.melt_step.specs.declared.seat.Mode.{Mode}

@@ -9,7 +9,7 @@ use Rattle.melt_core.specs.Views.{View, view, IsQuiet, Standing}
 use Rattle.melt_step.specs.declared.run.Run.{Run}
 use Rattle.melt_step.specs.declared.seat.Seat.{Seat}
 use Rattle.melt_step.specs.declared.collector.Collector.{Collector}
-use Rattle.melt_step.specs.Seats.{CollectorStands, DueBy, KeepsRun, MayGo, Passed, RunStands, SeatStep, SeatTold, TableStands, potential, replies_of}
+use Rattle.melt_step.specs.Seats.{CollectorStands, DueBy, KeepsRun, MayGo, Passed, RunStands, SeatStep, SeatTold, TableStands, potential}
 use Rattle.melt_step.proofs.Tables.{Adds, Table_step, collections_step, goes_on}
 use Rattle.melt_step.proofs.Potentials.{step_nearer, safepoint_nearer}
 

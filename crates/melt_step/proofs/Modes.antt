@@ -19,7 +19,7 @@ use Rattle.melt_core.specs.Epochs.{HasDropped, no_registers}
 use Rattle.melt_step.specs.declared.seat.Seat.{Seat}
 use Rattle.melt_step.specs.declared.seat.Mode.{Mode}
 use Rattle.melt_step.specs.declared.seat.Mode.TheVariants.{Running, Due, Silent, Collecting, Asked, Lacking, Ended}
-use Rattle.melt_step.specs.Seats.{with_first, left, MayGo, IsEnded, SeatStands, replies_of, EndsSo, LacksNow, Later, TableStands, AllWait, Waits, KnowsStop, SetsStop, SomeGoesOn}
+use Rattle.melt_step.specs.Seats.{with_first, left, MayGo, IsEnded, SeatStands, EndsSo, LacksNow, Later, TableStands, AllWait, Waits, KnowsStop, SetsStop, SomeGoesOn}
 use Rattle.melt_step.proofs.Cuts.{replies_here, LacksNow_same}
 use Rattle.melt_step.proofs.Tables.{get_set_same, get_set_other, replies_same, later_set, Moves, Table_moves, mode_stands, same_moves}
 

@@ -1,22 +1,20 @@
 -- Which collections a safepoint makes.
 use Rattle.std.proofs.Common.{◌≡◌, ◌≢◌, ℕ, ◌+◌, ◌<◌, ◌≤◌, zero, suc, true, false, List, [], ◌∷◌, length, take, refl, sym, ◌∙◌, ap, subst, arith, ◌⊎◌, inl, inr}
 use Rattle.std.proofs.Math.ListN.{set}
-use Rattle.std.proofs.lemmas.Bool.{cases_eq, cases_lt}
+use Rattle.std.proofs.lemmas.Bool.{cases_eq}
 use Rattle.std.proofs.lemmas.List.Sums.{sum-map, sum_by-cons}
 use Rattle.std.proofs.lemmas.Option.{same_Some, slice_get_within, slice_get_cases}
 use Rattle.std.specs.Prelude.{Option, None, Some, IsSome, slice_get, slice_set}
 use Rattle.melt_core.specs.Views.{View, view, call_of, IsQuiet}
 use Rattle.melt_core.specs.declared.machine.Core.{Core}
-use Rattle.melt_step.specs.Journals.{forced}
 use Rattle.melt_step.specs.declared.collector.Collector.{Collector}
 use Rattle.melt_step.specs.declared.run.Run.{Run}
 use Rattle.melt_step.specs.declared.seat.Mode.{Mode}
 use Rattle.melt_step.specs.declared.seat.Mode.TheVariants.{Running, Due, Silent, Collecting, Asked, Lacking, Ended}
 use Rattle.melt_step.specs.declared.seat.Seat.{Seat}
-use Rattle.melt_step.specs.Seats.{CalledAlone, CalledAt, CalledFirst, CollectedAll, CollectedFor, ForCollection, IsPaused, JustCollected, MakesCollections, MakesFor, MakesForAll, MakesPlanned, NoneBelow, PlansBy, Planned, SomeLacks, Waits, collections_due, collections_for}
-use Rattle.melt_step.proofs.Collections.{just_made}
-use Rattle.melt_step.proofs.Journals.{planned_none, planned_one, planned_then}
-use Rattle.melt_step.proofs.Passing.{CollectedBelow, NoneOwn, for_collection, waits_for, waits_paused}
+use Rattle.melt_step.specs.Seats.{CalledAlone, CalledAt, CalledFirst, CollectedAll, CollectedFor, ForCollection, IsPaused, JustCollected, MakesCollections, MakesFor, MakesForAll, NoneBelow, Planned, SomeLacks, Waits, collections_due, collections_for}
+use Rattle.melt_step.proofs.Journals.{planned_none, planned_then}
+use Rattle.melt_step.proofs.Passing.{CollectedBelow, NoneOwn, for_collection, waits_for}
 use Rattle.melt_step.proofs.Tables.{get_set_same, get_set_other}
 
 -- a thread that waits for a collection waits

@@ -27,7 +27,7 @@ use Rattle.melt_core.proofs.Values.{get_or_replicate}
 use Rattle.melt_step.specs.declared.seat.Seat.{Seat}
 use Rattle.melt_step.specs.declared.seat.Mode.{Mode}
 use Rattle.melt_step.specs.declared.seat.Mode.TheVariants.{Running, Asked, Ended}
-use Rattle.melt_step.specs.Run.{is_collect, silent_in, collections, collections_of}
+use Rattle.melt_step.specs.Run.{is_collect, silent_in, collections}
 use Rattle.melt_step.specs.Seats.{owes_silent, Waits, AreNewSeats, IsNewSeat, FitsMode, KnowsStop, SeatStands, EndsSo, TableStands, replies_of}
 use Rattle.melt_step.proofs.Cuts.{replies_here, replies_past}
 

@@ -1,9 +1,9 @@
 -- The thread gets its reply, or ends.
-use Rattle.std.proofs.Common.{◌≡◌, ℕ, ◌+◌, ◌<◌, ◌≤◌, rules, length, refl, sym, ◌∙◌, ap, subst, arith}
+use Rattle.std.proofs.Common.{◌≡◌, ℕ, ◌<◌, rules, length, refl, sym, ◌∙◌, ap, subst, arith}
 use Rattle.std.specs.Prelude.{Option, None, Some, IsSome, slice_get}
 use Rattle.melt_model.specs.declared.config.Config.{Config}
 use Rattle.melt_trace.specs.Script.{Script}
-use Rattle.melt_core.specs.Views.{IsQuiet, View, call_of, view}
+use Rattle.melt_core.specs.Views.{View, call_of, view}
 use Rattle.melt_step.specs.Journals.{forced}
 use Rattle.melt_step.specs.Seats.{CalledAlone, CalledFirst, CollectorStands, DueBy, PlansBy, StandsCollected}
 use Rattle.melt_step.specs.declared.collector.Collector.{Collector}

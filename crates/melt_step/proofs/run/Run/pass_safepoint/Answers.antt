@@ -1,10 +1,10 @@
 -- Collections, and the call of a thread that lacked room, give some thread less to do.
-use Rattle.std.proofs.Common.{◌≡◌, ◌≢◌, ℕ, true, false, List, refl, sym, ◌∙◌, ap, subst}
+use Rattle.std.proofs.Common.{◌≡◌, ◌≢◌, true, List, refl, sym, ◌∙◌, subst}
 use Rattle.std.specs.Prelude.{Some, slice_get}
 use Rattle.melt_model.specs.declared.config.Config.{Config}
 use Rattle.melt_trace.specs.Script.{Script}
 use Rattle.melt_core.specs.Views.{IsQuiet, view}
-use Rattle.melt_step.specs.Seats.{CalledAt, CalledFirst, JustCollected, KeepsRun, MakesCollections, MakesPlanned, NoneBelow, OweBehindCollects, Planned, RunStands, StandsCollected, collections_due}
+use Rattle.melt_step.specs.Seats.{CalledAt, JustCollected, KeepsRun, MakesCollections, MakesPlanned, NoneBelow, OweBehindCollects, Planned, RunStands, StandsCollected, collections_due}
 use Rattle.melt_step.specs.declared.collector.Collector.{Collector}
 use Rattle.melt_step.specs.declared.run.Run.{Run}
 use Rattle.melt_step.specs.declared.seat.Mode.{Mode}

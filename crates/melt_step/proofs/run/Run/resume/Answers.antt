@@ -1,11 +1,10 @@
 -- All threads that wait make their calls again, and then stand in the epoch that goes on.
-use Rattle.std.proofs.Common.{true, ◌≡◌, ◌<◌, ◌≤◌, false, List, length, get_or, refl, sym, ◌∙◌, ap, subst, arith}
+use Rattle.std.proofs.Common.{true, ◌≡◌, ◌<◌, ◌≤◌, List, length, get_or, refl, sym, ◌∙◌, ap, subst, arith}
 use Rattle.std.proofs.lemmas.List.{with_items_is}
 use Rattle.std.proofs.lemmas.Option.{slice_get-get_or}
 use Rattle.std.specs.Vec.{with_items}
 use Rattle.melt_core.specs.Views.{View, view}
 use Rattle.melt_core.specs.declared.machine.Core.{Core}
-use Rattle.melt_step.specs.Seats.{KnowsStop, Resumed}
 use Rattle.melt_step.specs.declared.seat.Seat.{Seat}
 use Rattle.melt_step.proofs.Passing.{AgainBelow, again_more, again_resumed, again_knows, Begun, begun_same, begun_new, resumed_keeps}
 use Rattle.melt_step.proofs.run.Run.resume.Goals as goal
