@@ -1,3 +1,4 @@
 pub mod Apart
 pub mod Needs
 pub mod Reserved
+pub mod Testing

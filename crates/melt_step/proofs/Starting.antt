@@ -39,7 +39,7 @@ no_replies script entries t seats new_seats = elim (slice_get_cases seats t).1 [
 ]
 
 -- the registers of a new thread
-registers_new : (threads t : ℕ) → t < threads → registers_in (replicate threads no_registers) t ≡ replicate 16 0
+pub registers_new : (threads t : ℕ) → t < threads → registers_in (replicate threads no_registers) t ≡ replicate 16 0
 registers_new zero t below = absurd (omega arith)
 registers_new (suc threads) zero below = refl
 registers_new (suc threads) (suc t) below = registers_new threads t (omega arith)

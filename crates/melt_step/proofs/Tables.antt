@@ -199,12 +199,12 @@ with_length h t None = omega arith
 with_length h t (Some act) = omega (arith, length-append h (entry t act ∷ []))
 
 -- the new entry is of a thread of the script
-with_own : (h : List Entry) (t threads : ℕ) (act : Option Act) → t < threads → All (λ (e : Entry). e.thread < threads) h → All (λ (e : Entry). e.thread < threads) (with_entry t h act)
+pub with_own : (h : List Entry) (t threads : ℕ) (act : Option Act) → t < threads → All (λ (e : Entry). e.thread < threads) h → All (λ (e : Entry). e.thread < threads) (with_entry t h act)
 with_own h t threads None within own = own
 with_own h t threads (Some act) within own = All-push (λ (e : Entry). e.thread < threads) h (entry t act) own within
 
 -- what another thread was told stays
-told_with : (h : List Entry) (t u : ℕ) (ops : List Op) (replies : List Reply) (registers : List Value) (act : Option Act) → u ≢ t → Stands h u ops replies registers → Stands (with_entry t h act) u ops replies registers
+pub told_with : (h : List Entry) (t u : ℕ) (ops : List Op) (replies : List Reply) (registers : List Value) (act : Option Act) → u ≢ t → Stands h u ops replies registers → Stands (with_entry t h act) u ops replies registers
 told_with h t u ops replies registers None differ told = told
 told_with h t u ops replies registers (Some act) differ told = Stands_other h u ops replies registers (entry t act) told (λ same. differ (sym same))
 
@@ -220,7 +220,7 @@ stands_by h t ops replies rs o x (Some act) stands is given holds =
     subst S given at_given is holds
 
 -- a thread that was answered stands one operation further
-Stands_answers : (h h' : List Entry) (t globals : ℕ) (ops : List Op) (replies : List Reply) (rs rs' : List Value) (o : Op) (r : Reply) → Legal h globals → Legal h' globals → Stands h t ops replies rs → Answers t h rs o r h' rs' → Stands h' t (ops ++ o ∷ []) (replies ++ r ∷ []) rs'
+pub Stands_answers : (h h' : List Entry) (t globals : ℕ) (ops : List Op) (replies : List Reply) (rs rs' : List Value) (o : Op) (r : Reply) → Legal h globals → Legal h' globals → Stands h t ops replies rs → Answers t h rs o r h' rs' → Stands h' t (ops ++ o ∷ []) (replies ++ r ∷ []) rs'
 Stands_answers h h' t globals ops replies rs rs' o r before legal stands a =
     let d : Deed = does h rs o a.value in
     let held : HoldReferences (with_entry t h d.act) d.registers =

@@ -1,28 +1,79 @@
--- A run by any choices: which thread has the next event, and where collections come.
-use Rattle.std.specs.Prelude.{◌≡◌, ℕ, ◌<◌, List, length, slice_get, slice_set, All, None, Some, IsSome}
+-- A run by any choices: which thread makes the next event, and where epochs end and collections come.
+use Rattle.std.specs.Prelude.{◌≡◌, ◌≢◌, ℕ, ◌^◌, ◌<◌, ◌≤◌, Bool, true, false, List, [], ◌∷◌, ◌++◌, length, All, None}
 use Rattle.melt_model.specs.History.{Legal}
 use Rattle.melt_model.specs.Thread.{Transcript}
-use Rattle.melt_model.specs.declared.config.Config.{Config}
 use Rattle.melt_model.specs.declared.history.Entry.{Entry}
-use Rattle.melt_model.specs.declared.reports.ThreadEnd.{ThreadEnd}
-use Rattle.melt_trace.specs.Script.{Script, operations}
-use Rattle.melt_core.specs.Views.{View, call_of}
-use Rattle.melt_core.specs.Epochs.{HasDropped}
-use Rattle.melt_step.specs.declared.seat.Mode.TheVariants.{Running, Ended}
-use Rattle.melt_step.specs.declared.seat.Seat.{Seat}
-use Rattle.melt_step.specs.Seats.{DueBy, IsEnded, EndsSo, SeatStep, Renewed, replies_of}
+use Rattle.melt_model.specs.declared.operations.Op.{Op}
+use Rattle.melt_model.specs.declared.operations.Op.TheVariants.{Collect}
+use Rattle.melt_model.specs.declared.operations.Reply.{Reply}
+use Rattle.melt_model.specs.declared.operations.Reply.TheVariants.{Done}
+use Rattle.melt_model.specs.declared.reports.Journal.{Journal}
+use Rattle.melt_model.specs.declared.reports.Phase.{Phase}
+use Rattle.melt_scion.specs.Heaps.{IsNewHeap}
+use Rattle.melt_scion.specs.declared.heap.Heap.{Heap}
+use Rattle.melt_scion.specs.declared.registers.Registers.{Registers}
+use Rattle.melt_copy.specs.Copying.{Collects, IsCopying}
+use Rattle.melt_core.specs.Views.{View, view, call_of, IsQuiet, Standing}
+use Rattle.melt_core.specs.Changed.{stopped}
+use Rattle.melt_core.specs.Epochs.{IsNewRest, AtRest, core_of, HasFinished, HasDropped}
+use Rattle.melt_core.specs.Advances.{MayAdvance, Advances}
+use Rattle.melt_core.specs.declared.machine.Rest.{Rest}
+use Rattle.melt_core.specs.declared.answer.StepResult.{StepResult}
+use Rattle.melt_core.specs.declared.answer.StepResult.TheVariants.{Going, Answered, Refused}
 
--- From one moment to a later one, by any list of choices: at each an event of a thread, a thread that makes its call
--- again or that ends, or, where no call is in flight, a new epoch, with a collection before it or without one.
-pub data Chosen (script : Script) (config : Config) : View → List Seat → View → List Seat → Type 0 where
-  none : (v : View) (seats : List Seat) → Chosen script config v seats v seats
-  event : (v w x : View) (seats after : List Seat) (t : ℕ) (s next : Seat) → slice_get seats t ≡ Some s → (IsEnded s.mode → ⊥) → SeatStep v w t s next → DueBy config.every s next → Chosen script config w (slice_set seats t next) x after → Chosen script config v seats x after
-  again : (v x : View) (seats after : List Seat) (t : ℕ) (s : Seat) → slice_get seats t ≡ Some s → (IsEnded s.mode → ⊥) → IsSome s.op → call_of v t ≡ None → Chosen script config v (slice_set seats t (record s { mode = Running })) x after → Chosen script config v seats x after
-  end : (v w x : View) (seats after : List Seat) (t : ℕ) (s : Seat) (e : ThreadEnd) → slice_get seats t ≡ Some s → (IsEnded s.mode → ⊥) → HasDropped v w t → call_of v t ≡ None → EndsSo script v.log seats config t (Ended e) → Chosen script config w (slice_set seats t (record s { mode = Ended e })) x after → Chosen script config v seats x after
-  epoch : (v w x : View) (seats after : List Seat) → Renewed v w → Chosen script config w seats x after → Chosen script config v seats x after
+-- What a thread has behind it: the operations that were answered, their replies, and whether it dropped its registers.
+pub record SoFar : Type 0 where
+  pub ops : List Op
+  pub replies : List Reply
+  pub over : Bool
 
--- The replies that each thread has are those of the one history, which is legal and has entries of no others.
-pub record AreTold (script : Script) (v : View) (seats : List Seat) : Type 0 where
-  pub legal : Legal v.log script.globals
-  pub transcripts : (t : ℕ) → Transcript v.log t (operations script t) (replies_of seats t)
-  pub own_threads : All (λ (e : Entry). e.thread < length script.programs) v.log
+abbrev pub nothing_yet : SoFar
+nothing_yet = record { ops = []; replies = []; over = false }
+
+-- one operation more was answered
+abbrev pub and_then : SoFar → Op → Reply → SoFar
+and_then s o reply = record { ops = s.ops ++ o ∷ []; replies = s.replies ++ reply ∷ []; over = s.over }
+
+-- one thread has this behind it, and each other what it had
+pub record Sets (all after : ℕ → SoFar) (t : ℕ) (s : SoFar) : Type 0 where
+  pub here : after t ≡ s
+  pub others : (u : ℕ) → u ≢ t → after u ≡ all u
+
+-- what an event with this result makes of that
+abbrev pub SetsBy : (ℕ → SoFar) → (ℕ → SoFar) → ℕ → Op → StepResult → Type 0
+SetsBy all after t o (Answered reply) = Sets all after t (and_then (all t) o reply)
+SetsBy all after t o Going = (u : ℕ) → after u ≡ all u
+SetsBy all after t o (Refused refusal) = (u : ℕ) → after u ≡ all u
+
+-- A collection of a heap and its registers, of which each thread has 16; calls and history stay.
+pub record CollectsRest (heap : Heap) (rest : Rest) (new : Heap) (after : Rest) : Type 0 where
+  pub phase : Phase
+  pub journal : Journal
+  pub copying : IsCopying phase
+  pub collects : Collects heap rest.held.items new after.held.items phase journal
+  pub threads : length after.held.items ≡ length rest.held.items
+  pub before : All (λ (x : Registers). length x.regs ≡ 16) rest.held.items
+  pub behind : All (λ (x : Registers). length x.regs ≡ 16) after.held.items
+  pub calls : after.calls.items ≡ rest.calls.items
+  pub log : after.log ≡ rest.log
+  pub made : after.made ≡ rest.made
+
+-- A run so far, by any choices among what the public calls of a core and the collection do, each where it may be called:
+-- a new core, an event of a thread, the stop word set, an answer to a `collect`, a thread that drops its registers, a new
+-- epoch, and a collection between two epochs.
+pub data Chosen (threads globals : ℕ) : View → (ℕ → SoFar) → Type 0 where
+  starts : (v : View) (all : ℕ → SoFar) (words entries : ℕ) (heap : Heap) (rest : Rest) → words < 2 ^ 30 → threads ≤ 8 → IsNewHeap words globals true heap → IsNewRest threads entries rest → v ≡ view (core_of heap rest) → ((t : ℕ) → all t ≡ nothing_yet) → Chosen threads globals v all
+  event : (v w : View) (all after : ℕ → SoFar) (t : ℕ) (o : Op) (result : StepResult) → Chosen threads globals v all → (all t).over ≡ false → MayAdvance v t o → Advances v w t o result → SetsBy all after t o result → Chosen threads globals w after
+  asks : (v w : View) (all : ℕ → SoFar) → Chosen threads globals v all → w ≡ stopped v → Chosen threads globals w all
+  collect : (v : View) (all after : ℕ → SoFar) (t : ℕ) → Chosen threads globals v all → Sets all after t (and_then (all t) Collect Done) → Chosen threads globals v after
+  drops : (v w : View) (all after : ℕ → SoFar) (t : ℕ) → Chosen threads globals v all → call_of v t ≡ None → HasDropped v w t → Sets all after t (record (all t) { over = true }) → Chosen threads globals w after
+  epoch : (v w : View) (all : ℕ → SoFar) (heap : Heap) (rest : Rest) → Chosen threads globals v all → IsQuiet v → ((told : Bool) → Standing told v → AtRest told heap rest) → HasFinished v (view (core_of heap rest)) → w ≡ view (core_of heap rest) → Chosen threads globals w all
+  collection : (v w : View) (all : ℕ → SoFar) (heap new : Heap) (rest after : Rest) → Chosen threads globals v all → v ≡ view (core_of heap rest) → IsQuiet v → CollectsRest heap rest new after → w ≡ view (core_of new after) → Chosen threads globals w all
+
+-- There is one legal history, with entries of the threads alone; the replies that each thread has by now are those that it
+-- gives, whatever operations are to come; and the words stand for it.
+pub record AreTold (threads globals : ℕ) (v : View) (all : ℕ → SoFar) : Type 0 where
+  pub stands : Standing true v
+  pub legal : Legal v.log globals
+  pub transcripts : (t : ℕ) (more : List Op) → Transcript v.log t ((all t).ops ++ more) (all t).replies
+  pub own_threads : All (λ (e : Entry). e.thread < threads) v.log
