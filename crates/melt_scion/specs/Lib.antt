@@ -3,6 +3,8 @@ pub mod Placed
 pub mod Regions
 pub mod Changes
 pub mod Collected
+pub mod Moves
+pub mod Settles
 pub mod Names
 pub mod Scions
 pub mod HomeNames
