@@ -138,7 +138,7 @@ not_nil value n nil ref = cc
 module _ (h : List Entry) (value : ℕ → ℕ
     → Value) (maps : Maps) (s : State) (legal : Legal h s.base.globals) (placed : Placed h value maps s) (none_reserved : s.base.homes ≡ []) where
   homeless : (home m : ℕ) → maps.home home ≡ Some m → ⊥
-  homeless home m = no_homes h maps s home m placed.tells none_reserved
+  homeless = no_homes h maps s placed.tells none_reserved
 
   found_global : (g n : ℕ) → last h (Global g) ≡ Ref n → (g < s.base.globals) ⊎ (s.base.globals ≤ g) → FoundAt maps s n
   found_global g n is (inl below) =

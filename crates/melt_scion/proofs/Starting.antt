@@ -1,14 +1,17 @@
 -- A state without objects and homes stands for the empty history.
-use Rattle.std.proofs.Common.{◌≡◌, ◌≢◌, ℕ, zero, suc, ◌<◌, refl, sym, ◌∙◌, ap, subst, arith, inl, List, [], length}
+use Rattle.std.proofs.Common.{◌≡◌, ◌≢◌, ℕ, zero, suc, ◌<◌, refl, sym, ◌∙◌, ap, subst, arith, inl, inr, List, [], length}
 use Rattle.std.proofs.Common.{replicate, Bool}
-use Rattle.std.proofs.lemmas.List.{get_or-replicate, length-replicate}
-use Rattle.std.specs.Prelude.{◌^◌, Option, None, Some, Contains, slice_index}
+use Rattle.std.proofs.lemmas.List.{get_or-replicate, get_or_past, length-replicate}
+use Rattle.std.proofs.lemmas.Bool.{cases_lt}
+use Rattle.std.specs.Prelude.{◌^◌, ◌/◌, ◌≤◌, Option, None, Some, Contains, slice_index, slice_index_or}
+use Rattle.std.specs.Option.{option_map}
 use Rattle.melt_model.specs.declared.history.Value.TheVariants.{Nil}
 use Rattle.melt_word.specs.declared.header.Shape.{Shape}
 use Rattle.melt_forward.specs.Forwarding.{Sends, forward_word, probe}
 use Rattle.melt_scion.specs.State.{State, NoGaps, IsReserved, Follow}
 use Rattle.melt_scion.specs.Placed.{Maps, FormedWords, Formed, Tells, Placed, value_at}
-use Rattle.melt_scion.specs.Heaps.{state_of, IsNewHeap}
+use Rattle.melt_scion.specs.Scions.{empty_table}
+use Rattle.melt_scion.specs.Heaps.{no_homes_on, scion_in, state_of, IsNewHeap}
 use Rattle.melt_scion.specs.declared.registers.Registers.{Registers}
 use Rattle.melt_scion.specs.declared.heap.Heap.{Heap}
 use Rattle.melt_scion.proofs.Making.{null_may, null_stands}
@@ -28,20 +31,40 @@ pub record IsEmpty (s : State) : Type 0 where
   pub free_homes : s.base.free_homes ≡ []
   pub globals : (g : ℕ) → g < s.base.globals → s.global g ≡ 0
 
+-- words that all are 0
+pub nothing_at : (count k : ℕ) → slice_index (replicate count 0) k ≡ 0
+nothing_at count k = elim (cases_lt k count) [
+  | inl below ↦ get_or-replicate count k 0 0 below
+  | inr above ↦ get_or_past (replicate count 0) k 0 (omega (arith, length-replicate {A = ℕ} count 0, above))
+]
+
+-- none of so many pairs is there
+abbrev no_pairs : ℕ → List (Option (ℕ × ℕ))
+no_pairs count = replicate count None
+
+no_pair_at : (count k : ℕ) → slice_index_or (no_pairs count) k None ≡ None
+no_pair_at count k = elim (cases_lt k count) [
+  | inl below ↦ get_or-replicate count k None None below
+  | inr above ↦ get_or_past (no_pairs count) k None
+      (omega (arith, length-replicate {A = Option (ℕ × ℕ)} count None, above))
+]
+
+no_scion_in : (count k : ℕ) → scion_in (empty_table count) k ≡ None
+no_scion_in count zero = refl
+no_scion_in count (suc k) = ap (option_map (λ (pair : ℕ × ℕ). record { home = pair.0; address = pair.1 }))
+    (no_pair_at count k)
+
 -- a new heap is empty
-pub new_heap_empty : (heap : Heap) (held : List Registers) (words globals : ℕ) (named : Bool) → words < 2 ^ 30 →
-    IsNewHeap words globals named heap → IsEmpty (state_of heap held 1)
-new_heap_empty heap held words globals named small is = record {
+pub new_heap_empty : (heap : Heap) (held : List Registers) (words globals forward : ℕ) (named : Bool) → words < 2 ^ 30 →
+    IsNewHeap words globals forward named heap → IsEmpty (state_of heap held no_homes_on)
+new_heap_empty heap held words globals forward named small is = record {
   small = let size : length heap.space.list ≡ words = is.space.size in omega arith;
-  forwards = λ p below. refl;
-  scions = λ k. refl;
+  forwards = λ p below. ap (λ xs. slice_index xs p) is.nothing_forwarded ∙ nothing_at forward p;
+  scions = λ k. ap (λ table. scion_in table k) is.scions ∙ no_scion_in (words / 2) k;
   end = refl;
   homes = refl;
   free_homes = refl;
-  globals = λ g below.
-      let all : heap.globals ≡ replicate globals 0 = is.globals_hold_nothing in
-      let count : length heap.globals ≡ globals = ap length all ∙ length-replicate globals 0 in
-      ap (λ xs. slice_index xs g) all ∙ get_or-replicate globals g 0 0 (omega arith);
+  globals = λ g below. ap (λ xs. slice_index xs g) is.globals_hold_nothing ∙ nothing_at globals g;
 }
 
 -- each place that is tried is that of a forwarding word

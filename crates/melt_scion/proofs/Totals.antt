@@ -8,8 +8,9 @@ use Rattle.melt_model.specs.declared.history.Value.{Value}
 use Rattle.melt_model.specs.declared.reports.Phase.{Phase}
 use Rattle.melt_scion.specs.State.{State}
 use Rattle.melt_scion.specs.Placed.{Maps, IsNamed, Placed, value_at}
-use Rattle.melt_scion.specs.Collected.{Leaves, Collected, CountsWords, HeldAt}
-use Rattle.melt_scion.proofs.Homeless.{HasNoScions}
+use Rattle.melt_scion.specs.Moves.{Leaves}
+use Rattle.melt_scion.specs.Collected.{Collected, CountsWords, HeldAt}
+use Rattle.melt_scion.proofs.Homeless.{no_scions}
 use Rattle.melt_scion.proofs.Reaching.{reached_alive, alive_reached, value_held, held_address}
 use Rattle.melt_scion.proofs.Numbered.{counts_numbers}
 
@@ -48,23 +49,24 @@ module _ (h : List Entry) (value : ℕ → ℕ → Value) (maps : Maps) (s : Sta
       counts_numbers h maps s placed.formed.words placed.tells (HeldAt s) (Held value) held held_named held_number
       counts
 
-  -- The words of all objects after a collection of which none left for the disk. Before it no scion was live, and no
-  -- home was reserved.
-  pub live_costs : (phase : Phase) (new : Maps) (t : State) (to home : ℕ → ℕ) (live : ℕ) → Legal h s.base.globals
-      → HasNoScions s.base → s.base.homes ≡ [] → ((a : ℕ) → Leaves phase s a → ⊥) → Collected phase maps new s t to home
+  -- The words of all objects after a collection of which none left for the disk. Before it no home was reserved.
+  pub live_costs : (phase : Phase) (new : Maps) (t : State) (to home scion : ℕ → ℕ) (live : ℕ)
+      → Legal h s.base.globals
+      → s.base.homes ≡ [] → ((a : ℕ) → Leaves phase s a → ⊥) → Collected phase maps new s t to home scion
       → CountsWords t (IsNamed new) live → CostsSum (words_of h) (Alive h value) live
-  live_costs phase new t to home live legal none none_reserved stay collected counts =
+  live_costs phase new t to home scion live legal none stay collected counts =
       let after = collected.placed h value placed in
       counts_numbers h new t after.formed.words after.tells (IsNamed new) (Alive h value) live (λ a is. is) (λ n. (
         λ alive.
-            let found = alive_reached h value maps s legal placed none_reserved n alive in
-            let some = (collected.goes.stays found.0).1 (found.2, stay found.0) in
-            let at = collected.goes.named found.0 some ∙ found.1 in
+            let found = alive_reached h value maps s legal placed none n alive in
+            let some : to found.0 ≢ 0 = elim (collected.words.chooses.go found.0 found.2) [
+              | inl stays ↦ stays
+              | inr leaves ↦ absurd (stay found.0 leaves)
+            ] in
+            let at = collected.names.names found.0 some ∙ found.1 in
             (to found.0, (n, at), at),
         λ is.
-            let from = collected.goes.only is.0 is.1 in
-            let some : to from.0 ≢ 0 = λ nought. from.2 (sym from.1 ∙ nought) in
-            let at : maps.address from.0 ≡ Some n = sym (collected.goes.named from.0 some)
-            ∙ (ap new.address from.1 ∙ is.2) in
-            reached_alive h value maps s from.0 n placed none.scions ((collected.goes.stays from.0).0 some).0 at,
+            let from = collected.names.only is.0 n is.2 in
+            reached_alive h value maps s from.0 n placed (no_scions h maps s placed.tells none)
+            (collected.words.chooses.stay from.0 from.1).0 from.3,
       )) counts

@@ -1,9 +1,13 @@
 -- A heap as contracts see it, with the registers over it.
-use Rattle.std.specs.Prelude.{◌≡◌, ℕ, ◌+◌, Bool, if◌then◌else◌, List, [], length, replicate, Option, None, Some, slice_index, slice_index_or, map}
+use Rattle.std.specs.Prelude.{◌≡◌, ℕ, ◌+◌, ◌/◌, Bool, if◌then◌else◌, List, [], length, replicate, Option, None, Some, slice_index, slice_index_or, map}
+use Rattle.std.specs.Option.{option_map}
+use Rattle.std.specs.FinMap.{empty}
 use Rattle.melt_space.specs.Space.{word_at, IsFresh}
-use Rattle.melt_scion.specs.State.{Base, State}
+use Rattle.melt_scion.specs.State.{Scion, Home, Base, State}
 use Rattle.melt_scion.specs.Placed.{Maps, Formed}
 use Rattle.melt_scion.specs.Names.{name_at}
+use Rattle.melt_scion.specs.HomeNames.{home_name}
+use Rattle.melt_scion.specs.Scions.{Scions, scion_at, empty_table}
 use Rattle.melt_scion.specs.declared.registers.Registers.{Registers}
 use Rattle.melt_scion.specs.declared.heap.Names as heap
 use Rattle.melt_scion.specs.declared.heap.Heap.{Heap}
@@ -12,34 +16,54 @@ use Rattle.melt_scion.specs.declared.heap.Heap.{Heap}
 abbrev pub register_in : List Registers → ℕ → ℕ → ℕ
 register_in held t r = slice_index (slice_index_or (map (λ (x : Registers). x.regs) held) t []) r
 
--- A heap has no scions and no forwarding words yet, and the disk under it no homes.
-abbrev pub base_of : Heap → ℕ → Base
-base_of heap end = record {
+-- What stands on the disk under a heap: the first word past all homes; all homes in ascending order, and those of them
+-- that are free; and the words.
+pub record OnDisk : Type 0 where
+  pub end : ℕ
+  pub homes : List Home
+  pub free_homes : List ℕ
+  pub image : ℕ → ℕ
+
+-- a disk without homes
+abbrev pub no_homes_on : OnDisk
+no_homes_on = record { end = 1; homes = []; free_homes = []; image = λ k. 0 }
+
+-- what a scion of a table names, if it is live
+abbrev pub scion_in : Scions → ℕ → Option Scion
+scion_in table k = option_map (λ (pair : ℕ × ℕ). record { home = pair.0; address = pair.1 }) (scion_at table k)
+
+abbrev pub base_of : Heap → OnDisk → Base
+base_of heap disk = record {
   size = length heap.space.list;
   globals = length heap.globals;
-  forwards = 0;
-  scion = λ k. None;
-  end = end;
-  homes = [];
-  free_homes = [];
-  image = λ k. 0;
+  forwards = length heap.forward;
+  scion = scion_in heap.scions;
+  end = disk.end;
+  homes = disk.homes;
+  free_homes = disk.free_homes;
+  image = disk.image;
 }
 
--- the state that a heap and the registers of all threads show, with this first word on disk past all homes
-abbrev pub state_of : Heap → List Registers → ℕ → State
-state_of heap held end = record {
-  base = base_of heap end;
+-- the state that a heap and the registers of all threads show over a disk
+abbrev pub state_of : Heap → List Registers → OnDisk → State
+state_of heap held disk = record {
+  base = base_of heap disk;
   free = heap.space.used + 1;
   word = word_at heap.space;
   global = slice_index heap.globals;
-  forward = λ p. 0;
+  forward = slice_index heap.forward;
   register = register_in held;
 }
 
--- Where a heap keeps names, they are the map of addresses. One that keeps none has a map that nothing is stored of.
+-- no forwarding word is filled
+abbrev pub IsSettled : Heap → Type 0
+IsSettled heap = (p : ℕ) → slice_index heap.forward p ≡ 0
+
+-- Where a heap keeps names, they are the two maps. One that keeps none has maps that nothing is stored of.
 abbrev pub HasNames : Option heap.Names → Maps → Type 0
 HasNames None maps = Unit {0}
-HasNames (Some names) maps = (address : ℕ) → maps.address address ≡ name_at names.addresses address
+HasNames (Some names) maps = ((address : ℕ) → maps.address address ≡ name_at names.addresses address)
+    × ((home : ℕ) → maps.home home ≡ home_name names.homes home)
 
 -- the names, where a heap keeps them, were made for as many addresses as it has words
 abbrev pub NamesMade : ℕ → Option heap.Names → Type 0
@@ -53,16 +77,27 @@ KeepsNames (Some old) (Some new) = length new.addresses ≡ length old.addresses
 KeepsNames None (Some new) = ⊥
 KeepsNames (Some old) None = ⊥
 
--- a heap without objects, whose globals hold nothing
-pub record IsNewHeap (words globals : ℕ) (named : Bool) (heap : Heap) : Type 0 where
-  pub space : IsFresh words heap.space
-  pub globals_hold_nothing : heap.globals ≡ replicate globals 0
-  pub names : heap.names ≡ (if named then Some (record { addresses = replicate words None }) else None)
+-- the names of a heap without objects
+abbrev pub no_names : ℕ → heap.Names
+no_names words = record { addresses = replicate words None; homes = record { names = empty; spare = 0 } }
 
--- the heap and the registers are well formed, with some map and some first word past all homes
+-- a heap without objects and scions, whose globals and forwarding words hold nothing
+pub record IsNewHeap (words globals forward : ℕ) (named : Bool) (heap : Heap) : Type 0 where
+  pub space : IsFresh words heap.space
+  pub scions : heap.scions ≡ empty_table (words / 2)
+  pub globals_hold_nothing : heap.globals ≡ replicate globals 0
+  pub nothing_forwarded : heap.forward ≡ replicate forward 0
+  pub names : heap.names ≡ (if named then Some (no_names words) else None)
+
+-- The tables beside the words were made for as many as there are: the scions for half of them, the names for all.
+pub record TablesMade (heap : Heap) : Type 0 where
+  pub scions : length heap.scions.pairs ≡ length heap.space.list / 2
+  pub names : NamesMade (length heap.space.list) heap.names
+
+-- the heap and the registers are well formed, with some maps and over some disk
 pub record IsFormed (heap : Heap) (held : List Registers) : Type 0 where
   pub maps : Maps
-  pub end : ℕ
+  pub disk : OnDisk
   pub names : HasNames heap.names maps
-  pub made : NamesMade (length heap.space.list) heap.names
-  pub formed : Formed maps (state_of heap held end)
+  pub made : TablesMade heap
+  pub formed : Formed maps (state_of heap held disk)

@@ -2,8 +2,8 @@ pub mod State
 pub mod Placed
 pub mod Regions
 pub mod Changes
-pub mod Collected
 pub mod Moves
+pub mod Collected
 pub mod Settles
 pub mod Names
 pub mod Scions

@@ -2,8 +2,9 @@
 -- words become, and what stands on disk. `to` has the new address of each object that stays, and 0 for all others;
 -- `home` the home of each object that has one then, in use or not; and `scion` the scion of each that stays and has a
 -- home. A phase in which nobody leaves gives no home, and is the case with all old homes and scions.
-use Rattle.std.specs.Prelude.{◌≡◌, ◌≢◌, ◌⊎◌, ◌^◌, ℕ, zero, suc, ◌+◌, ◌<◌, ◌≤◌, Option, None, Some}
+use Rattle.std.specs.Prelude.{◌≡◌, ◌≢◌, ◌↔◌, ◌⊎◌, ◌^◌, ℕ, zero, suc, ◌+◌, ◌<◌, ◌≤◌, true, false, Option, None, Some}
 use Rattle.melt_model.specs.declared.reports.Phase.{Phase}
+use Rattle.melt_model.specs.declared.reports.Phase.TheVariants.{Inactive, Mark, Move}
 use Rattle.melt_word.specs.Words.{IsRef, IsHomeAndScion, ref_word, home_word, cost_of}
 use Rattle.melt_word.specs.declared.header.Shape.{Shape}
 use Rattle.melt_word.specs.declared.header.Header.{Header}
@@ -11,9 +12,26 @@ use Rattle.melt_word.specs.declared.reference.Ref.{Ref}
 use Rattle.melt_word.specs.declared.reference.Ref.TheVariants.{Null, Clean, Stale, Disk}
 use Rattle.melt_record.specs.declared.head.Head.{Head}
 use Rattle.melt_record.specs.declared.head.Kind.TheVariants.{Body, Stub}
-use Rattle.melt_scion.specs.State.{Scion, State, HeaderAt, Follow, IsReserved, RefersTo, Reached}
+use Rattle.melt_scion.specs.State.{Scion, State, HeaderAt, HoldsAt, Follow, IsReserved, RefersTo, Reached}
 use Rattle.melt_scion.specs.Placed.{Maps, HeadIs}
-use Rattle.melt_scion.specs.Collected.{Leaves, kept_tag, BitGoes}
+
+-- A Move collection moves the reached objects that have the stale bit and that no register holds. The others move none.
+abbrev pub Leaves : Phase → State → ℕ → Type 0
+Leaves Inactive s a = ⊥
+Leaves Mark s a = ⊥
+Leaves Move s a = Reached s a × (HoldsAt s a → ⊥) × ((header : Header) × HeaderAt s a header × (header.stale ≡ true))
+
+-- the tag that a clean address gets which stays
+abbrev pub kept_tag : Phase → ℕ → Ref
+kept_tag Inactive a = Clean a
+kept_tag Mark a = Stale a
+kept_tag Move a = Stale a
+
+-- the stale bit of an object that stays: as it was, or set exactly where no register holds the object
+abbrev pub BitGoes : Phase → State → ℕ → Header → Header → Type 0
+BitGoes Inactive s a old later = later.stale ≡ old.stale
+BitGoes Mark s a old later = (later.stale ≡ false) ↔ HoldsAt s a
+BitGoes Move s a old later = (later.stale ≡ false) ↔ HoldsAt s a
 
 -- a slot of an object that leaves refers to the object
 pub record IsNamedByLeaving (phase : Phase) (s : State) (address : ℕ) : Type 0 where

@@ -1,8 +1,15 @@
-//! A heap: its space, its globals, and the names of its objects.
+//! A heap: its space, its scions, its globals and forwarding words, and the names of its objects.
+//!
+//! The scions of a heap and its forwarding words join it to a disk: a live scion says which object a record on disk
+//! stands for, and a forwarding word which object came back from a home. Both are roots of what is on disk, so both go
+//! with the heap from epoch to epoch. An object takes two words at least, and each live scion is that of another object.
+//! So a table for half as many scions as there are words is never full.
 ghost use Rattle.std.specs.Prelude.{◌<◌, ◌^◌, IfOk};
 ghost use Rattle.melt_scion.specs.Heaps.{IsNewHeap};
 
+use crate::home_names::HomeNames;
 use crate::names::AddressNames;
+use crate::scions::ScionTable;
 use melt_model::NoMemory;
 use melt_space::Space;
 use std::alloc::Global;
@@ -22,37 +29,66 @@ impl Model for Globals {
     ghost view = { λ globals. globals.items.items };
 }
 
-/// The numbers of the objects of a heap, by their addresses.
+/// The forwarding words: each is 0, or says at which address the object of a home is since it came back.
+#[derive(Debug, Drop)]
+pub struct Forwards {
+    pub items: Vec<u64>,
+}
+
+impl Model for Forwards {
+    ghost use Rattle.std.specs.Prelude.{List, ℕ};
+
+    ghost Value = { List ℕ };
+
+    ghost view = { λ forwards. forwards.items.items };
+}
+
+/// The numbers of the objects of a heap, by their addresses and by their homes.
 #[derive(Debug, Drop)]
 pub struct Names {
     pub addresses: AddressNames,
+    pub homes: HomeNames,
 }
 
 /// A heap of fixed size. It has names where its history is stored, since that speaks of objects by their numbers.
 #[derive(Debug, Drop)]
 pub struct Heap {
     pub space: Space,
+    pub scions: ScionTable,
     pub globals: Globals,
+    pub forward: Forwards,
     pub names: Option<Names>,
 }
 
 impl Heap {
-    /// A heap of so many words, at most `MAX_ADDRESS`, and so many globals. It has no object, and each global
-    /// holds nothing. It has names where `named` says so.
-    pub fn new(alloc: Global, words: u32, globals: u32, named: bool) -> Result<Heap, NoMemory>
+    /// A heap of so many words, at most `MAX_ADDRESS`, so many globals and so many forwarding words. It has no object and
+    /// no scion; each global holds nothing, and each forwarding word is empty. It has names where `named` says so.
+    pub fn new(
+        alloc: Global,
+        words: u32,
+        globals: u32,
+        forward: u32,
+        named: bool,
+    ) -> Result<Heap, NoMemory>
         requires { words < 2 ^ 30 }
-        ensures { IfOk result (IsNewHeap words globals named) }
+        ensures { IfOk result (IsNewHeap words globals forward named) }
     {
         let names = if named {
             let addresses = AddressNames::new(alloc, words)?;
-            Some(Names { addresses })
+            let homes = HomeNames::new(alloc);
+            Some(Names { addresses, homes })
         } else {
             None
         };
-        let items = vec![in alloc; 0; globals as usize]?;
         Ok(Heap {
             space: Space::new(alloc, words)?,
-            globals: Globals { items },
+            scions: ScionTable::new(alloc, words / 2)?,
+            globals: Globals {
+                items: vec![in alloc; 0; globals as usize]?,
+            },
+            forward: Forwards {
+                items: vec![in alloc; 0; forward as usize]?,
+            },
             names,
         })
     }

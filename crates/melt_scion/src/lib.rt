@@ -1,4 +1,4 @@
-//! A heap of words with its globals, and the names of the objects in it.
+//! A heap of words with its scions, globals and forwarding words, and the names of the objects in it.
 #![tactic(auto)]
 
 pub mod heap;
@@ -7,7 +7,7 @@ pub mod names;
 pub mod registers;
 pub mod scions;
 
-pub use heap::{Globals, Heap, Names};
+pub use heap::{Forwards, Globals, Heap, Names};
 pub use home_names::HomeNames;
 pub use names::AddressNames;
 pub use registers::Registers;

@@ -24,14 +24,17 @@ fn an_address_has_the_name_that_was_set(rt: HostRuntime) -> Result<(), Fail> {
 #[test]
 fn a_new_heap_has_names_where_they_were_asked_for(rt: HostRuntime) -> Result<(), Fail> {
     for named in [false, true] {
-        let heap = Heap::new(rt.alloc(), 5, 2, named)?;
+        let heap = Heap::new(rt.alloc(), 5, 2, 3, named)?;
         assert_eq!(rt; heap.space.words(), 5);
         assert_eq!(rt; heap.space.used(), 0);
         assert_eq!(rt; heap.globals.items.as_slice(), [0, 0].as_slice());
+        assert_eq!(rt; heap.forward.items.as_slice(), [0, 0, 0].as_slice());
+        assert_eq!(rt; heap.scions.first(), None);
         assert_eq!(rt; heap.names.is_some(), named);
         if let Some(names) = &heap.names {
             for address in 0..=6 {
                 assert_eq!(rt; names.addresses.get(address), None, "at {address}");
+                assert_eq!(rt; names.homes.get(address), None, "at {address}");
             }
         }
     }
