@@ -10,7 +10,7 @@ use Rattle.melt_word.specs.declared.reference.Ref.{Ref}
 use Rattle.melt_word.specs.declared.reference.Ref.TheVariants.{Null, Clean, Stale, Disk}
 use Rattle.melt_space.specs.Space.{SpaceWords}
 use Rattle.melt_scion.specs.State.{State}
-use Rattle.melt_scion.specs.Collected.{kept_tag}
+use Rattle.melt_scion.specs.Moves.{kept_tag}
 use Rattle.melt_copy.specs.declared.forwarding.Relocation.{Relocation}
 use Rattle.melt_copy.specs.declared.forwarding.Forwarding.{Forwarding}
 use Rattle.melt_copy.specs.Moving.{WordMoves, ObjectMoves, moved, IsFound}

@@ -12,7 +12,7 @@ use Rattle.melt_copy.proofs.Growth.{Grows-more}
 use Rattle.melt_copy.specs.Tracking.{goes, Tracks, TracksAt, TracksHeld, TracksThreads, Grows, FindsHeld, FindsThreads}
 
 -- an object that was found is found in a forwarding that grew
-still_known : (a b : Forwarding) (address : ℕ) → Grows a b → goes a address ≢ 0 → goes b address ≢ 0
+pub still_known : (a b : Forwarding) (address : ℕ) → Grows a b → goes a address ≢ 0 → goes b address ≢ 0
 still_known a b address grows known = λ (nought : goes b address ≡ 0). known (sym (grows.goes address known) ∙ nought)
 
 pub tracks_register : (space : SpaceWords) (s : State) (a b : Forwarding) (register : ℕ → ℕ) (r : ℕ) → TracksHeld space s a register → Tracks space s b → register r ≢ 0 → TracksAt space s b (register r)

@@ -15,6 +15,7 @@ pub mod Growth
 pub mod Copies
 pub mod Queue
 pub mod Held
+pub mod Walking
 pub mod Outs
 pub mod Collects
 pub mod Building

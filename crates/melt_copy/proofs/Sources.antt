@@ -83,16 +83,17 @@ found_in_word f old new address moves refers =
     let same : refers.reference ≡ moves.reference = same_ref refers.reference moves.reference refers.in_range moves.in_range (sym refers.is ∙ moves.was) in
     found_in f moves.reference address moves.found (ap address_in (sym same) ∙ refers.at)
 
--- where no scion is live, what can be reached was found
-pub reached_found : {phase : Phase} (s t : State) (f : ℕ → ℕ) (moves : List Relocation) (front : ℕ) → ((k : ℕ) → s.base.scion k ≡ None) → IsCopy phase s t f moves front → (address : ℕ) → Reached s address → f address ≢ 0
-reached_found s t f moves front no_scions copy address (in_register u r a holds first) =
+-- what can be reached was found
+pub reached_found : {phase : Phase} (s t : State) (f : ℕ → ℕ) (moves : List Relocation) (front : ℕ)
+    → IsCopy phase s t f moves front → (address : ℕ) → Reached s address → f address ≢ 0
+reached_found s t f moves front copy address (in_register u r a holds first) =
     let held : s.register u r ≢ 0 = λ none. omega (arith, holds, none, first) in
     let m = copy.held.all u r held in
     λ none. place_found s f moves t.free m.0 m.1 copy.found m.2 (ap f (m.4 ∙ holds) ∙ none)
-reached_found s t f moves front no_scions copy address (in_global g a below refers) = found_in_word f (s.global g) (t.global g) a (copy.global g below) refers
-reached_found s t f moves front no_scions copy address (at_scion k x live) = absurd (let dead = no_scions k in cc)
-reached_found s t f moves front no_scions copy address (in_slot from i a header reached starts below refers) =
-    let m = goes s f moves t.free from copy.found (reached_found s t f moves front no_scions copy from reached) in
+reached_found s t f moves front copy address (in_global g a below refers) = found_in_word f (s.global g) (t.global g) a (copy.global g below) refers
+reached_found s t f moves front copy address (at_scion k x live) = copy.scions_found k x live
+reached_found s t f moves front copy address (in_slot from i a header reached starts below refers) =
+    let m = goes s f moves t.free from copy.found (reached_found s t f moves front copy from reached) in
     let starts_there : HeaderAt s m.move.from header = subst (λ (b : ℕ). HeaderAt s b header) (sym m.from) starts in
     let shape : header.shape.refs ≡ m.move.shape.refs = ap (λ (z : Shape). z.refs) (source_shape s m.move header (copy.found.whole m.index m.move m.is) starts_there) in
     let slot = (copy.objects m.index m.move m.is).slots i (omega (arith, shape, below)) in

@@ -2,17 +2,17 @@
 use Rattle.std.specs.Prelude.{◌≡◌, ℕ, ◌<◌, ◌≤◌, nat_lt, List, length, map, take, slice_get, slice_index, Option, None, Some}
 use Rattle.melt_model.specs.declared.reports.Phase.{Phase}
 use Rattle.melt_space.specs.Space.{Replaces}
-use Rattle.melt_scion.specs.State.{State}
+use Rattle.melt_scion.specs.State.{Scion, State}
 use Rattle.melt_scion.specs.Placed.{Maps, Formed}
 use Rattle.melt_scion.specs.Names.{name_at}
-use Rattle.melt_scion.specs.Heaps.{register_in, state_of}
+use Rattle.melt_scion.specs.Heaps.{OnDisk, register_in, state_of}
 use Rattle.melt_scion.specs.declared.registers.Registers.{Registers}
 use Rattle.melt_scion.specs.declared.heap.Names.{Names}
 use Rattle.melt_scion.specs.declared.heap.Heap.{Heap}
 use Rattle.melt_copy.specs.declared.forwarding.Relocation.{Relocation}
 use Rattle.melt_copy.specs.declared.collect.Copied.{Copied}
 use Rattle.melt_copy.specs.Moving.{IsWhole, Relocates, AreHeld, ObjectMoves, WordMoves, words_in, name_after}
-use Rattle.melt_copy.specs.Tracking.{goes, word_in}
+use Rattle.melt_copy.specs.Tracking.{MovesScions, goes, word_in}
 
 -- where a heap keeps names, the numbers are those of the objects that move
 abbrev pub NumbersAre : Option Names → List Relocation → List (Option ℕ) → Type 0
@@ -29,12 +29,15 @@ pub record IsCopied (phase : Phase) (s : State) (names : Option Names) (copied :
   pub globals_count : length copied.globals.items ≡ s.base.globals
   pub globals : (g : ℕ) → g < s.base.globals → WordMoves phase (goes copied.forwarding) (s.global g) (slice_index copied.globals.items g)
   pub held : AreHeld s copied.forwarding.moves.items front
+  pub scions : (k : ℕ) (x : Scion) → s.base.scion k ≡ Some x → goes copied.forwarding x.address ≢ 0
   pub held_words : copied.held ≡ words_in (take front copied.forwarding.moves.items)
   pub numbers : NumbersAre names copied.forwarding.moves.items copied.numbers.items
 
--- for each map with which the heap is well formed
-abbrev pub Copies : Phase → Heap → List Registers → Copied → Type 0
-Copies phase heap held copied = (maps : Maps) (end : ℕ) → Formed maps (state_of heap held end) → IsCopied phase (state_of heap held end) heap.names copied
+-- for each map and disk with which the heap is well formed
+pub record Copies (phase : Phase) (heap : Heap) (held : List Registers) (copied : Copied) : Type 0 where
+  pub is : (maps : Maps) (disk : OnDisk) → Formed maps (state_of heap held disk)
+      → IsCopied phase (state_of heap held disk) heap.names copied
+  pub live : copied.live.items ≡ heap.scions.live
 
 -- the names can be given anew
 pub record CanRename (used : ℕ) (names : Names) (moves : List Relocation) (numbers : List (Option ℕ)) : Type 0 where
@@ -51,7 +54,8 @@ MayRename used (Some names) moves numbers = CanRename used names moves numbers
 -- names are those of the moved objects, where there are any
 abbrev pub AreRenamed : Option Names → Option Names → List Relocation → Type 0
 AreRenamed None None moves = Unit {0}
-AreRenamed (Some old) (Some new) moves = ((k : ℕ) → name_at new.addresses k ≡ name_after (name_at old.addresses) moves k) × (length new.addresses ≡ length old.addresses)
+AreRenamed (Some old) (Some new) moves = ((k : ℕ) → name_at new.addresses k ≡ name_after (name_at old.addresses) moves k)
+    × (length new.addresses ≡ length old.addresses) × (new.homes ≡ old.homes)
 AreRenamed None (Some new) moves = ⊥
 AreRenamed (Some old) None moves = ⊥
 
@@ -61,3 +65,5 @@ pub record IsPutBack (old new : Heap) (held held_after : List Registers) (copied
   pub globals : new.globals ≡ copied.globals.items
   pub registers : (t r : ℕ) → register_in held_after t r ≡ goes copied.forwarding (register_in held t r)
   pub names : AreRenamed old.names new.names copied.forwarding.moves.items
+  pub scions : MovesScions (goes copied.forwarding) old.scions new.scions
+  pub forward : new.forward ≡ old.forward

@@ -6,9 +6,11 @@ use Rattle.melt_word.specs.Words.{IsRef, ref_word, header_word, cost_of}
 use Rattle.melt_word.specs.declared.reference.Ref.{Ref}
 use Rattle.melt_word.specs.declared.reference.Ref.TheVariants.{Null, Clean, Stale, Disk}
 use Rattle.melt_word.specs.declared.header.Header.{Header}
-use Rattle.melt_scion.specs.State.{State, HeaderAt, ObjectAt, Reached}
+use Rattle.std.specs.Option.{option_map}
+use Rattle.melt_scion.specs.State.{Scion, State, HeaderAt, ObjectAt, Reached}
 use Rattle.melt_scion.specs.Placed.{Maps}
-use Rattle.melt_scion.specs.Collected.{kept_tag}
+use Rattle.melt_scion.specs.Moves.{kept_tag}
+use Rattle.melt_scion.specs.Settles.{SameSizes, SameHomes}
 use Rattle.melt_copy.specs.declared.forwarding.Relocation.{Relocation}
 
 -- the word is that of a reference
@@ -92,14 +94,25 @@ pub record AreHeld (s : State) (moves : List Relocation) (front : ℕ) : Type 0 
   pub each : (k : ℕ) (m : Relocation) → slice_get moves k ≡ Some m → k < front → (t : ℕ) × (r : ℕ) × (s.register t r ≡ m.from)
   pub all : (t r : ℕ) → s.register t r ≢ 0 → (k : ℕ) × (m : Relocation) × (slice_get moves k ≡ Some m) × (k < front) × (m.from ≡ s.register t r)
 
--- The second state is a copy of what can be reached in the first, with the marks that the phase leaves.
+-- a scion whose object moved
+abbrev pub moved_scion : (ℕ → ℕ) → Scion → Scion
+moved_scion f x = record { home = x.home; address = f x.address }
+
+-- The second state is a copy of what can be reached in the first, with the marks that the phase leaves. The disk is as it
+-- was, and no forwarding word is filled.
 pub record IsCopy (phase : Phase) (s t : State) (f : ℕ → ℕ) (moves : List Relocation) (front : ℕ) : Type 0 where
   pub found : Relocates s f moves t.free
   pub objects : (k : ℕ) (m : Relocation) → slice_get moves k ≡ Some m → ObjectMoves phase (nat_lt k front) f s t.word m
   pub global : (g : ℕ) → g < s.base.globals → WordMoves phase f (s.global g) (t.global g)
   pub register : (u r : ℕ) → t.register u r ≡ f (s.register u r)
   pub held : AreHeld s moves front
-  pub base : t.base ≡ s.base
+  pub scions_found : (k : ℕ) (x : Scion) → s.base.scion k ≡ Some x → f x.address ≢ 0
+  pub scion : (k : ℕ) → t.base.scion k ≡ option_map (moved_scion f) (s.base.scion k)
+  pub sizes : SameSizes s.base t.base
+  pub homes : SameHomes s.base t.base
+  pub image : (k : ℕ) → t.base.image k ≡ s.base.image k
+  pub settled : (p : ℕ) → s.forward p ≡ 0
+  pub forward : (p : ℕ) → t.forward p ≡ 0
 
 -- the number of the object that moves to an address
 abbrev pub name_after : (ℕ → Option ℕ) → List Relocation → ℕ → Option ℕ

@@ -3,7 +3,9 @@ use Rattle.std.specs.Prelude.{◌≡◌, ◌≢◌, ℕ, zero, suc, ◌+◌, ◌
 use Rattle.melt_model.specs.declared.reports.Phase.{Phase}
 use Rattle.melt_space.specs.Space.{SpaceWords, word_at}
 use Rattle.melt_scion.specs.State.{State, RefersTo, Reached}
+use Rattle.std.specs.Option.{option_map}
 use Rattle.melt_scion.specs.Heaps.{register_in}
+use Rattle.melt_scion.specs.Scions.{Scions, scion_at}
 use Rattle.melt_scion.specs.declared.registers.Registers.{Registers}
 use Rattle.melt_copy.specs.declared.forwarding.Relocation.{Relocation}
 use Rattle.melt_copy.specs.declared.forwarding.Forwarding.{Forwarding}
@@ -85,3 +87,21 @@ pub record TracksThreads (space : SpaceWords) (s : State) (forwarding : Forwardi
 pub record FindsThreads (old new : Forwarding) (held : List Registers) : Type 0 where
   pub all : (t r : ℕ) → register_in held t r ≢ 0 → goes new (register_in held t r) ≢ 0
   pub each : (k : ℕ) (m : Relocation) → slice_get new.moves.items k ≡ Some m → (slice_get old.moves.items k ≡ Some m) ⊎ ((t : ℕ) × (r : ℕ) × (register_in held t r ≡ m.from))
+
+-- a state in which the objects of these scions are found
+pub record TracksScions (space : SpaceWords) (s : State) (forwarding : Forwarding) (table : Scions) : Type 0 where
+  pub tracks : Tracks space s forwarding
+  pub reached : (k : ℕ) (pair : ℕ × ℕ) → scion_at table k ≡ Some pair → Reached s pair.1
+
+-- the objects of all scions of the table were found
+abbrev pub FindsScions : Forwarding → Scions → Type 0
+FindsScions forwarding table = (k : ℕ) (pair : ℕ × ℕ) → scion_at table k ≡ Some pair → goes forwarding pair.1 ≢ 0
+
+-- where a scion's object is after the moves
+abbrev pub moved_pair : (ℕ → ℕ) → ℕ × ℕ → ℕ × ℕ
+moved_pair f pair = (pair.0, f pair.1)
+
+-- each scion has the new address of its object
+pub record MovesScions (f : ℕ → ℕ) (old new : Scions) : Type 0 where
+  pub each : (k : ℕ) → scion_at new k ≡ option_map (moved_pair f) (scion_at old k)
+  pub size : length new.pairs ≡ length old.pairs

@@ -6,9 +6,9 @@
 //! Objects in registers are found before all others. So they are the first in the list of those that were found, and one
 //! number, the front, tells of each object whether a register holds it, on which its stale bit depends. The words up to
 //! the front are those of the objects in registers, each counted once, however many registers hold it. What globals
-//! refer to comes behind them, and then what slots do.
+//! refer to comes behind them, then the objects of live scions, to which records on disk refer, and then what slots do.
 ghost use Rattle.std.specs.Prelude.{◌≡◌, ℕ, ◌<◌, ◌≤◌, length, IfOk, OnErr};
-ghost use Rattle.melt_scion.specs.Heaps.{IsFormed};
+ghost use Rattle.melt_scion.specs.Heaps.{IsFormed, IsSettled};
 ghost use Rattle.melt_copy.specs.Copying.{Collects, IsCopying};
 ghost use Rattle.melt_copy.specs.Copied.{AreRenamed, Copies, IsPutBack, MayRename, NumbersAre};
 ghost use Rattle.melt_copy.specs.Tracking.{goes};
@@ -16,6 +16,7 @@ ghost use Rattle.melt_copy.specs.Tracking.{goes};
 use crate::commit::{forward_held, numbers_of, rename};
 use crate::copy::{copy_objects, find_all_held, move_words};
 use crate::forwarding::{Forwarding, Relocation};
+use crate::scions::{find_scions, live_scions, move_scions};
 use melt_model::{Journal, NoMemory, Phase, Steps};
 use melt_scion::{Globals, Heap, Names, Registers};
 use std::alloc::Global;
@@ -28,6 +29,8 @@ struct Copied {
     words: Vec<u64>,
     globals: Vec<u64>,
     numbers: Vec<Option<u32>>,
+    /// The live scions.
+    live: Vec<u32>,
     /// The words of the objects in registers.
     held: u32,
 }
@@ -64,7 +67,7 @@ fn copy_out<L: Ledger>(
     phase: Phase,
     steps: &mut Steps<L>,
 ) -> Result<Copied, NoMemory>
-    requires { IsFormed heap.now held.now }
+    requires formed { IsFormed heap.now held.now }
     ensures { IfOk result (Copies phase heap.now held.now) }
 {
     let mut forwarding = Forwarding::new(alloc, heap.space.used())?;
@@ -81,6 +84,8 @@ fn copy_out<L: Ledger>(
         &heap.globals.items,
         steps,
     )?;
+    let live = live_scions(alloc, &heap.scions, steps)?;
+    find_scions(&mut forwarding, &heap.space, &heap.scions, &live, steps)?;
     let words = copy_objects(room, &mut forwarding, &heap.space, phase, front, steps)?;
     let numbers = numbers_for(alloc, &heap.names, &forwarding.moves, steps)?;
     Ok(Copied {
@@ -88,6 +93,7 @@ fn copy_out<L: Ledger>(
         words,
         globals,
         numbers,
+        live,
         held: held_words,
     })
 }
@@ -117,6 +123,7 @@ fn put_back<L: Ledger>(
 )
     requires fits { length copied.words.items ≤ length heap.old.space.list }
     requires nothing { goes copied.forwarding 0 ≡ 0 }
+    requires live { copied.live.items ≡ heap.old.scions.live }
     requires names { MayRename heap.old.space.used heap.old.names copied.forwarding.moves.items copied.numbers.items }
     ensures { IsPutBack heap.old heap.new held.old held.new copied }
 {
@@ -126,6 +133,7 @@ fn put_back<L: Ledger>(
         items: copied.globals,
     };
     forward_held(&copied.forwarding, held, steps);
+    move_scions(&copied.forwarding, &mut heap.scions, &copied.live, steps);
     rename_all(
         &mut heap.names,
         used,
@@ -135,8 +143,8 @@ fn put_back<L: Ledger>(
     );
 }
 
-/// Collects a heap: the objects that registers and globals reach stay in use, packed from word 1 on, and all others
-/// are gone. Phase Inactive keeps all tags and stale bits. Phase Mark makes each object stale that no register holds,
+/// Collects a heap: the objects that registers, globals and live scions reach stay in use, packed from word 1 on, and all
+/// others are gone. Nothing is written to a disk or read from one. Phase Inactive keeps all tags and stale bits. Phase Mark makes each object stale that no register holds,
 /// and each direct reference in slots and globals. Counts one step for each turn of a loop.
 ///
 /// Takes all its memory before the first change.
@@ -148,6 +156,7 @@ pub fn collect_copy<L: Ledger>(
     steps: &mut Steps<L>,
 ) -> Result<Journal, NoMemory>
     requires formed { IsFormed heap.old held.old }
+    requires settled { IsSettled heap.old }
     requires phase { IsCopying phase }
     ensures collected { IfOk result (Collects heap.old held.old heap.new held.new phase) }
     ensures heap_stays { OnErr result (heap.new ≡ heap.old) }

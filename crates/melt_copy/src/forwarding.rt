@@ -11,7 +11,7 @@ ghost use Rattle.std.specs.Prelude.{◌≡◌, ◌≢◌, ℕ, ◌+◌, ◌^◌,
 ghost use Rattle.melt_word.specs.Words.{IsAddress, IsRef};
 ghost use Rattle.melt_scion.specs.State.{State};
 ghost use Rattle.melt_copy.specs.declared.forwarding.Relocation.{Relocation};
-ghost use Rattle.melt_scion.specs.Collected.{kept_tag};
+ghost use Rattle.melt_scion.specs.Moves.{kept_tag};
 ghost use Rattle.melt_copy.specs.Moving.{WordMoves};
 ghost use Rattle.melt_copy.specs.Tracking.{Grows, Tracks, TracksAt, TracksFor, goes};
 

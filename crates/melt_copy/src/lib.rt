@@ -9,6 +9,7 @@ pub mod collect;
 mod commit;
 mod copy;
 pub mod forwarding;
+mod scions;
 
 pub use collect::collect_copy;
 

@@ -77,6 +77,12 @@ KeepsNames (Some old) (Some new) = length new.addresses ≡ length old.addresses
 KeepsNames None (Some new) = ⊥
 KeepsNames (Some old) None = ⊥
 
+-- the tables beside the words are for as many as they were
+pub record KeepsTables (old new : Heap) : Type 0 where
+  pub scions : length new.scions.pairs ≡ length old.scions.pairs
+  pub forwards : length new.forward ≡ length old.forward
+  pub names : KeepsNames old.names new.names
+
 -- the names of a heap without objects
 abbrev pub no_names : ℕ → heap.Names
 no_names words = record { addresses = replicate words None; homes = record { names = empty; spare = 0 } }

@@ -1,5 +1,5 @@
 -- What the words of a heap space hold: each word is a function of the value that it stands for.
-use Rattle.std.specs.Prelude.{ℕ, ◌+◌, ◌*◌, ◌^◌, ◌<◌, ◌≤◌, Bool, true, false, Option, None, Some}
+use Rattle.std.specs.Prelude.{ℕ, ◌+◌, ◌*◌, ◌/◌, ◌%◌, ◌^◌, ◌<◌, ◌≤◌, Bool, true, false, Option, None, Some}
 use Rattle.melt_word.specs.declared.reference.Ref.{Ref}
 use Rattle.melt_word.specs.declared.reference.Ref.TheVariants.{Null, Clean, Stale, Disk}
 use Rattle.melt_word.specs.declared.header.Shape.{Shape}
@@ -57,6 +57,13 @@ IsHome (Some word) = IsHomeAndScion word
 abbrev pub home_word : Option HomeWord → ℕ
 home_word None = 0
 home_word (Some word) = 4294967296 * word.home + 4 * word.scion
+
+-- the home in such a word, 0 for none, and the scion
+abbrev pub home_part : ℕ → ℕ
+home_part word = word / 4294967296
+
+abbrev pub scion_part : ℕ → ℕ
+scion_part word = word % 4294967296 / 4
 
 abbrev pub cost_of : Shape → ℕ
 cost_of shape = 2 + shape.refs + shape.nums
