@@ -22,3 +22,5 @@ pub mod EnteringTells
 pub mod Making
 pub mod Holding
 pub mod Starting
+pub mod HomesApart
+pub mod Phases
