@@ -24,3 +24,4 @@ pub mod Holding
 pub mod Starting
 pub mod HomesApart
 pub mod Phases
+pub mod Moving
