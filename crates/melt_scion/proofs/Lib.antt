@@ -25,3 +25,5 @@ pub mod Starting
 pub mod HomesApart
 pub mod Phases
 pub mod Moving
+pub mod KeptRecords
+pub mod MovingValues
