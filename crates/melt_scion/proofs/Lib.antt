@@ -27,3 +27,4 @@ pub mod Phases
 pub mod Moving
 pub mod KeptRecords
 pub mod MovingValues
+pub mod MovingHomes
