@@ -28,3 +28,4 @@ pub mod Moving
 pub mod KeptRecords
 pub mod MovingValues
 pub mod MovingHomes
+pub mod MovingTells

@@ -367,19 +367,22 @@ module _ (c : Collection) where
     registers = λ u r. subst (MayHold c.new t) (sym (c.moves.register u r)) (register_there u r);
   }
 
--- what a collection leaves of a well-formed state is well formed
-pub moves_formed : (phase : Phase) (maps new : Maps) (s t : State) (to home scion : ℕ → ℕ) → Formed maps s →
-    MovesWords phase s t to home scion → MovesNames maps new to → Formed new t
-moves_formed phase maps new s t to home scion formed moves names = formed_there (record {
-  phase = phase;
-  maps = maps;
-  new = new;
-  s = s;
-  t = t;
-  to = to;
-  home = home;
-  scion = scion;
-  formed = formed;
-  moves = moves;
-  names = names;
-})
+module _ (phase : Phase) (maps new : Maps) (s t : State) (to home scion : ℕ → ℕ) where
+  abbrev pub collection : Formed maps s → MovesWords phase s t to home scion → MovesNames maps new to → Collection
+  collection formed moves names = record {
+    phase = phase;
+    maps = maps;
+    new = new;
+    s = s;
+    t = t;
+    to = to;
+    home = home;
+    scion = scion;
+    formed = formed;
+    moves = moves;
+    names = names;
+  }
+
+  -- what a collection leaves of a well-formed state is well formed
+  pub moves_formed : Formed maps s → MovesWords phase s t to home scion → MovesNames maps new to → Formed new t
+  moves_formed formed moves names = formed_there (collection formed moves names)
