@@ -29,3 +29,6 @@ pub mod KeptRecords
 pub mod MovingValues
 pub mod MovingHomes
 pub mod MovingTells
+pub mod SameObjects
+pub mod Forwarded
+pub mod WritingHome
