@@ -32,3 +32,5 @@ pub mod MovingTells
 pub mod SameObjects
 pub mod Forwarded
 pub mod WritingHome
+pub mod Settling
+pub mod SettlingTells
