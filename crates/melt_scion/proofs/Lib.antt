@@ -34,3 +34,4 @@ pub mod Forwarded
 pub mod WritingHome
 pub mod Settling
 pub mod SettlingTells
+pub mod NobodyLeaves
