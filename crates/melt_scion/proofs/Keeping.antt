@@ -54,7 +54,7 @@ NoGaps_stays s t base same gaps = record {
 }
 
 -- a map that keeps the names of another keeps what references stand for
-named_value : (old new : Option ℕ) (v : Value) → ((n : ℕ) → old ≡ Some n → new ≡ Some n) →
+pub named_value : (old new : Option ℕ) (v : Value) → ((n : ℕ) → old ≡ Some n → new ≡ Some n) →
     option_map Ref old ≡ Some v → option_map Ref new ≡ Some v
 named_value None new v keeps is = absurd (cc)
 named_value (Some n) new v keeps is = ap (option_map Ref) (keeps n refl) ∙ is

@@ -22,3 +22,16 @@ pub mod EnteringTells
 pub mod Making
 pub mod Holding
 pub mod Starting
+pub mod HomesApart
+pub mod Phases
+pub mod Moving
+pub mod KeptRecords
+pub mod MovingValues
+pub mod MovingHomes
+pub mod MovingTells
+pub mod SameObjects
+pub mod Forwarded
+pub mod WritingHome
+pub mod Settling
+pub mod SettlingTells
+pub mod NobodyLeaves

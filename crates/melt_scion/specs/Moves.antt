@@ -121,7 +121,8 @@ pub record TakesScion (t : State) (to home scion : ℕ → ℕ) (a : ℕ) : Type
   pub small : scion a < 2 ^ 30
   pub live : t.base.scion (scion a) ≡ Some (record { home = home a; address = to a })
 
--- The words of the space, the globals, the registers, the scions and the forwarding words. None of those is filled then.
+-- The words of the space, the globals, the registers, the scions and the forwarding words. None of those was filled
+-- before, so that each home with a live object has a scion; and none is filled then.
 pub record MovesWords (phase : Phase) (s t : State) (to home scion : ℕ → ℕ) : Type 0 where
   pub chooses : Chooses phase s to
   pub homes : GivesHomes phase s t to home scion
@@ -136,6 +137,7 @@ pub record MovesWords (phase : Phase) (s t : State) (to home scion : ℕ → ℕ
   pub scions : (a : ℕ) → to a ≢ 0 → home a ≢ 0 → TakesScion t to home scion a
   pub only_scions : (k : ℕ) (x : Scion) → t.base.scion k ≡ Some x
       → (a : ℕ) × (to a ≢ 0) × (home a ≢ 0) × (scion a ≡ k)
+  pub settled : (p : ℕ) → p < s.base.forwards → s.forward p ≡ 0
   pub forwards : (p : ℕ) → p < t.base.forwards → t.forward p ≡ 0
 
 -- the names of addresses go with the objects that stay
