@@ -5,7 +5,6 @@ pub mod Phases
 pub mod Renaming
 pub mod Committing
 pub mod Carried
-pub mod Told
 pub mod Whole
 pub mod Counting
 pub mod Counted

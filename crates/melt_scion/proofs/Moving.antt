@@ -15,7 +15,7 @@ use Rattle.melt_forward.proofs.Pairs.{forward_word-filled}
 use Rattle.melt_scion.specs.State.{Scion, State, HeaderAt, ObjectAt, HoldsAt, IsFresh, address_in, RefersTo, Reached}
 use Rattle.melt_scion.specs.Placed.{Maps, IsNamed, MayStand, IsReferenceWord, MayHold, IsHomeWord, ScionStands}
 use Rattle.melt_scion.specs.Placed.{FormedWords, Formed}
-use Rattle.melt_scion.specs.Collected.{Leaves, kept_tag}
+use Rattle.melt_scion.specs.Moves.{Leaves, kept_tag}
 use Rattle.melt_scion.specs.Moves.{GetsHome, by_place, moved_ref, WordBecomes, Arrives, MovesWords, MovesNames}
 use Rattle.melt_scion.proofs.Geometry.{one_header}
 use Rattle.melt_scion.proofs.Reaching.{reached_named}

@@ -12,7 +12,7 @@ use Rattle.melt_forward.proofs.Pairs.{forward_word-filled}
 use Rattle.melt_record.specs.declared.head.Kind.TheVariants.{Body, Stub}
 use Rattle.melt_scion.specs.State.{Base, Scion, State, HeaderAt, Reached, IsReserved}
 use Rattle.melt_scion.specs.Placed.{Maps, HasObject, IsBody, IsStub, IsForwarded, HomeStands, HeadIs}
-use Rattle.melt_scion.specs.Collected.{Leaves}
+use Rattle.melt_scion.specs.Moves.{Leaves}
 use Rattle.melt_scion.specs.Moves.{GetsHome}
 use Rattle.melt_scion.proofs.Homes.{IsNowhere}
 use Rattle.melt_scion.proofs.HomesApart.{reserved_within}

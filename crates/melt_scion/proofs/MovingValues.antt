@@ -13,7 +13,7 @@ use Rattle.melt_word.specs.declared.reference.Ref.TheVariants.{Null, Clean, Stal
 use Rattle.melt_record.specs.Records.{IsSlotWord}
 use Rattle.melt_scion.specs.State.{State, HeaderAt, address_in, RefersTo, Reached}
 use Rattle.melt_scion.specs.Placed.{Maps, MayStand, IsReferenceWord, value_of, Stands, Tells}
-use Rattle.melt_scion.specs.Collected.{Leaves, kept_tag}
+use Rattle.melt_scion.specs.Moves.{Leaves, kept_tag}
 use Rattle.melt_scion.specs.Moves.{GetsHome, by_place, moved_ref, body_ref, WordBecomes, NamesHomes, MovesDisk}
 use Rattle.melt_scion.proofs.Keeping.{named_value}
 use Rattle.melt_scion.proofs.Phases.{leaving_reached, tag_value, by_place_there, by_place_away}

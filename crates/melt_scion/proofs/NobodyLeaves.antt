@@ -1,12 +1,13 @@
 -- A collection in which nobody leaves: nobody gets a home, so names of homes stay as they were, and so does the disk.
 use Rattle.std.proofs.Common.{◌≡◌, ◌≢◌, ℕ, ◌+◌, ◌*◌, ◌/◌, ◌%◌, ◌<◌, ◌≤◌, refl, sym, ◌∙◌, ap, subst, arith, ◌⊎◌, inl, inr, List}
-use Rattle.std.specs.Prelude.{Some}
+use Rattle.std.specs.Prelude.{◌^◌, Some}
 use Rattle.melt_model.specs.declared.reports.Phase.{Phase}
-use Rattle.melt_word.specs.Words.{IsHomeAndScion, home_word}
+use Rattle.melt_word.specs.Words.{home_word, home_part, scion_part}
+use Rattle.melt_word.proofs.OneToOne.{home_part_is, scion_part_is}
 use Rattle.melt_word.specs.declared.header.Shape.{Shape}
 use Rattle.melt_scion.specs.State.{Home, State, Follow, IsReserved, Reached}
 use Rattle.melt_scion.specs.Placed.{Maps, Formed}
-use Rattle.melt_scion.specs.Collected.{Leaves}
+use Rattle.melt_scion.specs.Moves.{Leaves}
 use Rattle.melt_scion.specs.Settles.{SameHomes}
 use Rattle.melt_scion.specs.Moves.{IsNamedByLeaving, GetsHome, GivesHomes, NamesHomes, MovesDisk}
 use Rattle.melt_scion.proofs.Reaching.{reached_named}
@@ -17,7 +18,8 @@ NobodyLeaves phase s = (a : ℕ) → Leaves phase s a → ⊥
 
 -- each object that was reached has the home of its home word, or none
 abbrev pub HasOldHomes : State → (ℕ → ℕ) → Type 0
-HasOldHomes s home = (a : ℕ) → Reached s a → (home a ≡ 0) ⊎ ((scion : ℕ) × (s.word (a + 1) ≡ home_word (Some (record { home = home a; scion = scion }))))
+HasOldHomes s home = (a : ℕ) → Reached s a
+    → (home a ≡ 0) ⊎ ((scion : ℕ) × (s.word (a + 1) ≡ home_word (Some (record { home = home a; scion = scion }))))
 
 module _ (s : State) (home : ℕ → ℕ) (old : HasOldHomes s home) where
   -- so nobody gets a home
@@ -56,20 +58,18 @@ module _ (s : State) (home : ℕ → ℕ) (old : HasOldHomes s home) where
 
 -- the home in the home word of an object, and 0 where it has none
 abbrev pub old_home : State → ℕ → ℕ
-old_home s a = s.word (a + 1) / 4294967296
+old_home s a = home_part (s.word (a + 1))
 
 -- the scion there
 abbrev pub old_scion : State → ℕ → ℕ
-old_scion s a = s.word (a + 1) % 4294967296 / 4
+old_scion s a = scion_part (s.word (a + 1))
 
 -- the home and the scion of a home word
-parts_of_word : (word home scion : ℕ) → IsHomeAndScion (record { home = home; scion = scion }) →
-    word ≡ home_word (Some (record { home = home; scion = scion })) →
-    (word / 4294967296 ≡ home) × (word % 4294967296 / 4 ≡ scion)
-parts_of_word word home scion range is =
-    let few : scion < 1073741824 = range.scion in
-    let word_is : word ≡ 4294967296 * home + 4 * scion = is in
-    (omega arith, omega arith)
+pub parts_of_word : (word home scion : ℕ) → scion < 2 ^ 30
+    → word ≡ home_word (Some (record { home = home; scion = scion }))
+    → (home_part word ≡ home) × (scion_part word ≡ scion)
+parts_of_word word home scion small is =
+    (ap home_part is ∙ home_part_is home scion small, ap scion_part is ∙ scion_part_is home scion small)
 
 module _ (maps : Maps) (s : State) (formed : Formed maps s) where
   -- these are homes as they were
@@ -78,9 +78,9 @@ module _ (maps : Maps) (s : State) (formed : Formed maps s) where
       let named = reached_named maps s a formed reached in
       let object = formed.words.objects a named.0 named.1 in
       elim (formed.words.home_words a named.0 object.0 named.1 object.1.starts) [
-        | inl none ↦ inl (ap (λ (w : ℕ). w / 4294967296) none)
+        | inl none ↦ inl (ap home_part none)
         | inr has ↦
-            let parts = parts_of_word (s.word (a + 1)) has.0 has.1 has.2.in_range has.2.is in
+            let parts = parts_of_word (s.word (a + 1)) has.0 has.1 has.2.in_range.scion has.2.is in
             inr (has.1, has.2.is ∙ ap (λ (h : ℕ). home_word (Some (record { home = h; scion = has.1 }))) (sym parts.0))
       ]
 
@@ -89,7 +89,7 @@ module _ (maps : Maps) (s : State) (formed : Formed maps s) where
       GivesHomes phase s t to (old_home s) (old_scion s)
   homes_stay phase t to nobody end = record {
     kept = λ a home scion reached range is.
-        let parts = parts_of_word (s.word (a + 1)) home scion range is in (parts.0, λ some. parts.1);
+        let parts = parts_of_word (s.word (a + 1)) home scion range.scion is in (parts.0, λ some. parts.1);
     leaving = λ a leaves. absurd (nobody a leaves);
     named = λ a is. absurd (nobody is.object is.leaves);
     only = λ a gets. absurd (gets_none s (old_home s) has_old_homes a gets);

@@ -10,7 +10,7 @@ use Rattle.melt_word.specs.declared.header.Header.{Header}
 use Rattle.melt_word.specs.declared.reference.Ref.{Ref}
 use Rattle.melt_scion.specs.State.{State, HoldsAt, IsFresh, Reached}
 use Rattle.melt_scion.specs.Placed.{Maps, IsNamed, value_of, MayStand}
-use Rattle.melt_scion.specs.Collected.{Leaves, kept_tag, BitGoes}
+use Rattle.melt_scion.specs.Moves.{Leaves, kept_tag, BitGoes}
 use Rattle.melt_scion.specs.Moves.{by_place}
 
 -- what leaves was reached
