@@ -9,3 +9,4 @@ pub mod Names
 pub mod Scions
 pub mod HomeNames
 pub mod Heaps
+pub mod GhostMaps
