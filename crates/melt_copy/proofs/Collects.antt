@@ -1,5 +1,6 @@
 -- What was copied and put back is a collection.
 use Rattle.std.proofs.Common.{◌≡◌, ℕ, ◌+◌, ◌-◌, ◌<◌, ◌≤◌, zero, suc, List, [], ◌∷◌, length, take, refl, sym, subst, ap, ◌∙◌, arith, inl, inr}
+use Rattle.std.specs.Option.{option_map}
 use Rattle.std.specs.Prelude.{Bool, Option, None, Some, slice_get, slice_index, if◌then◌else◌, ◌==◌}
 use Rattle.std.proofs.lemmas.Bool.Decides.{eqb_tells}
 use Rattle.melt_model.specs.declared.reports.Journal.{Journal}
@@ -10,17 +11,21 @@ use Rattle.melt_scion.specs.State.{State}
 use Rattle.melt_scion.specs.Placed.{Maps, IsNamed, Formed}
 use Rattle.melt_scion.specs.Collected.{CountsWords, HeldAt}
 use Rattle.melt_scion.specs.Names.{name_at}
-use Rattle.melt_scion.specs.Heaps.{base_of, state_of, HasNames, KeepsNames, NamesMade, IsFormed}
+use Rattle.melt_scion.specs.HomeNames.{NamedHomes, home_name}
+use Rattle.melt_scion.specs.GhostMaps.{NamePairs, named}
+use Rattle.melt_scion.specs.Scions.{scion_at}
+use Rattle.melt_scion.specs.Heaps.{OnDisk, state_of, HasNames, KeepsNames, NamesMade, IsFormed, IsSettled}
 use Rattle.melt_scion.specs.declared.registers.Registers.{Registers}
 use Rattle.melt_scion.specs.declared.heap.Names.{Names}
 use Rattle.melt_scion.specs.declared.heap.Heap.{Heap}
 use Rattle.melt_copy.specs.declared.forwarding.Relocation.{Relocation}
 use Rattle.melt_copy.specs.declared.collect.Copied.{Copied}
-use Rattle.melt_copy.specs.Moving.{Relocates, IsCopy, ObjectMoves, WordMoves, words_in, name_after, maps_after}
-use Rattle.melt_copy.specs.Tracking.{goes, word_in}
-use Rattle.melt_copy.specs.Copied.{NumbersAre, IsCopied, Copies, MayRename, AreRenamed, IsPutBack}
-use Rattle.melt_copy.specs.Copying.{IsCopying, Collects}
-use Rattle.melt_scion.proofs.Homeless.{heap_has_no_scions}
+use Rattle.melt_copy.specs.Moving.{Relocates, IsCopy, ObjectMoves, WordMoves, moved_scion, words_in, name_after, maps_after}
+use Rattle.melt_copy.specs.Tracking.{goes, moved_pair, word_in}
+use Rattle.melt_copy.proofs.Pairs.{pairs_after}
+use Rattle.melt_copy.specs.Copied.{NumbersAre, IsCopied, Copies, PlacesApart, MayRename, AreRenamed, IsPutBack}
+use Rattle.melt_copy.specs.Copying.{IsCopying, Journals, Collects}
+use Rattle.melt_scion.proofs.NobodyLeaves.{old_home, old_scion}
 use Rattle.melt_copy.proofs.Places.{place_below, same_place}
 use Rattle.melt_copy.proofs.Sources.{found_words}
 use Rattle.melt_copy.proofs.Moved.{copy_collects}
@@ -52,46 +57,77 @@ none_behind : (maps : Maps) (s : State) (k : ℕ) → Formed maps s → s.free �
 none_behind maps s k formed above =
     none_of (maps.address k) (λ n named. let object = formed.words.objects k n named in let below : k + cost_of object.0.shape ≤ s.free = object.1.below in omega (arith, below, above))
 
-can_rename : (used size : ℕ) (maps : Maps) (names : Option Names) (moves : List Relocation) (numbers : List (Option ℕ)) → HasNames names maps → NamesMade size names → NumbersAre names moves numbers → used ≤ size → ((k : ℕ) → used < k → maps.address k ≡ None) → ((k : ℕ) (m : Relocation) → slice_get moves k ≡ Some m → (1 ≤ m.to) × (m.to ≤ used)) → ((i j : ℕ) (m n : Relocation) → slice_get moves i ≡ Some m → slice_get moves j ≡ Some n → m.to ≡ n.to → i ≡ j) → MayRename used names moves numbers
-can_rename used size maps None moves numbers has made are fits behind places apart = tt
-can_rename used size maps (Some names) moves numbers has made are fits behind places apart = record {
+can_rename : (used size : ℕ) (pairs : NamePairs) (maps : Maps) (names : Option Names) (moves : List Relocation)
+    (numbers : List (Option ℕ)) → HasNames names pairs maps → NamesMade size names → NumbersAre names moves numbers
+    → used ≤ size → ((k : ℕ) → used < k → maps.address k ≡ None)
+    → ((k : ℕ) (m : Relocation) → slice_get moves k ≡ Some m → (1 ≤ m.to) × (m.to ≤ used)) → PlacesApart moves
+    → MayRename used names moves numbers
+can_rename used size pairs maps None moves numbers has made are fits behind places apart = apart
+can_rename used size pairs maps (Some names) moves numbers has made are fits behind places apart = record {
   room = omega (arith, made, fits);
-  behind = λ k above. sym (has k) ∙ behind k above;
+  behind = λ k above. sym (has.0 k) ∙ behind k above;
   numbers_are = are;
   places = places;
   apart = apart;
 }
 
-pub may_rename : (phase : Phase) (heap : Heap) (held : List Registers) (copied : Copied) → IsFormed heap held → Copies phase heap held copied → MayRename heap.space.used heap.names copied.forwarding.moves.items copied.numbers.items
+-- each move has a place of its own
+moves_apart : {phase : Phase} (s : State) (names : Option Names) (copied : Copied) → IsCopied phase s names copied
+    → PlacesApart copied.forwarding.moves.items
+moves_apart s names copied is i j m n here there same =
+    (same_place s (goes copied.forwarding) copied.forwarding.moves.items copied.forwarding.next i j m n is.holds here there
+    same).0
+
+pub may_rename : (phase : Phase) (heap : Heap) (held : List Registers) (copied : Copied) → IsFormed heap held
+    → Copies phase heap held copied
+    → MayRename heap.space.used heap.names copied.forwarding.moves.items copied.numbers.items
 may_rename phase heap held copied formed copies =
-    let s : State = state_of heap held formed.end in
-    let is = copies formed.maps formed.end formed.formed in
+    let s : State = state_of heap held formed.disk in
+    let is = copies.is formed.maps formed.disk formed.formed in
     let f = goes copied.forwarding in
     let moves = copied.forwarding.moves.items in
     let words = found_words s f moves copied.forwarding.next is.whole is.holds in
     let inside = is.whole.inside in
-    can_rename heap.space.used (length heap.space.list) formed.maps heap.names moves copied.numbers.items formed.names formed.made is.numbers
+    can_rename heap.space.used (length heap.space.list) heap.maps formed.maps heap.names moves copied.numbers.items
+    formed.names formed.made.names is.numbers
     (omega (arith, inside))
     (λ k above. none_behind formed.maps s k formed.formed (omega (arith, above)))
-    (λ k m at. let place = place_below s f moves copied.forwarding.next k m is.holds at in (place.0, (let below = place.1 in let behind = is.holds.behind in omega (arith, below, behind, words))))
-    (λ i j m n here there same. (same_place s f moves copied.forwarding.next i j m n is.holds here there same).0)
+    (λ k m at.
+    let place = place_below s f moves copied.forwarding.next k m is.holds at in
+    (place.0, (let below = place.1 in let behind = is.holds.behind in omega (arith, below, behind, words))))
+    (moves_apart s heap.names copied is)
 
 -- a name stands where it moved
-name_after_same : (a b : ℕ → Option ℕ) (moves : List Relocation) (k : ℕ) → ((k : ℕ) → a k ≡ b k) → name_after a moves k ≡ name_after b moves k
+name_after_same : (a b : ℕ → Option ℕ) (moves : List Relocation) (k : ℕ) → ((k : ℕ) → a k ≡ b k)
+    → name_after a moves k ≡ name_after b moves k
 name_after_same a b [] k same = refl
-name_after_same a b (m ∷ moves) k same = ap (λ (o : Option ℕ). if m.to == k then o else name_after a moves k) (same m.from) ∙ ap (λ (o : Option ℕ). if m.to == k then b m.from else o) (name_after_same a b moves k same)
+name_after_same a b (m ∷ moves) k same =
+    ap (λ (o : Option ℕ). if m.to == k then o else name_after a moves k) (same m.from)
+    ∙ ap (λ (o : Option ℕ). if m.to == k then b m.from else o) (name_after_same a b moves k same)
 
-has_names : (maps : Maps) (old new : Option Names) (moves : List Relocation) → HasNames old maps → AreRenamed old new moves → HasNames new (maps_after maps moves)
-has_names maps None None moves has renamed = tt
-has_names maps (Some old) (Some new) moves has renamed = λ k. name_after_same maps.address (name_at old.addresses) moves k has ∙ sym (renamed.0 k)
-has_names maps None (Some new) moves has renamed = absurd renamed
-has_names maps (Some old) None moves has renamed = absurd renamed
+has_names : (maps : Maps) (old new : Option Names) (pairs pairs_then : NamePairs) (moves : List Relocation)
+    → PlacesApart moves → HasNames old pairs maps → AreRenamed old pairs new pairs_then moves
+    → HasNames new pairs_then (maps_after maps moves)
+has_names maps None None pairs pairs_then moves apart has renamed = (
+  λ k.
+      name_after_same maps.address (named pairs.addresses) moves k has.0
+      ∙ (sym (pairs_after pairs.addresses moves k apart)
+      ∙ ap (λ (p : NamePairs). named p.addresses k) (sym renamed)),
+  λ k. has.1 k ∙ ap (λ (p : NamePairs). named p.homes k) (sym renamed),
+)
+has_names maps (Some old) (Some new) pairs pairs_then moves apart has renamed = (
+  λ k. name_after_same maps.address (name_at old.addresses) moves k has.0 ∙ sym (renamed.0 k),
+  λ k. has.1 k ∙ ap (λ (homes : NamedHomes). home_name homes k) (sym renamed.2),
+)
+has_names maps None (Some new) pairs pairs_then moves apart has renamed = absurd renamed
+has_names maps (Some old) None pairs pairs_then moves apart has renamed = absurd renamed
 
-names_stay : (old new : Option Names) (moves : List Relocation) → AreRenamed old new moves → KeepsNames old new
-names_stay None None moves renamed = tt
-names_stay (Some old) (Some new) moves renamed = renamed.1
-names_stay None (Some new) moves renamed = absurd renamed
-names_stay (Some old) None moves renamed = absurd renamed
+names_stay : (old new : Option Names) (pairs pairs_then : NamePairs) (moves : List Relocation)
+    → AreRenamed old pairs new pairs_then moves → KeepsNames old new
+names_stay None None pairs pairs_then moves renamed = tt
+names_stay (Some old) (Some new) pairs pairs_then moves renamed = renamed.1
+names_stay None (Some new) pairs pairs_then moves renamed = absurd renamed
+names_stay (Some old) None pairs pairs_then moves renamed = absurd renamed
 
 -- an object in other words that are the same where it stands
 other_words : {phase : Phase} {bit : Bool} (f : ℕ → ℕ) (s : State) (v w : ℕ → ℕ) (m : Relocation) → ((k : ℕ) → m.to ≤ k → k < m.to + cost_of m.shape → w k ≡ v k) → ObjectMoves phase bit f s v m → ObjectMoves phase bit f s w m
@@ -106,22 +142,24 @@ replaced_word : (old new : SpaceWords) (words : List ℕ) (k : ℕ) → Replaces
 replaced_word old new words zero replaces first last = absurd (omega (arith, first))
 replaced_word old new words (suc k) replaces first last = replaces.front k (omega (arith, last))
 
--- heaps of the same size and with as many globals
-same_base : (old new : Heap) (end : ℕ) → length new.space.list ≡ length old.space.list
-    → length new.globals ≡ length old.globals → base_of new end ≡ base_of old end
-same_base old new end size globals =
-    ap (λ (n : ℕ). record (base_of old end) { size = n; globals = length new.globals }) size
-    ∙ ap (λ (n : ℕ). record (base_of old end) { globals = n }) globals
+scion_moves : (f : ℕ → ℕ) (o : Option (ℕ × ℕ))
+    → option_map (λ (pair : ℕ × ℕ). record { home = pair.0; address = pair.1 }) (option_map (moved_pair f) o)
+    ≡ option_map (moved_scion f) (option_map (λ (pair : ℕ × ℕ). record { home = pair.0; address = pair.1 }) o)
+scion_moves f None = refl
+scion_moves f (Some pair) = refl
 
 -- the heap that was put back is a copy
-put_copy : (phase : Phase) (old new : Heap) (held after : List Registers) (end : ℕ) (copied : Copied)
-    → (is : IsCopied phase (state_of old held end) old.names copied) → IsPutBack old new held after copied
-    → IsCopy phase (state_of old held end) (state_of new after end) (goes copied.forwarding) copied.forwarding.moves.items is.front
-put_copy phase old new held after end copied is put =
-    let s : State = state_of old held end in
+put_copy : (phase : Phase) (old new : Heap) (held after : List Registers) (disk : OnDisk) (copied : Copied)
+    → IsSettled old → (is : IsCopied phase (state_of old held disk) old.names copied)
+    → IsPutBack old new held after copied
+    → IsCopy phase (state_of old held disk) (state_of new after disk) (goes copied.forwarding)
+    copied.forwarding.moves.items is.front
+put_copy phase old new held after disk copied settled is put =
+    let s : State = state_of old held disk in
     let f = goes copied.forwarding in
     let moves = copied.forwarding.moves.items in
-    let free : copied.forwarding.next ≡ new.space.used + 1 = (let behind = is.holds.behind in let used = put.space.used in omega (arith, behind, used, is.size)) in
+    let free : copied.forwarding.next ≡ new.space.used + 1 =
+    (let behind = is.holds.behind in let used = put.space.used in omega (arith, behind, used, is.size)) in
     let globals : length new.globals ≡ length old.globals = ap length put.globals ∙ is.globals_count in
     record {
       found = subst (Relocates s f moves) free is.holds;
@@ -132,33 +170,58 @@ put_copy phase old new held after end copied is put =
           (let first = place.0 in omega (arith, first, from))
           (let below = place.1 in let behind = is.holds.behind in omega (arith, below, to, behind, is.size)))
           (is.objects k m at);
-      global = λ g below. subst (λ (ws : List ℕ). WordMoves phase f (s.global g) (slice_index ws g)) (sym put.globals) (is.globals g below);
+      global = λ g below.
+          subst (λ (ws : List ℕ). WordMoves phase f (s.global g) (slice_index ws g)) (sym put.globals)
+          (is.globals g below);
       register = put.registers;
       held = is.held;
-      base = same_base old new end put.space.size globals;
+      scions_found = is.scions;
+      scion = λ k.
+          ap (option_map (λ (pair : ℕ × ℕ). record { home = pair.0; address = pair.1 })) (put.scions.each k)
+          ∙ scion_moves f (scion_at old.scions k);
+      sizes = record { size = put.space.size; globals = globals; forwards = ap length put.forward };
+      homes = record { end = refl; homes = refl; free_homes = refl };
+      image = λ k. refl;
+      settled = settled;
+      forward = λ p. ap (λ (words : List ℕ). slice_index words p) put.forward ∙ settled p;
     }
+
+-- what the journal of a collection says
+pub record IsToldBy (journal : Journal) (phase : Phase) (copied : Copied) (used : ℕ) : Type 0 where
+  pub held : journal.held ≡ copied.held
+  pub rest : Journals journal phase used
 
 -- what was put back is a collection
 pub put_collects : (old new : Heap) (held after : List Registers) (copied : Copied) (phase : Phase) (journal : Journal)
-    → IsCopying phase → Copies phase old held copied → IsPutBack old new held after copied → journal.phase ≡ phase
-    → journal.held ≡ copied.held → journal.live ≡ new.space.used → journal.bodies ≡ 0 → journal.stubs ≡ 0 → journal.end ≡ 0
-    → Collects old held new after phase journal
-put_collects old new held after copied phase journal copying copies put phase_is held_is live_is bodies stubs ends maps end names formed =
-    let s : State = state_of old held end in
-    let t : State = state_of new after end in
-    let f = goes copied.forwarding in
-    let moves = copied.forwarding.moves.items in
-    let is = copies maps end formed in
-    let copy = put_copy phase old new held after end copied is put in
-    let live : journal.live ≡ words_in moves = live_is ∙ (put.space.used ∙ is.size) in
-    let held_is_words : journal.held ≡ words_in (take is.front moves) = held_is ∙ is.held_words in
-    record {
-      after = maps_after maps moves;
-      to = f;
-      names = has_names maps old.names new.names moves names put.names;
-      names_stay = names_stay old.names new.names moves put.names;
-      collected = copy_collects phase maps s t f moves is.front is.whole copy (heap_has_no_scions old held end) formed copying;
-      live = subst (CountsWords t (IsNamed (maps_after maps moves))) (sym live) (live_words phase maps s t f moves is.front is.whole copy formed);
-      held_words = subst (CountsWords s (HeldAt s)) (sym held_is_words) (held_words phase maps s t f moves is.front is.whole copy);
-      told = record { of_phase = phase_is; live_words = live_is; no_bodies = bodies; no_stubs = stubs; no_end = ends };
-    }
+    → IsCopying phase → IsSettled old → Copies phase old held copied → IsPutBack old new held after copied
+    → IsToldBy journal phase copied new.space.used → Collects old held new after phase journal
+put_collects old new held after copied phase journal copying settled copies put told = record {
+  each = λ maps disk names formed.
+      let s : State = state_of old held disk in
+      let t : State = state_of new after disk in
+      let f = goes copied.forwarding in
+      let moves = copied.forwarding.moves.items in
+      let is = copies.is maps disk formed in
+      let copy = put_copy phase old new held after disk copied settled is put in
+      let live : journal.live ≡ words_in moves = told.rest.live_words ∙ (put.space.used ∙ is.size) in
+      let held_is : journal.held ≡ words_in (take is.front moves) = told.held ∙ is.held_words in
+      record {
+        after = maps_after maps moves;
+        to = f;
+        home = old_home s;
+        scion = old_scion s;
+        names = has_names maps old.names new.names old.maps new.maps moves (moves_apart s old.names copied is) names put.names;
+        collected = copy_collects phase maps s t f moves is.front is.whole copy formed copying;
+        live = subst (CountsWords t (IsNamed (maps_after maps moves))) (sym live)
+            (live_words phase maps s t f moves is.front is.whole copy formed);
+        held_words = subst (CountsWords s (HeldAt s)) (sym held_is)
+            (held_words phase maps s t f moves is.front is.whole copy);
+        told = told.rest;
+      };
+  tables = record {
+    scions = put.scions.size;
+    forwards = ap length put.forward;
+    names = names_stay old.names new.names old.maps new.maps copied.forwarding.moves.items put.names;
+  };
+  settled = λ p. ap (λ (words : List ℕ). slice_index words p) put.forward ∙ settled p;
+}

@@ -16,6 +16,7 @@ pub mod Queue
 pub mod Held
 pub mod Walking
 pub mod Outs
+pub mod Pairs
 pub mod Collects
 pub mod Building
 pub mod Costs

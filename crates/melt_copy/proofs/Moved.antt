@@ -1,12 +1,12 @@
 -- A copy of what can be reached is a collection in which nobody leaves.
-use Rattle.std.proofs.Common.{◌≡◌, ◌≢◌, ◌⊎◌, ℕ, ◌+◌, ◌-◌, ◌<◌, ◌≤◌, List, refl, sym, ◌∙◌, ap, subst, arith, inl, inr}
+use Rattle.std.proofs.Common.{◌≡◌, ◌≢◌, ◌⊎◌, ℕ, zero, suc, ◌+◌, ◌-◌, ◌*◌, ◌<◌, ◌≤◌, List, refl, sym, ◌∙◌, ap, subst, arith, inl, inr}
 use Rattle.std.specs.Prelude.{◌^◌, nat_lt, Bool, true, false, if◌then◌else◌, slice_get, Option, None, Some, ◌↔◌}
 use Rattle.std.specs.Option.{option_map}
 use Rattle.std.proofs.lemmas.Bool.{cases_lt, cases_eq, le-ltb, lt-ltb}
 use Rattle.std.proofs.lemmas.Option.{same_Some}
 use Rattle.melt_model.specs.declared.reports.Phase.{Phase}
 use Rattle.melt_model.specs.declared.reports.Phase.TheVariants.{Inactive, Mark, Move}
-use Rattle.melt_word.specs.Words.{cost_of, home_word, IsHomeAndScion}
+use Rattle.melt_word.specs.Words.{cost_of, ref_word, home_word, home_part, IsHomeAndScion}
 use Rattle.melt_word.specs.declared.home.HomeWord.{HomeWord}
 use Rattle.melt_word.specs.declared.header.Shape.{Shape}
 use Rattle.melt_word.specs.declared.header.Header.{Header}
@@ -217,7 +217,7 @@ module _ (phase : Phase) (maps : Maps) (s t : State) (f : ℕ → ℕ) (moves : 
               absurd (omega (arith, part, none, has.3.home.not_null))
         ];
         at_home = λ one. elim (home_of a (chooses.stay a some).0) [
-          | inl nought ↦ absurd (one (ap (λ (w : ℕ). w / 4294967296) nought))
+          | inl nought ↦ absurd (one (ap home_part nought))
           | inr has ↦
               let part = parts_of_word (s.word (a + 1)) has.0 has.1 has.3.scion has.4 in
               home ∙ (has.4 ∙ (ap (λ (h : ℕ). home_word (Some (record { home = h; scion = has.1 }))) (sym part.0)
@@ -246,7 +246,7 @@ module _ (phase : Phase) (maps : Maps) (s t : State) (f : ℕ → ℕ) (moves : 
 
   takes_scion : (a : ℕ) → f a ≢ 0 → old_home s a ≢ 0 → TakesScion t f (old_home s) (old_scion s) a
   takes_scion a some one = elim (home_of a (chooses.stay a some).0) [
-    | inl nought ↦ absurd (one (ap (λ (w : ℕ). w / 4294967296) nought))
+    | inl nought ↦ absurd (one (ap home_part nought))
     | inr has ↦
         let part = parts_of_word (s.word (a + 1)) has.0 has.1 has.3.scion has.4 in
         let live : t.base.scion has.1 ≡ Some (record { home = has.0; address = f a }) =
@@ -266,7 +266,19 @@ module _ (phase : Phase) (maps : Maps) (s t : State) (f : ℕ → ℕ) (moves : 
       let y = scion_before f (s.base.scion k) x (sym (copy.scion k) ∙ live) in
       let stands = formed.words.scions k y.0 y.1 in
       let part = parts_of_word (s.word (y.0.address + 1)) y.0.home k stands.small stands.home_word in
-      (y.0.address, copy.scions_found k y.0 y.1, ?, part.1)
+      (
+        y.0.address,
+        copy.scions_found k y.0 y.1,
+        λ none. elim (home_of y.0.address (at_scion k y.0 y.1)) [
+          | inl nought ↦
+              let word : s.word (y.0.address + 1) ≡ 4294967296 * y.0.home + 4 * k = stands.home_word in
+              omega (arith, word, nought, stands.first)
+          | inr has ↦
+              let is = (parts_of_word (s.word (y.0.address + 1)) has.0 has.1 has.3.scion has.4).0 in
+              omega (arith, is, none, has.3.home.not_null)
+        ],
+        part.1,
+      )
 
   pub copy_moves : MovesWords phase s t f (old_home s) (old_scion s)
   copy_moves = record {
@@ -281,6 +293,7 @@ module _ (phase : Phase) (maps : Maps) (s t : State) (f : ℕ → ℕ) (moves : 
     register = copy.register;
     scions = takes_scion;
     only_scions = only_scions;
+    settled = λ p below. copy.settled p;
     forwards = λ p below. copy.forward p;
   }
 
@@ -300,7 +313,11 @@ module _ (phase : Phase) (maps : Maps) (s t : State) (f : ℕ → ℕ) (moves : 
   pub copy_collects : Collected phase maps (maps_after maps moves) s t f (old_home s) (old_scion s)
   copy_collects = record {
     formed = moves_formed phase maps (maps_after maps moves) s t f (old_home s) (old_scion s) formed copy_moves copy_names;
-    placed = λ h value placed. ?;
+    placed = λ h value placed.
+        moves_placed phase maps (maps_after maps moves) s t f (old_home s) (old_scion s) copy_moves copy_names
+        (names_stay s (old_home s) (has_old_homes maps s formed) maps (maps_after maps moves) (λ k. refl))
+        (disk_stays s (old_home s) (has_old_homes maps s formed) phase t f (old_scion s)
+        (λ a. none_leaves phase s a copying) copy.homes copy.image) h value placed;
     words = copy_moves;
     names = copy_names;
     homes = λ h tells. names_stay s (old_home s) (has_old_homes maps s formed) maps (maps_after maps moves) (λ k. refl);

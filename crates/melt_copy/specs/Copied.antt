@@ -1,10 +1,11 @@
 -- What was copied, and what is put back.
-use Rattle.std.specs.Prelude.{◌≡◌, ℕ, ◌<◌, ◌≤◌, nat_lt, List, length, map, take, slice_get, slice_index, Option, None, Some}
+use Rattle.std.specs.Prelude.{◌≡◌, ◌≢◌, ℕ, ◌<◌, ◌≤◌, nat_lt, List, [], ◌∷◌, length, map, take, slice_get, slice_index, Option, None, Some}
 use Rattle.melt_model.specs.declared.reports.Phase.{Phase}
 use Rattle.melt_space.specs.Space.{Replaces}
 use Rattle.melt_scion.specs.State.{Scion, State}
 use Rattle.melt_scion.specs.Placed.{Maps, Formed}
 use Rattle.melt_scion.specs.Names.{name_at}
+use Rattle.melt_scion.specs.GhostMaps.{NamePairs, named}
 use Rattle.melt_scion.specs.Heaps.{OnDisk, register_in, state_of}
 use Rattle.melt_scion.specs.declared.registers.Registers.{Registers}
 use Rattle.melt_scion.specs.declared.heap.Names.{Names}
@@ -39,31 +40,50 @@ pub record Copies (phase : Phase) (heap : Heap) (held : List Registers) (copied 
       → IsCopied phase (state_of heap held disk) heap.names copied
   pub live : copied.live.items ≡ heap.scions.live
 
+-- each move has a place of its own
+abbrev pub PlacesApart : List Relocation → Type 0
+PlacesApart moves =
+    (i j : ℕ) (m n : Relocation) → slice_get moves i ≡ Some m → slice_get moves j ≡ Some n → m.to ≡ n.to → i ≡ j
+
 -- the names can be given anew
 pub record CanRename (used : ℕ) (names : Names) (moves : List Relocation) (numbers : List (Option ℕ)) : Type 0 where
   pub room : used ≤ length names.addresses
   pub behind : (k : ℕ) → used < k → name_at names.addresses k ≡ None
   pub numbers_are : numbers ≡ map (λ (m : Relocation). name_at names.addresses m.from) moves
   pub places : (k : ℕ) (m : Relocation) → slice_get moves k ≡ Some m → (1 ≤ m.to) × (m.to ≤ used)
-  pub apart : (i j : ℕ) (m n : Relocation) → slice_get moves i ≡ Some m → slice_get moves j ≡ Some n → m.to ≡ n.to → i ≡ j
+  pub apart : PlacesApart moves
 
 abbrev pub MayRename : ℕ → Option Names → List Relocation → List (Option ℕ) → Type 0
-MayRename used None moves numbers = Unit {0}
+MayRename used None moves numbers = PlacesApart moves
 MayRename used (Some names) moves numbers = CanRename used names moves numbers
 
--- names are those of the moved objects, where there are any
-abbrev pub AreRenamed : Option Names → Option Names → List Relocation → Type 0
-AreRenamed None None moves = Unit {0}
-AreRenamed (Some old) (Some new) moves = ((k : ℕ) → name_at new.addresses k ≡ name_after (name_at old.addresses) moves k)
+-- the pairs with one more, if there is a number
+abbrev pub with_number : ℕ → Option ℕ → List (ℕ × ℕ) → List (ℕ × ℕ)
+with_number address None pairs = pairs
+with_number address (Some number) pairs = (address, number) ∷ pairs
+
+-- the numbers of the objects that move, at their new addresses
+abbrev pub moved_pairs : List (ℕ × ℕ) → List Relocation → List (ℕ × ℕ)
+moved_pairs pairs [] = []
+moved_pairs pairs (m ∷ moves) = with_number m.to (named pairs m.from) (moved_pairs pairs moves)
+
+abbrev pub renamed_pairs : NamePairs → List Relocation → NamePairs
+renamed_pairs pairs moves = record { addresses = moved_pairs pairs.addresses moves; homes = pairs.homes }
+
+-- Names are those of the moved objects: those that the heap keeps, or else those that contracts have.
+abbrev pub AreRenamed : Option Names → NamePairs → Option Names → NamePairs → List Relocation → Type 0
+AreRenamed None old None new moves = new ≡ renamed_pairs old moves
+AreRenamed (Some old) pairs (Some new) pairs_after moves =
+    ((k : ℕ) → name_at new.addresses k ≡ name_after (name_at old.addresses) moves k)
     × (length new.addresses ≡ length old.addresses) × (new.homes ≡ old.homes)
-AreRenamed None (Some new) moves = ⊥
-AreRenamed (Some old) None moves = ⊥
+AreRenamed None old (Some new) pairs moves = ⊥
+AreRenamed (Some old) pairs None new moves = ⊥
 
 -- the heap and the registers are those that were copied
 pub record IsPutBack (old new : Heap) (held held_after : List Registers) (copied : Copied) : Type 0 where
   pub space : Replaces old.space new.space copied.words.items
   pub globals : new.globals ≡ copied.globals.items
   pub registers : (t r : ℕ) → register_in held_after t r ≡ goes copied.forwarding (register_in held t r)
-  pub names : AreRenamed old.names new.names copied.forwarding.moves.items
+  pub names : AreRenamed old.names old.maps new.names new.maps copied.forwarding.moves.items
   pub scions : MovesScions (goes copied.forwarding) old.scions new.scions
   pub forward : new.forward ≡ old.forward

@@ -4,7 +4,7 @@ use Rattle.melt_model.specs.declared.reports.Phase.{Phase}
 use Rattle.melt_model.specs.declared.reports.Phase.TheVariants.{Inactive, Mark, Move}
 use Rattle.melt_model.specs.declared.reports.Journal.{Journal}
 use Rattle.melt_scion.specs.Placed.{Maps, IsNamed, Formed}
-use Rattle.melt_scion.specs.Heaps.{OnDisk, state_of, HasNames, KeepsTables, IsSettled}
+use Rattle.melt_scion.specs.Heaps.{OnDisk, state_of, HasMaps, KeepsTables, IsSettled}
 use Rattle.melt_scion.specs.Collected.{Collected, CountsWords, HeldAt}
 use Rattle.melt_scion.specs.declared.registers.Registers.{Registers}
 use Rattle.melt_scion.specs.declared.heap.Heap.{Heap}
@@ -32,7 +32,7 @@ pub record HasCollected (maps : Maps) (disk : OnDisk) (old new : Heap) (held hel
   pub to : ℕ → ℕ
   pub home : ℕ → ℕ
   pub scion : ℕ → ℕ
-  pub names : HasNames new.names after
+  pub names : HasMaps new after
   pub collected : Collected phase maps after (state_of old held disk) (state_of new held_after disk) to home scion
   pub live : CountsWords (state_of new held_after disk) (IsNamed after) journal.live
   pub held_words : CountsWords (state_of old held disk) (HeldAt (state_of old held disk)) journal.held
@@ -42,7 +42,7 @@ pub record HasCollected (maps : Maps) (disk : OnDisk) (old new : Heap) (held hel
 -- that is the same before and after it.
 pub record Collects (old : Heap) (held : List Registers) (new : Heap) (held_after : List Registers) (phase : Phase)
     (journal : Journal) : Type 0 where
-  pub each : (maps : Maps) (disk : OnDisk) → HasNames old.names maps → Formed maps (state_of old held disk)
+  pub each : (maps : Maps) (disk : OnDisk) → HasMaps old maps → Formed maps (state_of old held disk)
       → HasCollected maps disk old new held held_after phase journal
   pub tables : KeepsTables old new
   pub settled : IsSettled new

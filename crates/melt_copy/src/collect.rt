@@ -18,7 +18,7 @@ use crate::copy::{copy_objects, find_all_held, move_words};
 use crate::forwarding::{Forwarding, Relocation};
 use crate::scions::{find_scions, live_scions, move_scions};
 use melt_model::{Journal, NoMemory, Phase, Steps};
-use melt_scion::{Globals, Heap, Names, Registers};
+use melt_scion::{GhostMaps, Globals, Heap, Names, Registers};
 use std::alloc::Global;
 use std::sync::ledger::Ledger;
 
@@ -98,19 +98,22 @@ fn copy_out<L: Ledger>(
     })
 }
 
-/// Gives the objects that moved their numbers at their new addresses, where the heap keeps names.
+/// Gives the objects that moved their numbers at their new addresses, where the heap keeps names, and else to contracts
+/// alone.
 fn rename_all<L: Ledger>(
     names: &mut Option<Names>,
+    maps: &mut GhostMaps,
     used: u32,
     moves: &[Relocation],
     numbers: &[Option<u32>],
     steps: &mut Steps<L>,
 )
     requires { MayRename used names.old moves.now numbers.now }
-    ensures { AreRenamed names.old names.new moves.now }
+    ensures { AreRenamed names.old maps.old names.new maps.new moves.now }
 {
-    if let Some(names) = names {
-        rename(&mut names.addresses, used, moves, numbers, steps);
+    match names {
+        Some(names) => rename(&mut names.addresses, used, moves, numbers, steps),
+        None => *maps = GhostMaps::pick(&(&*maps, moves)),
     }
 }
 
@@ -136,6 +139,7 @@ fn put_back<L: Ledger>(
     move_scions(&copied.forwarding, &mut heap.scions, &copied.live, steps);
     rename_all(
         &mut heap.names,
+        &mut heap.maps,
         used,
         &copied.forwarding.moves,
         &copied.numbers,

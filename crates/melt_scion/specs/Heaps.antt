@@ -7,6 +7,7 @@ use Rattle.melt_scion.specs.State.{Scion, Home, Base, State}
 use Rattle.melt_scion.specs.Placed.{Maps, Formed}
 use Rattle.melt_scion.specs.Names.{name_at}
 use Rattle.melt_scion.specs.HomeNames.{home_name}
+use Rattle.melt_scion.specs.GhostMaps.{NamePairs, named, no_pairs}
 use Rattle.melt_scion.specs.Scions.{Scions, scion_at, empty_table}
 use Rattle.melt_scion.specs.declared.registers.Registers.{Registers}
 use Rattle.melt_scion.specs.declared.heap.Names as heap
@@ -59,11 +60,15 @@ state_of heap held disk = record {
 abbrev pub IsSettled : Heap → Type 0
 IsSettled heap = (p : ℕ) → slice_index heap.forward p ≡ 0
 
--- Where a heap keeps names, they are the two maps. One that keeps none has maps that nothing is stored of.
-abbrev pub HasNames : Option heap.Names → Maps → Type 0
-HasNames None maps = Unit {0}
-HasNames (Some names) maps = ((address : ℕ) → maps.address address ≡ name_at names.addresses address)
+-- Where a heap keeps names, they are the two maps. One that keeps none has them for contracts alone.
+abbrev pub HasNames : Option heap.Names → NamePairs → Maps → Type 0
+HasNames None pairs maps = ((address : ℕ) → maps.address address ≡ named pairs.addresses address)
+    × ((home : ℕ) → maps.home home ≡ named pairs.homes home)
+HasNames (Some names) pairs maps = ((address : ℕ) → maps.address address ≡ name_at names.addresses address)
     × ((home : ℕ) → maps.home home ≡ home_name names.homes home)
+
+abbrev pub HasMaps : Heap → Maps → Type 0
+HasMaps heap maps = HasNames heap.names heap.maps maps
 
 -- the names, where a heap keeps them, were made for as many addresses as it has words
 abbrev pub NamesMade : ℕ → Option heap.Names → Type 0
@@ -88,12 +93,13 @@ abbrev pub no_names : ℕ → heap.Names
 no_names words = record { addresses = replicate words None; homes = record { names = empty; spare = 0 } }
 
 -- a heap without objects and scions, whose globals and forwarding words hold nothing
-pub record IsNewHeap (words globals forward : ℕ) (named : Bool) (heap : Heap) : Type 0 where
+pub record IsNewHeap (words globals forward : ℕ) (keeps_names : Bool) (heap : Heap) : Type 0 where
   pub space : IsFresh words heap.space
   pub scions : heap.scions ≡ empty_table (words / 2)
   pub globals_hold_nothing : heap.globals ≡ replicate globals 0
   pub nothing_forwarded : heap.forward ≡ replicate forward 0
-  pub names : heap.names ≡ (if named then Some (no_names words) else None)
+  pub names : heap.names ≡ (if keeps_names then Some (no_names words) else None)
+  pub maps : heap.maps ≡ no_pairs
 
 -- The tables beside the words were made for as many as there are: the scions for half of them, the names for all.
 pub record TablesMade (heap : Heap) : Type 0 where
@@ -104,6 +110,6 @@ pub record TablesMade (heap : Heap) : Type 0 where
 pub record IsFormed (heap : Heap) (held : List Registers) : Type 0 where
   pub maps : Maps
   pub disk : OnDisk
-  pub names : HasNames heap.names maps
+  pub names : HasMaps heap maps
   pub made : TablesMade heap
   pub formed : Formed maps (state_of heap held disk)

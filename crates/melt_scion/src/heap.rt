@@ -8,6 +8,7 @@ ghost use Rattle.std.specs.Prelude.{◌<◌, ◌^◌, IfOk};
 ghost use Rattle.melt_scion.specs.Heaps.{IsNewHeap};
 
 use crate::home_names::HomeNames;
+use crate::maps::GhostMaps;
 use crate::names::AddressNames;
 use crate::scions::ScionTable;
 use melt_model::NoMemory;
@@ -50,7 +51,8 @@ pub struct Names {
     pub homes: HomeNames,
 }
 
-/// A heap of fixed size. It has names where its history is stored, since that speaks of objects by their numbers.
+/// A heap of fixed size. It has names where its history is stored, since that speaks of objects by their numbers. Where
+/// it has none, `maps` says the same to contracts; where it has names, `maps` means nothing.
 #[derive(Debug, Drop)]
 pub struct Heap {
     pub space: Space,
@@ -58,6 +60,7 @@ pub struct Heap {
     pub globals: Globals,
     pub forward: Forwards,
     pub names: Option<Names>,
+    pub maps: GhostMaps,
 }
 
 impl Heap {
@@ -90,6 +93,7 @@ impl Heap {
                 items: vec![in alloc; 0; forward as usize]?,
             },
             names,
+            maps: GhostMaps::none(),
         })
     }
 }
