@@ -1,23 +1,27 @@
 -- A collection in which nobody leaves: nobody gets a home, so names of homes stay as they were, and so does the disk.
-use Rattle.std.proofs.Common.{◌≡◌, ◌≢◌, ℕ, ◌+◌, ◌*◌, ◌/◌, ◌%◌, ◌<◌, ◌≤◌, refl, sym, ◌∙◌, ap, subst, arith, ◌⊎◌, inl, inr, List}
+use Rattle.std.proofs.Common.{◌≡◌, ◌≢◌, ℕ, ◌+◌, ◌*◌, ◌/◌, ◌%◌, ◌<◌, ◌≤◌, sym, ◌∙◌, ap, subst, arith, ◌⊎◌, inl, inr}
+use Rattle.std.proofs.Common.{List}
 use Rattle.std.specs.Prelude.{Some}
 use Rattle.melt_model.specs.declared.reports.Phase.{Phase}
 use Rattle.melt_word.specs.Words.{IsHomeAndScion, home_word}
-use Rattle.melt_word.specs.declared.header.Shape.{Shape}
 use Rattle.melt_scion.specs.State.{Home, State, Follow, IsReserved, Reached}
 use Rattle.melt_scion.specs.Placed.{Maps, Formed}
 use Rattle.melt_scion.specs.Collected.{Leaves}
 use Rattle.melt_scion.specs.Settles.{SameHomes}
-use Rattle.melt_scion.specs.Moves.{IsNamedByLeaving, GetsHome, GivesHomes, NamesHomes, MovesDisk}
+use Rattle.melt_scion.specs.Moves.{GetsHome, GivesHomes, NamesHomes, MovesDisk}
 use Rattle.melt_scion.proofs.Reaching.{reached_named}
 
 -- no object leaves
 abbrev pub NobodyLeaves : Phase → State → Type 0
 NobodyLeaves phase s = (a : ℕ) → Leaves phase s a → ⊥
 
--- each object that was reached has the home of its home word, or none
+-- the home is that in the home word of the object
+abbrev pub IsInHomeWord : State → ℕ → ℕ → Type 0
+IsInHomeWord s a home = (scion : ℕ) × (s.word (a + 1) ≡ home_word (Some (record { home = home; scion = scion })))
+
+-- each object that was reached has the home in its home word, or none
 abbrev pub HasOldHomes : State → (ℕ → ℕ) → Type 0
-HasOldHomes s home = (a : ℕ) → Reached s a → (home a ≡ 0) ⊎ ((scion : ℕ) × (s.word (a + 1) ≡ home_word (Some (record { home = home a; scion = scion }))))
+HasOldHomes s home = (a : ℕ) → Reached s a → (home a ≡ 0) ⊎ IsInHomeWord s a (home a)
 
 module _ (s : State) (home : ℕ → ℕ) (old : HasOldHomes s home) where
   -- so nobody gets a home
