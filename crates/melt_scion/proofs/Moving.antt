@@ -71,15 +71,11 @@ pub same_reference : (change : words.Ref → words.Ref) (old later : ℕ) (r : w
 same_reference change old later r becomes range is =
     same_ref r becomes.reference range becomes.in_range (sym is ∙ becomes.was)
 
--- what this reference refers to was reached, where that is so of the word
-pub ref_reached : (s : State) (old later : ℕ) (change : words.Ref → words.Ref) →
-    (becomes : WordBecomes change old later) → HasReached s old → RefReached s becomes.reference
-ref_reached s old later change becomes reached a at = reached a (record {
-  reference = becomes.reference;
-  in_range = becomes.in_range;
-  is = becomes.was;
-  at = at;
-})
+-- so it refers to what this reference refers to
+pub becomes_refers : (change : words.Ref → words.Ref) (old later address : ℕ) →
+    (becomes : WordBecomes change old later) → address_in becomes.reference ≡ Some address → RefersTo old address
+becomes_refers change old later address becomes at =
+    record { reference = becomes.reference; in_range = becomes.in_range; is = becomes.was; at = at }
 
 module _ (c : Collection) where
   abbrev s : State
@@ -191,7 +187,7 @@ module _ (c : Collection) where
       (becomes : WordBecomes (moved_ref c.phase c.to c.home) old later) →
       Fits c.new t (moved_ref c.phase c.to c.home becomes.reference)
   becomes_fits old later reached is becomes =
-      ref_fits becomes.reference (ref_reached s old later _ becomes reached) becomes.in_range
+      ref_fits becomes.reference (λ a at. reached a (becomes_refers _ old later a becomes at)) becomes.in_range
       (subst (MayStand c.maps s) (same_reference _ old later is.reference becomes is.in_range is.is) is.stands)
 
   -- so a word in what stays is that of a reference

@@ -16,7 +16,7 @@ use Rattle.melt_scion.specs.Collected.{Leaves, kept_tag}
 use Rattle.melt_scion.specs.Moves.{by_place, moved_ref, body_ref, WordBecomes, NamesHomes, MovesDisk}
 use Rattle.melt_scion.proofs.Keeping.{named_value}
 use Rattle.melt_scion.proofs.Phases.{leaving_reached, tag_value, by_place_there, by_place_away}
-use Rattle.melt_scion.proofs.Moving.{Collection, Found, HasReached, RefReached, same_reference, ref_reached, found}
+use Rattle.melt_scion.proofs.Moving.{Collection, Found, HasReached, RefReached, same_reference, becomes_refers, found}
 use Rattle.melt_scion.proofs.Moving.{nowhere, home_in_range, becomes_fits}
 
 -- a collection of a state that tells a history, with what it does to the disk
@@ -34,15 +34,6 @@ RefAtHome c r = (a : ℕ) → address_in r ≡ Some a → Found c a × (c.home a
 -- and the same of a word
 abbrev pub WordAtHome : Collection → ℕ → Type 0
 WordAtHome c word = (a : ℕ) → RefersTo word a → Found c a × (c.home a ≢ 0)
-
-ref_at_home : (c : Collection) (old later : ℕ) (change : words.Ref → words.Ref) →
-    (becomes : WordBecomes change old later) → WordAtHome c old → RefAtHome c becomes.reference
-ref_at_home c old later change becomes homes a at = homes a (record {
-  reference = becomes.reference;
-  in_range = becomes.in_range;
-  is = becomes.was;
-  at = at;
-})
 
 module _ (m : ToldCollection) where
   abbrev c : Collection
@@ -111,7 +102,7 @@ module _ (m : ToldCollection) where
         reference = moved_ref c.phase c.to c.home becomes.reference;
         in_range = (becomes_fits c old later reached may becomes).1;
         is = becomes.is;
-        stands_for = moved_value becomes.reference v (ref_reached s old later _ becomes reached)
+        stands_for = moved_value becomes.reference v (λ a at. reached a (becomes_refers _ old later a becomes at))
             (ap (value_of c.maps) (sym same) ∙ stands.stands_for);
       }
 
@@ -149,7 +140,7 @@ module _ (m : ToldCollection) where
   becomes_body_ref : (old later : ℕ) → WordAtHome c old → IsReferenceWord c.maps s old →
       (becomes : WordBecomes (body_ref c.home) old later) → IsBodyRef (body_ref c.home becomes.reference)
   becomes_body_ref old later homes may becomes =
-      is_body_ref becomes.reference (ref_at_home c old later _ becomes homes) becomes.in_range
+      is_body_ref becomes.reference (λ a at. homes a (becomes_refers _ old later a becomes at)) becomes.in_range
       (subst (MayStand c.maps s) (same_reference _ old later may.reference becomes may.in_range may.is) may.stands)
 
   -- so a word in a Body stands for what it stood for
@@ -162,7 +153,7 @@ module _ (m : ToldCollection) where
         reference = body_ref c.home becomes.reference;
         in_range = (becomes_body_ref old later homes may becomes).0;
         is = becomes.is;
-        stands_for = body_value becomes.reference v (ref_at_home c old later _ becomes homes)
+        stands_for = body_value becomes.reference v (λ a at. homes a (becomes_refers _ old later a becomes at))
             (ap (value_of c.maps) (sym same) ∙ stands.stands_for);
       }
 
