@@ -1,14 +1,14 @@
 -- The home of a forwarded object: what the home word there says, and that it is neither free nor that of a scion.
 use Rattle.std.proofs.Common.{◌≡◌, ◌≢◌, ℕ, ◌+◌, ◌*◌, ◌<◌, ◌≤◌, sym, ◌∙◌, ap, subst, arith, inl, inr, List}
 use Rattle.std.specs.Prelude.{Some, Contains}
-use Rattle.std.proofs.lemmas.Option.{same_Some}
 use Rattle.melt_model.specs.declared.history.Entry.{Entry}
 use Rattle.melt_word.specs.Words.{IsDiskHome, IsHomeAndScion, home_word}
 use Rattle.melt_forward.proofs.Pairs.{one_pair, forward_word-filled}
 use Rattle.melt_scion.specs.State.{Scion, State, Forwards}
 use Rattle.melt_scion.specs.Placed.{Maps, ForwardStands, FormedWords, Tells}
 
-module _ (maps : Maps) (s : State) (home address : ℕ) (formed : FormedWords maps s) (forwards : Forwards s home address) where
+module _ (maps : Maps) (s : State) (home address : ℕ) (formed : FormedWords maps s)
+    (forwards : Forwards s home address) where
   -- what the forwarding word says of home and address
   pub forward_stands : ForwardStands maps s home address
   forward_stands = elim (formed.forwards forwards.place forwards.within) [

@@ -1,5 +1,5 @@
 -- A record on disk stays what it is where its words do, even if the end moves on and more homes have names.
-use Rattle.std.proofs.Common.{◌≡◌, ℕ, ◌+◌, ◌*◌, ◌<◌, ◌≤◌, sym, ◌∙◌, ap, subst, arith, inl, inr, List}
+use Rattle.std.proofs.Common.{◌≡◌, ℕ, ◌+◌, ◌*◌, ◌<◌, ◌≤◌, sym, ◌∙◌, ap, subst, arith, ◌⊎◌, inl, inr, List}
 use Rattle.std.specs.Prelude.{Some}
 use Rattle.melt_model.specs.History.{last}
 use Rattle.melt_model.specs.declared.history.Entry.{Entry}
@@ -11,11 +11,22 @@ use Rattle.melt_word.specs.declared.header.Shape.{Shape}
 use Rattle.melt_word.specs.declared.reference.Ref.{Ref}
 use Rattle.melt_word.specs.declared.reference.Ref.TheVariants.{Null, Clean, Stale, Disk}
 use Rattle.melt_record.specs.declared.head.Head.{Head}
+use Rattle.melt_record.specs.declared.head.Kind.TheVariants.{Stub}
 use Rattle.melt_record.specs.Records.{IsSlotWord, IsSecondWord}
-use Rattle.melt_scion.specs.State.{Base, IsReserved}
-use Rattle.melt_scion.specs.Placed.{Maps, Stands, value_of, HeadIs, IsBody, IsFreeHome}
+use Rattle.melt_scion.specs.State.{Base, Scion, State, Forwards, IsReserved}
+use Rattle.melt_scion.specs.Placed.{Maps, Stands, value_of, HeadIs, IsBody, IsStub, IsForwarded, IsFreeHome}
 use Rattle.melt_scion.proofs.Keeping.{named_value}
 use Rattle.melt_scion.proofs.Homes.{IsNowhere}
+
+-- what stands at a home with a name is one of the three
+abbrev pub IsOneOfThree : List Entry → Maps → State → ℕ → ℕ → Shape → Type 0
+IsOneOfThree h maps s home n z =
+    IsBody h maps s.base home n z ⊎ (IsStub maps s.base home n z ⊎ IsForwarded maps s home n)
+
+-- the home of an object has the record of a Stub of this scion
+abbrev pub HasStub : Maps → Base → ℕ → ℕ → Type 0
+HasStub maps b scion home =
+    (n : ℕ) × (z : Shape) × (maps.home home ≡ Some n) × HeadIs b home (record { shape = z; kind = Stub scion })
 
 -- each home keeps its name
 abbrev pub KeepsHomes : Maps → Maps → Type 0
@@ -60,6 +71,7 @@ slot_stands_kept maps new end word v homes slot stands = record {
 }
 
 module _ (b c : Base) (home : ℕ) (z : Shape) (keeps : KeepsRecord b c home z) where
+  -- its first word
   first_kept : c.image home ≡ b.image home
   first_kept =
       let e : home + 0 ≡ home = omega arith in
@@ -86,6 +98,7 @@ module _ (b c : Base) (home : ℕ) (z : Shape) (keeps : KeepsRecord b c home z) 
       let e : home + (2 + i) ≡ home + 2 + i = omega arith in
       ap c.image (sym e) ∙ (keeps.words (2 + i) (omega arith) ∙ ap b.image e)
 
+  -- which is a number word
   number_kept : (j : ℕ) → j < z.nums → c.image (home + 2 + z.refs + j) ≡ b.image (home + 2 + z.refs + j)
   number_kept j below =
       let e : home + 2 + (z.refs + j) ≡ home + 2 + z.refs + j = omega arith in
@@ -117,3 +130,24 @@ free_home_kept b c home is reserved keeps = record {
   stands = head_kept b c home is.reserved_for keeps is.head is.stands;
   cost = is.cost;
 }
+
+module _ (h : List Entry) (maps : Maps) (s t : State) (live : (k : ℕ) (x : Scion) → s.base.scion k ≡ Some x →
+    t.base.scion k ≡ Some x) where
+  -- where objects keep their names and live scions stay, so does what stands at a home whose record stays
+  pub three_kept : (home n : ℕ) (z : Shape) → KeepsRecord s.base t.base home z →
+      ((a : ℕ) → maps.address a ≡ Some n → Forwards s home a → Forwards t home a) →
+      IsOneOfThree h maps s home n z → IsOneOfThree h maps t home n z
+  three_kept home n z keeps forwards (inl body) =
+      inl (body_kept s.base t.base home z keeps h maps maps n (λ k m is. is) (λ none. none) body)
+  three_kept home n z keeps forwards (inr (inl stub)) = inr (inl (record {
+    scion = stub.scion;
+    address = stub.address;
+    head = head_kept s.base t.base home z keeps _ stub.head;
+    live = live stub.scion _ stub.live;
+    named = stub.named;
+  }))
+  three_kept home n z keeps forwards (inr (inr forwarded)) = inr (inr (record {
+    address = forwarded.address;
+    forwards = forwards forwarded.address forwarded.named forwarded.forwards;
+    named = forwarded.named;
+  }))

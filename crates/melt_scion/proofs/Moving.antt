@@ -1,8 +1,8 @@
 -- A collection of any phase leaves well-formed words and registers.
-use Rattle.std.proofs.Common.{◌≡◌, ◌≢◌, ℕ, ◌+◌, ◌<◌, ◌≤◌, refl, sym, ◌∙◌, ap, subst, arith, ◌⊎◌, inl, inr}
+use Rattle.std.proofs.Common.{◌≡◌, ◌≢◌, ℕ, ◌+◌, ◌<◌, ◌≤◌, refl, sym, ◌∙◌, ap, subst, arith, inl, inr}
 use Rattle.std.proofs.lemmas.Bool.{cases_eq}
 use Rattle.std.proofs.lemmas.Option.{same_Some}
-use Rattle.std.specs.Prelude.{Some, false}
+use Rattle.std.specs.Prelude.{Some}
 use Rattle.melt_model.specs.declared.reports.Phase.{Phase}
 use Rattle.melt_word.specs.Words.{IsAddress, IsDiskHome, IsRef, ref_word, cost_of}
 use Rattle.melt_word.specs.declared.header.Shape.{Shape}
@@ -12,16 +12,17 @@ use Rattle.melt_word.specs.declared.reference.Ref.TheVariants.{Null, Clean, Stal
 use Rattle.melt_word.proofs.OneToOne.{same_ref}
 use Rattle.melt_forward.specs.Forwarding.{Sends}
 use Rattle.melt_forward.proofs.Pairs.{forward_word-filled}
-use Rattle.melt_scion.specs.State.{Scion, State, HeaderAt, ObjectAt, HoldsAt, IsFresh, address_in, RefersTo, Reached}
+use Rattle.melt_scion.specs.State.{Scion, State, HeaderAt, ObjectAt, IsFresh, HoldsAt, address_in, RefersTo, Reached}
 use Rattle.melt_scion.specs.Placed.{Maps, IsNamed, MayStand, IsReferenceWord, MayHold, IsHomeWord, ScionStands}
 use Rattle.melt_scion.specs.Placed.{FormedWords, Formed}
 use Rattle.melt_scion.specs.Moves.{Leaves, kept_tag}
 use Rattle.melt_scion.specs.Moves.{GetsHome, by_place, moved_ref, WordBecomes, Arrives, MovesWords, MovesNames}
 use Rattle.melt_scion.proofs.Geometry.{one_header}
 use Rattle.melt_scion.proofs.Reaching.{reached_named}
-use Rattle.melt_scion.proofs.Phases.{leaving_not_held, held_fresh, tag_in_range, tag_may_stand, by_place_there, by_place_away}
+use Rattle.melt_scion.proofs.Phases.{leaving_not_held, held_fresh, tag_in_range, tag_may_stand}
+use Rattle.melt_scion.proofs.Phases.{by_place_there, by_place_away}
 
--- A collection of a well-formed state, without what it does to the disk.
+-- a collection of a well-formed state, without what it does to the disk
 pub record Collection : Type 0 where
   pub phase : Phase
   pub maps : Maps
@@ -60,25 +61,21 @@ HasReached s word = (a : ℕ) → RefersTo word a → Reached s a
 abbrev pub RefReached : State → words.Ref → Type 0
 RefReached s r = (a : ℕ) → address_in r ≡ Some a → Reached s a
 
--- the reference may stand, and has a word
+-- the reference may stand, and is in range
 abbrev pub Fits : Maps → State → words.Ref → Type 0
 Fits maps s r = MayStand maps s r × IsRef r
 
--- the word that becomes another is that of the reference from which the other comes
+-- a word is that of the reference by which it becomes another
 pub same_reference : (change : words.Ref → words.Ref) (old later : ℕ) (r : words.Ref) →
     (becomes : WordBecomes change old later) → IsRef r → old ≡ ref_word r → r ≡ becomes.reference
 same_reference change old later r becomes range is =
     same_ref r becomes.reference range becomes.in_range (sym is ∙ becomes.was)
 
--- what a reference refers to, its word does
-pub ref_reached : (s : State) (old later : ℕ) (change : words.Ref → words.Ref) →
-    (becomes : WordBecomes change old later) → HasReached s old → RefReached s becomes.reference
-ref_reached s old later change becomes reached a at = reached a (record {
-  reference = becomes.reference;
-  in_range = becomes.in_range;
-  is = becomes.was;
-  at = at;
-})
+-- so it refers to what this reference refers to
+pub becomes_refers : (change : words.Ref → words.Ref) (old later address : ℕ) →
+    (becomes : WordBecomes change old later) → address_in becomes.reference ≡ Some address → RefersTo old address
+becomes_refers change old later address becomes at =
+    record { reference = becomes.reference; in_range = becomes.in_range; is = becomes.was; at = at }
 
 module _ (c : Collection) where
   abbrev s : State
@@ -93,16 +90,18 @@ module _ (c : Collection) where
       let object = c.formed.words.objects a named.0 named.1 in
       record { reached = reached; number = named.0; named = named.1; header = object.0; object = object.1 }
 
+  -- an object that stays was reached
   pub staying : (a : ℕ) → c.to a ≢ 0 → Found c a
   staying a some = found a (c.moves.chooses.stay a some).0
 
-  -- an object that leaves gets no address
+  -- one that leaves gets no address
   pub nowhere : (a : ℕ) → Leaves c.phase s a → c.to a ≡ 0
   nowhere a leaves = elim (cases_eq (c.to a) 0) [
     | inl none ↦ none
     | inr some ↦ absurd ((c.moves.chooses.stay a some).1 leaves)
   ]
 
+  -- what is known of an object that stays, at its new address
   pub arrives : (a : ℕ) (f : Found c a) → c.to a ≢ 0 → Arrives c.phase s t c.to c.home c.scion a f.header
   arrives a f some = c.moves.arrives a f.header some f.object.starts
 
@@ -125,7 +124,7 @@ module _ (c : Collection) where
             (subst IsDiskHome (sym same) has.2.in_range.home, omega arith)
       ]
 
-  -- and so does each new address, before the end of the space
+  -- a new address lies within the space
   pub to_in_range : (a : ℕ) → c.to a ≢ 0 → IsAddress (c.to a)
   to_in_range a some =
       let f = staying a some in
@@ -135,6 +134,7 @@ module _ (c : Collection) where
       let small : s.base.size < 1073741824 = c.formed.words.small in
       record { not_null = omega arith; small = omega arith }
 
+  -- and has the name of the object
   pub named_there : (a : ℕ) (f : Found c a) → c.to a ≢ 0 → IsNamed c.new (c.to a)
   named_there a f some = (f.number, c.names.names a some ∙ f.named)
 
@@ -146,6 +146,7 @@ module _ (c : Collection) where
       ap (λ (x : Header). x.stale) (one_header t (c.to a) header here.later starts here.starts)
       ∙ (same ∙ fresh f.header f.object.starts)
 
+  -- a reference to its home
   home_fits : (a : ℕ) (f : Found c a) → c.home a ≢ 0 → Fits c.new t (Disk (c.home a))
   home_fits a f some =
       let range = home_in_range a f some in
@@ -162,7 +163,7 @@ module _ (c : Collection) where
         (home_fits a f (c.moves.homes.leaving a leaves))
   ]
 
-  -- a reference that stood in what stays
+  -- a reference in what stays, by the one that stood there
   pub ref_fits : (r : words.Ref) → RefReached s r → IsRef r → MayStand c.maps s r →
       Fits c.new t (moved_ref c.phase c.to c.home r)
   ref_fits Null reached range may = (tt, tt)
@@ -170,7 +171,7 @@ module _ (c : Collection) where
       let f = found a (reached a refl) in
       address_fits a f (kept_tag c.phase (c.to a)) (λ some. (
         tag_may_stand c.phase c.new s t a (c.to a) f.header (arrives a f some).later (named_there a f some)
-        (arrives a f some).marked (fresh_there a f some may.1),
+            (arrives a f some).marked (fresh_there a f some may.1),
         tag_in_range c.phase (c.to a) (to_in_range a some),
       ))
   ref_fits (Stale a) reached range may =
@@ -181,13 +182,15 @@ module _ (c : Collection) where
       let up : s.base.end ≤ t.base.end = c.moves.homes.end in
       ((may.0, omega arith), range)
 
+  -- and by the word of that
   pub becomes_fits : (old later : ℕ) → HasReached s old → IsReferenceWord c.maps s old →
       (becomes : WordBecomes (moved_ref c.phase c.to c.home) old later) →
       Fits c.new t (moved_ref c.phase c.to c.home becomes.reference)
   becomes_fits old later reached is becomes =
-      ref_fits becomes.reference (ref_reached s old later _ becomes reached) becomes.in_range
+      ref_fits becomes.reference (λ a at. reached a (becomes_refers _ old later a becomes at)) becomes.in_range
       (subst (MayStand c.maps s) (same_reference _ old later is.reference becomes is.in_range is.is) is.stands)
 
+  -- so a word in what stays is that of a reference
   word_may : (old later : ℕ) → HasReached s old → IsReferenceWord c.maps s old →
       WordBecomes (moved_ref c.phase c.to c.home) old later → IsReferenceWord c.new t later
   word_may old later reached is becomes =
@@ -199,6 +202,7 @@ module _ (c : Collection) where
         stands = fits.0;
       }
 
+  -- each name is that of an object that stays
   pub came : (b n : ℕ) → c.new.address b ≡ Some n → Came c b n
   came b n named =
       let one = c.names.only b n named in
@@ -218,23 +222,26 @@ module _ (c : Collection) where
         arrives = c.moves.arrives one.0 object.0 one.1 object.1.starts;
       }
 
-  -- it kept its shape
-  pub came_shape : (b n : ℕ) (it : Came c b n) (header : Header) → HeaderAt t b header → header.shape ≡ it.found.header.shape
+  -- which kept its shape
+  pub came_shape : (b n : ℕ) (it : Came c b n) (header : Header) → HeaderAt t b header →
+      header.shape ≡ it.found.header.shape
   came_shape b n it header starts =
       let there : HeaderAt t (c.to it.from) header = subst (λ (x : ℕ). HeaderAt t x header) (sym it.is) starts in
       ap (λ (x : Header). x.shape) (one_header t (c.to it.from) header it.arrives.later there it.arrives.starts)
       ∙ it.arrives.shape
 
-  -- what its slots refer to was reached, as it was
+  -- what a slot of an object that was reached refers to was reached
   pub slot_reached : (a i : ℕ) (header : Header) → Reached s a → HeaderAt s a header → i < header.shape.refs →
       HasReached s (s.word (a + 2 + i))
   slot_reached a i header reached starts below target refers =
       Reached.in_slot a i target header reached starts below refers
 
+  -- no home is forwarded then
   no_forwards : (p home b : ℕ) → p < t.base.forwards → Sends (t.forward p) home b → ⊥
   no_forwards p home b below sends =
       forward_word-filled home b sends.home_in_range (sym sends.is ∙ c.moves.forwards p below)
 
+  -- the home word of an object that stays
   home_word_there : (a : ℕ) (f : Found c a) → c.to a ≢ 0 → IsHomeWord t (c.to a) (cost_of f.header.shape)
   home_word_there a f some = elim (cases_eq (c.home a) 0) [
     | inl none ↦ inl ((arrives a f some).no_home none)
@@ -242,18 +249,23 @@ module _ (c : Collection) where
         let range = home_in_range a f home in
         let own = c.moves.scions a some home in
         let first : 1 ≤ c.scion a = own.first in
-        inr (c.home a, c.scion a, record {
-          in_range = record { home = range.0; scion = own.small };
-          is = (arrives a f some).at_home home;
-          within = range.1;
-          forwarded = (
-            λ none. absurd (omega arith),
-            λ is. absurd (no_forwards is.place (c.home a) (c.to a) is.within is.sends),
-          );
-          live = λ not_null. own.live;
-        })
+        inr (
+          c.home a,
+          c.scion a,
+          record {
+            in_range = record { home = range.0; scion = own.small };
+            is = (arrives a f some).at_home home;
+            within = range.1;
+            forwarded = (
+              λ none. absurd (omega arith),
+              λ is. absurd (no_forwards is.place (c.home a) (c.to a) is.within is.sends),
+            );
+            live = λ not_null. own.live;
+          },
+        )
   ]
 
+  -- each live scion is that of an object that stays
   scion_stands : (k : ℕ) (x : Scion) → t.base.scion k ≡ Some x → ScionStands c.new t k x
   scion_stands k x live =
       let own = c.moves.only_scions k x live in
@@ -269,6 +281,7 @@ module _ (c : Collection) where
       } in
       subst (λ (j : ℕ). ScionStands c.new t j x) own.3 (subst (ScionStands c.new t (c.scion own.0)) is stands)
 
+  -- all objects lie within the space, and apart
   object_there : (b n : ℕ) → c.new.address b ≡ Some n → (header : Header) × ObjectAt t b header
   object_there b n named =
       let it = came b n named in
@@ -293,6 +306,7 @@ module _ (c : Collection) where
       c.moves.order x.from y.from x.found.header x.some y.some x.found.object.starts (omega arith) in
       omega arith
 
+  -- slots and globals may stand
   slot_there : (b n i : ℕ) (header : Header) → c.new.address b ≡ Some n → HeaderAt t b header →
       i < header.shape.refs → IsReferenceWord c.new t (t.word (b + 2 + i))
   slot_there b n i header named starts below =
@@ -312,6 +326,7 @@ module _ (c : Collection) where
       word_may (s.global g) (t.global g) (λ a refers. Reached.in_global g a few refers)
       (c.formed.words.globals g few) (c.moves.global g few)
 
+  -- so all words are well formed
   words_there : FormedWords c.new t
   words_there = record {
     small =
@@ -337,7 +352,7 @@ module _ (c : Collection) where
     one_forward = λ p q home a b below also first second. absurd (no_forwards p home a below first);
   }
 
-  -- an object in a register stays, and is fresh
+  -- an object in a register stays
   pub held_stays : (u r : ℕ) → s.register u r ≢ 0 → c.to (s.register u r) ≢ 0
   held_stays u r full =
       let a : ℕ = s.register u r in
@@ -346,6 +361,7 @@ module _ (c : Collection) where
         | inr leaves ↦ absurd (leaving_not_held c.phase s a leaves (record { thread = u; register = r; holds = refl }))
       ]
 
+  -- and is fresh then
   register_there : (u r : ℕ) → MayHold c.new t (c.to (s.register u r))
   register_there u r = elim (cases_eq (s.register u r) 0) [
     | inl none ↦ inl (ap c.to none ∙ c.moves.chooses.nothing)
@@ -353,14 +369,18 @@ module _ (c : Collection) where
         let a : ℕ = s.register u r in
         let some = held_stays u r full in
         let f = staying a some in
-        inr (named_there a f some, λ header starts.
-            let here = arrives a f some in
-            let was : IsFresh s a = elim (c.formed.registers u r) [ inl none ↦ absurd (full none) | inr is ↦ is.1 ] in
-            ap (λ (x : Header). x.stale) (one_header t (c.to a) header here.later starts here.starts)
-            ∙ held_fresh c.phase s a f.header here.later here.marked (record { thread = u; register = r; holds = refl })
-            (was f.header f.object.starts))
+        inr (
+          named_there a f some,
+          λ header starts.
+              let here = arrives a f some in
+              let holds : HoldsAt s a = record { thread = u; register = r; holds = refl } in
+              let was : IsFresh s a = elim (c.formed.registers u r) [ inl none ↦ absurd (full none) | inr is ↦ is.1 ] in
+              ap (λ (x : Header). x.stale) (one_header t (c.to a) header here.later starts here.starts)
+              ∙ held_fresh c.phase s a f.header here.later here.marked holds (was f.header f.object.starts),
+        )
   ]
 
+  -- what a collection leaves of a well-formed state is well formed
   pub formed_there : Formed c.new t
   formed_there = record {
     words = words_there;
@@ -368,6 +388,7 @@ module _ (c : Collection) where
   }
 
 module _ (phase : Phase) (maps new : Maps) (s t : State) (to home scion : ℕ → ℕ) where
+  -- the parts of a collection as one
   abbrev pub collection : Formed maps s → MovesWords phase s t to home scion → MovesNames maps new to → Collection
   collection formed moves names = record {
     phase = phase;
@@ -383,6 +404,6 @@ module _ (phase : Phase) (maps new : Maps) (s t : State) (to home scion : ℕ �
     names = names;
   }
 
-  -- what a collection leaves of a well-formed state is well formed
+  -- the law of a collection of any phase, where all that is asked is that the state is well formed
   pub moves_formed : Formed maps s → MovesWords phase s t to home scion → MovesNames maps new to → Formed new t
   moves_formed formed moves names = formed_there (collection formed moves names)

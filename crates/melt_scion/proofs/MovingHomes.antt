@@ -1,24 +1,22 @@
 -- What stands at each home after a collection: the record from before, or a Body or a Stub that the collection wrote.
-use Rattle.std.proofs.Common.{◌≡◌, ◌≢◌, ℕ, ◌+◌, ◌<◌, ◌≤◌, refl, sym, ◌∙◌, ap, subst, arith, ◌⊎◌, inl, inr}
-use Rattle.std.specs.Prelude.{◌^◌, Option, Some}
+use Rattle.std.proofs.Common.{◌≡◌, ◌≢◌, ℕ, ◌+◌, ◌<◌, ◌≤◌, sym, ◌∙◌, ap, subst, arith, inl, inr}
+use Rattle.std.specs.Prelude.{Option, Some}
 use Rattle.std.proofs.lemmas.Option.{same_Some}
-use Rattle.melt_model.specs.History.{Shape, shape, last}
+use Rattle.melt_model.specs.History.{Shape, shape}
 use Rattle.melt_model.specs.declared.history.Value.TheVariants.{Num}
-use Rattle.melt_model.specs.declared.history.Slot.TheVariants.{Field, Cell}
 use Rattle.melt_word.specs.Words.{IsDiskHome, IsHomeAndScion, cost_of}
 use Rattle.melt_word.specs.declared.header.Shape as words
 use Rattle.melt_word.specs.declared.header.Header.{Header}
 use Rattle.melt_forward.proofs.Pairs.{forward_word-filled}
-use Rattle.melt_record.specs.declared.head.Kind.TheVariants.{Body, Stub}
-use Rattle.melt_scion.specs.State.{Base, Scion, State, HeaderAt, Reached, IsReserved}
-use Rattle.melt_scion.specs.Placed.{Maps, HasObject, IsBody, IsStub, IsForwarded, HomeStands, HeadIs}
+use Rattle.melt_scion.specs.State.{Scion, State, HeaderAt, Reached, IsReserved}
+use Rattle.melt_scion.specs.Placed.{IsBody, IsStub, IsForwarded, HomeStands}
 use Rattle.melt_scion.specs.Moves.{Leaves}
 use Rattle.melt_scion.specs.Moves.{GetsHome}
 use Rattle.melt_scion.proofs.Homes.{IsNowhere}
 use Rattle.melt_scion.proofs.HomesApart.{reserved_within}
-use Rattle.melt_scion.proofs.KeptRecords.{KeepsRecord, head_kept, body_kept}
+use Rattle.melt_scion.proofs.KeptRecords.{KeepsRecord, IsOneOfThree, head_kept, body_kept}
 use Rattle.melt_scion.proofs.Phases.{leaving_reached}
-use Rattle.melt_scion.proofs.Moving.{Collection, Found, found, staying, nowhere}
+use Rattle.melt_scion.proofs.Moving.{Collection, found, nowhere}
 use Rattle.melt_scion.proofs.MovingValues.{ToldCollection, whose_home, body_stands, body_slot, leaving_slot}
 
 -- two shapes that are that of one object
@@ -27,12 +25,8 @@ same_shape : (o : Option Shape) (z w : words.Shape) → o ≡ Some (record { ref
 same_shape o z w is also =
     let x : Shape = record { refs = z.refs; nums = z.nums } in
     let y : Shape = record { refs = w.refs; nums = w.nums } in
-    ap (λ (v : Shape). let u : words.Shape = record { refs = v.refs; nums = v.nums } in u) (same_Some x y (sym is ∙ also))
-
--- a home is one of the three
-abbrev pub IsOneOfThree : ToldCollection → ℕ → ℕ → words.Shape → Type 0
-IsOneOfThree m k n z =
-    IsBody m.h m.c.new m.c.t.base k n z ⊎ (IsStub m.c.new m.c.t.base k n z ⊎ IsForwarded m.c.new m.c.t k n)
+    let back : Shape → words.Shape = λ v. record { refs = v.refs; nums = v.nums } in
+    ap back (same_Some x y (sym is ∙ also))
 
 module _ (m : ToldCollection) where
   abbrev c : Collection
@@ -99,11 +93,13 @@ module _ (m : ToldCollection) where
       none a (whose_home m a k n f (c.moves.homes.leaving a leaves) same (m.homes.old k n has))
 
   module _ (k n : ℕ) (z : words.Shape) (has : c.maps.home k ≡ Some n) (reserved : IsReserved s.base.homes k z) where
+    -- a Body stays one
     old_body : IsBody m.h c.maps s.base k n z → IsBody m.h c.new t.base k n z
     old_body body =
         body_kept s.base t.base k z (keeps_record k z reserved (none_leaves_nowhere k n has body.nowhere)) m.h c.maps
         c.new n m.homes.old (nowhere_then n) body
 
+    -- the home is in the range of homes
     home_small : IsDiskHome k
     home_small =
         let within = reserved_within s.base.homes s.base.end m.tells.homes_follow k z reserved in
@@ -112,10 +108,11 @@ module _ (m : ToldCollection) where
         let small : s.base.end ≤ 4294967296 = c.formed.words.small_end in
         record { not_null = omega arith; small = omega arith }
 
-    -- the home and the scion of the object with this Stub
+    -- so are home and scion of a Stub
     stub_range : (is : IsStub c.maps s.base k n z) → IsHomeAndScion (record { home = k; scion = is.scion })
     stub_range is = record { home = home_small; scion = (c.formed.words.scions is.scion _ is.live).small }
 
+    -- which its object keeps
     stub_kept : (is : IsStub c.maps s.base k n z) →
         (c.home is.address ≡ k) × (c.to is.address ≢ 0 → c.scion is.address ≡ is.scion)
     stub_kept is =
@@ -151,14 +148,15 @@ module _ (m : ToldCollection) where
         (subst (λ (j : ℕ). IsBody m.h c.new t.base j n object.0.shape) (stub_kept is).0
         (left_body a n object.0 leaves is.named object.1.starts))
 
+    -- no home was forwarded
     old_forwarded : IsForwarded c.maps s k n → ⊥
     old_forwarded is =
         let f = is.forwards in
         forward_word-filled k is.address f.sends.home_in_range (sym f.sends.is ∙ c.moves.settled f.place f.within)
 
-    -- what a home with a name was
-    old_home : IsBody m.h c.maps s.base k n z ⊎ (IsStub c.maps s.base k n z ⊎ IsForwarded c.maps s k n) →
-        shape m.h n ≡ Some (record { refs = z.refs; nums = z.nums }) → IsOneOfThree m k n z
+    -- so an old home is one of the three
+    old_home : IsOneOfThree m.h c.maps s k n z →
+        shape m.h n ≡ Some (record { refs = z.refs; nums = z.nums }) → IsOneOfThree m.h c.new t k n z
     old_home (inl body) shape_is = inl (old_body body)
     old_home (inr (inl stub)) shape_is =
         elim (c.moves.chooses.go stub.address (Reached.at_scion stub.scion _ stub.live)) [
@@ -167,9 +165,9 @@ module _ (m : ToldCollection) where
         ]
     old_home (inr (inr forwarded)) shape_is = absurd (old_forwarded forwarded)
 
-  -- what a new home is
+  -- and so is a new one
   new_home : (a n : ℕ) (header : Header) → GetsHome s c.home a → c.maps.address a ≡ Some n → HeaderAt s a header →
-      IsOneOfThree m (c.home a) n header.shape
+      IsOneOfThree m.h c.new t (c.home a) n header.shape
   new_home a n header gets named starts = elim (c.moves.chooses.go a gets.reached) [
     | inl some ↦ inr (inl (record {
       scion = c.scion a;
@@ -181,7 +179,7 @@ module _ (m : ToldCollection) where
     | inr leaves ↦ inl (left_body a n header leaves named starts)
   ]
 
-  -- each home with a name is one of the three
+  -- so each home with a name stands
   pub homes_stand : (k n : ℕ) → c.new.home k ≡ Some n → HomeStands m.h c.new t k n
   homes_stand k n has = elim (m.homes.only k n has) [
     | inl was ↦

@@ -1,11 +1,11 @@
 -- A collection of any phase leaves a state that stands for the same history, and registers that hold the same values.
-use Rattle.std.proofs.Common.{◌≡◌, ◌≢◌, ℕ, zero, suc, ◌+◌, ◌*◌, ◌<◌, ◌≤◌, refl, sym, ◌∙◌, ap, subst, arith, ◌⊎◌, inl, inr}
+use Rattle.std.proofs.Common.{◌≡◌, ◌≢◌, ℕ, zero, suc, ◌+◌, ◌*◌, ◌<◌, ◌≤◌, refl, sym, ◌∙◌, ap, subst, arith, inl, inr}
 use Rattle.std.proofs.Common.{List}
-use Rattle.std.specs.Prelude.{◌↔◌, ◌^◌, Option, Some, Contains}
+use Rattle.std.specs.Prelude.{Option, Some, Contains}
 use Rattle.std.specs.Option.{option_map}
 use Rattle.std.proofs.lemmas.Bool.{cases_eq}
 use Rattle.std.proofs.lemmas.Option.{same_Some}
-use Rattle.melt_model.specs.History.{Shape, shape, last}
+use Rattle.melt_model.specs.History.{Shape, last}
 use Rattle.melt_model.specs.declared.history.Entry.{Entry}
 use Rattle.melt_model.specs.declared.history.Value.{Value}
 use Rattle.melt_model.specs.declared.history.Value.TheVariants.{Ref, Num}
@@ -15,22 +15,19 @@ use Rattle.melt_word.specs.Words.{IsHomeAndScion, home_word, cost_of}
 use Rattle.melt_word.specs.declared.header.Shape as words
 use Rattle.melt_word.specs.declared.header.Header.{Header}
 use Rattle.melt_record.specs.declared.head.Kind.TheVariants.{Stub}
-use Rattle.melt_scion.specs.State.{Base, Scion, State, HeaderAt, Reached, IsReserved}
-use Rattle.melt_scion.specs.Placed.{Maps, HasObject, IsTaken, IsFreeHome, HeadIs, Stands, Formed, Tells, value_at, Placed}
+use Rattle.melt_scion.specs.State.{Scion, State, HeaderAt, Reached, IsReserved}
+use Rattle.melt_scion.specs.Placed.{Maps, HasObject, IsTaken, IsFreeHome, HeadIs, Stands, Formed, Tells, value_at}
+use Rattle.melt_scion.specs.Placed.{Placed}
 use Rattle.melt_scion.specs.Moves.{GetsHome, IsNewHome, MovesWords, MovesNames, NamesHomes, MovesDisk}
 use Rattle.melt_scion.proofs.HomesApart.{reserved_within}
-use Rattle.melt_scion.proofs.KeptRecords.{head_kept, free_home_kept}
+use Rattle.melt_scion.proofs.KeptRecords.{HasStub, head_kept, free_home_kept}
 use Rattle.melt_scion.proofs.Phases.{leaving_reached}
-use Rattle.melt_scion.proofs.Moving.{Collection, Found, Came, found, staying, came, came_shape, slot_reached, held_stays}
+use Rattle.melt_scion.proofs.Moving.{Collection, Found, found, staying, came, came_shape, slot_reached, held_stays}
 use Rattle.melt_scion.proofs.Moving.{collection, moves_formed}
 use Rattle.melt_scion.proofs.MovingValues.{ToldCollection, home_has, word_stands}
 use Rattle.melt_scion.proofs.MovingHomes.{NoneLeavesFor, keeps_record, none_leaves_for, homes_stand}
 
--- a stub in the state at the home, for some object and some shape
-abbrev StubAt : Maps → Base → ℕ → ℕ → Type 0
-StubAt maps b k home =
-    (n : ℕ) × (z : words.Shape) × (maps.home home ≡ Some n) × HeadIs b home (record { shape = z; kind = Stub k })
-
+-- the value of a register that holds an address
 value_some : (maps : Maps) (a : ℕ) → a ≢ 0 → value_at maps a ≡ option_map Ref (maps.address a)
 value_some maps zero some = absurd (some refl)
 value_some maps (suc a) some = refl
@@ -45,21 +42,27 @@ module _ (m : ToldCollection) where
   abbrev t : State
   t = m.c.t
 
+  -- a new home, with the header of its object
   new_is : (a n : ℕ) → GetsHome s c.home a → c.maps.address a ≡ Some n → (header : Header) ×
       IsNewHome s t c.home a header
   new_is a n gets named =
       let object = c.formed.words.objects a n named in
       (object.0, c.moves.homes.new a object.0 gets object.1.starts)
 
+  -- an old home lies before the old end
+  within_before : (k : ℕ) (z : words.Shape) → IsReserved s.base.homes k z → (1 ≤ k) × (k + cost_of z ≤ s.base.end)
+  within_before k z = reserved_within s.base.homes s.base.end m.tells.homes_follow k z
+
   -- an object whose home word is empty had no home in the map
   no_home_before : (a k n : ℕ) → s.word (a + 1) ≡ 0 → c.maps.address a ≡ Some n → c.maps.home k ≡ Some n → ⊥
   no_home_before a k n none named has =
       let word = m.tells.home_words a n k named has in
       let taken = (m.tells.taken k).0 (n, has) in
-      let first : 1 ≤ k = (reserved_within s.base.homes s.base.end m.tells.homes_follow k taken.reserved_for taken.reserved).0 in
+      let first : 1 ≤ k = (within_before k taken.reserved_for taken.reserved).0 in
       let is : s.word (a + 1) ≡ 4294967296 * k + 4 * word.0 = word.1 in
       omega arith
 
+  -- so each object has one home
   one_home : (a b n : ℕ) → c.new.home a ≡ Some n → c.new.home b ≡ Some n → a ≡ b
   one_home a b n first second = elim (m.homes.only a n first) [
     | inl was ↦ elim (m.homes.only b n second) [
@@ -77,14 +80,14 @@ module _ (m : ToldCollection) where
       Contains s.base.free_homes k → ⊥
   new_not_free a k n gets is named free =
       let was = m.tells.free_homes k free in
-      let within : k + cost_of was.reserved_for ≤ s.base.end =
-      (reserved_within s.base.homes s.base.end m.tells.homes_follow k was.reserved_for was.reserved).1 in
+      let within : k + cost_of was.reserved_for ≤ s.base.end = (within_before k was.reserved_for was.reserved).1 in
       let behind : s.base.end ≤ c.home a = (new_is a n gets named).1.behind in
       omega arith
 
   was_free : (k : ℕ) → Contains t.base.free_homes k → Contains s.base.free_homes k
   was_free k free = subst (λ (homes : List ℕ). Contains homes k) m.disk.free_homes free
 
+  -- a home with a name is taken
   taken_then : (k : ℕ) → HasObject c.new k → IsTaken t.base k
   taken_then k has = elim (m.homes.only k has.0 has.1) [
     | inl was ↦
@@ -103,6 +106,7 @@ module _ (m : ToldCollection) where
         }
   ]
 
+  -- and one that is taken has a name
   has_then : (k : ℕ) → IsTaken t.base k → HasObject c.new k
   has_then k taken = elim (m.disk.only_homes k taken.reserved_for taken.reserved) [
     | inl was ↦
@@ -125,6 +129,7 @@ module _ (m : ToldCollection) where
       let has = home_has m a f (c.moves.homes.leaving a leaves) in
       (taken_then k (f.number, ap c.new.home (sym same) ∙ has)).not_free free
 
+  -- so free homes stay
   free_then : (k : ℕ) → Contains t.base.free_homes k → IsFreeHome t.base k
   free_then k free =
       let was = m.tells.free_homes k (was_free k free) in
@@ -145,6 +150,7 @@ module _ (m : ToldCollection) where
     | inr gets ↦ gets.1.has_one (ap c.home (m.tells.one_address gets.0 a n gets.3 named) ∙ none)
   ]
 
+  -- which is in its home word then
   home_words_then : (b n k : ℕ) → c.new.address b ≡ Some n → c.new.home k ≡ Some n →
       (scion : ℕ) × (t.word (b + 1) ≡ home_word (Some (record { home = k; scion = scion })))
   home_words_then b n k named has =
@@ -152,13 +158,13 @@ module _ (m : ToldCollection) where
       let a : ℕ = it.from in
       let some = has_one k n a it.found has it.named in
       let one : Some it.found.number ≡ Some n = sym it.found.named ∙ it.named in
-      let is : c.home a ≡ k = one_home (c.home a) k n (home_has m a it.found some ∙ one) has in
-      (
+      let is : c.home a ≡ k = one_home (c.home a) k n (home_has m a it.found some ∙ one) has in (
         c.scion a,
         ap (λ (x : ℕ). t.word (x + 1)) (sym it.is)
-        ∙ (it.arrives.at_home some ∙ ap (λ (x : ℕ). home_word (Some (record { home = x; scion = c.scion a }))) is),
+            ∙ (it.arrives.at_home some ∙ ap (λ (x : ℕ). home_word (Some (record { home = x; scion = c.scion a }))) is),
       )
 
+  -- and the home in a home word is that of the object
   named_homes_then : (b n k scion : ℕ) → c.new.address b ≡ Some n →
       IsHomeAndScion (record { home = k; scion = scion }) →
       t.word (b + 1) ≡ home_word (Some (record { home = k; scion = scion })) → c.new.home k ≡ Some n
@@ -187,13 +193,13 @@ module _ (m : ToldCollection) where
       let keeps = keeps_record m home stands.reserved_for stands.reserved
       (none_leaves_for m home f.number a has some f.named) in
       let head = head_kept s.base t.base home stands.reserved_for keeps (record { shape = stub.1; kind = Stub scion })
-      stub.3 in
-      (
+      stub.3 in (
         stub.1,
         subst (λ (k : ℕ). HeadIs t.base (c.home a) (record { shape = stub.1; kind = Stub k })) (sym same_scion)
-        (subst (λ (j : ℕ). HeadIs t.base j (record { shape = stub.1; kind = Stub scion })) (sym same) head),
+            (subst (λ (j : ℕ). HeadIs t.base j (record { shape = stub.1; kind = Stub scion })) (sym same) head),
       )
 
+  -- and of one that has one then
   stub_at : (a : ℕ) (f : Found c a) → c.to a ≢ 0 → c.home a ≢ 0 →
       (z : words.Shape) × HeadIs t.base (c.home a) (record { shape = z; kind = Stub (c.scion a) })
   stub_at a f some home = elim (c.formed.words.home_words a f.number f.header f.named f.object.starts) [
@@ -210,7 +216,7 @@ module _ (m : ToldCollection) where
   ]
 
   -- each live scion is that of a Stub
-  stubs_then : (k : ℕ) (x : Scion) → t.base.scion k ≡ Some x → StubAt c.new t.base k x.home
+  stubs_then : (k : ℕ) (x : Scion) → t.base.scion k ≡ Some x → HasStub c.new t.base k x.home
   stubs_then k x live =
       let own = c.moves.only_scions k x live in
       let a : ℕ = own.0 in
@@ -219,10 +225,11 @@ module _ (m : ToldCollection) where
       let takes : t.base.scion (c.scion a) ≡ Some y = (c.moves.scions a own.1 own.2).live in
       let is : y ≡ x = same_Some y x (sym takes ∙ (ap t.base.scion own.3 ∙ live)) in
       let stub = stub_at a f own.1 own.2 in
-      subst (λ (j : ℕ). StubAt c.new t.base j x.home) own.3
-      (subst (λ (z : Scion). StubAt c.new t.base (c.scion a) z.home) is
+      subst (λ (j : ℕ). HasStub c.new t.base j x.home) own.3
+      (subst (λ (z : Scion). HasStub c.new t.base (c.scion a) z.home) is
       (f.number, stub.0, home_has m a f own.2, stub.1))
 
+  -- slots, number words and globals stand for what they stood for
   slots_then : (b n i : ℕ) (header : Header) → c.new.address b ≡ Some n → HeaderAt t b header →
       i < header.shape.refs → Stands c.new (t.word (b + 2 + i)) (last m.h (Field n i))
   slots_then b n i header named starts below =
@@ -258,6 +265,7 @@ module _ (m : ToldCollection) where
       word_stands m (s.global g) (t.global g) (last m.h (Global g)) (λ a refers. Reached.in_global g a few refers)
       (c.formed.words.globals g few) (m.tells.globals g few) (c.moves.global g few)
 
+  -- so the state tells the history
   pub tells_there : Tells m.h c.new t
   tells_there = record {
     one_address = λ a b n first second.
@@ -300,6 +308,7 @@ module _ (m : ToldCollection) where
 module _ (phase : Phase) (maps new : Maps) (s t : State) (to home scion : ℕ → ℕ)
     (moves : MovesWords phase s t to home scion) (names : MovesNames maps new to) (homes : NamesHomes maps new s home)
     (disk : MovesDisk phase s t to home scion) (h : List Entry) where
+  -- the parts of a collection that is told as one
   abbrev told : Formed maps s → Tells h maps s → ToldCollection
   told formed tells = record {
     c = collection phase maps new s t to home scion formed moves names;

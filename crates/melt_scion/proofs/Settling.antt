@@ -1,18 +1,19 @@
 -- A forwarded object gets a scion: the words stay well formed.
-use Rattle.std.proofs.Common.{◌≡◌, ◌≢◌, ℕ, ◌+◌, ◌*◌, ◌<◌, ◌≤◌, sym, ◌∙◌, ap, subst, arith, ◌⊎◌, inl, inr}
-use Rattle.std.specs.Prelude.{Option, None, Some}
+use Rattle.std.proofs.Common.{◌≡◌, ◌≢◌, ℕ, ◌+◌, ◌*◌, ◌<◌, ◌≤◌, sym, ◌∙◌, ap, subst, arith, inl, inr}
+use Rattle.std.specs.Prelude.{None, Some}
 use Rattle.std.proofs.lemmas.Bool.{cases_eq}
 use Rattle.std.proofs.lemmas.Option.{same_Some}
-use Rattle.melt_word.specs.Words.{home_word, cost_of}
+use Rattle.melt_word.specs.Words.{cost_of}
 use Rattle.melt_word.specs.declared.header.Header.{Header}
 use Rattle.melt_forward.specs.Forwarding.{Sends}
 use Rattle.melt_forward.proofs.Pairs.{one_address, forward_word-filled}
 use Rattle.melt_scion.specs.State.{Scion, State, HeaderAt, Forwards}
-use Rattle.melt_scion.specs.Placed.{Maps, HasHome, IsHomeWord, ScionStands, ForwardStands, ForwardMayStand}
+use Rattle.melt_scion.specs.Placed.{Maps, IsHomeWord, ScionStands, ForwardStands, ForwardMayStand}
 use Rattle.melt_scion.specs.Placed.{FormedWords, Formed}
 use Rattle.melt_scion.specs.Settles.{SettlesOne}
 use Rattle.melt_scion.proofs.Parts.{home_part, parts_differ}
-use Rattle.melt_scion.proofs.SameObjects.{SameObjects, NamesMatch, header_was, fresh_on, words_on, registers_on}
+use Rattle.melt_scion.proofs.SameObjects.{SameObjects, NamesMatch, header_was, words_on, registers_on}
+use Rattle.melt_scion.proofs.SameObjects.{forward_within, home_word_on, scion_on, forward_on}
 use Rattle.melt_scion.proofs.Forwarded.{forward_stands, no_scion_there}
 
 module _ (maps : Maps) (s t : State) (place home address scion : ℕ)
@@ -21,6 +22,7 @@ module _ (maps : Maps) (s t : State) (place home address scion : ℕ)
   pub was_forwarded : Forwards s home address
   was_forwarded = record { place = place; within = settles.within; sends = settles.sends }
 
+  -- so its home word had the scion 0
   abbrev pub object_stood : ForwardStands maps s home address
   object_stood = forward_stands maps s home address formed was_forwarded
 
@@ -28,6 +30,7 @@ module _ (maps : Maps) (s t : State) (place home address scion : ℕ)
   pub home_word_same : (a : ℕ) → a ≢ address → t.word (a + 1) ≡ s.word (a + 1)
   home_word_same a other = settles.other_words (a + 1) (omega arith)
 
+  -- of objects only the one home word changes
   pub settle_same : SameObjects maps s t
   settle_same = record {
     sizes = settles.sizes;
@@ -42,20 +45,21 @@ module _ (maps : Maps) (s t : State) (place home address scion : ℕ)
     global = settles.global;
   }
 
-  pub forward_within : (p : ℕ) → p < t.base.forwards → p < s.base.forwards
-  forward_within p below = let count : t.base.forwards ≡ s.base.forwards = settles.sizes.forwards in omega arith
+  within : (p : ℕ) → p < t.base.forwards → p < s.base.forwards
+  within = forward_within maps s t formed settle_same
 
   -- a forwarding word that sends a home then is another, and did so before
   sent_before : (p k a : ℕ) → Sends (t.forward p) k a → (p ≢ place) × Sends (s.forward p) k a
   sent_before p k a sends =
       let other : p ≢ place = λ same.
-          forward_word-filled k a sends.home_in_range (sym sends.is ∙ (ap t.forward same ∙ settles.empty)) in
+      forward_word-filled k a sends.home_in_range (sym sends.is ∙ (ap t.forward same ∙ settles.empty)) in
       (other, subst (λ w. Sends w k a) (settles.other_forwards p other) sends)
 
+  -- so what is forwarded then was
   pub forwarded_before : (k a : ℕ) → Forwards t k a → Forwards s k a
   forwarded_before k a is = record {
     place = is.place;
-    within = forward_within is.place is.within;
+    within = within is.place is.within;
     sends = (sent_before is.place k a is.sends).1;
   }
 
@@ -64,15 +68,15 @@ module _ (maps : Maps) (s t : State) (place home address scion : ℕ)
   home_unsent a is =
       let was = sent_before is.place home a is.sends in
       was.0
-      (formed.one_forward is.place place home a address (forward_within is.place is.within) settles.within was.1
+      (formed.one_forward is.place place home a address (within is.place is.within) settles.within was.1
       settles.sends)
 
   -- the home of another object is forwarded on
   pub forwarded_on : (k a : ℕ) → a ≢ address → Forwards s k a → Forwards t k a
   forwarded_on k a other is =
       let differ : is.place ≢ place = λ same.
-          other (one_address (s.forward is.place) k a home address is.sends
-          (subst (λ (p : ℕ). Sends (s.forward p) home address) (sym same) settles.sends)) in
+      other (one_address (s.forward is.place) k a home address is.sends
+      (subst (λ (p : ℕ). Sends (s.forward p) home address) (sym same) settles.sends)) in
       record {
         place = is.place;
         within = let count : t.base.forwards ≡ s.base.forwards = settles.sizes.forwards in
@@ -88,27 +92,15 @@ module _ (maps : Maps) (s t : State) (place home address scion : ℕ)
       let both : None ≡ Some x = sym dead ∙ live in
       absurd (cc)
 
+  -- so it stays live
   pub live_on : (k : ℕ) (x : Scion) → s.base.scion k ≡ Some x → t.base.scion k ≡ Some x
   live_on k x live = settles.other_scions k (other_scion k x live) ∙ live
 
-  has_home_on : (a cost k j : ℕ) → a ≢ address → HasHome s a cost k j → HasHome t a cost k j
-  has_home_on a cost k j other has =
-      let end : t.base.end ≡ s.base.end = settles.same_homes.end in
-      let within : k + cost ≤ s.base.end = has.within in
-      record {
-        in_range = has.in_range;
-        is = home_word_same a other ∙ has.is;
-        within = omega arith;
-        forwarded = (
-          λ none. forwarded_on k a other (has.forwarded.0 none),
-          λ is. has.forwarded.1 (forwarded_before k a is),
-        );
-        live = λ some. live_on j _ (has.live some);
-      }
-
+  -- another object keeps its home
   other_home_word : (a cost : ℕ) → a ≢ address → IsHomeWord s a cost → IsHomeWord t a cost
-  other_home_word a cost other (inl none) = inl (home_word_same a other ∙ none)
-  other_home_word a cost other (inr has) = inr (has.0, has.1, has_home_on a cost has.0 has.1 other has.2)
+  other_home_word a cost other word =
+      home_word_on maps s t formed settle_same a cost (home_word_same a other)
+      (λ k. (forwarded_on k a other, forwarded_before k a)) live_on word
 
   -- the home of the object lies before the end, as it did
   home_within : (cost : ℕ) → IsHomeWord s address cost → home + cost ≤ t.base.end
@@ -129,14 +121,19 @@ module _ (maps : Maps) (s t : State) (place home address scion : ℕ)
   this_home_word : (cost : ℕ) → IsHomeWord s address cost → IsHomeWord t address cost
   this_home_word cost word =
       let first : 1 ≤ scion = settles.first in
-      inr (home, scion, record {
-        in_range = record { home = settles.sends.home_in_range; scion = settles.small };
-        is = settles.home_word_is;
-        within = home_within cost word;
-        forwarded = (λ none. absurd (omega arith), λ is. absurd (home_unsent address is));
-        live = λ some. settles.live;
-      })
+      inr (
+        home,
+        scion,
+        record {
+          in_range = record { home = settles.sends.home_in_range; scion = settles.small };
+          is = settles.home_word_is;
+          within = home_within cost word;
+          forwarded = (λ none. absurd (omega arith), λ is. absurd (home_unsent address is));
+          live = λ some. settles.live;
+        },
+      )
 
+  -- so all home words are well formed
   home_words_on : (a n : ℕ) (header : Header) → maps.address a ≡ Some n → HeaderAt t a header →
       IsHomeWord t a (cost_of header.shape)
   home_words_on a n header named starts =
@@ -159,11 +156,13 @@ module _ (maps : Maps) (s t : State) (place home address scion : ℕ)
   pub live_before : (k : ℕ) (x : Scion) → k ≢ scion → t.base.scion k ≡ Some x → s.base.scion k ≡ Some x
   live_before k x other live = sym (settles.other_scions k other) ∙ live
 
+  -- and this one names the object
   pub this_scion : (k : ℕ) (x : Scion) → k ≡ scion → t.base.scion k ≡ Some x →
       record { home = home; address = address } ≡ x
   this_scion k x same live =
       same_Some (record { home = home; address = address }) x (sym settles.live ∙ (ap t.base.scion (sym same) ∙ live))
 
+  -- so all scions stand
   scions_on : (k : ℕ) (x : Scion) → t.base.scion k ≡ Some x → ScionStands maps t k x
   scions_on k x live = elim (cases_eq k scion) [
     | inl same ↦
@@ -176,13 +175,8 @@ module _ (maps : Maps) (s t : State) (place home address scion : ℕ)
         subst (λ (j : ℕ). ScionStands maps t j x) (sym same)
         (subst (ScionStands maps t scion) (this_scion k x same live) stands)
     | inr other ↦
-        let is = formed.scions k x (live_before k x other live) in
-        record {
-          first = is.first;
-          small = is.small;
-          named = is.named;
-          home_word = home_word_same x.address (scion_elsewhere k x is) ∙ is.home_word;
-        }
+        let was = formed.scions k x (live_before k x other live) in
+        scion_on maps s t formed settle_same k x (home_word_same x.address (scion_elsewhere k x was)) was
   ]
 
   -- another forwarding word names another object
@@ -196,15 +190,14 @@ module _ (maps : Maps) (s t : State) (place home address scion : ℕ)
       other (formed.one_forward p place home a address below settles.within
       (subst (λ (j : ℕ). Sends (s.forward p) j a) one sends) settles.sends)
 
-  other_forward : (p : ℕ) → p < s.base.forwards → p ≢ place → ForwardMayStand maps s (s.forward p) →
-      ForwardMayStand maps t (s.forward p)
-  other_forward p below other (inl none) = inl none
-  other_forward p below other (inr is) = inr (is.0, is.1, is.2, record {
-    named = is.3.named;
-    home_word = home_word_same is.1 (forward_elsewhere p is.0 is.1 below other is.2 is.3) ∙ is.3.home_word;
-    fresh = fresh_on maps s t formed settle_same is.1 is.3.named is.3.fresh;
-  })
+  -- and stands as it stood
+  other_forward : (p : ℕ) → p < s.base.forwards → p ≢ place → ForwardMayStand maps t (s.forward p)
+  other_forward p below other =
+      forward_on maps s t formed settle_same (s.forward p)
+      (λ k a sends stands. home_word_same a (forward_elsewhere p k a below other sends stands))
+      (formed.forwards p below)
 
+  -- home words, scions and forwarding words name each other
   names_match : NamesMatch maps t
   names_match = record {
     home_words = home_words_on;
@@ -212,16 +205,16 @@ module _ (maps : Maps) (s t : State) (place home address scion : ℕ)
     forwards = λ p below. elim (cases_eq p place) [
       | inl same ↦ inl (ap t.forward same ∙ settles.empty)
       | inr other ↦
-          let was = forward_within p below in
+          let was = within p below in
           subst (ForwardMayStand maps t) (sym (settles.other_forwards p other))
-          (other_forward p was other (formed.forwards p was))
+          (other_forward p was other)
     ];
     one_forward = λ p q k a b below also first second.
-        formed.one_forward p q k a b (forward_within p below) (forward_within q also) (sent_before p k a first).1
+        formed.one_forward p q k a b (within p below) (within q also) (sent_before p k a first).1
         (sent_before q k b second).1;
   }
 
-  -- the words are well formed when the object is settled
+  -- so the words stay well formed
   pub settle_formed : FormedWords maps t
   settle_formed = words_on maps s t formed settle_same names_match
 
