@@ -1,6 +1,8 @@
 -- Heaps that are built by hand, for tests: one without objects, and one with three.
 use Rattle.std.proofs.Common.{◌≡◌, ◌≢◌, ℕ, ◌+◌, ◌^◌, ◌<◌, zero, suc, List, [], ◌∷◌, length, replicate, refl, sym, subst, ap, ◌∙◌, arith, lit≤, ◌⊎◌, inl, inr}
-use Rattle.std.specs.Prelude.{Option, None, Some, true, false, slice_index}
+use Rattle.std.specs.Prelude.{◌/◌, Bool, Option, None, Some, true, false, slice_index}
+use Rattle.std.specs.FinMap.{FinMap, empty, get}
+use Rattle.std.specs.Ordering.{nat_cmp}
 use Rattle.std.proofs.lemmas.List.{length-replicate, get_or-replicate, get_or_past}
 use Rattle.std.proofs.lemmas.Bool.{cases_lt}
 use Rattle.std.proofs.lemmas.Bool.Decides.{eqb_tells}
@@ -11,39 +13,50 @@ use Rattle.melt_space.specs.Space.{SpaceWords, word_at, Makes, SetsWord, IsFresh
 use Rattle.melt_scion.specs.State.{State, HeaderAt, ObjectAt, IsFresh}
 use Rattle.melt_scion.specs.Placed.{Maps, FormedWords, Formed}
 use Rattle.melt_scion.specs.Names.{name_at, SetsName}
-use Rattle.melt_scion.specs.Heaps.{register_in, state_of, IsFormed, IsNewHeap, HasNames, NamesMade}
+use Rattle.melt_scion.specs.HomeNames.{NamedHomes}
+use Rattle.melt_scion.specs.Scions.{Scions, empty_table}
+use Rattle.melt_scion.specs.Heaps.{no_homes_on, scion_in, register_in, state_of, IsFormed, IsSettled, IsNewHeap, HasNames, NamesMade}
 use Rattle.melt_scion.specs.declared.registers.Registers.{Registers}
 use Rattle.melt_scion.specs.declared.heap.Names as heap
 use Rattle.melt_scion.specs.declared.heap.Heap.{Heap}
 use Rattle.melt_scion.proofs.Geometry.{one_header}
-use Rattle.melt_scion.proofs.Homeless.{HasNoScions, heap_has_no_scions}
-use Rattle.melt_scion.proofs.Starting.{Formed_start}
-use Rattle.melt_copy.proofs.Outs.{nothing_at}
+use Rattle.melt_scion.proofs.Starting.{Formed_start, new_heap_empty, nothing_at, no_scion_in}
 
+-- no address has a name, and no scion is live
 none_at : (n k : ℕ) → name_at (replicate n None) k ≡ None
 none_at n zero = refl
-none_at n (suc k) = elim (cases_lt k n) [ inl below ↦ get_or-replicate n k None None below | inr above ↦ get_or_past (replicate n None) k None (omega (arith, length-replicate {A = Option ℕ} n None, above)) ]
+none_at n (suc k) = elim (cases_lt k n) [
+  | inl below ↦ get_or-replicate n k None None below
+  | inr above ↦
+      get_or_past (replicate n None) k None (omega (arith, length-replicate {A = Option ℕ} n None, above))
+]
 
 -- a new heap with names, and registers that hold nothing
-pub new_formed : (words globals : ℕ) (h : Heap) (held : List Registers) → words < 2 ^ 30 → IsNewHeap words globals true h
+pub new_formed : (words globals forward : ℕ) (h : Heap) (held : List Registers) → words < 2 ^ 30
+    → IsNewHeap words globals forward true h
     → ((t r : ℕ) → register_in held t r ≡ 0) → IsFormed h held
-new_formed words globals h held small new registers =
+new_formed words globals forward h held small new registers =
     let maps : Maps = record { address = λ k. None; home = λ k. None } in
     record {
       maps = maps;
-      end = 1;
-      names = subst (λ (o : Option heap.Names). HasNames o maps) (sym new.names) (λ k. sym (none_at words k));
-      made = subst (NamesMade (length h.space.list)) (sym new.names) (length-replicate {A = Option ℕ} words None ∙ sym new.space.size);
-      formed = Formed_start maps (state_of h held 1) (record { address = λ k. refl; home = λ k. refl }) (record {
-        small = (let size = new.space.size in omega (arith, size, small));
-        forwards = λ p below. refl;
-        scions = λ k. refl;
-        end = refl;
-        homes = refl;
-        free_homes = refl;
-        globals = λ g below. ap (λ (gs : List ℕ). slice_index gs g) new.globals_hold_nothing ∙ nothing_at globals g;
-      }) registers;
+      disk = no_homes_on;
+      names = subst (λ (o : Option heap.Names). HasNames o h.maps maps) (sym new.names)
+          (λ k. sym (none_at words k), λ k. refl);
+      made = record {
+        scions = ap (λ (table : Scions). length table.pairs) new.scions
+            ∙ (length-replicate {A = Option (ℕ × ℕ)} (words / 2) None
+            ∙ ap (λ (n : ℕ). n / 2) (sym new.space.size));
+        names = subst (NamesMade (length h.space.list)) (sym new.names)
+            (length-replicate {A = Option ℕ} words None ∙ sym new.space.size);
+      };
+      formed = Formed_start maps (state_of h held no_homes_on) (record { address = λ k. refl; home = λ k. refl })
+          (new_heap_empty h held words globals forward true small new) registers;
     }
+
+pub new_settled : (words globals forward : ℕ) (named : Bool) (h : Heap) → IsNewHeap words globals forward named h
+    → IsSettled h
+new_settled words globals forward named h new p =
+    ap (λ (xs : List ℕ). slice_index xs p) new.nothing_forwarded ∙ nothing_at forward p
 
 abbrev pub no_registers : Registers
 no_registers = record { regs = replicate 16 0 }
@@ -80,7 +93,8 @@ leaf_header = record { shape = record { refs = 0; nums = 0 }; stale = false }
 pub record HasWords (maps : Maps) (s : State) : Type 0 where
   pub size : s.base.size ≡ 10
   pub end : s.base.end ≡ 1
-  pub none : HasNoScions s.base
+  pub scions : (k : ℕ) → s.base.scion k ≡ None
+  pub forwards : s.base.forwards ≡ 0
   pub free : s.free ≡ 10
   pub named_at : (k n : ℕ) → maps.address k ≡ Some n → (k ≡ 1) ⊎ ((k ≡ 4) ⊎ (k ≡ 8))
   pub pair_named : maps.address 4 ≡ Some 1
@@ -167,9 +181,9 @@ module _ (maps : Maps) (s : State) (has : HasWords maps s) where
       ]
     ]);
     globals = λ g below. record { reference = Clean 8; in_range = record { not_null = lit≤ tt; small = lit≤ tt }; is = has.globals g below; stands = ((2, has.leaf_named), fresh_at 8 leaf_header leaf_starts refl) };
-    scions = λ k x live. absurd (let dead = has.none.scions k in cc);
-    forwards = λ p below. absurd (omega (arith, below, has.none.forwards));
-    one_forward = λ p q home a b below. absurd (omega (arith, below, has.none.forwards));
+    scions = λ k x live. absurd (let dead = has.scions k in cc);
+    forwards = λ p below. absurd (omega (arith, below, has.forwards));
+    one_forward = λ p q home a b below. absurd (omega (arith, below, has.forwards));
   }
 
   pub words_formed : Formed maps s
@@ -202,14 +216,18 @@ pub record HasThree (h : Heap) (held : List Registers) (names : List (Option ℕ
   pub one_named : SetsName unnamed names_one first 0
   pub two_named : SetsName names_one names_two second 1
   pub three_named : SetsName names_two names third 2
-  pub has : h.names ≡ Some (record { addresses = names })
+  pub homes : NamedHomes
+  pub no_homes : homes.names ≡ empty
+  pub has : h.names ≡ Some (record { addresses = names; homes = homes })
+  pub scions : h.scions ≡ empty_table 5
+  pub forward : h.forward ≡ []
   pub globals : h.globals ≡ replicate 1 (ref_word (Clean third))
   pub registers : (t r : ℕ) → (register_in held t r ≡ 0) ⊎ (register_in held t r ≡ second)
 
 pub three_formed : (h : Heap) (held : List Registers) (names : List (Option ℕ)) (first second third : ℕ) → HasThree h held names first second third → IsFormed h held
 three_formed h held names first second third is =
     let maps : Maps = record { address = name_at names; home = λ k. None } in
-    let s : State = state_of h held 1 in
+    let s : State = state_of h held no_homes_on in
     let at_one : first ≡ 1 = omega (arith, is.makes_one.place, is.fresh.used) in
     let used_one : is.one.used ≡ 3 = omega (arith, is.makes_one.used, is.fresh.used) in
     let at_four : second ≡ 4 = omega (arith, is.makes_two.place, used_one) in
@@ -234,13 +252,19 @@ three_formed h held names first second third is =
     ] in
     record {
       maps = maps;
-      end = 1;
-      names = subst (λ (o : Option heap.Names). HasNames o maps) (sym is.has) (λ k. refl);
-      made = subst (NamesMade (length h.space.list)) (sym is.has) (count ∙ sym size);
+      disk = no_homes_on;
+      names = subst (λ (o : Option heap.Names). HasNames o h.maps maps) (sym is.has)
+          (λ k. refl, λ k. sym (ap (λ (m : FinMap nat_cmp ℕ). get m k) is.no_homes));
+      made = record {
+        scions = ap (λ (table : Scions). length table.pairs) is.scions
+            ∙ (length-replicate {A = Option (ℕ × ℕ)} 5 None ∙ ap (λ (n : ℕ). n / 2) (sym size));
+        names = subst (NamesMade (length h.space.list)) (sym is.has) (count ∙ sym size);
+      };
       formed = words_formed maps s (record {
         size = size;
         end = refl;
-        none = heap_has_no_scions h held 1;
+        scions = λ k. ap (λ (table : Scions). scion_in table k) is.scions ∙ no_scion_in 5 k;
+        forwards = ap length is.forward;
         free = omega (arith, used);
         named_at = named_at;
         pair_named = is.three_named.others 4 (omega (arith, at_eight)) ∙ subst (λ (c : ℕ). name_at is.names_two c ≡ Some 1) at_four is.two_named.here;

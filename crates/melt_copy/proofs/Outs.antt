@@ -9,7 +9,7 @@ use Rattle.melt_space.specs.Space.{IsSpace}
 use Rattle.std.specs.Option.{option_map}
 use Rattle.melt_scion.specs.State.{Scion, State}
 use Rattle.melt_scion.specs.State.Reached.{in_register, in_global, at_scion}
-use Rattle.melt_scion.specs.Scions.{scion_at}
+use Rattle.melt_scion.specs.Scions.{IsTable, scion_at}
 use Rattle.melt_scion.specs.Placed.{Maps, Formed}
 use Rattle.melt_scion.specs.Heaps.{OnDisk, scion_in, register_in, state_of, IsFormed}
 use Rattle.melt_scion.specs.declared.registers.Registers.{Registers}
@@ -192,8 +192,8 @@ module _ (old now : Heap) (held : List Registers) (start : Forwarding) (used : �
           → ((s : State) → Tracks old.space s third → HasCopied phase front old.space s last copied.words.items (length last.moves.items))
           → (moves : List Relocation) → moves ≡ last.moves.items → NumbersAre old.names moves copied.numbers.items
           → copied.forwarding ≡ last → copied.globals.items ≡ globals → copied.held ≡ first.next - 1
-          → copied.live.items ≡ old.scions.live → Copies phase now held copied
-      copies phase third last front none globals copied front_is found grows empty extends move grows_scions scions finds_scions grows_last has ms ms_is numbers forwarding_is globals_is held_is live_is =
+          → copied.live.items ≡ old.scions.live → IsTable old.scions → Copies phase now held copied
+      copies phase third last front none globals copied front_is found grows empty extends move grows_scions scions finds_scions grows_last has ms ms_is numbers forwarding_is globals_is held_is live_is table =
           subst (λ (heap : Heap). Copies phase heap held copied) begins.same (record {
             is = λ maps disk formed.
                 let s : State = state_of old held disk in
@@ -206,4 +206,5 @@ module _ (old now : Heap) (held : List Registers) (start : Forwarding) (used : �
                 (subst (λ (n : ℕ). HasCopied phase n old.space s last copied.words.items (length last.moves.items)) front_is (has s moved))
                 (subst (λ (l : List Relocation). NumbersAre old.names l copied.numbers.items) ms_is numbers);
             live = live_is;
+            table = table;
           })

@@ -6,6 +6,7 @@ use Rattle.melt_scion.specs.State.{Scion, State}
 use Rattle.melt_scion.specs.Placed.{Maps, Formed}
 use Rattle.melt_scion.specs.Names.{name_at}
 use Rattle.melt_scion.specs.GhostMaps.{NamePairs, named}
+use Rattle.melt_scion.specs.Scions.{IsTable}
 use Rattle.melt_scion.specs.Heaps.{OnDisk, register_in, state_of}
 use Rattle.melt_scion.specs.declared.registers.Registers.{Registers}
 use Rattle.melt_scion.specs.declared.heap.Names.{Names}
@@ -39,6 +40,7 @@ pub record Copies (phase : Phase) (heap : Heap) (held : List Registers) (copied 
   pub is : (maps : Maps) (disk : OnDisk) → Formed maps (state_of heap held disk)
       → IsCopied phase (state_of heap held disk) heap.names copied
   pub live : copied.live.items ≡ heap.scions.live
+  pub table : IsTable heap.scions
 
 -- each move has a place of its own
 abbrev pub PlacesApart : List Relocation → Type 0

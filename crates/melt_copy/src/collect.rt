@@ -9,6 +9,7 @@
 //! refer to comes behind them, then the objects of live scions, to which records on disk refer, and then what slots do.
 ghost use Rattle.std.specs.Prelude.{◌≡◌, ℕ, ◌<◌, ◌≤◌, length, IfOk, OnErr};
 ghost use Rattle.melt_scion.specs.Heaps.{IsFormed, IsSettled};
+ghost use Rattle.melt_scion.specs.Scions.{IsTable};
 ghost use Rattle.melt_copy.specs.Copying.{Collects, IsCopying};
 ghost use Rattle.melt_copy.specs.Copied.{AreRenamed, Copies, IsPutBack, MayRename, NumbersAre};
 ghost use Rattle.melt_copy.specs.Tracking.{goes};
@@ -127,6 +128,7 @@ fn put_back<L: Ledger>(
     requires fits { length copied.words.items ≤ length heap.old.space.list }
     requires nothing { goes copied.forwarding 0 ≡ 0 }
     requires live { copied.live.items ≡ heap.old.scions.live }
+    requires table { IsTable heap.old.scions }
     requires names { MayRename heap.old.space.used heap.old.names copied.forwarding.moves.items copied.numbers.items }
     ensures { IsPutBack heap.old heap.new held.old held.new copied }
 {

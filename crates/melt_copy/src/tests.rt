@@ -1,11 +1,13 @@
 ghost use Rattle.std.specs.Prelude.{◌≡◌, ◌<◌, IfOk};
 ghost use Rattle.melt_word.specs.Words.{IsShape};
-ghost use Rattle.melt_scion.specs.Heaps.{IsFormed};
+ghost use Rattle.melt_scion.specs.Heaps.{IsFormed, IsSettled};
 ghost use Rattle.melt_copy.specs.Copying.{IsCopying};
 
 use super::*;
 use melt_model::{Journal, NoMemory, Phase, Steps};
-use melt_scion::{AddressNames, Globals, Heap, Names, Registers};
+use melt_scion::{
+    AddressNames, Forwards, GhostMaps, Globals, Heap, HomeNames, Names, Registers, ScionTable,
+};
 use melt_space::Space;
 use melt_word::{Header, Ref, Shape, encode_header, encode_ref};
 use std::alloc::Global;
@@ -25,6 +27,7 @@ fn collect_uncounted<L: Ledger>(
     requires parts { blank.parts ≡ L.parts }
     requires some { 0 < blank.parts }
     requires formed { IsFormed heap.old held.old }
+    requires settled { IsSettled heap.old }
     requires phase { IsCopying phase }
 {
     let mut steps = Steps::<L>::new(blank);
@@ -51,7 +54,8 @@ const LEAF: Shape = Shape { refs: 0, nums: 0 };
 /// A heap of 10 words with three objects. The first is not reached. The second is a pair in register 3 of thread 1,
 /// with a stale reference to the third and the number 9. The third is a leaf, to which a global refers.
 fn three_objects(alloc: Global) -> Result<(Heap, [Registers; 2]), Fail>
-    ensures { IfOk result (λ made. IsFormed made.0 made.1) }
+    ensures formed { IfOk result (λ made. IsFormed made.0 made.1) }
+    ensures settled { IfOk result (λ made. IsSettled made.0) }
 {
     let mut space = Space::new(alloc, 10)?;
     let first = space.make(Shape { refs: 0, nums: 1 })?;
@@ -66,8 +70,16 @@ fn three_objects(alloc: Global) -> Result<(Heap, [Registers; 2]), Fail>
     let items = vec![in alloc; encode_ref(Ref::Clean(third)); 1]?;
     let heap = Heap {
         space,
+        scions: ScionTable::new(alloc, 5)?,
         globals: Globals { items },
-        names: Some(Names { addresses }),
+        forward: Forwards {
+            items: Vec::new(alloc),
+        },
+        names: Some(Names {
+            addresses,
+            homes: HomeNames::new(alloc),
+        }),
+        maps: GhostMaps::none(),
     };
     let mut regs = [0; 16];
     regs[3] = second;
@@ -84,7 +96,7 @@ fn header(shape: Shape, stale: bool) -> u64
 #[test]
 fn a_heap_without_objects_stays_so(rt: HostRuntime) -> Result<(), Fail> {
     let alloc = rt.alloc();
-    let mut heap = Heap::new(alloc, 4, 1, true)?;
+    let mut heap = Heap::new(alloc, 4, 1, 2, true)?;
     let mut held = [Registers { regs: [0; 16] }];
     let blank = Blank::new(1);
     let journal = collect_uncounted::<Brand>(alloc, &mut heap, &mut held, Phase::Inactive, blank)?;

@@ -49,7 +49,8 @@ no_pair_at count k = elim (cases_lt k count) [
       (omega (arith, length-replicate {A = Option (ℕ × ℕ)} count None, above))
 ]
 
-no_scion_in : (count k : ℕ) → scion_in (empty_table count) k ≡ None
+-- and no scion of an empty table is live
+pub no_scion_in : (count k : ℕ) → scion_in (empty_table count) k ≡ None
 no_scion_in count zero = refl
 no_scion_in count (suc k) = ap (option_map (λ (pair : ℕ × ℕ). record { home = pair.0; address = pair.1 }))
     (no_pair_at count k)

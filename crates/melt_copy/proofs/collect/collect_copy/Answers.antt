@@ -1,5 +1,5 @@
-use Rattle.std.proofs.Common.{refl, sym, subst, arith}
-use Rattle.melt_scion.specs.Heaps.{IsFormed}
+use Rattle.std.proofs.Common.{◌-◌, refl, sym, subst, arith}
+use Rattle.melt_scion.specs.Heaps.{IsFormed, IsSettled}
 use Rattle.melt_scion.specs.declared.heap.Heap.{Heap}
 use Rattle.melt_copy.specs.Copied.{Copies, IsPutBack}
 use Rattle.melt_copy.proofs.Collects.{copied_fits, nothing_goes, may_rename, put_collects}
@@ -16,7 +16,7 @@ formed_still g c =
 pub put_back-requires-clause-fits : goal.put_back-requires-clause-fits
 put_back-requires-clause-fits g c =
     let formed = formed_still g (goal.at.put_back-requires-clause-fits g c).After-room_for_copy in
-    let is = c.in_ok-copied.ensures formed.maps formed.end formed.formed in
+    let is = c.in_ok-copied.ensures.is formed.maps formed.disk formed.formed in
     let fits = copied_fits _ _ c.in_ok-copied.copied is in
     let inside = is.whole.inside in
     omega (arith, fits, inside)
@@ -24,7 +24,7 @@ put_back-requires-clause-fits g c =
 pub put_back-requires-clause-nothing : goal.put_back-requires-clause-nothing
 put_back-requires-clause-nothing g c =
     let formed = formed_still g (goal.at.put_back-requires-clause-nothing g c).After-room_for_copy in
-    nothing_goes _ _ c.in_ok-copied.copied (c.in_ok-copied.ensures formed.maps formed.end formed.formed)
+    nothing_goes _ _ c.in_ok-copied.copied (c.in_ok-copied.ensures.is formed.maps formed.disk formed.formed)
 
 pub put_back-requires-clause-names : goal.put_back-requires-clause-names
 put_back-requires-clause-names g c =
@@ -36,4 +36,15 @@ returns-clause-collected g c =
     let copied = c.in_ok-copied.copied in
     let OfCopy : Heap → Type 0 = λ h. Copies c.args.phase h c.args.held.now copied in
     let OfPut : Heap → Type 0 = λ h. IsPutBack h c.put_back.new.heap c.args.held.now c.put_back.new.held copied in
-    put_collects c.args.heap.now _ c.args.held.now c.put_back.new.held copied c.args.phase _ c.requires.phase (subst OfCopy c.room_for_copy.ensures c.in_ok-copied.ensures) (subst OfPut c.room_for_copy.ensures c.put_back.ensures) refl refl c.used.ensures.value refl refl refl
+    put_collects c.args.heap.now _ c.args.held.now c.put_back.new.held copied c.args.phase _ c.requires.phase
+    c.requires.settled (subst OfCopy c.room_for_copy.ensures c.in_ok-copied.ensures)
+    (subst OfPut c.room_for_copy.ensures c.put_back.ensures) (record {
+      held = refl;
+      rest = record {
+        of_phase = refl;
+        live_words = c.used.ensures.value;
+        no_bodies = refl;
+        no_stubs = refl;
+        no_end = refl;
+      };
+    })

@@ -3,8 +3,8 @@ use Rattle.melt_space.specs.Space.{SetsWord}
 use Rattle.melt_copy.proofs.Building.{second_holds, three_formed, fourth_held}
 use Rattle.melt_copy.proofs.tests.three_objects.Goals as goal
 
-pub returns : goal.returns
-returns c = three_formed _ (second_holds c.in_ok-second.second) c.set-3.new.self c.in_ok-first.first c.in_ok-second.second c.in_ok-third.third (record {
+pub returns-clause-formed : goal.returns-clause-formed
+returns-clause-formed c = three_formed _ (second_holds c.in_ok-second.second) c.set-3.new.self c.in_ok-first.first c.in_ok-second.second c.in_ok-third.third (record {
   start = c.in_ok-space.space;
   one = c.make.new.self;
   two = c.make-2.new.self;
@@ -23,7 +23,11 @@ returns c = three_formed _ (second_holds c.in_ok-second.second) c.set-3.new.self
   one_named = c.set.ensures;
   two_named = c.set-2.ensures;
   three_named = c.set-3.ensures;
+  homes = _;
+  no_homes = c.new-2.ensures.names;
   has = refl;
+  scions = ?;
+  forward = ?;
   globals = c.in_ok-items.ensures.items_if_clones_equal (λ y is. is) ∙ ap (λ (word : ℕ). replicate 1 word) c.encode_ref-2.ensures;
   registers = fourth_held c.in_ok-second.second;
 })
