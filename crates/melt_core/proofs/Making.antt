@@ -24,6 +24,7 @@ use Rattle.melt_scion.specs.Placed.{Maps, MayHold, FormedWords}
 use Rattle.melt_scion.specs.Regions.{Region, no_region, Apart, Owns, HasStored}
 use Rattle.melt_scion.specs.Changes.{FreeMoves, WordChanges, NameAppears}
 use Rattle.melt_scion.specs.Heaps.{register_in}
+use Rattle.melt_scion.specs.declared.registers.Registers.{Registers}
 use Rattle.melt_core.specs.declared.answer.StepResult.TheVariants.{Going, Answered, Refused}
 use Rattle.melt_core.specs.declared.answer.Refusal.TheVariants.{Pause}
 use Rattle.melt_core.specs.declared.answer.Pause.TheVariants.{Space}
@@ -37,11 +38,12 @@ use Rattle.melt_core.specs.Events.{Event, quiet, claims as claims_words, stores,
 use Rattle.melt_core.specs.Stages.{Next, Fits, MustPause, Applies, Word, Publish, change_of, cleared_by, task_of}
 use Rattle.melt_core.specs.Changed.{with_call, with_register, noted}
 use Rattle.melt_core.specs.Advances.{MayAdvance, Advances, InBounds, HasRoomFor, Sets}
-use Rattle.melt_core.specs.Views.{View, maps, state, call_of, stage_of, registers_in, claimed_in, base_in, maps_of, numbers_of, held_value, held_values, values_of, Standing}
+use Rattle.melt_core.specs.Views.{View, Standing, maps, state, shown, call_of, stage_of, claimed_in, maps_of, numbers_of}
+use Rattle.melt_core.specs.Views.{registers_in, held_value, held_values, values_of}
 use Rattle.melt_core.proofs.Asked.{call_at, fits_at, known_at, inside, next_fits}
 use Rattle.melt_core.proofs.Claims.{bounded_is, bounded_lacking, bounded_call, bounded_refused, claims_ends, claims_next}
 use Rattle.melt_core.proofs.Counting.{Counts_claimed, Counts_lacking, Counts_same, Counts_published, room_for}
-use Rattle.melt_core.proofs.Answered.{same_words}
+use Rattle.melt_core.proofs.Words.{same_words, word_set}
 use Rattle.melt_core.proofs.Answers.{new_answers}
 use Rattle.melt_core.proofs.Evolving.{evolves_event}
 use Rattle.melt_core.proofs.Staying.{hold_stays}
@@ -50,7 +52,7 @@ use Rattle.melt_core.proofs.Values.{held_is, named_value}
 use Rattle.melt_core.proofs.Going.{goes}
 use Rattle.melt_core.proofs.Plain.{as_told}
 use Rattle.melt_core.proofs.Regions.{apart_sym, no_region_apart, claimed_owned, claimed_apart}
-use Rattle.melt_core.proofs.Standing.{Happens, Made, advances, call_here, values_stay}
+use Rattle.melt_core.proofs.Standing.{Happens, Made, advances, call_here, kept_own, values_stay}
 use Rattle.melt_core.proofs.Tasks.{LoadsNothing, new_is, no_load}
 
 -- the view behind a claim
@@ -122,13 +124,7 @@ claim_happens told v t free need o shape dst stage asks at s small whole needed 
     record {
       event = subst (λ (k : ℕ). Event told v.log (maps v) (maps w) (state v) (state w) no_region k None) (sym clears)
           (claims_words (cost_of shape) refl moves);
-      log = refl;
-      calls = refl;
-      threads = refl;
-      others = λ u differ. refl;
-      named = s.named;
-      room = refl;
-      made = s.counted;
+      kept = kept_own told v w t (Some after) s refl;
       first = omega arith;
       bounded = elim (cases_lt (length v.space.list + 1) free) [
         | inl above ↦
@@ -262,14 +258,8 @@ store_zero_advances v space t o address stored dst shape asks at few sets =
     let w : View = with_call (record v { space = space }) t (Some after) in
     let within : t < length v.calls = inside v t o asks in
     let known = claimed_known v t o address stored dst shape asks at in
-    let changes : WordChanges (state v) (state w) (address + 1 + stored) 0 = record {
-      base = ap (λ (n : ℕ). record (base_in v.space v.globals) { size = n }) sets.size;
-      free = refl;
-      here = sets.here;
-      others = sets.others;
-      global = λ g. refl;
-      forward = λ p. refl;
-    } in
+    let changes : WordChanges (state v) (state w) (address + 1 + stored) 0 =
+    word_set v space v.held (address + 1 + stored) 0 sets in
     let owns : Owns (maps w) (state w) (region address shape) =
     owns_stored (maps v) (state v) (state w) (region address shape)
     (address + 1 + stored) 0 s.holds.formed known.1.owns (omega arith) (omega arith) changes in
@@ -286,13 +276,7 @@ store_zero_advances v space t o address stored dst shape asks at few sets =
         event = subst (λ (k : ℕ). Event told v.log (maps v) (maps w) (state v) (state w) (region address shape) k None)
             (sym (ap cleared_by at)) (stores (region address shape) (address + 1 + stored) 0 refl known.1.owns
             (omega arith) (omega arith) changes);
-        log = refl;
-        calls = refl;
-        threads = refl;
-        others = λ u differ. refl;
-        named = stands.named;
-        room = refl;
-        made = stands.counted;
+        kept = kept_own told v w t (Some after) stands refl;
         first = stands.first;
         bounded = bounded_is w (length v.space.list) v.free v.stop (set v.calls t (Some after)) sets.size refl refl refl
             (bounded_call (length v.space.list) v.free v.stop v.calls t (Some after) within
@@ -348,13 +332,7 @@ lack_advances v t need o asks at =
       happens = λ told stands. record {
         event = subst (λ (k : ℕ). Event told v.log (maps v) (maps w) (state v) (state w) no_region k None)
             (sym (ap cleared_by at)) (quiet refl (same_words v));
-        log = refl;
-        calls = refl;
-        threads = refl;
-        others = λ u differ. refl;
-        named = stands.named;
-        room = refl;
-        made = stands.counted;
+        kept = kept_own told v w t None stands refl;
         first = stands.first;
         bounded = bounded_refused (length v.space.list) v.free v.stop v.calls t within stands.bounded;
         may_hold = s.registers t;
@@ -403,14 +381,11 @@ publish_advances v space names t word o address stored dst shape asks at all is 
     let header : Header = record { shape = shape; stale = false } in
     let task : task_of o ≡ Some (Making dst shape) = fits_at v t o stage asks at in
     let same : o ≡ op.New dst shape.refs shape.nums = new_is o dst shape task in
-    let changes : WordChanges (state v) (state w) address (header_word header) = record {
-      base = ap (λ (n : ℕ). record (base_in v.space v.globals) { size = n }) sets.size;
-      free = refl;
-      here = sets.here ∙ is;
-      others = sets.others;
-      global = λ g. refl;
-      forward = λ p. refl;
-    } in
+    let changed : (held : List Registers)
+    → WordChanges (state v) (shown space v.globals held v.free) address (header_word header) =
+    λ held. subst (WordChanges (state v) (shown space v.globals held v.free) address) is
+    (word_set v space held address word sets) in
+    let changes : WordChanges (state v) (state w) address (header_word header) = changed w.held in
     let named : NameAppears (maps v) (maps w) address (makes v.log) =
     subst (NameAppears (maps v) (maps w) address) s.counted appears in
     let event : (told : Bool) → Event told v.log (maps v) (maps w) (state v) (state w) (region address shape) 0
@@ -431,13 +406,15 @@ publish_advances v space names t word o address stored dst shape asks at all is 
       happens = λ told stands. record {
         event = subst (λ (k : ℕ). Event told v.log (maps v) (maps w) (state v) (state w) (region address shape) k
             (Some (Make shape.refs shape.nums))) (sym (ap cleared_by at)) (event told);
-        log = refl;
-        calls = refl;
-        threads = threads_set (record v { names = names }) t dst address;
-        others = λ u differ. registers_other v.held t u (set (registers_in v.held t) dst address) differ;
-        named = some;
-        room = size;
-        made = ap (λ (n : ℕ). n + 1) stands.counted ∙ made_one v.log t shape;
+        kept = record {
+          log = refl;
+          calls = refl;
+          threads = threads_set (record v { names = names }) t dst address;
+          others = λ u differ. registers_other v.held t u (set (registers_in v.held t) dst address) differ;
+          named = some;
+          room = size;
+          made = ap (λ (n : ℕ). n + 1) stands.counted ∙ made_one v.log t shape;
+        };
         first = stands.first;
         bounded = bounded_is w (length v.space.list) v.free v.stop (set v.calls t None) sets.size refl refl refl
             (bounded_call (length v.space.list) v.free v.stop v.calls t None within
@@ -459,16 +436,7 @@ publish_advances v space names t word o address stored dst shape asks at all is 
     λ u. values_stay v (record w { held = v.held }) u 0 s
     (evolves_event false v.log (maps v) (maps w) (state v) (state (record w { held = v.held })) (region address shape) 0
     (Some (Make shape.refs shape.nums)) s.holds.formed
-    (publishes address stored shape known.0 known.1 all
-    (record {
-      base = changes.base;
-      free = changes.free;
-      here = changes.here;
-      others = changes.others;
-      global =
-          changes.global;
-      forward = changes.forward;
-    }) named)) refl in
+    (publishes address stored shape known.0 known.1 all (changed v.held) named)) refl in
     advances v w t o (Answered reply.Done) asks made refl
     (subst (λ (g : Option Stage). Applies (maps v) (maps w) (state v) (state w)
     (change_of (state v) (register_in v.held t) g)) (sym at)

@@ -9,5 +9,6 @@ ghost use Rattle.melt_core.specs.Shared.{Table, SharedLaws};
 /// they are well formed for some maps, four events keep what stands: told or not, with the entry in the history, and with
 /// all that other threads know and own.
 pub fn shared_words()
-    ensures { (told : Bool) (thread : ℕ) (h : List Entry) (maps : Maps) (base : Base) (old new : Table) → SharedLaws told thread h maps base old new }
+    ensures { (told : Bool) (thread : ℕ) (h : List Entry) (maps : Maps) (base : Base) (old new : Table)
+        → SharedLaws told thread h maps base old new }
 {}

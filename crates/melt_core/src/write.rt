@@ -16,6 +16,7 @@ use melt_word::Shape;
 
 impl Core {
     /// Writes what a register holds into a slot of an object, or into a global.
+    #[inline(always)]
     pub(crate) fn store(&mut self, thread: u32, op: Op, place: Place, src: u8) -> StepResult
         requires asks { MayAdvance (view self.old) thread op }
         requires stage { StoresFrom (stage_of (view self.old) thread) place src }
