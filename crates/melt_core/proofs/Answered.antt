@@ -96,6 +96,46 @@ answered v w t o reply act asks p applies replies =
       room = replies.room;
     }) replies.clean
 
+-- What an event shows of registers: those of its thread may hold what they hold, and those of the others stay.
+pub record Local (v : View) (held : List Registers) (t : ℕ) : Type 0 where
+  pub threads : length held ≡ length v.held
+  pub others : (u : ℕ) → u ≢ t → registers_in held u ≡ registers_in v.held u
+  pub may_hold : (r : ℕ) → MayHold (maps v) (state v) (register_in held t r)
+
+-- a register was set
+pub local_set : (v : View) (t r address : ℕ) → Standing false v → t < length v.held → MayHold (maps v) (state v) address
+    → Local v (with_register v t r address).held t
+local_set v t r address s within may = record {
+  threads = threads_set v t r address;
+  others = λ u differ. registers_other v.held t u (set (registers_in v.held t) r address) differ;
+  may_hold = register_keeps (MayHold (maps v) (state v)) v t r address within may (s.registers t);
+}
+
+-- nothing changes at all
+pub local_still : (v : View) (t : ℕ) → Standing false v → Local v v.held t
+local_still v t s = record { threads = refl; others = λ u differ. refl; may_hold = s.registers t }
+
+-- an event behind which the call is over, by what it shows of words and registers
+over_plain : (v w : View) (t cleared : ℕ) (act : Option Act)
+    → ((told : Bool) → Standing told v → Event told v.log (maps v) (maps w) (state v) (state w) no_region cleared act)
+    → MakesNothing act → OnlyMoves v w t act None → length w.space.list ≡ length v.space.list → Local v w.held t
+    → claimed_in (call_of v t) ≡ 0 → ((need : ℕ) → stage_of v t ≡ Some (Lacking need) → ⊥)
+    → Plain v w t cleared act None
+over_plain v w t cleared act event nothing moves words local unclaimed no_lack = record {
+  event = event;
+  nothing = nothing;
+  moves = moves;
+  words = words;
+  threads = local.threads;
+  others = local.others;
+  may_hold = local.may_hold;
+  known = λ c none. absurd (cc);
+  fits = λ c none. absurd (cc);
+  unclaimed = refl;
+  unclaimed_before = unclaimed;
+  claims = claims_ends v.stop (stage_of v t) no_lack;
+}
+
 -- What the last event of a call shows that began before it.
 pub record Over (v w : View) (t : ℕ) (o : Op) (stage : Stage) (act : Option Act) (reply : Reply) : Type 0 where
   pub ends : Ends v t o stage
@@ -105,9 +145,7 @@ pub record Over (v w : View) (t : ℕ) (o : Op) (stage : Stage) (act : Option Ac
   pub nothing : MakesNothing act
   pub moves : OnlyMoves v w t act None
   pub words : length w.space.list ≡ length v.space.list
-  pub threads : length w.held ≡ length v.held
-  pub others : (u : ℕ) → u ≢ t → registers_in w.held u ≡ registers_in v.held u
-  pub may_hold : (r : ℕ) → MayHold (maps v) (state v) (register_in w.held t r)
+  pub local : Local v w.held t
   pub answers : Standing true v → Answers t v.log (values_of v t) o reply w.log (values_of w t)
   pub registers : (r : ℕ) → (Sets o r → ⊥) → register_in w.held t r ≡ register_in v.held t r
   pub room : HasRoomFor v o
@@ -118,23 +156,11 @@ pub over_advances : (v w : View) (t : ℕ) (o : Op) (stage : Stage) (act : Optio
 over_advances v w t o stage act reply asks is =
     let ends : Ends v t o stage = is.ends in
     answered v w t o reply act asks
-    (record {
-      event = λ told s. subst
-          (λ (k : ℕ). Event told v.log (maps v) (maps w) (state v) (state w) no_region k act)
-          (sym (ap cleared_by ends.at ∙ ends.clears)) (is.event told s);
-      nothing = is.nothing;
-      moves = is.moves;
-      words = is.words;
-      threads = is.threads;
-      others = is.others;
-      may_hold = is.may_hold;
-      known = λ c none. absurd (cc);
-      fits = λ c none. absurd (cc);
-      unclaimed = refl;
-      unclaimed_before = ap claimed_in (call_at v t o stage asks ends.at) ∙ ends.unclaimed;
-      claims = claims_ends v.stop (stage_of v t)
-          (λ need lacks. ends.no_lack need (let e : Some stage ≡ Some (Lacking need) = sym ends.at ∙ lacks in cc));
-    })
+    (over_plain v w t (cleared_by (stage_of v t)) act
+    (λ told s. subst (λ (k : ℕ). Event told v.log (maps v) (maps w) (state v) (state w) no_region k act)
+    (sym (ap cleared_by ends.at ∙ ends.clears)) (is.event told s))
+    is.nothing is.moves is.words is.local (ap claimed_in (call_at v t o stage asks ends.at) ∙ ends.unclaimed)
+    (λ need lacks. ends.no_lack need (let e : Some stage ≡ Some (Lacking need) = sym ends.at ∙ lacks in cc)))
     (subst (λ (g : Option Stage). Applies (maps v) (maps w) (state v) (state w)
     (change_of (state v) (register_in v.held t) g)) (sym ends.at) is.applies)
     (record {
@@ -147,41 +173,14 @@ over_advances v w t o stage act reply asks is =
       clean = is.clean;
     })
 
--- an operation on registers alone: what is shown of those of all threads
-record Local (v : View) (held : List Registers) (t : ℕ) : Type 0 where
-  pub threads : length held ≡ length v.held
-  pub others : (u : ℕ) → u ≢ t → registers_in held u ≡ registers_in v.held u
-  pub may_hold : (r : ℕ) → MayHold (maps v) (state v) (register_in held t r)
-
+-- an operation on registers alone
 local_plain : (v : View) (held : List Registers) (t : ℕ) → call_of v t ≡ None → Local v held t
     → Plain v (record v { held = held }) t 0 None None
-local_plain v held t first is = record {
-  event = λ told stands. quiet refl (same_behind v held);
-  nothing = tt;
-  moves = ap (λ (calls : List (Option Call)). record v { held = held; calls = calls }) (set_none v.calls t first);
-  words = refl;
-  threads = is.threads;
-  others = is.others;
-  may_hold = is.may_hold;
-  known = λ c none. absurd (cc);
-  fits = λ c none. absurd (cc);
-  unclaimed = refl;
-  unclaimed_before = ap claimed_in first;
-  claims = claims_ends v.stop (stage_of v t) (λ need is. let none : stage_of v t ≡ None = ap stage_in first in cc);
-}
-
--- a register was set
-local_set : (v : View) (t r address : ℕ) → Standing false v → t < length v.held → MayHold (maps v) (state v) address
-    → Local v (with_register v t r address).held t
-local_set v t r address s within may = record {
-  threads = threads_set v t r address;
-  others = λ u differ. registers_other v.held t u (set (registers_in v.held t) r address) differ;
-  may_hold = register_keeps (MayHold (maps v) (state v)) v t r address within may (s.registers t);
-}
-
--- nothing changes at all
-local_still : (v : View) (t : ℕ) → Standing false v → Local v v.held t
-local_still v t s = record { threads = refl; others = λ u differ. refl; may_hold = s.registers t }
+local_plain v held t first local =
+    over_plain v (record v { held = held }) t 0 None (λ told stands. quiet refl (same_behind v held)) tt
+    (ap (λ (calls : List (Option Call)). record v { held = held; calls = calls }) (set_none v.calls t first)) refl local
+    (ap claimed_in first)
+    (λ need is. let none : stage_of v t ≡ None = ap stage_in first in cc)
 
 -- an answer in the first event of a call: nothing of its words is shared
 first_answered : (v : View) (held : List Registers) (t : ℕ) (o : Op) (reply : Reply) → MayAdvance v t o

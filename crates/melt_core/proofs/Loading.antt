@@ -1,6 +1,5 @@
 -- The events of loads: a look, a clear and an untag.
 use Rattle.std.proofs.Common.{◌≡◌, ℕ, zero, suc, ◌<◌, inl, inr, List, [], ◌∷◌, ◌++◌, length, refl, sym, ◌∙◌, ap, subst, arith}
-use Rattle.std.proofs.Math.ListN.{set}
 use Rattle.std.specs.Prelude.{Bool, true, false, Option, None, Some, unwrap_or}
 use Rattle.melt_model.specs.History.{last}
 use Rattle.melt_model.specs.Thread.{found}
@@ -36,16 +35,16 @@ use Rattle.melt_core.specs.Events.{Event, PlaceChanges, reads_place, clears, unt
 use Rattle.melt_core.specs.Stages.{Next, Fits, LoadsAt, LooksFrom, Applies, Nothing, change_of, cleared_by}
 use Rattle.melt_core.specs.Changed.{HoldsRef, HasRead, with_call, with_register, noted}
 use Rattle.melt_core.specs.Advances.{MayAdvance, Advances, HasRoomFor, Sets, InBounds}
-use Rattle.melt_core.specs.Views.{View, Standing, maps, state, stage_of, values_of, held_value, registers_in, claimed_in}
+use Rattle.melt_core.specs.Views.{View, Standing, maps, state, stage_of, values_of, held_value, claimed_in}
 use Rattle.melt_core.proofs.Asked.{call_at, fits_at, known_at}
 use Rattle.melt_core.proofs.Words.{same_behind, word_set, over}
 use Rattle.melt_core.proofs.Evolving.{evolves_event}
 use Rattle.melt_core.proofs.Staying.{looked_stays, place_stays}
 use Rattle.melt_core.proofs.Going.{goes_on, go_advances}
-use Rattle.melt_core.proofs.Answered.{Ends, ends_at, over_advances}
+use Rattle.melt_core.proofs.Answered.{Ends, ends_at, local_set, over_advances}
 use Rattle.melt_core.proofs.Answers.{load_answers, gload_answers}
 use Rattle.melt_core.proofs.Objects.{object_shape, value_named, tagged_is, value_there, may_stand_there, stale_address}
-use Rattle.melt_core.proofs.Registers.{register_keeps, register_other, registers_other, threads_set, values_set}
+use Rattle.melt_core.proofs.Registers.{register_other, values_set}
 use Rattle.melt_core.proofs.Tasks.{load_is, gload_is}
 
 -- the view behind a read: what the address stands for was read at the slot, and the register holds it
@@ -142,10 +141,7 @@ read_advances v space globals t o stage place at dst address asks is =
       nothing = refl;
       moves = refl;
       words = is.words;
-      threads = threads_set v t dst address;
-      others = λ u differ. registers_other v.held t u (set (registers_in v.held t) dst address) differ;
-      may_hold = register_keeps (MayHold (maps v) (state v)) v t dst address asks.thread is.finds.may_hold
-          (asks.stands.registers t);
+      local = local_set v t dst address asks.stands asks.thread is.finds.may_hold;
       answers = λ told. read_answers v t o place at dst address asks.thread told is.finds is.is_slot;
       registers = λ r other. register_other v t dst address r asks.thread
           (λ same. other (subst (Sets o) (sym same) (sets_dst (register_in v.held t) o place dst is.finds.loads)));

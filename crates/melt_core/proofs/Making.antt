@@ -42,7 +42,7 @@ use Rattle.melt_core.specs.Views.{View, Standing, maps, state, shown, call_of, s
 use Rattle.melt_core.specs.Views.{registers_in, held_value, held_values, values_of}
 use Rattle.melt_core.proofs.Asked.{call_at, fits_at, known_at, inside, next_fits}
 use Rattle.melt_core.proofs.Claims.{bounded_is, bounded_lacking, bounded_call, bounded_refused, claims_ends, claims_next}
-use Rattle.melt_core.proofs.Counting.{Counts_claimed, Counts_lacking, Counts_same, Counts_published, room_for}
+use Rattle.melt_core.proofs.Counting.{Counts_same, Counts_published, room_for}
 use Rattle.melt_core.proofs.Words.{same_words, word_set}
 use Rattle.melt_core.proofs.Answers.{new_answers}
 use Rattle.melt_core.proofs.Evolving.{evolves_event}
@@ -162,10 +162,20 @@ claim_happens told v t free need o shape dst stage asks at s small whole needed 
                 (claimed_from v (cost_of shape) d.stage s.holds.formed (s.known u d other))
           ]);
       counts = λ is. elim (cases_lt (length v.space.list + 1) free) [
-        | inl above ↦ Counts_lacking v w t (Some after) (as_told told v is s) asks.thread refl refl
-            (omega arith) refl refl unclaimed (ap (λ (g : Stage). (region_of g).words) (lacks above))
-        | inr below ↦ Counts_claimed v w t (cost_of shape) (Some after) (as_told told v is s) asks.thread refl refl
-            whole (omega arith) refl refl unclaimed (ap (λ (g : Stage). (region_of g).words) (fits below))
+        | inl above ↦
+            let none : claimed_in (Some after) ≡ 0 = ap (λ (g : Stage). (region_of g).words) (lacks above) in
+            Counts_same v w t (Some after) (as_told told v is s) asks.thread refl (record {
+              names = refl;
+              words = refl;
+              calls = refl;
+              below = omega arith;
+              within = inl (omega arith);
+            })
+        | inr below ↦
+            let words : claimed_in (Some after) ≡ cost_of shape = ap (λ (g : Stage). (region_of g).words) (fits below)
+            in
+            Counts_same v w t (Some after) (as_told told v is s) asks.thread refl
+            (record { names = refl; words = refl; calls = refl; below = omega arith; within = inr (omega arith) })
       ];
     }
 
@@ -305,8 +315,14 @@ store_zero_advances v space t o address stored dst shape asks at few sets =
         mine_is = others_apart v t o stage asks at;
         apart = λ c is u d differ other. subst (λ (x : Call). Apart (region_of x.stage) (region_of d.stage))
             (let e : after ≡ c = cc in e) (others_apart v t o stage asks at u d differ other);
-        counts = λ is. Counts_same v w t (Some after) (as_told told v is stands) asks.thread refl refl refl sets.size
-            refl claimed;
+        counts = λ is. Counts_same v w t (Some after) (as_told told v is stands) asks.thread refl
+            (record {
+              names = refl;
+              words = sets.size;
+              calls = refl;
+              below = omega (arith, claimed);
+              within = inl (omega (arith, claimed));
+            });
       };
     } in
     advances v w t o Going asks made refl
@@ -340,8 +356,8 @@ lack_advances v t need o asks at =
         fits = λ c is. absurd (cc);
         mine_is = λ u d differ is. no_region_apart (region_of d.stage);
         apart = λ c is. absurd (cc);
-        counts = λ is. Counts_same v w t None (as_told told v is stands) asks.thread refl refl refl refl refl
-            (sym (ap claimed_in (call_at v t o (Lacking need) asks at)));
+        counts = λ is. Counts_same v w t None (as_told told v is stands) asks.thread refl
+            (record { names = refl; words = refl; calls = refl; below = omega arith; within = inl (omega arith) });
       };
     } in
     advances v w t o (Refused (Pause (Space need))) asks made refl

@@ -1,6 +1,6 @@
 -- Events that leave the names, the first free place and the stop word, and whose thread owns no words before and behind
 -- them. What each of these shows is less.
-use Rattle.std.proofs.Common.{◌≡◌, ◌≢◌, ℕ, ◌<◌, ◌≤◌, List, [], ◌∷◌, length, refl, sym, ◌∙◌, ap, subst, arith}
+use Rattle.std.proofs.Common.{◌≡◌, ◌≢◌, ℕ, ◌<◌, ◌≤◌, inl, List, [], ◌∷◌, length, refl, sym, ◌∙◌, ap, subst, arith}
 use Rattle.std.proofs.Math.ListN.{set}
 use Rattle.std.specs.Prelude.{Bool, true, Option, None, Some, IsSome}
 use Rattle.std.specs.List.{cons_option}
@@ -24,7 +24,7 @@ use Rattle.melt_core.proofs.Keeping.{event_keeps}
 use Rattle.melt_core.proofs.Staying.{hold_stays}
 use Rattle.melt_core.proofs.Regions.{no_region_apart}
 use Rattle.melt_core.proofs.Claims.{bounded_is, bounded_call}
-use Rattle.melt_core.proofs.Counting.{Counts_same, Counts_entry}
+use Rattle.melt_core.proofs.Counting.{Claims, Counts_same, Counts_entry}
 use Rattle.melt_core.proofs.Standing.{Made}
 
 -- an act that makes no object, or none at all
@@ -75,16 +75,24 @@ unclaimed_region (Cleared place target dst) none = refl
 unclaimed_region (Claimed address shape stored dst) none = absurd (omega arith)
 unclaimed_region (Lacking need) none = refl
 
+plain_claims : (v w : View) (t cleared : ℕ) (act : Option Act) (after : Option Call) → Plain v w t cleared act after
+    → Claims v w t after
+plain_claims v w t cleared act after p = record {
+  names = ap (λ (x : View). x.names) p.moves;
+  words = p.words;
+  calls = ap (λ (x : View). x.calls) p.moves;
+  below = let free : w.free ≡ v.free = ap (λ (x : View). x.free) p.moves in
+      omega (arith, p.unclaimed, p.unclaimed_before);
+  within = inl (omega (arith, p.unclaimed, p.unclaimed_before));
+}
+
 counts_plain : (v w : View) (t cleared : ℕ) (act : Option Act) (after : Option Call) → Standing true v
     → t < length v.held → Plain v w t cleared act after → Counts w
 counts_plain v w t cleared None after s within p =
-    Counts_same v w t after s within (ap (λ (x : View). x.names) p.moves) (ap (λ (x : View). x.log) p.moves)
-    (ap (λ (x : View). x.free) p.moves) p.words (ap (λ (x : View). x.calls) p.moves)
-    (p.unclaimed ∙ sym p.unclaimed_before)
+    Counts_same v w t after s within (ap (λ (x : View). x.log) p.moves) (plain_claims v w t cleared None after p)
 counts_plain v w t cleared (Some act) after s within p =
-    Counts_entry v w t after (entry t act) s within (ap (λ (x : View). x.names) p.moves)
-    (ap (λ (x : View). x.log) p.moves) p.nothing (ap (λ (x : View). x.free) p.moves) p.words
-    (ap (λ (x : View). x.calls) p.moves) (p.unclaimed ∙ sym p.unclaimed_before)
+    Counts_entry v w t after (entry t act) s within (ap (λ (x : View). x.log) p.moves)
+    (plain_claims v w t cleared (Some act) after p)
 
 -- where it is told, it is told so
 pub as_told : (told : Bool) (v : View) → told ≡ true → Standing told v → Standing true v

@@ -35,7 +35,7 @@ use Rattle.melt_core.specs.Views.{View, maps, state, stage_of, values_of}
 use Rattle.melt_core.proofs.Asked.{fits_at, known_at}
 use Rattle.melt_core.proofs.Words.{same_words}
 use Rattle.melt_core.proofs.Going.{go_advances}
-use Rattle.melt_core.proofs.Answered.{ends_at, over_advances, use_room}
+use Rattle.melt_core.proofs.Answered.{ends_at, local_still, over_advances, use_room}
 use Rattle.melt_core.proofs.Answers.{range_answers, get_answers, LacksPart}
 use Rattle.melt_core.proofs.Objects.{object_held, object_of, object_shape, value_named}
 use Rattle.melt_core.proofs.Tasks.{LoadsNothing, get_is, no_load}
@@ -96,9 +96,7 @@ range_advances v t o r access shape asks at object lacks =
       nothing = tt;
       moves = refl;
       words = refl;
-      threads = refl;
-      others = λ u differ. refl;
-      may_hold = asks.stands.registers t;
+      local = local_still v t asks.stands;
       answers = λ told. range_answers t v.log (values_of v t) o object.number shape reply.Range v.log (values_of v t)
           (lacks_part (values_of v t) o r object.number access shape task
           (value_named v t r (register_in v.held t r) object.number refl object.named) lacks)
@@ -145,9 +143,7 @@ get_advances v t o address j n number shape asks at named is =
       nothing = refl;
       moves = refl;
       words = refl;
-      threads = refl;
-      others = λ u differ. refl;
-      may_hold = asks.stands.registers t;
+      local = local_still v t asks.stands;
       answers = λ told. subst (λ (p : Op). Answers t v.log (values_of v t) p (reply.Num number) w.log (values_of v t))
           (sym (get_is o fits.0 j fits.1))
           (get_answers t v.log (values_of v t) fits.0 j n number shape (reply.Num number) w.log (values_of v t)

@@ -33,7 +33,7 @@ use Rattle.melt_core.specs.Views.{View, Standing, maps, state, stage_of, values_
 use Rattle.melt_core.proofs.Asked.{fits_at, known_at}
 use Rattle.melt_core.proofs.Words.{over, word_set}
 use Rattle.melt_core.proofs.Plain.{MakesNothing}
-use Rattle.melt_core.proofs.Answered.{Ends, ends_at, over_advances, use_room}
+use Rattle.melt_core.proofs.Answered.{Ends, ends_at, local_still, over_advances, use_room}
 use Rattle.melt_core.proofs.Answers.{store_answers, gstore_answers, put_answers}
 use Rattle.melt_core.proofs.Objects.{object_shape, value_named}
 use Rattle.melt_core.proofs.Tasks.{LoadsNothing, no_load, store_is, gstore_is, put_is}
@@ -68,9 +68,7 @@ write_advances v space globals t o stage act asks is =
       nothing = is.nothing;
       moves = refl;
       words = is.words;
-      threads = refl;
-      others = λ u differ. refl;
-      may_hold = asks.stands.registers t;
+      local = local_still v t asks.stands;
       answers = is.answers;
       registers = λ k other. refl;
       room = is.room;
