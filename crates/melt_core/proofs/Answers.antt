@@ -1,5 +1,6 @@
 -- What an operation of a thread does, from the values and shapes that it found.
-use Rattle.std.proofs.Common.{◌≡◌, ◌≢◌, ℕ, ◌<◌, ◌≤◌, Bool, false, List, [], ◌∷◌, ◌++◌, get_or, refl, sym, ◌∙◌, ap, arith, inl, inr}
+use Rattle.std.proofs.Common.{◌≡◌, ◌≢◌, ℕ, ◌<◌, ◌≤◌, Bool, false, List, [], ◌∷◌}
+use Rattle.std.proofs.Common.{◌++◌, get_or, refl, sym, ◌∙◌, ap, arith, inl, inr}
 use Rattle.std.proofs.lemmas.Bool.{lt-ltb, le-ltb, ne_eqb}
 use Rattle.std.proofs.Math.ListN.{set}
 use Rattle.std.specs.Prelude.{if◌then◌else◌, Option, None, Some}

@@ -1,5 +1,6 @@
 -- The events of loads: a look, a clear and an untag.
-use Rattle.std.proofs.Common.{◌≡◌, ℕ, zero, suc, ◌<◌, inl, inr, List, [], ◌∷◌, ◌++◌, length, refl, sym, ◌∙◌, ap, subst, arith}
+use Rattle.std.proofs.Common.{◌≡◌, ℕ, zero, suc, ◌<◌, inl, inr, List, []}
+use Rattle.std.proofs.Common.{◌∷◌, ◌++◌, length, refl, sym, ◌∙◌, ap, subst, arith}
 use Rattle.std.specs.Prelude.{Bool, true, false, Option, None, Some, unwrap_or}
 use Rattle.melt_model.specs.History.{last}
 use Rattle.melt_model.specs.Thread.{found}
@@ -346,31 +347,35 @@ look_reads v w t o place dst address result asks looks finds clean read =
       clean = clean;
     })))
 
--- a load that has cleared has no further event than the untag
-cleared_ends : (v : View) (t : ℕ) (o : Op) (place : Place) (target dst : ℕ)
-    → stage_of v t ≡ Some (Cleared place target dst) → Ends v t o (Cleared place target dst)
-cleared_ends v t o place target dst at = ends_at v t o (Cleared place target dst) at tt (λ next goes. goes)
+-- The next event of the thread is the exchange of its load, which found the stale target at the place.
+pub record IsCleared (v : View) (t : ℕ) (o : Op) (place : Place) (target dst : ℕ) : Type 0 where
+  pub asks : MayAdvance v t o
+  pub at : stage_of v t ≡ Some (Cleared place target dst)
+
+-- it has no event behind it
+cleared_ends : {v : View} {t : ℕ} {o : Op} {place : Place} {target dst : ℕ} → IsCleared v t o place target dst
+    → Ends v t o (Cleared place target dst)
+cleared_ends {v} {t} {o} {place} {target} {dst} is =
+    ends_at v t o (Cleared place target dst) is.at tt (λ next goes. goes)
 
 -- what such a load knows
-pub cleared_known : (v : View) (t : ℕ) (o : Op) (place : Place) (target dst : ℕ) → MayAdvance v t o
-    → stage_of v t ≡ Some (Cleared place target dst) → HasLooked (maps v) (state v) place (Stale target)
-    × IsFresh (state v) target
-cleared_known v t o place target dst asks at = known_at v t o (Cleared place target dst) asks at
+pub cleared_known : {v : View} {t : ℕ} {o : Op} {place : Place} {target dst : ℕ} → IsCleared v t o place target dst
+    → HasLooked (maps v) (state v) place (Stale target) × IsFresh (state v) target
+cleared_known {v} {t} {o} {place} {target} {dst} is = known_at v t o (Cleared place target dst) is.asks is.at
 
-pub cleared_loads : (v : View) (t : ℕ) (o : Op) (place : Place) (target dst : ℕ) → MayAdvance v t o
-    → stage_of v t ≡ Some (Cleared place target dst) → LoadsAt (register_in v.held t) o place dst
-cleared_loads v t o place target dst asks at = fits_at v t o (Cleared place target dst) asks at
+pub cleared_loads : {v : View} {t : ℕ} {o : Op} {place : Place} {target dst : ℕ} → IsCleared v t o place target dst
+    → LoadsAt (register_in v.held t) o place dst
+cleared_loads {v} {t} {o} {place} {target} {dst} is = fits_at v t o (Cleared place target dst) is.asks is.at
 
 -- an exchange was lost: the word that stands there is answered
-pub untag_lost : (v w : View) (t : ℕ) (o : Op) (place : Place) (target dst address : ℕ) (result : StepResult)
-    → MayAdvance v t o → stage_of v t ≡ Some (Cleared place target dst) → Finds v t o place dst address
-    → (IsTagged (word_in (state v) place) → ⊥) → HasRead v w t place dst address result → Advances v w t o result
-untag_lost v w t o place target dst address result asks at finds clean read =
-    let known = cleared_known v t o place target dst asks at in
+pub untag_lost : {v w : View} {t : ℕ} {o : Op} {place : Place} {target dst address : ℕ} {result : StepResult}
+    → IsCleared v t o place target dst → Finds v t o place dst address → (IsTagged (word_in (state v) place) → ⊥)
+    → HasRead v w t place dst address result → Advances v w t o result
+untag_lost {v} {w} {t} {o} {place} {target} {dst} {address} is finds clean read =
     subst (λ (r : StepResult). Advances v w t o r) (sym read.told)
     (subst (λ (x : View). Advances v x t o (Answered (found (held_value v.names address)))) (sym read.is)
-    (read_advances v v.space v.globals t o (Cleared place target dst) place read.slot dst address asks (record {
-      ends = cleared_ends v t o place target dst at;
+    (read_advances v v.space v.globals t o (Cleared place target dst) place read.slot dst address is.asks (record {
+      ends = cleared_ends is;
       finds = finds;
       is_slot = read.is_slot;
       words = refl;
@@ -378,7 +383,8 @@ untag_lost v w t o place target dst address result asks at finds clean read =
       applies = (
         refl,
         (
-          λ is. absurd (clean (record { reference = Stale target; in_range = known.0.in_range; tag = tt; is = is })),
+          λ still. absurd (clean
+              (record { reference = Stale target; in_range = (cleared_known is).0.in_range; tag = tt; is = still })),
           λ differ. same_behind v (behind v t read.slot dst address).held,
         ),
       );
@@ -386,53 +392,50 @@ untag_lost v w t o place target dst address result asks at finds clean read =
     })))
 
 -- the stale address is still there
-pub untag_is : (v : View) (t : ℕ) (o : Op) (place : Place) (target dst x : ℕ) → MayAdvance v t o
-    → stage_of v t ≡ Some (Cleared place target dst) → HoldsRef (word_in (state v) place) (Stale x)
-    → word_in (state v) place ≡ ref_word (Stale target)
-untag_is v t o place target dst x asks at holds =
-    (cleared_known v t o place target dst asks at).0.unless_clean
+untag_is : {v : View} {t : ℕ} {o : Op} {place : Place} {target dst : ℕ} (x : ℕ) → IsCleared v t o place target dst
+    → HoldsRef (word_in (state v) place) (Stale x) → word_in (state v) place ≡ ref_word (Stale target)
+untag_is x is holds = (cleared_known is).0.unless_clean
     (record { reference = Stale x; in_range = holds.in_range; tag = tt; is = holds.is })
 
 -- the load's object
-untag_finds : (v : View) (t : ℕ) (o : Op) (place : Place) (target dst x : ℕ) → MayAdvance v t o
-    → stage_of v t ≡ Some (Cleared place target dst) → HoldsRef (word_in (state v) place) (Stale x)
-    → Finds v t o place dst target
-untag_finds v t o place target dst x asks at holds =
-    let known = cleared_known v t o place target dst asks at in
+untag_finds : {v : View} {t : ℕ} {o : Op} {place : Place} {target dst : ℕ} (x : ℕ) → IsCleared v t o place target dst
+    → HoldsRef (word_in (state v) place) (Stale x) → Finds v t o place dst target
+untag_finds {v} {t} {o} {place} {target} x is holds =
+    let known = cleared_known is in
     record {
-      loads = cleared_loads v t o place target dst asks at;
+      loads = cleared_loads is;
       there = known.0.at;
       may_hold = inr (known.0.may_stand, known.1);
-      value = λ told slot is. clean_value v target (last v.log slot) known.0.in_range
-          (value_there v place slot (Stale target) told known.0.at is
-          (record { in_range = known.0.in_range; is = untag_is v t o place target dst x asks at holds }));
+      value = λ told slot at. clean_value v target (last v.log slot) known.0.in_range
+          (value_there v place slot (Stale target) told known.0.at at
+          (record { in_range = known.0.in_range; is = untag_is x is holds }));
     }
 
 -- the exchange, as an event
-untag_event : (told : Bool) (v m : View) (t : ℕ) (o : Op) (place : Place) (at : Slot) (target dst x : ℕ)
-    → MayAdvance v t o → Standing told v → stage_of v t ≡ Some (Cleared place target dst) → SlotAt (maps v) place at
+untag_event : {v : View} {t : ℕ} {o : Op} {place : Place} {target dst : ℕ} (told : Bool) (m : View) (at : Slot) (x : ℕ)
+    → IsCleared v t o place target dst → Standing told v → SlotAt (maps v) place at
     → HoldsRef (word_in (state v) place) (Stale x) → PlaceChanges (state v) (state m) place (ref_word (Clean target)) →
     Event told v.log (maps v) (maps v) (state v) (state m) no_region 0 (Some (Read at (held_value v.names target)))
-untag_event told v m t o place at target dst x asks s stage slot holds changes =
-    let known = cleared_known v t o place target dst asks stage in
-    let finds = untag_finds v t o place target dst x asks stage holds in
+untag_event {v} {t} {o} {place} {target} told m at x is s slot holds changes =
+    let known = cleared_known is in
+    let finds = untag_finds x is holds in
     untags place at (Stale target) target (held_value v.names target) refl known.0.at known.0.in_range
-    (untag_is v t o place target dst x asks stage holds) known.0.may_stand known.1
-    (λ is. refl) (λ is. record { slot = slot; last = finds.value (subst (λ (b : Bool). Standing b v) is s) at slot })
-    changes
+    (untag_is x is holds) known.0.may_stand known.1 (λ tells. refl)
+    (λ tells. record { slot = slot; last = finds.value (subst (λ (b : Bool). Standing b v) tells s) at slot }) changes
 
 -- the place is one behind it
-pub untag_place : (v : View) (space : SpaceWords) (globals : List ℕ) (t : ℕ) (o : Op) (place : Place) (target dst x : ℕ)
-    → MayAdvance v t o → stage_of v t ≡ Some (Cleared place target dst) → HoldsRef (word_in (state v) place) (Stale x)
+pub untag_place : {v : View} {t : ℕ} {o : Op} {place : Place} {target dst : ℕ} (space : SpaceWords) (globals : List ℕ)
+    (x : ℕ) → IsCleared v t o place target dst → HoldsRef (word_in (state v) place) (Stale x)
     → PlaceChanges (state v) (state (over v space globals)) place (ref_word (Clean target))
     → IsPlace (maps v) (state (over v space globals)) place
-untag_place v space globals t o place target dst x asks at holds changes =
-    let known = cleared_known v t o place target dst asks at in
+untag_place {v} {t} {o} {place} space globals x is holds changes =
+    let there = (cleared_known is).0.at in
+    let s : Standing false v = is.asks.stands in
     let m : View = over v space globals in
-    let slot = some_slot v place known.0.at in
-    place_stays (maps v) (maps v) (state v) (state m) 0 asks.stands.holds.formed
-    (evolves_event false v.log (maps v) (maps v) (state v) (state m) no_region 0 _ asks.stands.holds.formed
-    (untag_event false v m t o place slot.0 target dst x asks asks.stands at slot.1 holds changes)) place known.0.at
+    let slot = some_slot v place there in
+    place_stays (maps v) (maps v) (state v) (state m) 0 s.holds.formed
+    (evolves_event false v.log (maps v) (maps v) (state v) (state m) no_region 0 _ s.holds.formed
+    (untag_event false m slot.0 x is s slot.1 holds changes)) place there
   where
     some_slot : (v : View) (place : Place) → IsPlace (maps v) (state v) place → (at : Slot) × SlotAt (maps v) place at
     some_slot v (Field object i) there = (slots.Field there.1.number i, (there.1.number, there.1.named, refl))
@@ -473,28 +476,27 @@ changed_size v m (Field object i) word changes = ap (λ (b : Base). b.size) chan
 changed_size v m (Global g) word changes = ap (λ (b : Base). b.size) changes.base
 
 -- an exchange was won
-pub untag_won : (v : View) (space : SpaceWords) (globals : List ℕ) (w : View) (t : ℕ) (o : Op) (place : Place)
-    (target dst x : ℕ) (result : StepResult) → MayAdvance v t o → stage_of v t ≡ Some (Cleared place target dst)
+pub untag_won : {v w : View} {t : ℕ} {o : Op} {place : Place} {target dst : ℕ} {result : StepResult}
+    (space : SpaceWords) (globals : List ℕ) (x : ℕ) → IsCleared v t o place target dst
     → HoldsRef (word_in (state v) place) (Stale x)
     → PlaceChanges (state v) (state (over v space globals)) place (ref_word (Clean target))
     → HasRead (over v space globals) w t place dst target result → Advances v w t o result
-untag_won v space globals w t o place target dst x result asks at holds changes read =
+untag_won {v} {w} {t} {o} {place} {target} {dst} space globals x is holds changes read =
     let m : View = over v space globals in
     let after : PlaceChanges (state v) (state (behind m t read.slot dst target)) place (ref_word (Clean target)) =
     behind_changes v m t place read.slot dst target (ref_word (Clean target)) changes in
     subst (λ (r : StepResult). Advances v w t o r) (sym read.told)
     (subst (λ (y : View). Advances v y t o (Answered (found (held_value v.names target)))) (sym read.is)
-    (read_advances v space globals t o (Cleared place target dst) place read.slot dst target asks (record {
-      ends = cleared_ends v t o place target dst at;
-      finds = untag_finds v t o place target dst x asks at holds;
+    (read_advances v space globals t o (Cleared place target dst) place read.slot dst target is.asks (record {
+      ends = cleared_ends is;
+      finds = untag_finds x is holds;
       is_slot = read.is_slot;
       words = changed_size v m place (ref_word (Clean target)) changes;
-      event = λ told s. untag_event told v (behind m t read.slot dst target) t o place read.slot target dst x asks s at
-          read.is_slot holds after;
-      applies = (refl, (λ is. after, λ differ. absurd (differ (untag_is v t o place target dst x asks at holds))));
+      event = λ told s. untag_event told (behind m t read.slot dst target) read.slot x is s read.is_slot holds after;
+      applies = (refl, (λ still. after, λ differ. absurd (differ (untag_is x is holds))));
       clean = λ tagged. tagged_is (word_in (state m) place) (Clean target)
           (record {
-            in_range = (cleared_known v t o place target dst asks at).0.in_range;
+            in_range = (cleared_known is).0.in_range;
             is = changed_word (state v) (state m) place (ref_word (Clean target)) changes;
           }) tagged;
     })))

@@ -1,5 +1,6 @@
 -- How an object is made: the events of a claim, of private stores, of the publication, and of the want of room.
-use Rattle.std.proofs.Common.{◌≡◌, ◌≢◌, ℕ, ◌+◌, ◌<◌, ◌≤◌, inl, inr, List, [], ◌∷◌, ◌++◌, length, refl, sym, ◌∙◌, ap, subst, arith}
+use Rattle.std.proofs.Common.{◌≡◌, ◌≢◌, ℕ, ◌+◌, ◌<◌, ◌≤◌, inl, inr, List, []}
+use Rattle.std.proofs.Common.{◌∷◌, ◌++◌, length, refl, sym, ◌∙◌, ap, subst, arith}
 use Rattle.std.proofs.Math.ListN.{set}
 use Rattle.std.proofs.lemmas.Bool.{cases_eq, cases_lt, eq-eqb, ne_eqb}
 use Rattle.std.specs.Prelude.{Bool, true, false, Option, None, Some, IsSome, if◌then◌else◌}
@@ -38,10 +39,12 @@ use Rattle.melt_core.specs.Events.{Event, quiet, claims as claims_words, stores,
 use Rattle.melt_core.specs.Stages.{Next, Fits, MustPause, Applies, Word, Publish, change_of, cleared_by, task_of}
 use Rattle.melt_core.specs.Changed.{with_call, with_register, noted}
 use Rattle.melt_core.specs.Advances.{MayAdvance, Advances, InBounds, HasRoomFor, Sets}
-use Rattle.melt_core.specs.Views.{View, Standing, maps, state, shown, call_of, stage_of, claimed_in, maps_of, numbers_of}
+use Rattle.melt_core.specs.Views.{View, Standing, maps, state, shown}
+use Rattle.melt_core.specs.Views.{call_of, stage_of, claimed_in, maps_of, numbers_of}
 use Rattle.melt_core.specs.Views.{registers_in, held_value, held_values, values_of}
 use Rattle.melt_core.proofs.Asked.{call_at, fits_at, known_at, inside, next_fits}
-use Rattle.melt_core.proofs.Claims.{bounded_is, bounded_lacking, bounded_call, bounded_refused, claims_ends, claims_next}
+use Rattle.melt_core.proofs.Claims.{bounded_is, bounded_lacking, bounded_call}
+use Rattle.melt_core.proofs.Claims.{bounded_refused, claims_ends, claims_next}
 use Rattle.melt_core.proofs.Counting.{Counts_same, Counts_published, room_for}
 use Rattle.melt_core.proofs.Words.{same_words, word_set}
 use Rattle.melt_core.proofs.Answers.{new_answers}

@@ -43,33 +43,25 @@ use Rattle.melt_core.proofs.Tasks.{LoadsNothing, get_is, no_load}
 past : (i n : ℕ) → (i < n → ⊥) → n ≤ i
 past i n lacks = elim (cases_lt i n) [ inl below ↦ absurd (lacks below) | inr above ↦ above ]
 
+lacks_by : (rs : List Value) (src r n i bound : ℕ) (access same : Access) (z : Shape) → src ≡ r → access ≡ same
+    → value_in rs r ≡ Object n → (HasPart access z → ⊥) → (i < bound → HasPart same z)
+    → (value_in rs src ≡ Object n) × (bound ≤ i)
+lacks_by rs src r n i bound access same z register is value lacks has = (
+  ap (value_in rs) register ∙ value,
+  past i bound (λ below. lacks (subst (λ (a : Access). HasPart a z) (sym is) (has below))),
+)
+
 lacks_part : (rs : List Value) (o : Op) (r n : ℕ) (access : Access) (z : Shape) → task_of o ≡ Some (Use r access)
     → value_in rs r ≡ Object n → (HasPart access z → ⊥) → LacksPart rs o n z
 lacks_part rs (op.New dst refs nums) r n access z is value lacks = absurd (cc)
 lacks_part rs (op.Load dst src i) r n access z is value lacks =
-    let same : access ≡ Load dst i = cc in (
-      let e : src ≡ r = cc in ap (value_in rs) e
-          ∙ value,
-      past i z.refs (λ below. lacks (subst (λ (a : Access). HasPart a z) (sym same) below)),
-    )
+    lacks_by rs src r n i z.refs access (Load dst i) z (cc) (cc) value lacks (λ below. below)
 lacks_part rs (op.Store obj i src) r n access z is value lacks =
-    let same : access ≡ Store i src = cc in (
-      let e : obj ≡ r = cc in ap (value_in rs) e
-          ∙ value,
-      past i z.refs (λ below. lacks (subst (λ (a : Access). HasPart a z) (sym same) below)),
-    )
+    lacks_by rs obj r n i z.refs access (Store i src) z (cc) (cc) value lacks (λ below. below)
 lacks_part rs (op.Get src j) r n access z is value lacks =
-    let same : access ≡ Get j = cc in (
-      let e : src ≡ r = cc in ap (value_in rs) e
-          ∙ value,
-      past j z.nums (λ below. lacks (subst (λ (a : Access). HasPart a z) (sym same) below)),
-    )
+    lacks_by rs src r n j z.nums access (Get j) z (cc) (cc) value lacks (λ below. below)
 lacks_part rs (op.Put obj j v) r n access z is value lacks =
-    let same : access ≡ Put j v = cc in (
-      let e : obj ≡ r = cc in ap (value_in rs) e
-          ∙ value,
-      past j z.nums (λ below. lacks (subst (λ (a : Access). HasPart a z) (sym same) below)),
-    )
+    lacks_by rs obj r n j z.nums access (Put j v) z (cc) (cc) value lacks (λ below. below)
 lacks_part rs (op.GLoad dst g) r n access z is value lacks = absurd (cc)
 lacks_part rs (op.GStore g src) r n access z is value lacks = absurd (cc)
 lacks_part rs o r n access z is value lacks = absurd (cc)

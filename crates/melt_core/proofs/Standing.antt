@@ -21,7 +21,8 @@ use Rattle.melt_core.specs.Advances.{Advances, MayAdvance, Outcome, LeavesClean}
 use Rattle.melt_core.specs.Known.{Known, Evolves, region_of}
 use Rattle.melt_core.specs.Stages.{Fits, Applies, change_of, cleared_by}
 use Rattle.melt_core.specs.Events.{Event, Keeps}
-use Rattle.melt_core.specs.Views.{View, Standing, Counts, Bounded, maps, state, maps_of, numbers_of, registers_in, call_of, stage_of, values_of, held_value, held_values}
+use Rattle.melt_core.specs.Views.{View, Standing, Counts, Bounded, maps, state, maps_of, numbers_of}
+use Rattle.melt_core.specs.Views.{registers_in, call_of, stage_of, values_of, held_value, held_values}
 use Rattle.melt_core.proofs.Keeping.{event_keeps}
 use Rattle.melt_core.proofs.Staying.{known_stays, hold_stays, held_value_stays}
 use Rattle.melt_core.proofs.Values.{same_values, value_held, may_value}

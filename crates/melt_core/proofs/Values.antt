@@ -1,5 +1,6 @@
 -- What the registers of threads hold, and the names of addresses.
-use Rattle.std.proofs.Common.{◌≡◌, ℕ, ◌<◌, zero, suc, List, [], ◌∷◌, length, get_or, refl, sym, ◌∙◌, ap, subst, inl, inr}
+use Rattle.std.proofs.Common.{◌≡◌, ℕ, ◌<◌, zero, suc, List, [], ◌∷◌}
+use Rattle.std.proofs.Common.{length, get_or, refl, sym, ◌∙◌, ap, subst, inl, inr}
 use Rattle.std.proofs.Math.ListN.{set, get_or-map, length-map}
 use Rattle.std.proofs.lemmas.List.{map-set, ext_get_or}
 use Rattle.std.specs.Prelude.{Option, None, Some, unwrap_or, replicate}
@@ -68,10 +69,6 @@ may_value names s address (inr holds) =
 -- nothing stands at address 0
 pub no_name_at : (names : Option heap.Names) (n : ℕ) → name_at (numbers_of names) 0 ≡ Some n → ⊥
 no_name_at names n named = cc
-
-unwrap_ref : (o : Option ℕ) (n : ℕ) → unwrap_or (option_map Ref o) Nil ≡ Ref n → o ≡ Some n
-unwrap_ref None n is = absurd (cc)
-unwrap_ref (Some m) n is = cc
 
 -- an object of the map was made
 pub named_made : (h : List Entry) (maps : Maps) (s : State) (address n : ℕ) → FormedWords maps s → Tells h maps s
