@@ -147,7 +147,8 @@ claim_happens told v t free need o shape dst stage asks at s small whole needed 
             | inr below ↦ subst (Known (maps w) (state w)) (sym (fits below)) (
               small,
               record {
-                owns = claimed_owned (maps v) (state v) (state w) (cost_of shape) s.holds.formed first (omega arith) moves;
+                owns = claimed_owned (maps v) (state v) (state w) (cost_of shape) s.holds.formed first (omega arith)
+                    moves;
                 few = omega arith;
                 are = λ k one none. absurd (omega arith);
               },

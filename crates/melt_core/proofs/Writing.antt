@@ -120,8 +120,8 @@ store_advances v space globals t o (Field object i) at src address asks stores i
       answers = λ told. subst (λ (p : Op). Answers t v.log (values_of v t) p reply.Done
           (v.log ++ entry t (Write at (held_value v.names address)) ∷ []) (values_of v t))
           (sym (store_is o fits.0 i src fits.1))
-          (store_answers t v.log (values_of v t) fits.0 i src slot.0 stores.0 (held_value v.names address) reply.Done _ _
-          (value_named v t fits.0 object slot.0 fits.2 slot.1)
+          (store_answers t v.log (values_of v t) fits.0 i src slot.0 stores.0 (held_value v.names address) reply.Done
+          _ _ (value_named v t fits.0 object slot.0 fits.2 slot.1)
           (object_shape v object slot.0 stores.0 told known slot.1) fits.3
           (value_held v.names (registers_in v.held t) src ∙ ap (held_value v.names) (sym is)) refl refl
           (ap (λ (q : Slot). v.log ++ entry t (Write q (held_value v.names address)) ∷ []) slot.2));

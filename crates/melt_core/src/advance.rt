@@ -8,6 +8,7 @@ use crate::call::{Access, Place, Stage, Task};
 use crate::load::Looked;
 use crate::machine::Core;
 use crate::make::Claim;
+use crate::parts::Cell;
 use melt_io::RecordReader;
 use melt_model::Op;
 use melt_word::Shape;
@@ -44,8 +45,8 @@ impl Core {
         match access {
             Access::Load { dst, i } => self.look(thread, op, Place::Field { object, i }, dst),
             Access::Store { i, src } => self.store(thread, op, Place::Field { object, i }, src),
-            Access::Get { j } => self.get(thread, op, address, shape, j),
-            Access::Put { j, v } => self.put(thread, op, address, shape, j, v),
+            Access::Get { j } => self.get(thread, op, Cell { address, shape, j }),
+            Access::Put { j, v } => self.put(thread, op, Cell { address, shape, j }, v),
         }
     }
 

@@ -15,9 +15,9 @@ ghost use Rattle.melt_core.specs.Views.{Standing, maps, stage_of, state, view};
 use crate::answer::StepResult;
 use crate::call::{Access, Place, Stage, Task};
 use crate::machine::Core;
-use crate::parts::{found, reference, value_at};
+use crate::parts::{Cell, found, reference, value_at};
 use melt_model::{Act, Op, Reply, Slot, Value};
-use melt_word::{Header, Ref, Shape, encode_header, encode_ref};
+use melt_word::{Header, Ref, encode_header, encode_ref};
 
 /// What a load found that takes the slow path: the stale address `target` at the place, for register `dst`.
 #[derive(Clone, Copy)]
@@ -50,18 +50,13 @@ impl Core {
     }
 
     /// Reads a number word of an object.
-    pub(crate) fn get(
-        &mut self,
-        thread: u32,
-        op: Op,
-        address: u32,
-        shape: Shape,
-        j: u8,
-    ) -> StepResult
+    pub(crate) fn get(&mut self, thread: u32, op: Op, cell: Cell) -> StepResult
         requires asks { MayAdvance (view self.old) thread op }
-        requires stage { stage_of (view self.old) thread ≡ Some (Stage.Headed address shape (Access.Get j)) }
+        requires stage { stage_of (view self.old) thread
+            ≡ Some (Stage.Headed cell.address cell.shape (Access.Get cell.j)) }
         ensures { Advances (view self.old) (view self.new) thread op result }
     {
+        let Cell { address, shape, j } = cell;
         let at = address + 2 + u32::from(shape.refs) + u32::from(j);
         let number = self.heap.space.word(at);
         let slot = Slot::Cell(self.number_at(address), j);

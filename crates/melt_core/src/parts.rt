@@ -14,7 +14,15 @@ use crate::call::{Call, Place, Stage};
 use crate::machine::Core;
 use melt_model::{Act, Entry, Op, Reply, Slot, Value};
 use melt_scion::{Globals, Names};
-use melt_word::{Ref, decode_ref, encode_ref};
+use melt_word::{Ref, Shape, decode_ref, encode_ref};
+
+/// A number word of the object at the address, which has this shape.
+#[derive(Clone, Copy)]
+pub(crate) struct Cell {
+    pub(crate) address: u32,
+    pub(crate) shape: Shape,
+    pub(crate) j: u8,
+}
 
 /// The value that an address in a register stands for.
 pub(crate) fn value_at(names: &Option<Names>, address: u32) -> Value

@@ -24,9 +24,9 @@ returns c =
     (subst (λ (w : View). Advances v (with_call w c.args.thread None) c.args.thread c.args.op (Answered reply.Done))
     (sym c.set_register.ensures)
     (subst (λ (w : View). Advances v
-    (with_call (with_register w c.args.thread c.args.claim.dst c.args.claim.address) c.args.thread None) c.args.thread c.args.op
-    (Answered reply.Done)) (sym c.note.ensures)
+    (with_call (with_register w c.args.thread c.args.claim.dst c.args.claim.address) c.args.thread None) c.args.thread
+    c.args.op (Answered reply.Done)) (sym c.note.ensures)
     (publish_advances v c.set_word.new.self c.set_name.new.names c.args.thread c.encode_header.result c.args.op
-    c.args.claim.address c.args.claim.stored c.args.claim.dst c.args.claim.shape c.requires.asks c.requires.stage c.requires.all
-    c.encode_header.ensures c.set_word.ensures c.set_name.ensures.named c.set_name.ensures.size
+    c.args.claim.address c.args.claim.stored c.args.claim.dst c.args.claim.shape c.requires.asks c.requires.stage
+    c.requires.all c.encode_header.ensures c.set_word.ensures c.set_name.ensures.named c.set_name.ensures.size
     c.set_name.ensures.appears)))

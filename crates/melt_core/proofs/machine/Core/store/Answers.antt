@@ -28,4 +28,5 @@ returns c =
     (subst (λ (x : Value). Advances v (written v m.space m.globals c.args.thread (Write c.slot_at-slot.result x))
     c.args.thread c.args.op (Answered reply.Done)) (sym c.value_at-value.ensures)
     (store_advances v m.space m.globals c.args.thread c.args.op c.args.place c.slot_at-slot.result c.args.src
-    c.register-address.result c.requires.asks c.requires.stage c.register-address.ensures c.slot_at-slot.ensures changes))))
+    c.register-address.result c.requires.asks c.requires.stage c.register-address.ensures c.slot_at-slot.ensures
+    changes))))

@@ -18,4 +18,5 @@ returns c =
     let v : View = view c.args.self.now in
     subst (λ (w : View). Advances v w c.args.thread c.args.op Going) (sym c.set_stage.ensures)
     (store_zero_advances v c.set_word.new.self c.args.thread c.args.op c.args.claim.address
-    c.args.claim.stored c.args.claim.dst c.args.claim.shape c.requires.asks c.requires.stage c.requires.few c.set_word.ensures)
+    c.args.claim.stored c.args.claim.dst c.args.claim.shape c.requires.asks c.requires.stage c.requires.few
+    c.set_word.ensures)
