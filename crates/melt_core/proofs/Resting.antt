@@ -32,6 +32,7 @@ use Rattle.melt_core.specs.Views.{held_values, claimed_in, claimed, Standing, Is
 use Rattle.melt_core.specs.Changed.{stopped}
 use Rattle.melt_core.proofs.Claims.{bounded_stop}
 use Rattle.melt_core.proofs.Values.{get_or_replicate}
+use Rattle.melt_core.proofs.Words.{same_behind}
 use Rattle.melt_core.proofs.Registers.{registers_set, registers_other}
 use Rattle.melt_scion.specs.Changes.{FreeMoves, SameWords}
 use Rattle.melt_scion.proofs.Staying.{free_shifts}
@@ -146,8 +147,7 @@ dropped v t within none = record {
                     (sym (registers_other v.held t u (replicate 16 0) other)) (s.registers u r)
               ]);
           known = λ u c is. known_words (maps v) (state v) (state w) c.stage
-              (record { base = refl; free = refl; word = λ k. refl; global = λ g. refl; forward = λ p. refl })
-              s.holds.formed (s.known u c is);
+              (same_behind v w.held) s.holds.formed (s.known u c is);
           fits = λ u c is. elim (cases_eq u t) [
             | inl same ↦ absurd (let e : None ≡ Some c = sym none ∙ (ap (call_of v) (sym same) ∙ is) in cc)
             | inr other ↦ subst (λ (regs : List ℕ). Fits (slice_index regs) c.op c.stage)

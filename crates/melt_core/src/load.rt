@@ -94,6 +94,7 @@ impl Core {
     }
 
     /// Looks at the word at a place.
+    // (inlined, since each caller has a place of one kind and needs no code for the other)
     #[inline(always)]
     pub(crate) fn look(&mut self, thread: u32, op: Op, place: Place, dst: u8) -> StepResult
         requires asks { MayAdvance (view self.old) thread op }

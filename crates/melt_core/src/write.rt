@@ -15,6 +15,7 @@ use melt_model::{Act, Op, Reply, Slot, Value};
 
 impl Core {
     /// Writes what a register holds into a slot of an object, or into a global.
+    // (inlined for the same reason as `look`)
     #[inline(always)]
     pub(crate) fn store(&mut self, thread: u32, op: Op, place: Place, src: u8) -> StepResult
         requires asks { MayAdvance (view self.old) thread op }
