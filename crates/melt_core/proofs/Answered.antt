@@ -1,41 +1,74 @@
 -- Events that answer a call, and neither make an object nor own words.
 use Rattle.std.proofs.Common.{◌≡◌, ◌≢◌, ℕ, ◌<◌, List, length, get_or, refl, sym, ◌∙◌, ap, subst, inl}
 use Rattle.std.proofs.Math.ListN.{set}
-use Rattle.std.specs.Prelude.{true, false, Option, None, Some}
+use Rattle.std.specs.Prelude.{Bool, true, false, Option, None, Some}
 use Rattle.melt_model.specs.declared.history.Act.{Act}
 use Rattle.melt_model.specs.declared.operations.Op.{Op}
 use Rattle.melt_model.specs.declared.operations.Op.TheVariants as op
 use Rattle.melt_model.specs.declared.operations.Reply.{Reply}
 use Rattle.melt_model.specs.declared.operations.Reply.TheVariants as reply
-use Rattle.melt_space.specs.Space.{SpaceWords, word_at}
 use Rattle.melt_scion.specs.Placed.{MayHold}
+use Rattle.melt_scion.specs.Regions.{no_region}
 use Rattle.melt_scion.specs.declared.heap.Names as heap
-use Rattle.melt_scion.specs.Changes.{SameWords}
+use Rattle.melt_scion.specs.declared.registers.Registers.{Registers}
 use Rattle.melt_scion.specs.Heaps.{register_in}
 use Rattle.melt_core.specs.declared.answer.StepResult.TheVariants.{Answered}
 use Rattle.melt_core.specs.declared.call.Access.{Access}
+use Rattle.melt_core.specs.declared.call.Call.{Call}
 use Rattle.melt_core.specs.declared.call.Place.TheVariants.{Field, Global}
 use Rattle.melt_core.specs.declared.call.Task.{Task}
 use Rattle.melt_core.specs.declared.call.Task.TheVariants.{Use}
 use Rattle.melt_core.specs.declared.call.Stage.{Stage}
+use Rattle.melt_core.specs.declared.call.Stage.TheVariants.{Polled, Headed, Looked, Cleared, Claimed, Lacking}
 use Rattle.melt_core.specs.Answering.{Answers}
-use Rattle.melt_core.specs.Events.{quiet}
+use Rattle.melt_core.specs.Events.{Event, quiet}
 use Rattle.melt_core.specs.Stages.{Next, MustPause, Applies, Shares, change_of, cleared_by, task_of, HasObject}
 use Rattle.melt_core.specs.Changed.{with_register}
 use Rattle.melt_core.specs.Advances.{MayAdvance, Advances, LeavesClean, HasRoomFor, Sets}
-use Rattle.melt_core.specs.Views.{View, maps, state, call_of, stage_in, stage_of, values_of, held_value, held_values, registers_in, claimed_in, maps_of, base_in, Standing}
+use Rattle.melt_core.specs.Views.{View, Standing, maps, state, call_of, stage_in, stage_of, claimed_in}
+use Rattle.melt_core.specs.Views.{values_of, held_value, held_values, registers_in}
 use Rattle.melt_core.proofs.Claims.{claims_ends}
-use Rattle.melt_core.proofs.Asked.{inside, set_none}
+use Rattle.melt_core.proofs.Asked.{call_at, inside, set_none}
+use Rattle.melt_core.proofs.Words.{same_behind}
 use Rattle.melt_core.proofs.Standing.{advances, call_here}
-use Rattle.melt_core.proofs.Plain.{Plain, plain}
+use Rattle.melt_core.proofs.Plain.{Plain, OnlyMoves, MakesNothing, plain}
 use Rattle.melt_core.proofs.Registers.{register_keeps, register_other, registers_other, threads_set, values_set}
 use Rattle.melt_core.proofs.Values.{value_held, no_name_at}
 use Rattle.melt_core.proofs.Answers.{nil_answers, HoldsNil, differ_answers, copy_answers, drop_answers}
 use Rattle.melt_core.proofs.Tasks.{no_load}
 
--- nothing changes
-pub same_words : (v : View) → SameWords (state v) (state v)
-same_words v = record { base = refl; free = refl; word = λ k. refl; global = λ g. refl; forward = λ p. refl }
+-- A call has no further event, and pauses in none.
+pub record Ends (v : View) (t : ℕ) (o : Op) (stage : Stage) : Type 0 where
+  pub at : stage_of v t ≡ Some stage
+  pub last : (next : Stage) → Next (maps v) (state v) (register_in v.held t) v.stop o (Some stage) next → ⊥
+  pub no_pause : MustPause (register_in v.held t) v.stop o (Some stage) → ⊥
+  pub clears : cleared_by (Some stage) ≡ 0
+  pub unclaimed : claimed_in (Some (record { op = o; stage = stage })) ≡ 0
+  pub no_lack : (need : ℕ) → stage ≡ Lacking need → ⊥
+
+-- the stages of which an event can be the last of a call that is answered and makes no object
+abbrev pub MayEnd : Stage → Type 0
+MayEnd (Polled task) = Unit {0}
+MayEnd (Headed address shape access) = Unit {0}
+MayEnd (Cleared place target dst) = Unit {0}
+MayEnd stage = ⊥
+
+may_end : (v : View) (t : ℕ) (o : Op) (stage : Stage) → MayEnd stage
+    → (MustPause (register_in v.held t) v.stop o (Some stage) → ⊥) × (cleared_by (Some stage) ≡ 0)
+    × (claimed_in (Some (record { op = o; stage = stage })) ≡ 0) × ((need : ℕ) → stage ≡ Lacking need → ⊥)
+may_end v t o (Polled task) may = (λ pause. pause, refl, refl, λ need is. cc)
+may_end v t o (Headed address shape access) may = (λ pause. pause, refl, refl, λ need is. cc)
+may_end v t o (Looked place target dst) may = absurd may
+may_end v t o (Cleared place target dst) may = (λ pause. pause, refl, refl, λ need is. cc)
+may_end v t o (Claimed address shape stored dst) may = absurd may
+may_end v t o (Lacking need) may = absurd may
+
+pub ends_at : (v : View) (t : ℕ) (o : Op) (stage : Stage) → stage_of v t ≡ Some stage → MayEnd stage
+    → ((next : Stage) → Next (maps v) (state v) (register_in v.held t) v.stop o (Some stage) next → ⊥)
+    → Ends v t o stage
+ends_at v t o stage at may last =
+    let is = may_end v t o stage may in
+    record { at = at; last = last; no_pause = is.0; clears = is.1; unclaimed = is.2; no_lack = is.3 }
 
 -- What the answer to a call says beside what the event does.
 pub record Replies (v w : View) (t : ℕ) (o : Op) (reply : Reply) : Type 0 where
@@ -46,88 +79,120 @@ pub record Replies (v w : View) (t : ℕ) (o : Op) (reply : Reply) : Type 0 wher
   pub room : Standing true v → HasRoomFor v o
   pub clean : LeavesClean v w t o (Answered reply)
 
-pub answered : (v w : View) (t : ℕ) (o : Op) (reply : Reply) (act : Option Act) → MayAdvance v t o
-    → Plain v w t (cleared_by (stage_of v t)) act None → w.capacity ≡ v.capacity
+answered : (v w : View) (t : ℕ) (o : Op) (reply : Reply) (act : Option Act) → MayAdvance v t o
+    → Plain v w t (cleared_by (stage_of v t)) act None
     → Applies (maps v) (maps w) (state v) (state w) (change_of (state v) (register_in v.held t) (stage_of v t))
     → Replies v w t o reply → Advances v w t o (Answered reply)
-answered v w t o reply act asks p capacity applies replies =
-    advances v w t o (Answered reply) asks (plain v w t (cleared_by (stage_of v t)) act None asks.thread p) capacity
-    applies (record {
+answered v w t o reply act asks p applies replies =
+    advances v w t o (Answered reply) asks (plain v w t (cleared_by (stage_of v t)) act None asks.thread p)
+    (ap (λ (x : View). x.capacity) p.moves) applies (record {
       last = replies.last;
       no_pause = replies.no_pause;
-      call = call_here v w t None p.calls (inside v t o asks);
+      call = call_here v w t None (ap (λ (x : View). x.calls) p.moves) (inside v t o asks);
       answers = replies.answers;
-      history = (act, p.log);
+      history = (act, ap (λ (x : View). x.log) p.moves);
       registers = replies.registers;
-      stop = p.stop;
+      stop = ap (λ (x : View). x.stop) p.moves;
       room = replies.room;
     }) replies.clean
 
--- an operation on registers alone
-local_plain : (v : View) (t r address : ℕ) → Standing false v → t < length v.held → call_of v t ≡ None
-    → MayHold (maps v) (state v) address → Plain v (with_register v t r address) t 0 None None
-local_plain v t r address s within first may = record {
-  event = λ told stands. quiet refl
-      (record { base = refl; free = refl; word = λ k. refl; global = λ g. refl; forward = λ p. refl });
-  nothing = tt;
-  log = refl;
-  calls = set_none v.calls t first;
-  names = refl;
-  free = refl;
-  made = refl;
-  stop = refl;
-  words = refl;
+-- What an event shows of registers: those of its thread may hold what they hold, and those of the others stay.
+pub record Local (v : View) (held : List Registers) (t : ℕ) : Type 0 where
+  pub threads : length held ≡ length v.held
+  pub others : (u : ℕ) → u ≢ t → registers_in held u ≡ registers_in v.held u
+  pub may_hold : (r : ℕ) → MayHold (maps v) (state v) (register_in held t r)
+
+-- a register was set
+pub local_set : (v : View) (t r address : ℕ) → Standing false v → t < length v.held → MayHold (maps v) (state v) address
+    → Local v (with_register v t r address).held t
+local_set v t r address s within may = record {
   threads = threads_set v t r address;
   others = λ u differ. registers_other v.held t u (set (registers_in v.held t) r address) differ;
   may_hold = register_keeps (MayHold (maps v) (state v)) v t r address within may (s.registers t);
-  known = λ c is. absurd (cc);
-  fits = λ c is. absurd (cc);
-  unclaimed = refl;
-  unclaimed_before = ap claimed_in first;
-  claims = claims_ends v.stop (stage_of v t) (λ need is. let none : stage_of v t ≡ None = ap stage_in first in cc);
 }
 
--- an operation that changes nothing at all
-still_plain : (v : View) (t : ℕ) → Standing false v → call_of v t ≡ None → Plain v v t 0 None None
-still_plain v t s first = record {
-  event = λ told stands. quiet refl (same_words v);
-  nothing = tt;
-  log = refl;
-  calls = set_none v.calls t first;
-  names = refl;
-  free = refl;
-  made = refl;
-  stop = refl;
-  words = refl;
-  threads = refl;
-  others = λ u differ. refl;
-  may_hold = s.registers t;
-  known = λ c is. absurd (cc);
-  fits = λ c is. absurd (cc);
+-- nothing changes at all
+pub local_still : (v : View) (t : ℕ) → Standing false v → Local v v.held t
+local_still v t s = record { threads = refl; others = λ u differ. refl; may_hold = s.registers t }
+
+-- an event behind which the call is over, by what it shows of words and registers
+over_plain : (v w : View) (t cleared : ℕ) (act : Option Act)
+    → ((told : Bool) → Standing told v → Event told v.log (maps v) (maps w) (state v) (state w) no_region cleared act)
+    → MakesNothing act → OnlyMoves v w t act None → length w.space.list ≡ length v.space.list → Local v w.held t
+    → claimed_in (call_of v t) ≡ 0 → ((need : ℕ) → stage_of v t ≡ Some (Lacking need) → ⊥)
+    → Plain v w t cleared act None
+over_plain v w t cleared act event nothing moves words local unclaimed no_lack = record {
+  event = event;
+  nothing = nothing;
+  moves = moves;
+  words = words;
+  threads = local.threads;
+  others = local.others;
+  may_hold = local.may_hold;
+  known = λ c none. absurd (cc);
+  fits = λ c none. absurd (cc);
   unclaimed = refl;
-  unclaimed_before = ap claimed_in first;
-  claims = claims_ends v.stop (stage_of v t) (λ need is. let none : stage_of v t ≡ None = ap stage_in first in cc);
+  unclaimed_before = unclaimed;
+  claims = claims_ends v.stop (stage_of v t) no_lack;
 }
+
+-- What the last event of a call shows that began before it.
+pub record Over (v w : View) (t : ℕ) (o : Op) (stage : Stage) (act : Option Act) (reply : Reply) : Type 0 where
+  pub ends : Ends v t o stage
+  pub event : (told : Bool) → Standing told v → Event told v.log (maps v) (maps w) (state v) (state w) no_region 0 act
+  pub applies : Applies (maps v) (maps w) (state v) (state w)
+      (change_of (state v) (register_in v.held t) (Some stage))
+  pub nothing : MakesNothing act
+  pub moves : OnlyMoves v w t act None
+  pub words : length w.space.list ≡ length v.space.list
+  pub local : Local v w.held t
+  pub answers : Standing true v → Answers t v.log (values_of v t) o reply w.log (values_of w t)
+  pub registers : (r : ℕ) → (Sets o r → ⊥) → register_in w.held t r ≡ register_in v.held t r
+  pub room : HasRoomFor v o
+  pub clean : LeavesClean v w t o (Answered reply)
+
+pub over_advances : (v w : View) (t : ℕ) (o : Op) (stage : Stage) (act : Option Act) (reply : Reply)
+    → MayAdvance v t o → Over v w t o stage act reply → Advances v w t o (Answered reply)
+over_advances v w t o stage act reply asks is =
+    let ends : Ends v t o stage = is.ends in
+    answered v w t o reply act asks
+    (over_plain v w t (cleared_by (stage_of v t)) act
+    (λ told s. subst (λ (k : ℕ). Event told v.log (maps v) (maps w) (state v) (state w) no_region k act)
+    (sym (ap cleared_by ends.at ∙ ends.clears)) (is.event told s))
+    is.nothing is.moves is.words is.local (ap claimed_in (call_at v t o stage asks ends.at) ∙ ends.unclaimed)
+    (λ need lacks. ends.no_lack need (let e : Some stage ≡ Some (Lacking need) = sym ends.at ∙ lacks in cc)))
+    (subst (λ (g : Option Stage). Applies (maps v) (maps w) (state v) (state w)
+    (change_of (state v) (register_in v.held t) g)) (sym ends.at) is.applies)
+    (record {
+      last = λ next goes. ends.last next
+          (subst (λ (g : Option Stage). Next (maps v) (state v) (register_in v.held t) v.stop o g next) ends.at goes);
+      no_pause = λ pause. ends.no_pause (subst (MustPause (register_in v.held t) v.stop o) ends.at pause);
+      answers = is.answers;
+      registers = is.registers;
+      room = λ told. is.room;
+      clean = is.clean;
+    })
+
+-- an operation on registers alone
+local_plain : (v : View) (held : List Registers) (t : ℕ) → call_of v t ≡ None → Local v held t
+    → Plain v (record v { held = held }) t 0 None None
+local_plain v held t first local =
+    over_plain v (record v { held = held }) t 0 None (λ told stands. quiet refl (same_behind v held)) tt
+    (ap (λ (calls : List (Option Call)). record v { held = held; calls = calls }) (set_none v.calls t first)) refl local
+    (ap claimed_in first)
+    (λ need is. let none : stage_of v t ≡ None = ap stage_in first in cc)
 
 -- an answer in the first event of a call: nothing of its words is shared
-first_answered : (v w : View) (t : ℕ) (o : Op) (reply : Reply) → MayAdvance v t o → call_of v t ≡ None
-    → Plain v w t 0 None None → w.space ≡ v.space → w.globals ≡ v.globals → w.free ≡ v.free → w.capacity ≡ v.capacity
-    → Replies v w t o reply → Advances v w t o (Answered reply)
-first_answered v w t o reply asks first p space globals free capacity replies =
+first_answered : (v : View) (held : List Registers) (t : ℕ) (o : Op) (reply : Reply) → MayAdvance v t o
+    → call_of v t ≡ None → Local v held t → Replies v (record v { held = held }) t o reply
+    → Advances v (record v { held = held }) t o (Answered reply)
+first_answered v held t o reply asks first is replies =
+    let w : View = record v { held = held } in
     let none : stage_of v t ≡ None = ap stage_in first in
-    answered v w t o reply None asks (subst (λ (g : Option Stage). Plain v w t (cleared_by g) None None) (sym none) p)
-    capacity
+    answered v w t o reply None asks
+    (subst (λ (g : Option Stage). Plain v w t (cleared_by g) None None) (sym none) (local_plain v held t first is))
     (subst (λ (g : Option Stage). Applies (maps v) (maps w) (state v) (state w)
-    (change_of (state v) (register_in v.held t) g)) (sym none) (
-      ap maps_of p.names,
-      record {
-        base = ap (λ (x : SpaceWords). base_in x w.globals) space ∙ ap (base_in v.space) globals;
-        free = free;
-        word = λ k. ap (λ (x : SpaceWords). word_at x k) space;
-        global = λ g. ap (λ (x : List ℕ). get_or x g 0) globals;
-        forward = λ q. refl;
-      },
-    ))
+    (change_of (state v) (register_in v.held t) g)) (sym none) (refl, same_behind v held))
     replies
 
 -- where the operation has no task, its first event is its last, and it never pauses
@@ -155,9 +220,9 @@ pub copy_advances : (v : View) (t dst src address : ℕ) → MayAdvance v t (op.
 copy_advances v t dst src address asks first is =
     let s : Standing false v = asks.stands in
     let w : View = with_register v t dst address in
-    first_answered v w t (op.Copy dst src) reply.Done asks first
-    (local_plain v t dst address s asks.thread first (subst (MayHold (maps v) (state v)) (sym is) (s.registers t src)))
-    refl refl refl refl (record {
+    first_answered v w.held t (op.Copy dst src) reply.Done asks first
+    (local_set v t dst address s asks.thread (subst (MayHold (maps v) (state v)) (sym is) (s.registers t src)))
+    (record {
       last = λ next. first_last v t (op.Copy dst src) next refl first;
       no_pause = first_no_pause v t (op.Copy dst src) refl first;
       answers = λ told. copy_answers t v.log (values_of v t) dst src (held_value v.names address) reply.Done v.log
@@ -173,8 +238,8 @@ pub drop_advances : (v : View) (t r : ℕ) → MayAdvance v t (op.Drop r) → ca
     → Advances v (with_register v t r 0) t (op.Drop r) (Answered reply.Done)
 drop_advances v t r asks first =
     let w : View = with_register v t r 0 in
-    first_answered v w t (op.Drop r) reply.Done asks first
-    (local_plain v t r 0 asks.stands asks.thread first (inl refl)) refl refl refl refl (record {
+    first_answered v w.held t (op.Drop r) reply.Done asks first
+    (local_set v t r 0 asks.stands asks.thread (inl refl)) (record {
       last = λ next. first_last v t (op.Drop r) next refl first;
       no_pause = first_no_pause v t (op.Drop r) refl first;
       answers = λ told. drop_answers t v.log (values_of v t) r reply.Done v.log (values_of w t) refl
@@ -189,7 +254,7 @@ pub differ_advances : (v : View) (t a b : ℕ) → MayAdvance v t (op.Same a b) 
     → register_in v.held t a ≢ register_in v.held t b → Advances v v t (op.Same a b) (Answered reply.No)
 differ_advances v t a b asks first differ =
     let s : Standing false v = asks.stands in
-    first_answered v v t (op.Same a b) reply.No asks first (still_plain v t s first) refl refl refl refl (record {
+    first_answered v v.held t (op.Same a b) reply.No asks first (local_still v t s) (record {
       last = λ next. first_last v t (op.Same a b) next refl first;
       no_pause = first_no_pause v t (op.Same a b) refl first;
       answers = λ told. differ_answers t v.log v.names (registers_in v.held t) (state v) a b reply.No v.log
@@ -239,7 +304,7 @@ nil_advances v t o r access asks first task none =
     let some : HasObject (register_in v.held t) (Use r access) =
     subst (HasObject (register_in v.held t)) same shares.1 in
     some none in
-    first_answered v v t o reply.Nil asks first (still_plain v t s first) refl refl refl refl (record {
+    first_answered v v.held t o reply.Nil asks first (local_still v t s) (record {
       last = λ next is.
           let at : Next (maps v) (state v) (register_in v.held t) v.stop o None next =
           subst (λ (g : Option Stage). Next (maps v) (state v) (register_in v.held t) v.stop o g next)

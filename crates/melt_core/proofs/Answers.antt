@@ -1,10 +1,11 @@
 -- What an operation of a thread does, from the values and shapes that it found.
-use Rattle.std.proofs.Common.{◌≡◌, ◌≢◌, ℕ, ◌<◌, ◌≤◌, Bool, true, false, List, [], ◌∷◌, ◌++◌, get_or, refl, sym, ◌∙◌, ap, subst, arith, inl, inr}
-use Rattle.std.proofs.lemmas.Bool.{lt-ltb, le-ltb, eq-eqb, ne_eqb}
+use Rattle.std.proofs.Common.{◌≡◌, ◌≢◌, ℕ, ◌<◌, ◌≤◌, Bool, false, List, [], ◌∷◌}
+use Rattle.std.proofs.Common.{◌++◌, get_or, refl, sym, ◌∙◌, ap, arith, inl, inr}
+use Rattle.std.proofs.lemmas.Bool.{lt-ltb, le-ltb, ne_eqb}
 use Rattle.std.proofs.Math.ListN.{set}
-use Rattle.std.specs.Prelude.{if◌then◌else◌, Option, None, Some, IsSomeAnd}
+use Rattle.std.specs.Prelude.{if◌then◌else◌, Option, None, Some}
 use Rattle.std.specs.Option.{option_map_or}
-use Rattle.melt_model.specs.History.{Shape, shape, made, IsSlot}
+use Rattle.melt_model.specs.History.{Shape, shape, made}
 use Rattle.melt_model.specs.Thread.{Deed, unchanged, on_part, does, found, value_in, value_eq}
 use Rattle.melt_model.specs.declared.operations.Op.{Op}
 use Rattle.melt_model.specs.declared.operations.Op.TheVariants as op
@@ -67,16 +68,6 @@ part_past parts h rs v n i z f is at past =
 pub part_nil : (parts : Shape → ℕ) (h : List Entry) (rs : List Value) (v : Value) (i : ℕ) (f : ℕ → Deed) → v ≡ Nil
     → on_part parts h rs v i f ≡ unchanged rs reply.Nil
 part_nil parts h rs v i f is = ap (λ (x : Value). on_part parts h rs x i f) is
-
--- a reference slot of an object is a slot of the history
-pub field_there : (log : List Entry) (globals n i : ℕ) (z : words.Shape) → shape log n ≡ Some (shape_of z) → i < z.refs
-    → IsSlot log globals (Field n i)
-field_there log globals n i z at below = subst (λ (x : Option Shape). IsSomeAnd x (λ y. i < y.refs)) (sym at) below
-
--- a number word of an object is a slot of the history
-pub cell_there : (log : List Entry) (globals n j : ℕ) (z : words.Shape) → shape log n ≡ Some (shape_of z) → j < z.nums
-    → IsSlot log globals (Cell n j)
-cell_there log globals n j z at below = subst (λ (x : Option Shape). IsSomeAnd x (λ y. j < y.nums)) (sym at) below
 
 -- an object was made
 pub new_answers : (t : ℕ) (h : List Entry) (rs : List Value) (dst refs nums : ℕ) (r : Reply) (h' : List Entry)
@@ -181,12 +172,6 @@ values_differ names s a b one (inr is_a) (inr is_b) differ =
     ∙ (ap (value_eq (Ref is_a.0.0)) at_b
     ∙ ne_eqb is_a.0.0 is_b.0.0 (λ same. differ (one a b is_b.0.0 (is_a.0.1 ∙ ap Some same) is_b.0.1)))
 
--- a value equals itself
-value_eq_same : (v : Value) → value_eq v v ≡ true
-value_eq_same Nil = refl
-value_eq_same (Ref n) = eq-eqb n n refl
-value_eq_same (Num v) = eq-eqb v v refl
-
 -- the reply to a comparison of two registers
 compared : (names : Option heap.Names) (regs : List ℕ) (h : List Entry) (a b : ℕ) (answer : Bool)
     → value_eq (held_value names (get_or regs a 0)) (held_value names (get_or regs b 0)) ≡ answer
@@ -198,17 +183,6 @@ compared names regs h a b answer is =
     ap (λ (v : Value). value_eq v (value_in rs b)) (value_held names regs a)
     ∙ (ap (value_eq (held_value names (get_or regs a 0))) (value_held names regs b) ∙ is) in
     ap (λ (x : Bool). unchanged rs (if x then reply.Yes else reply.No)) equal
-
--- registers that hold the same address hold the same value
-pub same_answers : (t : ℕ) (h : List Entry) (names : Option heap.Names) (regs : List ℕ) (a b : ℕ) (r : Reply)
-    (h' : List Entry) (rs' : List Value) → get_or regs a 0 ≡ get_or regs b 0 → reply.Yes ≡ r
-    → rs' ≡ held_values names regs → h' ≡ h → Answers t h (held_values names regs) (op.Same a b) r h' rs'
-same_answers t h names regs a b r h' rs' same told registers history =
-    unchanged_answers t h (held_values names regs) (op.Same a b) reply.Yes r h' rs'
-    (compared names regs h a b true
-    (ap (λ (k : ℕ). value_eq (held_value names k) (held_value names (get_or regs b 0))) same
-    ∙ value_eq_same (held_value names (get_or regs b 0))))
-    told registers history
 
 -- registers that hold different addresses hold different values
 pub differ_answers : (t : ℕ) (h : List Entry) (names : Option heap.Names) (regs : List ℕ) (s : State) (a b : ℕ)
@@ -237,12 +211,6 @@ pub drop_answers : (t : ℕ) (h : List Entry) (rs : List Value) (at : ℕ) (r : 
 drop_answers t h rs at r h' rs' told registers history =
     Answers_by t h rs (op.Drop at) Nil (record { act = None; reply = reply.Done; registers = set rs at Nil }) r h' rs'
     refl refl told registers history
-
--- a collection was asked for
-pub collect_answers : (t : ℕ) (h : List Entry) (rs : List Value) (r : Reply) (h' : List Entry) (rs' : List Value)
-    → reply.Done ≡ r → rs' ≡ rs → h' ≡ h → Answers t h rs op.Collect r h' rs'
-collect_answers t h rs r h' rs' told registers history =
-    unchanged_answers t h rs op.Collect reply.Done r h' rs' refl told registers history
 
 -- the operation is on a part of an object, and its register holds none
 abbrev pub HoldsNil : List Value → Op → Type 0

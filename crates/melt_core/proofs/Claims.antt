@@ -1,5 +1,6 @@
 -- How far the first free place may lie past the last word, as calls come and go.
-use Rattle.std.proofs.Common.{◌≡◌, ◌⊎◌, ℕ, ◌+◌, ◌*◌, ◌^◌, ◌<◌, ◌≤◌, inl, inr, List, [], ◌∷◌, length, refl, sym, ap, subst, arith}
+use Rattle.std.proofs.Common.{◌≡◌, ◌⊎◌, ℕ, ◌+◌, ◌*◌, ◌<◌, ◌≤◌, inl, inr}
+use Rattle.std.proofs.Common.{List, [], ◌∷◌, length, refl, sym, ap, subst, arith}
 use Rattle.std.proofs.lemmas.List.Sums.{sum-map, sum_by-cons, sum_by-set, sum_by-le-sum_by}
 use Rattle.std.specs.List.{sum_by}
 use Rattle.std.proofs.Math.ListN.{length-set}
@@ -114,11 +115,6 @@ bounded_lacking words free need stop calls t call task within polled lacking sma
       | inr above ↦ inr (omega arith)
     ]
 
--- a claim ended within the heap
-pub bounded_fits : (words free : ℕ) (stop : Bool) (calls : List (Option Call)) → free ≤ words + 1 →
-    BoundedBy words free stop calls
-bounded_fits words free stop calls fits = inl fits
-
 -- the stop word is set
 pub bounded_stop : (words free : ℕ) (stop : Bool) (calls : List (Option Call)) → BoundedBy words free stop calls →
     BoundedBy words free true calls
@@ -132,11 +128,6 @@ pub bounded_refused : (words free : ℕ) (stop : Bool) (calls : List (Option Cal
     BoundedBy words free stop calls → BoundedBy words free true (slice_set calls t None)
 bounded_refused words free stop calls t within bounded =
     bounded_call words free true calls t None within (omega arith) (bounded_stop words free stop calls bounded)
-
--- the first free place is a small number
-pub bounded_small : (v : View) → Bounded v → length v.calls ≤ 8 → length v.space.list < 2 ^ 30 → v.free < 2 ^ 31
-bounded_small v (inl below) few small = omega arith
-bounded_small v (inr above) few small = omega arith
 
 -- the next stage may make no more claims
 pub claims_next : (maps : Maps) (s : State) (register : ℕ → ℕ) (stop : Bool) (o : Op) (stage : Option Stage)

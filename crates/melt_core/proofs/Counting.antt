@@ -1,11 +1,12 @@
 -- The words of objects in use and of regions, added up.
-use Rattle.std.proofs.Common.{◌≡◌, ℕ, ◌+◌, ◌<◌, ◌≤◌, List, [], ◌∷◌, ◌++◌, length, get_or, refl, sym, ◌∙◌, ap, subst, arith, ◌⊎◌, inl, inr}
+use Rattle.std.proofs.Common.{◌≡◌, ℕ, ◌+◌, ◌<◌, ◌≤◌, ◌⊎◌, inl, inr, arith}
+use Rattle.std.proofs.Common.{List, [], ◌∷◌, ◌++◌, length, get_or, refl, sym, ◌∙◌, ap, subst}
 use Rattle.std.proofs.Math.ListN.{set}
 use Rattle.std.proofs.lemmas.Bool.Decides.{eqb_tells}
 use Rattle.std.proofs.lemmas.List.Sums.{sum-map, sum_by-set}
 use Rattle.std.specs.Prelude.{◌↔◌, true, Option, None, Some}
 use Rattle.std.specs.Option.{option_map_or}
-use Rattle.melt_model.specs.History.{Shape as ModelShape, made as makes, shape_made}
+use Rattle.melt_model.specs.History.{Shape as ModelShape, made as makes}
 use Rattle.melt_model.specs.Alive.{Alive, words_of, CostsSum}
 use Rattle.melt_model.specs.declared.history.Act.TheVariants.{Make}
 use Rattle.melt_model.specs.declared.history.Entry.{Entry}
@@ -22,7 +23,8 @@ use Rattle.melt_core.specs.declared.call.Stage.TheVariants.{Claimed}
 use Rattle.melt_scion.specs.Regions.{HasStored}
 use Rattle.melt_word.specs.Words.{IsShape}
 use Rattle.melt_core.specs.Known.{Known, region, region_of}
-use Rattle.melt_core.specs.Views.{View, InUse, value, maps, maps_of, state, call_of, claimed_in, claimed, Counts, Standing}
+use Rattle.melt_core.specs.Views.{View, Standing, Counts, InUse, value, maps, maps_of, state}
+use Rattle.melt_core.specs.Views.{call_of, claimed_in, claimed}
 use Rattle.melt_core.specs.Advances.{HasRoom}
 use Rattle.melt_core.proofs.Values.{named_made}
 use Rattle.melt_core.proofs.Alive.{alive_sum, alive_in_use}
@@ -80,74 +82,42 @@ same_use : (v w : View) (total : ℕ) → w.names ≡ v.names → CostsSum (word
 same_use v w total names adds =
     subst (λ (m : Maps). CostsSum (words_of w.log) (InUse m) total) (sym (ap maps_of names)) adds
 
--- no region and no object more
-pub Counts_same : (v w : View) (t : ℕ) (call : Option Call) → Standing true v → t < length v.held → w.names ≡ v.names
-    → w.log ≡ v.log → w.free ≡ v.free → length w.space.list ≡ length v.space.list → w.calls ≡ set v.calls t call
-    → claimed_in call ≡ claimed_in (call_of v t) → Counts w
-Counts_same v w t call s within names log free words calls claimed =
-    let total : ℕ = (s.counts refl).in_use in
-    let after = claimed_after v w t call s within calls in
+-- What an event shows of the words that no object takes, where it makes none: the region of its call has room.
+pub record Claims (v w : View) (t : ℕ) (call : Option Call) : Type 0 where
+  pub names : w.names ≡ v.names
+  pub words : length w.space.list ≡ length v.space.list
+  pub calls : w.calls ≡ set v.calls t call
+  pub below : v.free + claimed_in call ≤ w.free + claimed_in (call_of v t)
+  pub within : (claimed_in call ≤ claimed_in (call_of v t)) ⊎ (v.free + claimed_in call ≤ length v.space.list + 1)
+
+counts_by : (v w : View) (t : ℕ) (call : Option Call) → (s : Standing true v) → t < length v.held
+    → CostsSum (words_of w.log) (InUse (maps v)) (s.counts refl).in_use → Claims v w t call → Counts w
+counts_by v w t call s within sum is =
+    let after = claimed_after v w t call s within is.calls in
     let below = (s.counts refl).below in
     let fits = (s.counts refl).within in
     record {
-      in_use = total;
-      adds_up = same_use v w total names
-          (subst (λ (h : List Entry). CostsSum (words_of h) (InUse (maps v)) total) (sym log) (s.counts refl).adds_up);
-      below = omega arith;
-      within = omega arith;
+      in_use = (s.counts refl).in_use;
+      adds_up = same_use v w (s.counts refl).in_use is.names sum;
+      below = omega (arith, is.below);
+      within = elim is.within [ inl fewer ↦ omega (arith, is.words) | inr room ↦ omega (arith, is.words) ];
     }
 
--- and an entry that makes nothing
+-- the history has no entry more
+pub Counts_same : (v w : View) (t : ℕ) (call : Option Call) → Standing true v → t < length v.held → w.log ≡ v.log
+    → Claims v w t call → Counts w
+Counts_same v w t call s within log is =
+    counts_by v w t call s within
+    (subst (λ (h : List Entry). CostsSum (words_of h) (InUse (maps v)) (s.counts refl).in_use) (sym log)
+    (s.counts refl).adds_up) is
+
+-- and where it has one
 pub Counts_entry : (v w : View) (t : ℕ) (call : Option Call) (e : Entry) → Standing true v → t < length v.held
-    → w.names ≡ v.names → w.log ≡ v.log ++ e ∷ [] → shape_made e.act ≡ None → w.free ≡ v.free
-    → length w.space.list ≡ length v.space.list → w.calls ≡ set v.calls t call
-    → claimed_in call ≡ claimed_in (call_of v t) → Counts w
-Counts_entry v w t call e s within names log quiet free words calls claimed =
-    let total : ℕ = (s.counts refl).in_use in
-    let after = claimed_after v w t call s within calls in
-    let below = (s.counts refl).below in
-    let fits = (s.counts refl).within in
-    record {
-      in_use = total;
-      adds_up = same_use v w total names
-          (subst (λ (h : List Entry). CostsSum (words_of h) (InUse (maps v)) total) (sym log) (in_use_later v e s));
-      below = omega arith;
-      within = omega arith;
-    }
-
--- a region is claimed, and ends within the heap
-pub Counts_claimed : (v w : View) (t cost : ℕ) (call : Option Call) → Standing true v → t < length v.held
-    → w.names ≡ v.names → w.log ≡ v.log → w.free ≡ v.free + cost → v.free + cost ≤ length v.space.list + 1
-    → length w.space.list ≡ length v.space.list → w.calls ≡ set v.calls t call → claimed_in (call_of v t) ≡ 0
-    → claimed_in call ≡ cost → Counts w
-Counts_claimed v w t cost call s within names log free fits words calls none claimed =
-    let total : ℕ = (s.counts refl).in_use in
-    let after = claimed_after v w t call s within calls in
-    let below = (s.counts refl).below in
-    record {
-      in_use = total;
-      adds_up = same_use v w total names
-          (subst (λ (h : List Entry). CostsSum (words_of h) (InUse (maps v)) total) (sym log) (s.counts refl).adds_up);
-      below = omega arith;
-      within = omega arith;
-    }
-
--- a region is claimed, and ends past the last word: no call owns it
-pub Counts_lacking : (v w : View) (t : ℕ) (call : Option Call) → Standing true v → t < length v.held → w.names ≡ v.names
-    → w.log ≡ v.log → v.free ≤ w.free → length w.space.list ≡ length v.space.list → w.calls ≡ set v.calls t call
-    → claimed_in (call_of v t) ≡ 0 → claimed_in call ≡ 0 → Counts w
-Counts_lacking v w t call s within names log free words calls none still =
-    let total : ℕ = (s.counts refl).in_use in
-    let after = claimed_after v w t call s within calls in
-    let below = (s.counts refl).below in
-    let fits = (s.counts refl).within in
-    record {
-      in_use = total;
-      adds_up = same_use v w total names
-          (subst (λ (h : List Entry). CostsSum (words_of h) (InUse (maps v)) total) (sym log) (s.counts refl).adds_up);
-      below = omega arith;
-      within = omega arith;
-    }
+    → w.log ≡ v.log ++ e ∷ [] → Claims v w t call → Counts w
+Counts_entry v w t call e s within log is =
+    counts_by v w t call s within
+    (subst (λ (h : List Entry). CostsSum (words_of h) (InUse (maps v)) (s.counts refl).in_use) (sym log)
+    (in_use_later v e s)) is
 
 -- no object stands where a region begins
 region_free : (v : View) (t address stored dst n : ℕ) (c : Call) (shape : Shape) → Standing true v

@@ -14,7 +14,8 @@ use Rattle.melt_scion.specs.Placed.{Maps, FormedWords}
 use Rattle.melt_scion.specs.Regions.{Region, Owns}
 use Rattle.melt_scion.specs.Changes.{SameWords, WordChanges, GlobalChanges, FreeMoves, NameAppears}
 use Rattle.melt_scion.proofs.Geometry.{one_header, header_moves}
-use Rattle.melt_scion.proofs.Parts.{PartAt, head_part, slot_part, number_part, parts_differ, slot_or_number, part_outside}
+use Rattle.melt_scion.proofs.Parts.{PartAt, head_part, slot_part, number_part}
+use Rattle.melt_scion.proofs.Parts.{parts_differ, slot_or_number, part_outside}
 use Rattle.melt_core.specs.declared.call.Place.{Place}
 use Rattle.melt_core.specs.declared.call.Place.TheVariants.{Field, Global}
 use Rattle.melt_core.specs.Known.{word_in, IsPlace, HasTag, IsTagged, Settles, region, Evolves}

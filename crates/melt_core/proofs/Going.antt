@@ -1,21 +1,25 @@
 -- Events after which a call goes on at another stage, and no word that threads share changes.
-use Rattle.std.proofs.Common.{◌≡◌, ℕ, refl, sym, subst}
+use Rattle.std.proofs.Common.{◌≡◌, ℕ, length, refl, sym, ap, subst}
 use Rattle.std.proofs.Math.ListN.{set}
-use Rattle.std.specs.Prelude.{false, None, Some}
+use Rattle.std.specs.Prelude.{Bool, false, Option, None, Some}
 use Rattle.melt_model.specs.declared.operations.Op.{Op}
+use Rattle.melt_space.specs.Space.{SpaceWords}
 use Rattle.melt_scion.specs.Heaps.{register_in}
 use Rattle.melt_scion.specs.Regions.{no_region}
 use Rattle.melt_core.specs.declared.answer.StepResult.TheVariants.{Going}
 use Rattle.melt_core.specs.declared.call.Call.{Call}
 use Rattle.melt_core.specs.declared.call.Stage.{Stage}
+use Rattle.melt_core.specs.declared.call.Stage.TheVariants.{Polled}
+use Rattle.melt_core.specs.declared.call.Task.{Task}
 use Rattle.melt_core.specs.Known.{Known}
 use Rattle.melt_core.specs.Events.{Event, quiet}
-use Rattle.melt_core.specs.Stages.{Next, Nothing, change_of, cleared_by, Applies, Fits}
+use Rattle.melt_core.specs.Stages.{Next, Nothing, Shares, change_of, cleared_by, Applies, Fits}
 use Rattle.melt_core.specs.Changed.{with_call}
 use Rattle.melt_core.specs.Advances.{MayAdvance, Advances, Goes, KeepsOwn}
-use Rattle.melt_core.specs.Views.{View, maps, state, call_of, stage_of, claimed_in, Standing}
+use Rattle.melt_core.specs.Views.{View, maps, state, call_of, stage_in, stage_of, claimed_in, Standing}
 use Rattle.melt_core.proofs.Claims.{claims_next}
 use Rattle.melt_core.proofs.Asked.{inside, nothing_claimed, next_fits, still_clears}
+use Rattle.melt_core.proofs.Words.{same_words}
 use Rattle.melt_core.proofs.Standing.{advances, call_here}
 use Rattle.melt_core.proofs.Plain.{Plain, plain}
 use Rattle.melt_core.proofs.Regions.{nearer_in}
@@ -34,41 +38,74 @@ goes v w t o stage asks next calls own stop = record {
   stop = stop;
 }
 
+-- What an event shows after which the call goes on at this stage.
+pub record GoesOn (v w : View) (t : ℕ) (o : Op) (stage : Stage) : Type 0 where
+  pub event : (told : Bool) → Standing told v
+      → Event told v.log (maps v) (maps w) (state v) (state w) no_region (cleared_by (stage_of v t)) None
+  pub applies : Applies (maps v) (maps w) (state v) (state w)
+      (change_of (state v) (register_in v.held t) (stage_of v t))
+  pub words : length w.space.list ≡ length v.space.list
+  pub next : Next (maps v) (state v) (register_in v.held t) v.stop o (stage_of v t) stage
+  pub known : Known (maps w) (state w) stage
+  pub unclaimed : claimed_in (Some (record { op = o; stage = stage })) ≡ 0
+  pub unclaimed_before : claimed_in (call_of v t) ≡ 0
+
+-- the view behind it, where the words are these
+abbrev pub gone_on : View → SpaceWords → ℕ → Op → Stage → View
+gone_on v space t o stage = with_call (record v { space = space }) t (Some (record { op = o; stage = stage }))
+
+pub goes_on : (v : View) (space : SpaceWords) (t : ℕ) (o : Op) (stage : Stage) → MayAdvance v t o
+    → GoesOn v (gone_on v space t o stage) t o stage → Advances v (gone_on v space t o stage) t o Going
+goes_on v space t o stage asks is =
+    let s : Standing false v = asks.stands in
+    let after : Call = record { op = o; stage = stage } in
+    let w : View = gone_on v space t o stage in
+    let p : Plain v w t (cleared_by (stage_of v t)) None (Some after) = record {
+      event = is.event;
+      nothing = tt;
+      moves = refl;
+      words = is.words;
+      threads = refl;
+      others = λ u differ. refl;
+      may_hold = s.registers t;
+      known = λ c same. subst (λ (d : Call). Known (maps w) (state w) d.stage) (let e : after ≡ c = cc in e) is.known;
+      fits = λ c same. subst (λ (d : Call). Fits (register_in v.held t) d.op d.stage) (let e : after ≡ c = cc in e)
+          (next_fits (maps v) (state v) (register_in v.held t) v.stop o (call_of v t) stage asks.continued
+          (λ d at. s.fits t d at) is.next);
+      unclaimed = is.unclaimed;
+      unclaimed_before = is.unclaimed_before;
+      claims = claims_next (maps v) (state v) (register_in v.held t) v.stop o (stage_of v t) stage is.next;
+    } in
+    advances v w t o Going asks (plain v w t (cleared_by (stage_of v t)) None (Some after) asks.thread p) refl
+    is.applies (goes v w t o stage asks is.next refl (record { history = refl; registers = refl; values = refl }) refl)
+    tt
+
+-- no word that threads share changes
 pub go_advances : (v : View) (t : ℕ) (o : Op) (stage : Stage) → MayAdvance v t o
     → change_of (state v) (register_in v.held t) (stage_of v t) ≡ Nothing
     → Next (maps v) (state v) (register_in v.held t) v.stop o (stage_of v t) stage → Known (maps v) (state v) stage
     → claimed_in (Some (record { op = o; stage = stage })) ≡ 0
     → Advances v (with_call v t (Some (record { op = o; stage = stage }))) t o Going
 go_advances v t o stage asks still next known unclaimed =
-    let s : Standing false v = asks.stands in
-    let after : Call = record { op = o; stage = stage } in
-    let w : View = with_call v t (Some after) in
-    let cleared : cleared_by (stage_of v t) ≡ 0 = still_clears (state v) (register_in v.held t) (stage_of v t) still in
-    let p : Plain v w t (cleared_by (stage_of v t)) None (Some after) = record {
-      event = λ told stands. subst (λ (k : ℕ). Event told v.log (maps v) (maps w) (state v) (state w) no_region k None)
-          (sym cleared) (quiet refl
-          (record { base = refl; free = refl; word = λ k. refl; global = λ g. refl; forward = λ q. refl }));
-      nothing = tt;
-      log = refl;
-      calls = refl;
-      names = refl;
-      free = refl;
-      made = refl;
-      stop = refl;
+    goes_on v v.space t o stage asks (record {
+      event = λ told stands. subst (λ (k : ℕ). Event told v.log (maps v) (maps v) (state v) (state v) no_region k None)
+          (sym (still_clears (state v) (register_in v.held t) (stage_of v t) still)) (quiet refl (same_words v));
+      applies = subst (Applies (maps v) (maps v) (state v) (state v)) (sym still) (refl, same_words v);
       words = refl;
-      threads = refl;
-      others = λ u differ. refl;
-      may_hold = λ r. s.registers t r;
-      known = λ c is. subst (λ (d : Call). Known (maps v) (state v) d.stage) (let e : after ≡ c = cc in e) known;
-      fits = λ c is. subst (λ (d : Call). Fits (register_in v.held t) d.op d.stage) (let e : after ≡ c = cc in e)
-          (next_fits (maps v) (state v) (register_in v.held t) v.stop o (call_of v t) stage asks.continued
-          (λ d at. s.fits t d at) next);
+      next = next;
+      known = known;
       unclaimed = unclaimed;
       unclaimed_before = nothing_claimed (state v) (register_in v.held t) (call_of v t) still;
-      claims = claims_next (maps v) (state v) (register_in v.held t) v.stop o (stage_of v t) stage next;
-    } in
-    advances v w t o Going asks (plain v w t (cleared_by (stage_of v t)) None (Some after) asks.thread p) refl
-    (subst (Applies (maps v) (maps w) (state v) (state w)) (sym still)
-    (refl, record { base = refl; free = refl; word = λ k. refl; global = λ g. refl; forward = λ q. refl }))
-    (goes v w t o stage asks next refl (record { history = refl; registers = refl; values = refl }) refl)
-    tt
+    })
+
+-- the stop word was not set
+pub poll_advances : (v : View) (t : ℕ) (o : Op) (task : Task) → MayAdvance v t o → call_of v t ≡ None
+    → Shares (register_in v.held t) o task → v.stop ≡ false
+    → Advances v (with_call v t (Some (record { op = o; stage = Polled task }))) t o Going
+poll_advances v t o task asks first shares runs =
+    let none : None ≡ stage_of v t = sym (ap stage_in first) in
+    go_advances v t o (Polled task) asks
+    (subst (λ (g : Option Stage). change_of (state v) (register_in v.held t) g ≡ Nothing) none refl)
+    (subst (λ (g : Option Stage). Next (maps v) (state v) (register_in v.held t) v.stop o g (Polled task)) none
+    (task, shares, runs, refl))
+    tt refl

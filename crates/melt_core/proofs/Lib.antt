@@ -14,6 +14,7 @@ pub mod Alive
 pub mod Counting
 pub mod Plain
 pub mod Asked
+pub mod Words
 pub mod Going
 pub mod Tasks
 pub mod Registers

@@ -1,10 +1,9 @@
 -- The events of loads: a look, a clear and an untag.
-use Rattle.std.proofs.Common.{◌≡◌, ℕ, zero, suc, ◌<◌, inl, inr, List, [], ◌∷◌, ◌++◌, length, refl, sym, ◌∙◌, ap, subst, arith}
-use Rattle.std.proofs.Math.ListN.{set}
+use Rattle.std.proofs.Common.{◌≡◌, ℕ, zero, suc, ◌<◌, inl, inr, List, []}
+use Rattle.std.proofs.Common.{◌∷◌, ◌++◌, length, refl, sym, ◌∙◌, ap, subst, arith}
 use Rattle.std.specs.Prelude.{Bool, true, false, Option, None, Some, unwrap_or}
 use Rattle.melt_model.specs.History.{last}
 use Rattle.melt_model.specs.Thread.{found}
-use Rattle.melt_model.specs.declared.history.Act.{Act}
 use Rattle.melt_model.specs.declared.history.Act.TheVariants.{Read}
 use Rattle.melt_model.specs.declared.history.Slot.{Slot}
 use Rattle.melt_model.specs.declared.history.Slot.TheVariants as slots
@@ -29,27 +28,24 @@ use Rattle.melt_core.specs.declared.call.Access.TheVariants.{Load}
 use Rattle.melt_core.specs.declared.call.Place.{Place}
 use Rattle.melt_core.specs.declared.call.Place.TheVariants.{Field, Global}
 use Rattle.melt_core.specs.declared.call.Stage.{Stage}
-use Rattle.melt_core.specs.declared.call.Stage.TheVariants.{Polled, Headed, Looked, Cleared, Lacking}
+use Rattle.melt_core.specs.declared.call.Stage.TheVariants.{Polled, Headed, Looked, Cleared}
 use Rattle.melt_core.specs.declared.call.Task.TheVariants.{LoadGlobal}
-use Rattle.melt_core.specs.declared.call.Call.{Call}
 use Rattle.melt_core.specs.Answering.{Answers, entry}
-use Rattle.melt_core.specs.Known.{IsObjectAt, IsPlace, IsTagged, SlotAt, HasLooked, Known, Evolves, word_in}
+use Rattle.melt_core.specs.Known.{IsObjectAt, IsPlace, IsTagged, SlotAt, HasLooked, Evolves, word_in}
 use Rattle.melt_core.specs.Events.{Event, PlaceChanges, reads_place, clears, untags}
-use Rattle.melt_core.specs.Stages.{Next, MustPause, Fits, LoadsAt, LooksFrom, Applies, Nothing, change_of, cleared_by}
-use Rattle.melt_core.specs.Changed.{HoldsRef, HasRead, OnlyWords, with_call, with_register, noted}
+use Rattle.melt_core.specs.Stages.{Next, Fits, LoadsAt, LooksFrom, Applies, Nothing, change_of, cleared_by}
+use Rattle.melt_core.specs.Changed.{HoldsRef, HasRead, with_call, with_register, noted}
 use Rattle.melt_core.specs.Advances.{MayAdvance, Advances, HasRoomFor, Sets, InBounds}
-use Rattle.melt_core.specs.Views.{View, maps, state, stage_of, values_of, held_value, registers_in, claimed_in, base_in, Standing}
+use Rattle.melt_core.specs.Views.{View, Standing, maps, state, stage_of, values_of, held_value, claimed_in}
 use Rattle.melt_core.proofs.Asked.{call_at, fits_at, known_at}
-use Rattle.melt_core.proofs.Claims.{claims_ends, claims_next}
+use Rattle.melt_core.proofs.Words.{same_behind, word_set, over}
 use Rattle.melt_core.proofs.Evolving.{evolves_event}
 use Rattle.melt_core.proofs.Staying.{looked_stays, place_stays}
-use Rattle.melt_core.proofs.Standing.{advances}
-use Rattle.melt_core.proofs.Going.{goes}
-use Rattle.melt_core.proofs.Plain.{Plain, plain}
-use Rattle.melt_core.proofs.Answered.{answered}
+use Rattle.melt_core.proofs.Going.{goes_on, go_advances}
+use Rattle.melt_core.proofs.Answered.{Ends, ends_at, local_set, over_advances}
 use Rattle.melt_core.proofs.Answers.{load_answers, gload_answers}
 use Rattle.melt_core.proofs.Objects.{object_shape, value_named, tagged_is, value_there, may_stand_there, stale_address}
-use Rattle.melt_core.proofs.Registers.{register_keeps, register_other, registers_other, threads_set, values_set}
+use Rattle.melt_core.proofs.Registers.{register_other, values_set}
 use Rattle.melt_core.proofs.Tasks.{load_is, gload_is}
 
 -- the view behind a read: what the address stands for was read at the slot, and the register holds it
@@ -63,15 +59,6 @@ pub record Finds (v : View) (t : ℕ) (o : Op) (place : Place) (dst address : �
   pub there : IsPlace (maps v) (state v) place
   pub may_hold : MayHold (maps v) (state v) address
   pub value : Standing true v → (at : Slot) → SlotAt (maps v) place at → held_value v.names address ≡ last v.log at
-
--- A load has no further event, and pauses in none.
-pub record Ends (v : View) (t : ℕ) (o : Op) (stage : Stage) : Type 0 where
-  pub at : stage_of v t ≡ Some stage
-  pub last : (next : Stage) → Next (maps v) (state v) (register_in v.held t) v.stop o (Some stage) next → ⊥
-  pub no_pause : MustPause (register_in v.held t) v.stop o (Some stage) → ⊥
-  pub clears : cleared_by (Some stage) ≡ 0
-  pub unclaimed : claimed_in (Some (record { op = o; stage = stage })) ≡ 0
-  pub no_lack : (need : ℕ) → stage ≡ Lacking need → ⊥
 
 -- a load is of one place
 one_place : (register : ℕ → ℕ) (o : Op) (place other : Place) (dst d : ℕ) → LoadsAt register o place dst
@@ -93,14 +80,12 @@ one_place register o (Global g) (Global k) dst d first second = let e : op.GLoad
     sym (gload_is o dst g first) ∙ gload_is o d k second in let same : g ≡ k = cc in ap Global same
 
 -- the answer to a load, by its place
-read_answers : (v m : View) (t : ℕ) (o : Op) (place : Place) (at : Slot) (dst address : ℕ) → t < length v.held
-    → Standing true v → Finds v t o place dst address → SlotAt (maps v) place at → OnlyWords v m
-    → Answers t v.log (values_of v t) o (found (held_value m.names address)) (behind m t at dst address).log
-    (values_of (behind m t at dst address) t)
-read_answers v m t o (Field object i) at dst address within told finds slot only =
-    subst (λ (x : View). Answers t v.log (values_of v t) o (found (held_value x.names address))
-    (behind x t at dst address).log (values_of (behind x t at dst address) t)) (sym only)
-    (subst (λ (q : Slot). Answers t v.log (values_of v t) o (found (held_value v.names address))
+read_answers : (v : View) (t : ℕ) (o : Op) (place : Place) (at : Slot) (dst address : ℕ) → t < length v.held
+    → Standing true v → Finds v t o place dst address → SlotAt (maps v) place at
+    → Answers t v.log (values_of v t) o (found (held_value v.names address))
+    (v.log ++ entry t (Read at (held_value v.names address)) ∷ []) (values_of (with_register v t dst address) t)
+read_answers v t o (Field object i) at dst address within told finds slot =
+    subst (λ (q : Slot). Answers t v.log (values_of v t) o (found (held_value v.names address))
     (v.log ++ entry t (Read q (held_value v.names address)) ∷ []) (values_of (with_register v t dst address) t))
     (sym slot.2)
     (subst (λ (p : Op). Answers t v.log (values_of v t) p (found (held_value v.names address))
@@ -110,18 +95,16 @@ read_answers v m t o (Field object i) at dst address within told finds slot only
     (found (held_value v.names address)) _ _
     (value_named v t finds.loads.0 object slot.0 finds.loads.2 slot.1)
     (object_shape v object slot.0 finds.there.0 told finds.there.1 slot.1) finds.there.2 refl
-    (values_set v t dst address within) refl)))
-read_answers v m t o (Global g) at dst address within told finds slot only =
-    subst (λ (x : View). Answers t v.log (values_of v t) o (found (held_value x.names address))
-    (behind x t at dst address).log (values_of (behind x t at dst address) t)) (sym only)
-    (subst (λ (q : Slot). Answers t v.log (values_of v t) o (found (held_value v.names address))
+    (values_set v t dst address within) refl))
+read_answers v t o (Global g) at dst address within told finds slot =
+    subst (λ (q : Slot). Answers t v.log (values_of v t) o (found (held_value v.names address))
     (v.log ++ entry t (Read q (held_value v.names address)) ∷ []) (values_of (with_register v t dst address) t))
     (sym slot)
     (subst (λ (p : Op). Answers t v.log (values_of v t) p (found (held_value v.names address))
     (v.log ++ entry t (Read (slots.Global g) (held_value v.names address)) ∷ [])
     (values_of (with_register v t dst address) t)) (sym (gload_is o dst g finds.loads))
     (gload_answers t v.log (values_of v t) dst g (held_value v.names address) (found (held_value v.names address)) _ _
-    refl (values_set v t dst address within) refl)))
+    refl (values_set v t dst address within) refl))
 
 sets_dst : (register : ℕ → ℕ) (o : Op) (place : Place) (dst : ℕ) → LoadsAt register o place dst → Sets o dst
 sets_dst register o (Field object i) dst loads =
@@ -133,61 +116,40 @@ load_room : (v : View) (register : ℕ → ℕ) (o : Op) (place : Place) (dst : 
 load_room v register o (Field object i) dst loads = subst (HasRoomFor v) (sym (load_is o loads.0 dst i loads.1)) tt
 load_room v register o (Global g) dst loads = subst (HasRoomFor v) (sym (gload_is o dst g loads)) tt
 
--- A load was answered, where words of the space or a global may have changed.
-pub read_advances : (v m : View) (t : ℕ) (o : Op) (stage : Stage) (place : Place) (at : Slot) (dst address : ℕ)
-    → MayAdvance v t o → Ends v t o stage → Finds v t o place dst address → SlotAt (maps v) place at → OnlyWords v m
-    → length m.space.list ≡ length v.space.list →
-    ((told : Bool) → Standing told v
-    → Event told v.log (maps v) (maps m) (state v) (state (behind m t at dst address)) no_region 0
-    (Some (Read at (held_value m.names address)))) →
-    Applies (maps v) (maps m) (state v) (state (behind m t at dst address))
-    (change_of (state v) (register_in v.held t) (Some stage)) →
-    (IsTagged (word_in (state m) place) → ⊥)
-    → Advances v (behind m t at dst address) t o (Answered (found (held_value m.names address)))
-read_advances v m t o stage place at dst address asks ends finds slot only words event applies clean =
-    let w : View = behind m t at dst address in
-    let act : Act = Read at (held_value m.names address) in
-    let same : m ≡ record v { space = m.space; globals = m.globals } = only in
-    answered v w t o (found (held_value m.names address)) (Some act) asks (record {
-      event = λ told s. subst (λ (k : ℕ). Event told v.log (maps v) (maps w) (state v) (state w) no_region k (Some act))
-          (sym (ap cleared_by ends.at ∙ ends.clears)) (event told s);
+-- What a load shows that is answered, where words of the space or a global may have changed.
+record Reads (v m : View) (t : ℕ) (o : Op) (stage : Stage) (place : Place) (at : Slot) (dst address : ℕ) : Type 0 where
+  pub ends : Ends v t o stage
+  pub finds : Finds v t o place dst address
+  pub is_slot : SlotAt (maps v) place at
+  pub words : length m.space.list ≡ length v.space.list
+  pub event : (told : Bool) → Standing told v
+      → Event told v.log (maps v) (maps v) (state v) (state (behind m t at dst address)) no_region 0
+      (Some (Read at (held_value v.names address)))
+  pub applies : Applies (maps v) (maps v) (state v) (state (behind m t at dst address))
+      (change_of (state v) (register_in v.held t) (Some stage))
+  pub clean : IsTagged (word_in (state m) place) → ⊥
+
+read_advances : (v : View) (space : SpaceWords) (globals : List ℕ) (t : ℕ) (o : Op) (stage : Stage) (place : Place)
+    (at : Slot) (dst address : ℕ) → MayAdvance v t o → Reads v (over v space globals) t o stage place at dst address
+    → Advances v (behind (over v space globals) t at dst address) t o (Answered (found (held_value v.names address)))
+read_advances v space globals t o stage place at dst address asks is =
+    let m : View = over v space globals in
+    over_advances v (behind m t at dst address) t o stage (Some (Read at (held_value v.names address)))
+    (found (held_value v.names address)) asks (record {
+      ends = is.ends;
+      event = is.event;
+      applies = is.applies;
       nothing = refl;
-      log = ap (λ (x : View). x.log ++ entry t act ∷ []) same;
-      calls = ap (λ (x : View). set x.calls t None) same;
-      names = ap (λ (x : View). x.names) same;
-      free = ap (λ (x : View). x.free) same;
-      made = ap (λ (x : View). x.made) same;
-      stop = ap (λ (x : View). x.stop) same;
-      words = words;
-      threads = threads_set m t dst address ∙ ap (λ (x : View). length x.held) same;
-      others = λ u differ. registers_other m.held t u (set (registers_in m.held t) dst address) differ
-          ∙ ap (λ (x : View). registers_in x.held u) same;
-      may_hold = register_keeps (MayHold (maps v) (state v)) m t dst address
-          (subst (λ (x : View). t < length x.held) (sym same) asks.thread) finds.may_hold
-          (subst (λ (x : View). (k : ℕ) → MayHold (maps v) (state v) (register_in x.held t k)) (sym same)
-          (asks.stands.registers t));
-      known = λ c none. absurd (cc);
-      fits = λ c none. absurd (cc);
-      unclaimed = refl;
-      unclaimed_before = ap claimed_in (call_at v t o stage asks ends.at) ∙ ends.unclaimed;
-      claims = claims_ends v.stop (stage_of v t)
-          (λ need lacks. ends.no_lack need (let e : Some stage ≡ Some (Lacking need) = sym ends.at ∙ lacks in cc));
-    }) (ap (λ (x : View). x.capacity) same)
-    (subst (λ (g : Option Stage). Applies (maps v) (maps w) (state v) (state w)
-    (change_of (state v) (register_in v.held t) g)) (sym ends.at) applies)
-    (record {
-      last = λ next goes. ends.last next
-          (subst (λ (g : Option Stage). Next (maps v) (state v) (register_in v.held t) v.stop o g next) ends.at goes);
-      no_pause = λ pause. ends.no_pause (subst (MustPause (register_in v.held t) v.stop o) ends.at pause);
-      answers = λ told. read_answers v m t o place at dst address asks.thread told finds slot only;
-      registers = λ r other.
-          register_other m t dst address r (subst (λ (x : View). t < length x.held) (sym same) asks.thread)
-          (λ is. other (subst (Sets o) (sym is) (sets_dst (register_in v.held t) o place dst finds.loads)))
-          ∙ ap (λ (x : View). register_in x.held t r) same;
-      room = λ told. load_room v (register_in v.held t) o place dst finds.loads;
-      clean = λ other d loads there tagged. clean
+      moves = refl;
+      words = is.words;
+      local = local_set v t dst address asks.stands asks.thread is.finds.may_hold;
+      answers = λ told. read_answers v t o place at dst address asks.thread told is.finds is.is_slot;
+      registers = λ r other. register_other v t dst address r asks.thread
+          (λ same. other (subst (Sets o) (sym same) (sets_dst (register_in v.held t) o place dst is.finds.loads)));
+      room = load_room v (register_in v.held t) o place dst is.finds.loads;
+      clean = λ other d loads there tagged. is.clean
           (subst (λ (p : Place). IsTagged (word_in (state m) p))
-          (one_place (register_in v.held t) o other place d dst loads finds.loads)
+          (one_place (register_in v.held t) o other place d dst loads is.finds.loads)
           (same_word m t at dst address other tagged));
     })
   where
@@ -249,9 +211,14 @@ pub quiet_read : (told : Bool) (v : View) (t : ℕ) (o : Op) (place : Place) (at
     (Some (Read at (held_value v.names address)))
 quiet_read told v t o place at dst address s finds slot clean =
     reads_place place at (held_value v.names address) refl
-    (record { base = refl; free = refl; word = λ k. refl; global = λ g. refl; forward = λ p. refl }) finds.there
-    clean
+    (same_behind v (behind v t at dst address).held) finds.there clean
     (λ is. record { slot = slot; last = finds.value (subst (λ (b : Bool). Standing b v) is s) at slot })
+
+-- a stale address has a tag
+stale_tagged : (v : View) (place : Place) (target : ℕ) → Standing false v → IsPlace (maps v) (state v) place
+    → word_in (state v) place ≡ ref_word (Stale target) → IsTagged (word_in (state v) place)
+stale_tagged v place target s there is =
+    record { reference = Stale target; in_range = stale_address v place target s there is; tag = tt; is = is }
 
 -- a look that found no tag is the last event of its load
 look_stage : (v : View) (t : ℕ) (o : Op) (place : Place) (dst : ℕ) → Standing false v → IsPlace (maps v) (state v) place
@@ -259,40 +226,14 @@ look_stage : (v : View) (t : ℕ) (o : Op) (place : Place) (dst : ℕ) → Stand
     × (change_of (state v) (register_in v.held t) (Some stage) ≡ Nothing)
 look_stage v t o (Field object i) dst s there looks clean = (
   Headed object looks.0 (Load dst i),
-  record {
-    at = looks.1;
-    last = λ next goes. clean
-        (record {
-          reference = Stale goes.0;
-          in_range = stale_address v (Field object i) goes.0 s there goes.1;
-          tag =
-              tt;
-          is = goes.1;
-        });
-    no_pause = λ pause. pause;
-    clears = refl;
-    unclaimed = refl;
-    no_lack = λ need is. cc;
-  },
+  ends_at v t o (Headed object looks.0 (Load dst i)) looks.1 tt
+      (λ next goes. clean (stale_tagged v (Field object i) goes.0 s there goes.1)),
   refl,
 )
 look_stage v t o (Global g) dst s there looks clean = (
   Polled (LoadGlobal dst g),
-  record {
-    at = looks;
-    last = λ next goes. clean
-        (record {
-          reference = Stale goes.0;
-          in_range = stale_address v (Global g) goes.0 s there goes.1;
-          tag = tt;
-          is =
-              goes.1;
-        });
-    no_pause = λ pause. pause;
-    clears = refl;
-    unclaimed = refl;
-    no_lack = λ need is. cc;
-  },
+  ends_at v t o (Polled (LoadGlobal dst g)) looks tt
+      (λ next goes. clean (stale_tagged v (Global g) goes.0 s there goes.1)),
   refl,
 )
 
@@ -317,8 +258,8 @@ pub clear_advances : (v : View) (space : SpaceWords) (t : ℕ) (o : Op) (place :
 clear_advances v space t o place target dst word shape asks at shaped is sets =
     let s : Standing false v = asks.stands in
     let stage : Stage = Looked place target dst in
-    let after : Call = record { op = o; stage = Cleared place target dst } in
-    let w : View = with_call (record v { space = space }) t (Some after) in
+    let w : View = with_call (record v { space = space }) t (Some (record { op = o; stage = Cleared place target dst }))
+    in
     let looked : HasLooked (maps v) (state v) place (Stale target) = known_at v t o stage asks at in
     let object = s.holds.formed.objects target looked.may_stand.0 looked.may_stand.1 in
     let starts : HeaderAt (state v) target object.0 = object.1.starts in
@@ -326,61 +267,66 @@ clear_advances v space t o place target dst word shape asks at shaped is sets =
     let cleared : Header = record { shape = object.0.shape; stale = false } in
     let here : word ≡ header_word cleared =
     is ∙ ap (λ (z : Shape). header_word (record { shape = z; stale = false })) same in
-    let changes : WordChanges (state v) (state w) target (header_word cleared) = record {
-      base = ap (λ (n : ℕ). record (base_in v.space v.globals) { size = n }) sets.size;
-      free = refl;
-      here = sets.here ∙ here;
-      others = sets.others;
-      global = λ g. refl;
-      forward = λ p. refl;
-    } in
+    let changes : WordChanges (state v) (state w) target (header_word cleared) =
+    subst (WordChanges (state v) (state w) target) here (word_set v space v.held target word sets) in
     let event : (told : Bool) → Event told v.log (maps v) (maps w) (state v) (state w) no_region target None =
     λ told. clears target object.0 refl looked.may_stand starts changes in
     let evolves : Evolves (maps v) (maps w) (state v) (state w) target =
     evolves_event false v.log (maps v) (maps w) (state v) (state w) no_region target None s.holds.formed
     (event false) in
-    let next : Next (maps v) (state v) (register_in v.held t) v.stop o (stage_of v t) (Cleared place target dst) =
-    subst (λ (g : Option Stage). Next (maps v) (state v) (register_in v.held t) v.stop o g
-    (Cleared place target dst)) (sym at) refl in
-    let p : Plain v w t (cleared_by (stage_of v t)) None (Some after) = record {
+    goes_on v space t o (Cleared place target dst) asks (record {
       event = λ told stands. subst (λ (k : ℕ). Event told v.log (maps v) (maps w) (state v) (state w) no_region k None)
           (sym (ap cleared_by at)) (event told);
-      nothing = tt;
-      log = refl;
-      calls = refl;
-      names = refl;
-      free = refl;
-      made = refl;
-      stop = refl;
+      applies = subst (λ (g : Option Stage). Applies (maps v) (maps w) (state v) (state w)
+          (change_of (state v) (register_in v.held t) g)) (sym at) (
+            refl,
+            λ header stands. subst
+                (λ (h : Header). WordChanges (state v) (state w) target
+                (header_word (record { shape = h.shape; stale = false })))
+                (one_header (state v) target object.0 header starts stands) changes,
+          );
       words = sets.size;
-      threads = refl;
-      others = λ u differ. refl;
-      may_hold = s.registers t;
-      known = λ c x. subst (λ (d : Call). Known (maps w) (state w) d.stage) (let e : after ≡ c = cc in e) (
+      next = subst (λ (g : Option Stage). Next (maps v) (state v) (register_in v.held t) v.stop o g
+          (Cleared place target dst)) (sym at) refl;
+      known = (
         looked_stays (maps v) (maps w) (state v) (state w) target s.holds.formed evolves place (Stale target) looked,
         λ header stands. ap (λ (h : Header). h.stale)
             (one_header (state w) target header cleared stands
             (evolves.clears looked.may_stand.0 object.0 looked.may_stand.1 starts)),
       );
-      fits = λ c x. subst (λ (d : Call). Fits (register_in v.held t) d.op d.stage) (let e : after ≡ c = cc in e)
-          (fits_at v t o stage asks at);
       unclaimed = refl;
       unclaimed_before = ap claimed_in (call_at v t o stage asks at);
-      claims = claims_next (maps v) (state v) (register_in v.held t) v.stop o (stage_of v t)
-          (Cleared place target dst) next;
-    } in
-    advances v w t o Going asks (plain v w t (cleared_by (stage_of v t)) None (Some after) asks.thread p) refl
-    (subst (λ (g : Option Stage). Applies (maps v) (maps w) (state v) (state w)
-    (change_of (state v) (register_in v.held t) g)) (sym at) (
-      refl,
-      λ header stands. subst
-          (λ (h : Header). WordChanges (state v) (state w) target
-          (header_word (record { shape = h.shape; stale = false })))
-          (one_header (state v) target object.0 header starts stands) changes,
-    ))
-    (goes v w t o (Cleared place target dst) asks next refl (record { history = refl; registers = refl; values = refl })
-    refl)
-    tt
+    })
+
+-- the look found a stale address
+pub look_advances : (v : View) (t : ℕ) (o : Op) (place : Place) (target dst : ℕ) → MayAdvance v t o
+    → LooksFrom (stage_of v t) place dst → HoldsRef (word_in (state v) place) (Stale target)
+    → Advances v (with_call v t (Some (record { op = o; stage = Looked place target dst }))) t o Going
+look_advances v t o place target dst asks looks holds =
+    let next = look_next v t o place target dst looks holds.is in
+    go_advances v t o (Looked place target dst) asks next.0 next.1
+    (looked_known v t place target asks.stands (looks_at v t o place dst asks looks).1 holds) refl
+  where
+    look_next : (v : View) (t : ℕ) (o : Op) (place : Place) (target dst : ℕ) → LooksFrom (stage_of v t) place dst
+        → word_in (state v) place ≡ ref_word (Stale target)
+        → (change_of (state v) (register_in v.held t) (stage_of v t) ≡ Nothing)
+        × Next (maps v) (state v) (register_in v.held t) v.stop o (stage_of v t) (Looked place target dst)
+    look_next v t o (Field object i) target dst looks is = (
+      subst (λ (g : Option Stage). change_of (state v) (register_in v.held t) g ≡ Nothing) (sym looks.1) refl,
+      subst (λ (g : Option Stage). Next (maps v) (state v) (register_in v.held t) v.stop o g
+          (Looked (Field object i) target dst)) (sym looks.1) (target, is, refl),
+    )
+    look_next v t o (Global g) target dst looks is = (
+      subst (λ (g : Option Stage). change_of (state v) (register_in v.held t) g ≡ Nothing) (sym looks) refl,
+      subst (λ (x : Option Stage). Next (maps v) (state v) (register_in v.held t) v.stop o x
+          (Looked (Global g) target dst)) (sym looks) (target, is, refl),
+    )
+
+-- the stage at which a load looks
+pub looks_stage : (stage : Option Stage) (place : Place) (dst : ℕ) → LooksFrom stage place dst
+    → (was : Stage) × (stage ≡ Some was)
+looks_stage stage (Field object i) dst looks = (Headed object looks.0 (Load dst i), looks.1)
+looks_stage stage (Global g) dst looks = (Polled (LoadGlobal dst g), looks)
 
 -- a load was answered by its look
 pub look_reads : (v w : View) (t : ℕ) (o : Op) (place : Place) (dst address : ℕ) (result : StepResult)
@@ -390,105 +336,106 @@ look_reads v w t o place dst address result asks looks finds clean read =
     let stage = look_stage v t o place dst asks.stands finds.there looks clean in
     subst (λ (r : StepResult). Advances v w t o r) (sym read.told)
     (subst (λ (x : View). Advances v x t o (Answered (found (held_value v.names address)))) (sym read.is)
-    (read_advances v v t o stage.0 place read.slot dst address asks stage.1 finds read.is_slot refl refl
-    (λ told s. quiet_read told v t o place read.slot dst address s finds read.is_slot clean)
-    (subst (Applies (maps v) (maps v) (state v) (state (behind v t read.slot dst address))) (sym stage.2)
-    (refl, record { base = refl; free = refl; word = λ k. refl; global = λ g. refl; forward = λ p. refl }))
-    clean))
+    (read_advances v v.space v.globals t o stage.0 place read.slot dst address asks (record {
+      ends = stage.1;
+      finds = finds;
+      is_slot = read.is_slot;
+      words = refl;
+      event = λ told s. quiet_read told v t o place read.slot dst address s finds read.is_slot clean;
+      applies = subst (Applies (maps v) (maps v) (state v) (state (behind v t read.slot dst address))) (sym stage.2)
+          (refl, same_behind v (behind v t read.slot dst address).held);
+      clean = clean;
+    })))
 
--- a load that has cleared has no further event than the untag
-cleared_ends : (v : View) (t : ℕ) (o : Op) (place : Place) (target dst : ℕ)
-    → stage_of v t ≡ Some (Cleared place target dst) → Ends v t o (Cleared place target dst)
-cleared_ends v t o place target dst at = record {
-  at = at;
-  last = λ next goes. goes;
-  no_pause = λ pause. pause;
-  clears = refl;
-  unclaimed = refl;
-  no_lack = λ need is. cc;
-}
+-- The next event of the thread is the exchange of its load, which found the stale target at the place.
+pub record IsCleared (v : View) (t : ℕ) (o : Op) (place : Place) (target dst : ℕ) : Type 0 where
+  pub asks : MayAdvance v t o
+  pub at : stage_of v t ≡ Some (Cleared place target dst)
+
+-- it has no event behind it
+cleared_ends : {v : View} {t : ℕ} {o : Op} {place : Place} {target dst : ℕ} → IsCleared v t o place target dst
+    → Ends v t o (Cleared place target dst)
+cleared_ends {v} {t} {o} {place} {target} {dst} is =
+    ends_at v t o (Cleared place target dst) is.at tt (λ next goes. goes)
 
 -- what such a load knows
-pub cleared_known : (v : View) (t : ℕ) (o : Op) (place : Place) (target dst : ℕ) → MayAdvance v t o
-    → stage_of v t ≡ Some (Cleared place target dst) → HasLooked (maps v) (state v) place (Stale target)
-    × IsFresh (state v) target
-cleared_known v t o place target dst asks at = known_at v t o (Cleared place target dst) asks at
+pub cleared_known : {v : View} {t : ℕ} {o : Op} {place : Place} {target dst : ℕ} → IsCleared v t o place target dst
+    → HasLooked (maps v) (state v) place (Stale target) × IsFresh (state v) target
+cleared_known {v} {t} {o} {place} {target} {dst} is = known_at v t o (Cleared place target dst) is.asks is.at
 
-pub cleared_loads : (v : View) (t : ℕ) (o : Op) (place : Place) (target dst : ℕ) → MayAdvance v t o
-    → stage_of v t ≡ Some (Cleared place target dst) → LoadsAt (register_in v.held t) o place dst
-cleared_loads v t o place target dst asks at = fits_at v t o (Cleared place target dst) asks at
+pub cleared_loads : {v : View} {t : ℕ} {o : Op} {place : Place} {target dst : ℕ} → IsCleared v t o place target dst
+    → LoadsAt (register_in v.held t) o place dst
+cleared_loads {v} {t} {o} {place} {target} {dst} is = fits_at v t o (Cleared place target dst) is.asks is.at
 
 -- an exchange was lost: the word that stands there is answered
-pub untag_lost : (v w : View) (t : ℕ) (o : Op) (place : Place) (target dst address : ℕ) (result : StepResult)
-    → MayAdvance v t o → stage_of v t ≡ Some (Cleared place target dst) → Finds v t o place dst address
-    → (IsTagged (word_in (state v) place) → ⊥) → HasRead v w t place dst address result → Advances v w t o result
-untag_lost v w t o place target dst address result asks at finds clean read =
-    let known = cleared_known v t o place target dst asks at in
+pub untag_lost : {v w : View} {t : ℕ} {o : Op} {place : Place} {target dst address : ℕ} {result : StepResult}
+    → IsCleared v t o place target dst → Finds v t o place dst address → (IsTagged (word_in (state v) place) → ⊥)
+    → HasRead v w t place dst address result → Advances v w t o result
+untag_lost {v} {w} {t} {o} {place} {target} {dst} {address} is finds clean read =
     subst (λ (r : StepResult). Advances v w t o r) (sym read.told)
     (subst (λ (x : View). Advances v x t o (Answered (found (held_value v.names address)))) (sym read.is)
-    (read_advances v v t o (Cleared place target dst) place read.slot dst address asks
-    (cleared_ends v t o place target dst at) finds read.is_slot refl refl
-    (λ told s. quiet_read told v t o place read.slot dst address s finds read.is_slot clean) (
-      refl,
-      (
-        λ is. absurd (clean (record { reference = Stale target; in_range = known.0.in_range; tag = tt; is = is })),
-        λ differ. record { base = refl; free = refl; word = λ k. refl; global = λ g. refl; forward = λ p. refl },
-      ),
-    )
-    clean))
-
--- only words of the space and globals differ
-abbrev pub over : View → SpaceWords → List ℕ → View
-over v space globals = record v { space = space; globals = globals }
+    (read_advances v v.space v.globals t o (Cleared place target dst) place read.slot dst address is.asks (record {
+      ends = cleared_ends is;
+      finds = finds;
+      is_slot = read.is_slot;
+      words = refl;
+      event = λ told s. quiet_read told v t o place read.slot dst address s finds read.is_slot clean;
+      applies = (
+        refl,
+        (
+          λ still. absurd (clean
+              (record { reference = Stale target; in_range = (cleared_known is).0.in_range; tag = tt; is = still })),
+          λ differ. same_behind v (behind v t read.slot dst address).held,
+        ),
+      );
+      clean = clean;
+    })))
 
 -- the stale address is still there
-pub untag_is : (v : View) (t : ℕ) (o : Op) (place : Place) (target dst x : ℕ) → MayAdvance v t o
-    → stage_of v t ≡ Some (Cleared place target dst) → HoldsRef (word_in (state v) place) (Stale x)
-    → word_in (state v) place ≡ ref_word (Stale target)
-untag_is v t o place target dst x asks at holds =
-    (cleared_known v t o place target dst asks at).0.unless_clean
+untag_is : {v : View} {t : ℕ} {o : Op} {place : Place} {target dst : ℕ} (x : ℕ) → IsCleared v t o place target dst
+    → HoldsRef (word_in (state v) place) (Stale x) → word_in (state v) place ≡ ref_word (Stale target)
+untag_is x is holds = (cleared_known is).0.unless_clean
     (record { reference = Stale x; in_range = holds.in_range; tag = tt; is = holds.is })
 
 -- the load's object
-untag_finds : (v : View) (t : ℕ) (o : Op) (place : Place) (target dst x : ℕ) → MayAdvance v t o
-    → stage_of v t ≡ Some (Cleared place target dst) → HoldsRef (word_in (state v) place) (Stale x)
-    → Finds v t o place dst target
-untag_finds v t o place target dst x asks at holds =
-    let known = cleared_known v t o place target dst asks at in
+untag_finds : {v : View} {t : ℕ} {o : Op} {place : Place} {target dst : ℕ} (x : ℕ) → IsCleared v t o place target dst
+    → HoldsRef (word_in (state v) place) (Stale x) → Finds v t o place dst target
+untag_finds {v} {t} {o} {place} {target} x is holds =
+    let known = cleared_known is in
     record {
-      loads = cleared_loads v t o place target dst asks at;
+      loads = cleared_loads is;
       there = known.0.at;
       may_hold = inr (known.0.may_stand, known.1);
-      value = λ told slot is. clean_value v target (last v.log slot) known.0.in_range
-          (value_there v place slot (Stale target) told known.0.at is
-          (record { in_range = known.0.in_range; is = untag_is v t o place target dst x asks at holds }));
+      value = λ told slot at. clean_value v target (last v.log slot) known.0.in_range
+          (value_there v place slot (Stale target) told known.0.at at
+          (record { in_range = known.0.in_range; is = untag_is x is holds }));
     }
 
 -- the exchange, as an event
-untag_event : (told : Bool) (v m : View) (t : ℕ) (o : Op) (place : Place) (at : Slot) (target dst x : ℕ)
-    → MayAdvance v t o → Standing told v → stage_of v t ≡ Some (Cleared place target dst) → SlotAt (maps v) place at
+untag_event : {v : View} {t : ℕ} {o : Op} {place : Place} {target dst : ℕ} (told : Bool) (m : View) (at : Slot) (x : ℕ)
+    → IsCleared v t o place target dst → Standing told v → SlotAt (maps v) place at
     → HoldsRef (word_in (state v) place) (Stale x) → PlaceChanges (state v) (state m) place (ref_word (Clean target)) →
     Event told v.log (maps v) (maps v) (state v) (state m) no_region 0 (Some (Read at (held_value v.names target)))
-untag_event told v m t o place at target dst x asks s stage slot holds changes =
-    let known = cleared_known v t o place target dst asks stage in
-    let finds = untag_finds v t o place target dst x asks stage holds in
+untag_event {v} {t} {o} {place} {target} told m at x is s slot holds changes =
+    let known = cleared_known is in
+    let finds = untag_finds x is holds in
     untags place at (Stale target) target (held_value v.names target) refl known.0.at known.0.in_range
-    (untag_is v t o place target dst x asks stage holds) known.0.may_stand known.1
-    (λ is. refl) (λ is. record { slot = slot; last = finds.value (subst (λ (b : Bool). Standing b v) is s) at slot })
-    changes
+    (untag_is x is holds) known.0.may_stand known.1 (λ tells. refl)
+    (λ tells. record { slot = slot; last = finds.value (subst (λ (b : Bool). Standing b v) tells s) at slot }) changes
 
 -- the place is one behind it
-pub untag_place : (v : View) (space : SpaceWords) (globals : List ℕ) (t : ℕ) (o : Op) (place : Place) (target dst x : ℕ)
-    → MayAdvance v t o → stage_of v t ≡ Some (Cleared place target dst) → HoldsRef (word_in (state v) place) (Stale x)
+pub untag_place : {v : View} {t : ℕ} {o : Op} {place : Place} {target dst : ℕ} (space : SpaceWords) (globals : List ℕ)
+    (x : ℕ) → IsCleared v t o place target dst → HoldsRef (word_in (state v) place) (Stale x)
     → PlaceChanges (state v) (state (over v space globals)) place (ref_word (Clean target))
     → IsPlace (maps v) (state (over v space globals)) place
-untag_place v space globals t o place target dst x asks at holds changes =
-    let known = cleared_known v t o place target dst asks at in
+untag_place {v} {t} {o} {place} space globals x is holds changes =
+    let there = (cleared_known is).0.at in
+    let s : Standing false v = is.asks.stands in
     let m : View = over v space globals in
-    let slot = some_slot v place known.0.at in
-    place_stays (maps v) (maps v) (state v) (state m) 0 asks.stands.holds.formed
-    (evolves_event false v.log (maps v) (maps v) (state v) (state m) no_region 0 _ asks.stands.holds.formed
-    (untag_event false v m t o place slot.0 target dst x asks asks.stands at slot.1 holds changes)) place known.0.at
+    let slot = some_slot v place there in
+    place_stays (maps v) (maps v) (state v) (state m) 0 s.holds.formed
+    (evolves_event false v.log (maps v) (maps v) (state v) (state m) no_region 0 _ s.holds.formed
+    (untag_event false m slot.0 x is s slot.1 holds changes)) place there
   where
     some_slot : (v : View) (place : Place) → IsPlace (maps v) (state v) place → (at : Slot) × SlotAt (maps v) place at
     some_slot v (Field object i) there = (slots.Field there.1.number i, (there.1.number, there.1.named, refl))
@@ -529,26 +476,27 @@ changed_size v m (Field object i) word changes = ap (λ (b : Base). b.size) chan
 changed_size v m (Global g) word changes = ap (λ (b : Base). b.size) changes.base
 
 -- an exchange was won
-pub untag_won : (v : View) (space : SpaceWords) (globals : List ℕ) (w : View) (t : ℕ) (o : Op) (place : Place)
-    (target dst x : ℕ) (result : StepResult) → MayAdvance v t o → stage_of v t ≡ Some (Cleared place target dst)
+pub untag_won : {v w : View} {t : ℕ} {o : Op} {place : Place} {target dst : ℕ} {result : StepResult}
+    (space : SpaceWords) (globals : List ℕ) (x : ℕ) → IsCleared v t o place target dst
     → HoldsRef (word_in (state v) place) (Stale x)
     → PlaceChanges (state v) (state (over v space globals)) place (ref_word (Clean target))
     → HasRead (over v space globals) w t place dst target result → Advances v w t o result
-untag_won v space globals w t o place target dst x result asks at holds changes read =
+untag_won {v} {w} {t} {o} {place} {target} {dst} space globals x is holds changes read =
     let m : View = over v space globals in
     let after : PlaceChanges (state v) (state (behind m t read.slot dst target)) place (ref_word (Clean target)) =
     behind_changes v m t place read.slot dst target (ref_word (Clean target)) changes in
     subst (λ (r : StepResult). Advances v w t o r) (sym read.told)
     (subst (λ (y : View). Advances v y t o (Answered (found (held_value v.names target)))) (sym read.is)
-    (read_advances v m t o (Cleared place target dst) place read.slot dst target asks
-    (cleared_ends v t o place target dst at) (untag_finds v t o place target dst x asks at holds) read.is_slot refl
-    (changed_size v m place (ref_word (Clean target)) changes)
-    (λ told s. untag_event told v (behind m t read.slot dst target) t o place read.slot target dst x asks s at
-    read.is_slot holds after)
-    (refl, (λ is. after, λ differ. absurd (differ (untag_is v t o place target dst x asks at holds))))
-    (λ tagged. tagged_is (word_in (state m) place) (Clean target)
-    (record {
-      in_range = (cleared_known v t o place target dst asks at).0.in_range;
-      is =
-          changed_word (state v) (state m) place (ref_word (Clean target)) changes;
-    }) tagged)))
+    (read_advances v space globals t o (Cleared place target dst) place read.slot dst target is.asks (record {
+      ends = cleared_ends is;
+      finds = untag_finds x is holds;
+      is_slot = read.is_slot;
+      words = changed_size v m place (ref_word (Clean target)) changes;
+      event = λ told s. untag_event told (behind m t read.slot dst target) read.slot x is s read.is_slot holds after;
+      applies = (refl, (λ still. after, λ differ. absurd (differ (untag_is x is holds))));
+      clean = λ tagged. tagged_is (word_in (state m) place) (Clean target)
+          (record {
+            in_range = (cleared_known is).0.in_range;
+            is = changed_word (state v) (state m) place (ref_word (Clean target)) changes;
+          }) tagged;
+    })))

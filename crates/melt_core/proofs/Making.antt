@@ -1,5 +1,6 @@
 -- How an object is made: the events of a claim, of private stores, of the publication, and of the want of room.
-use Rattle.std.proofs.Common.{◌≡◌, ◌≢◌, ℕ, ◌+◌, ◌<◌, ◌≤◌, inl, inr, List, [], ◌∷◌, ◌++◌, length, refl, sym, ◌∙◌, ap, subst, arith}
+use Rattle.std.proofs.Common.{◌≡◌, ◌≢◌, ℕ, ◌+◌, ◌<◌, ◌≤◌, inl, inr, List, []}
+use Rattle.std.proofs.Common.{◌∷◌, ◌++◌, length, refl, sym, ◌∙◌, ap, subst, arith}
 use Rattle.std.proofs.Math.ListN.{set}
 use Rattle.std.proofs.lemmas.Bool.{cases_eq, cases_lt, eq-eqb, ne_eqb}
 use Rattle.std.specs.Prelude.{Bool, true, false, Option, None, Some, IsSome, if◌then◌else◌}
@@ -24,6 +25,7 @@ use Rattle.melt_scion.specs.Placed.{Maps, MayHold, FormedWords}
 use Rattle.melt_scion.specs.Regions.{Region, no_region, Apart, Owns, HasStored}
 use Rattle.melt_scion.specs.Changes.{FreeMoves, WordChanges, NameAppears}
 use Rattle.melt_scion.specs.Heaps.{register_in}
+use Rattle.melt_scion.specs.declared.registers.Registers.{Registers}
 use Rattle.melt_core.specs.declared.answer.StepResult.TheVariants.{Going, Answered, Refused}
 use Rattle.melt_core.specs.declared.answer.Refusal.TheVariants.{Pause}
 use Rattle.melt_core.specs.declared.answer.Pause.TheVariants.{Space}
@@ -37,11 +39,14 @@ use Rattle.melt_core.specs.Events.{Event, quiet, claims as claims_words, stores,
 use Rattle.melt_core.specs.Stages.{Next, Fits, MustPause, Applies, Word, Publish, change_of, cleared_by, task_of}
 use Rattle.melt_core.specs.Changed.{with_call, with_register, noted}
 use Rattle.melt_core.specs.Advances.{MayAdvance, Advances, InBounds, HasRoomFor, Sets}
-use Rattle.melt_core.specs.Views.{View, maps, state, call_of, stage_of, registers_in, claimed_in, base_in, maps_of, numbers_of, held_value, held_values, values_of, Standing}
+use Rattle.melt_core.specs.Views.{View, Standing, maps, state, shown}
+use Rattle.melt_core.specs.Views.{call_of, stage_of, claimed_in, maps_of, numbers_of}
+use Rattle.melt_core.specs.Views.{registers_in, held_value, held_values, values_of}
 use Rattle.melt_core.proofs.Asked.{call_at, fits_at, known_at, inside, next_fits}
-use Rattle.melt_core.proofs.Claims.{bounded_is, bounded_lacking, bounded_call, bounded_refused, claims_ends, claims_next}
-use Rattle.melt_core.proofs.Counting.{Counts_claimed, Counts_lacking, Counts_same, Counts_published, room_for}
-use Rattle.melt_core.proofs.Answered.{same_words}
+use Rattle.melt_core.proofs.Claims.{bounded_is, bounded_lacking, bounded_call}
+use Rattle.melt_core.proofs.Claims.{bounded_refused, claims_ends, claims_next}
+use Rattle.melt_core.proofs.Counting.{Counts_same, Counts_published, room_for}
+use Rattle.melt_core.proofs.Words.{same_words, word_set}
 use Rattle.melt_core.proofs.Answers.{new_answers}
 use Rattle.melt_core.proofs.Evolving.{evolves_event}
 use Rattle.melt_core.proofs.Staying.{hold_stays}
@@ -50,7 +55,7 @@ use Rattle.melt_core.proofs.Values.{held_is, named_value}
 use Rattle.melt_core.proofs.Going.{goes}
 use Rattle.melt_core.proofs.Plain.{as_told}
 use Rattle.melt_core.proofs.Regions.{apart_sym, no_region_apart, claimed_owned, claimed_apart}
-use Rattle.melt_core.proofs.Standing.{Happens, Made, advances, call_here, values_stay}
+use Rattle.melt_core.proofs.Standing.{Happens, Made, advances, call_here, kept_own, values_stay}
 use Rattle.melt_core.proofs.Tasks.{LoadsNothing, new_is, no_load}
 
 -- the view behind a claim
@@ -103,32 +108,55 @@ claimed_from v words (Lacking need) formed known =
     apart_sym no_region (record { at = v.free; words = words })
     (no_region_apart (record { at = v.free; words = words }))
 
--- how a claim happens
-claim_happens : (told : Bool) (v : View) (t free need : ℕ) (o : Op) (shape : Shape) (dst : ℕ) (stage : Stage)
-    → MayAdvance v t o → stage_of v t ≡ Some (Polled (Making dst shape)) → Standing told v → IsShape shape
-    → free ≡ v.free + cost_of shape → need ≡ cost_of shape →
-    (free ≤ length v.space.list + 1 → stage ≡ Claimed v.free shape 0 dst)
-    → (length v.space.list + 1 < free → stage ≡ Lacking need) →
-    FreeMoves (state v) (state (claiming v free t (record { op = o; stage = stage }))) (v.free + cost_of shape) →
-    Next (maps v) (state v) (register_in v.held t) v.stop o (stage_of v t) stage → claimed_in (call_of v t) ≡ 0
-    → t < length v.calls →
+-- What a claim shows: its words, and that the call knows whether they end past the last one.
+pub record Claiming (v : View) (t free need : ℕ) (o : Op) (shape : Shape) (dst : ℕ) (stage : Stage) : Type 0 where
+  pub asks : MayAdvance v t o
+  pub at : stage_of v t ≡ Some (Polled (Making dst shape))
+  pub needed : need ≡ cost_of shape
+  pub sum : free ≡ v.free + need
+  pub fits : free ≤ length v.space.list + 1 → stage ≡ Claimed v.free shape 0 dst
+  pub lacks : length v.space.list + 1 < free → stage ≡ Lacking need
+
+claim_next : {v : View} {t free need : ℕ} {o : Op} {shape : Shape} {dst : ℕ} {stage : Stage}
+    → Claiming v t free need o shape dst stage
+    → Next (maps v) (state v) (register_in v.held t) v.stop o (stage_of v t) stage
+claim_next {v} {t} {free} {need} {o} {shape} {dst} {stage} is =
+    subst (λ (g : Option Stage). Next (maps v) (state v) (register_in v.held t) v.stop o g stage) (sym is.at) (
+      λ below. is.fits (omega (arith, is.needed, is.sum)),
+      λ above. is.lacks (omega (arith, is.needed, is.sum)) ∙ ap Lacking is.needed,
+    )
+
+claim_moves : {v : View} {t free need : ℕ} {o : Op} {shape : Shape} {dst : ℕ} {stage : Stage}
+    → Claiming v t free need o shape dst stage
+    → FreeMoves (state v) (state (claiming v free t (record { op = o; stage = stage }))) (v.free + cost_of shape)
+claim_moves is = record {
+  base = refl;
+  is = omega (arith, is.needed, is.sum);
+  word = λ k. refl;
+  global = λ g. refl;
+  forward = λ p. refl;
+}
+
+-- how it happens
+claim_happens : {v : View} {t free need : ℕ} {o : Op} {shape : Shape} {dst : ℕ} {stage : Stage} (told : Bool)
+    → Claiming v t free need o shape dst stage → Standing told v →
     Happens told v (claiming v free t (record { op = o; stage = stage })) t no_region (cleared_by (stage_of v t)) None
     (Some (record { op = o; stage = stage }))
-claim_happens told v t free need o shape dst stage asks at s small whole needed fits lacks moves next unclaimed within =
+claim_happens {v} {t} {free} {need} {o} {shape} {dst} {stage} told claim s =
     let after : Call = record { op = o; stage = stage } in
     let w : View = claiming v free t after in
+    let before : Stage = Polled (Making dst shape) in
+    let small : IsShape shape = small_shape v t o dst shape claim.asks (fits_at v t o before claim.asks claim.at).0 in
+    let needed : need ≡ cost_of shape = claim.needed in
+    let whole : free ≡ v.free + need = claim.sum in
+    let moves : FreeMoves (state v) (state w) (v.free + cost_of shape) = claim_moves claim in
+    let unclaimed : claimed_in (call_of v t) ≡ 0 = ap claimed_in (call_at v t o before claim.asks claim.at) in
     let first : 1 ≤ v.free = s.first in
-    let clears : cleared_by (stage_of v t) ≡ 0 = ap cleared_by at in
+    let clears : cleared_by (stage_of v t) ≡ 0 = ap cleared_by claim.at in
     record {
       event = subst (λ (k : ℕ). Event told v.log (maps v) (maps w) (state v) (state w) no_region k None) (sym clears)
           (claims_words (cost_of shape) refl moves);
-      log = refl;
-      calls = refl;
-      threads = refl;
-      others = λ u differ. refl;
-      named = s.named;
-      room = refl;
-      made = s.counted;
+      kept = kept_own told v w t (Some after) s refl;
       first = omega arith;
       bounded = elim (cases_lt (length v.space.list + 1) free) [
         | inl above ↦
@@ -138,72 +166,70 @@ claim_happens told v t free need o shape dst stage asks at s small whole needed 
             bounded_is w (length v.space.list) (v.free + need) v.stop (set v.calls t (Some after)) refl
             (sym sum) refl refl
             (bounded_lacking (length v.space.list) v.free need v.stop v.calls t (Some after)
-            (Making dst shape) within at (ap Some (lacks above)) few s.bounded)
+            (Making dst shape) (inside v t o claim.asks) claim.at (ap Some (claim.lacks above)) few s.bounded)
         | inr below ↦ inl below
       ];
       may_hold = λ r. hold_words (maps v) (state v) (state w) (register_in v.held t r) (λ k. refl) (s.registers t r);
       known = λ c is. subst (λ (d : Call). Known (maps w) (state w) d.stage) (let e : after ≡ c = cc in e)
           (elim (cases_lt (length v.space.list + 1) free) [
-            | inl above ↦ subst (Known (maps w) (state w)) (sym (lacks above)) above
-            | inr below ↦ subst (Known (maps w) (state w)) (sym (fits below)) (
+            | inl above ↦ subst (Known (maps w) (state w)) (sym (claim.lacks above)) above
+            | inr below ↦ subst (Known (maps w) (state w)) (sym (claim.fits below)) (
               small,
               record {
-                owns = claimed_owned (maps v) (state v) (state w) (cost_of shape) s.holds.formed first (omega arith) moves;
+                owns = claimed_owned (maps v) (state v) (state w) (cost_of shape) s.holds.formed first (omega arith)
+                    moves;
                 few = omega arith;
                 are = λ k one none. absurd (omega arith);
               },
             )
           ]);
       fits = λ c is. subst (λ (d : Call). Fits (register_in v.held t) d.op d.stage) (let e : after ≡ c = cc in e)
-          (next_fits (maps v) (state v) (register_in v.held t) v.stop o (call_of v t) stage asks.continued
-          (λ d is_d. s.fits t d is_d) next);
+          (next_fits (maps v) (state v) (register_in v.held t) v.stop o (call_of v t) stage claim.asks.continued
+          (λ d is_d. s.fits t d is_d) (claim_next claim));
       mine_is = λ u d differ is. no_region_apart (region_of d.stage);
       apart = λ c is u d differ other. subst (λ (x : Call). Apart (region_of x.stage) (region_of d.stage))
           (let e : after ≡ c = cc in e) (elim (cases_lt (length v.space.list + 1) free) [
-            | inl above ↦ subst (λ (g : Stage). Apart (region_of g) (region_of d.stage)) (sym (lacks above))
+            | inl above ↦ subst (λ (g : Stage). Apart (region_of g) (region_of d.stage)) (sym (claim.lacks above))
                 (no_region_apart (region_of d.stage))
-            | inr below ↦ subst (λ (g : Stage). Apart (region_of g) (region_of d.stage)) (sym (fits below))
+            | inr below ↦ subst (λ (g : Stage). Apart (region_of g) (region_of d.stage)) (sym (claim.fits below))
                 (claimed_from v (cost_of shape) d.stage s.holds.formed (s.known u d other))
           ]);
       counts = λ is. elim (cases_lt (length v.space.list + 1) free) [
-        | inl above ↦ Counts_lacking v w t (Some after) (as_told told v is s) asks.thread refl refl
-            (omega arith) refl refl unclaimed (ap (λ (g : Stage). (region_of g).words) (lacks above))
-        | inr below ↦ Counts_claimed v w t (cost_of shape) (Some after) (as_told told v is s) asks.thread refl refl
-            whole (omega arith) refl refl unclaimed (ap (λ (g : Stage). (region_of g).words) (fits below))
+        | inl above ↦
+            let none : claimed_in (Some after) ≡ 0 = ap (λ (g : Stage). (region_of g).words) (claim.lacks above) in
+            Counts_same v w t (Some after) (as_told told v is s) claim.asks.thread refl (record {
+              names = refl;
+              words = refl;
+              calls = refl;
+              below = omega arith;
+              within = inl (omega arith);
+            })
+        | inr below ↦
+            let words : claimed_in (Some after) ≡ cost_of shape =
+            ap (λ (g : Stage). (region_of g).words) (claim.fits below) in
+            Counts_same v w t (Some after) (as_told told v is s) claim.asks.thread refl
+            (record { names = refl; words = refl; calls = refl; below = omega arith; within = inr (omega arith) })
       ];
     }
 
--- Words were claimed, and the call knows whether they end past the last one.
-pub claim_advances : (v : View) (t free need : ℕ) (o : Op) (shape : Shape) (dst : ℕ) (stage : Stage) → MayAdvance v t o
-    → stage_of v t ≡ Some (Polled (Making dst shape)) → need ≡ cost_of shape → free ≡ v.free + need →
-    (free ≤ length v.space.list + 1 → stage ≡ Claimed v.free shape 0 dst)
-    → (length v.space.list + 1 < free → stage ≡ Lacking need) →
-    Advances v (claiming v free t (record { op = o; stage = stage })) t o Going
-claim_advances v t free need o shape dst stage asks at needed sum fits lacks =
-    let s : Standing false v = asks.stands in
+-- Words were claimed.
+pub claim_advances : {v : View} {t free need : ℕ} {o : Op} {shape : Shape} {dst : ℕ} {stage : Stage}
+    → Claiming v t free need o shape dst stage
+    → Advances v (claiming v free t (record { op = o; stage = stage })) t o Going
+claim_advances {v} {t} {free} {need} {o} {shape} {dst} {stage} claim =
     let after : Call = record { op = o; stage = stage } in
     let w : View = claiming v free t after in
-    let within : t < length v.calls = inside v t o asks in
-    let task : task_of o ≡ Some (Making dst shape) = (fits_at v t o (Polled (Making dst shape)) asks at).0 in
-    let small : IsShape shape = small_shape v t o dst shape asks task in
-    let whole : free ≡ v.free + cost_of shape = omega arith in
-    let next : Next (maps v) (state v) (register_in v.held t) v.stop o (stage_of v t) stage =
-    subst (λ (g : Option Stage). Next (maps v) (state v) (register_in v.held t) v.stop o g stage) (sym at)
-    (λ below. fits (omega arith), λ above. lacks (omega arith) ∙ ap Lacking needed) in
-    let moves : FreeMoves (state v) (state w) (v.free + cost_of shape) =
-    record { base = refl; is = whole; word = λ k. refl; global = λ g. refl; forward = λ p. refl } in
-    let unclaimed : claimed_in (call_of v t) ≡ 0 = ap claimed_in (call_at v t o (Polled (Making dst shape)) asks at) in
     let made : Made v w t (cleared_by (stage_of v t)) = record {
       mine = no_region;
       act = None;
       after = Some after;
-      happens = λ told stands. claim_happens told v t free need o shape dst stage asks at stands small whole needed fits
-          lacks moves next unclaimed within;
+      happens = λ told stands. claim_happens told claim stands;
     } in
-    advances v w t o Going asks made refl
+    advances v w t o Going claim.asks made refl
     (subst (λ (g : Option Stage). Applies (maps v) (maps w) (state v) (state w)
-    (change_of (state v) (register_in v.held t) g)) (sym at) (refl, moves))
-    (goes v w t o stage asks next refl (record { history = refl; registers = refl; values = refl }) refl)
+    (change_of (state v) (register_in v.held t) g)) (sym claim.at) (refl, claim_moves claim))
+    (goes v w t o stage claim.asks (claim_next claim) refl
+    (record { history = refl; registers = refl; values = refl }) refl)
     tt
 
 -- an object apart from a region does not start in it
@@ -262,14 +288,8 @@ store_zero_advances v space t o address stored dst shape asks at few sets =
     let w : View = with_call (record v { space = space }) t (Some after) in
     let within : t < length v.calls = inside v t o asks in
     let known = claimed_known v t o address stored dst shape asks at in
-    let changes : WordChanges (state v) (state w) (address + 1 + stored) 0 = record {
-      base = ap (λ (n : ℕ). record (base_in v.space v.globals) { size = n }) sets.size;
-      free = refl;
-      here = sets.here;
-      others = sets.others;
-      global = λ g. refl;
-      forward = λ p. refl;
-    } in
+    let changes : WordChanges (state v) (state w) (address + 1 + stored) 0 =
+    word_set v space v.held (address + 1 + stored) 0 sets in
     let owns : Owns (maps w) (state w) (region address shape) =
     owns_stored (maps v) (state v) (state w) (region address shape)
     (address + 1 + stored) 0 s.holds.formed known.1.owns (omega arith) (omega arith) changes in
@@ -286,13 +306,7 @@ store_zero_advances v space t o address stored dst shape asks at few sets =
         event = subst (λ (k : ℕ). Event told v.log (maps v) (maps w) (state v) (state w) (region address shape) k None)
             (sym (ap cleared_by at)) (stores (region address shape) (address + 1 + stored) 0 refl known.1.owns
             (omega arith) (omega arith) changes);
-        log = refl;
-        calls = refl;
-        threads = refl;
-        others = λ u differ. refl;
-        named = stands.named;
-        room = refl;
-        made = stands.counted;
+        kept = kept_own told v w t (Some after) stands refl;
         first = stands.first;
         bounded = bounded_is w (length v.space.list) v.free v.stop (set v.calls t (Some after)) sets.size refl refl refl
             (bounded_call (length v.space.list) v.free v.stop v.calls t (Some after) within
@@ -321,8 +335,14 @@ store_zero_advances v space t o address stored dst shape asks at few sets =
         mine_is = others_apart v t o stage asks at;
         apart = λ c is u d differ other. subst (λ (x : Call). Apart (region_of x.stage) (region_of d.stage))
             (let e : after ≡ c = cc in e) (others_apart v t o stage asks at u d differ other);
-        counts = λ is. Counts_same v w t (Some after) (as_told told v is stands) asks.thread refl refl refl sets.size
-            refl claimed;
+        counts = λ is. Counts_same v w t (Some after) (as_told told v is stands) asks.thread refl
+            (record {
+              names = refl;
+              words = sets.size;
+              calls = refl;
+              below = omega (arith, claimed);
+              within = inl (omega (arith, claimed));
+            });
       };
     } in
     advances v w t o Going asks made refl
@@ -348,13 +368,7 @@ lack_advances v t need o asks at =
       happens = λ told stands. record {
         event = subst (λ (k : ℕ). Event told v.log (maps v) (maps w) (state v) (state w) no_region k None)
             (sym (ap cleared_by at)) (quiet refl (same_words v));
-        log = refl;
-        calls = refl;
-        threads = refl;
-        others = λ u differ. refl;
-        named = stands.named;
-        room = refl;
-        made = stands.counted;
+        kept = kept_own told v w t None stands refl;
         first = stands.first;
         bounded = bounded_refused (length v.space.list) v.free v.stop v.calls t within stands.bounded;
         may_hold = s.registers t;
@@ -362,8 +376,8 @@ lack_advances v t need o asks at =
         fits = λ c is. absurd (cc);
         mine_is = λ u d differ is. no_region_apart (region_of d.stage);
         apart = λ c is. absurd (cc);
-        counts = λ is. Counts_same v w t None (as_told told v is stands) asks.thread refl refl refl refl refl
-            (sym (ap claimed_in (call_at v t o (Lacking need) asks at)));
+        counts = λ is. Counts_same v w t None (as_told told v is stands) asks.thread refl
+            (record { names = refl; words = refl; calls = refl; below = omega arith; within = inl (omega arith) });
       };
     } in
     advances v w t o (Refused (Pause (Space need))) asks made refl
@@ -384,15 +398,27 @@ published v space names t shape dst address =
     with_call (with_register (noted (record v { space = space; names = names; made = v.made + 1 })
     (entry t (Make shape.refs shape.nums))) t dst address) t None
 
+-- What the publication of an object shows: its header was stored, and its address has a name.
+pub record Publishing (v : View) (space : SpaceWords) (names : Option heap.Names) (t word : ℕ) (o : Op)
+    (address stored dst : ℕ) (shape : Shape) : Type 0 where
+  pub asks : MayAdvance v t o
+  pub at : stage_of v t ≡ Some (Claimed address shape stored dst)
+  pub all : stored + 1 ≡ cost_of shape
+  pub header : word ≡ header_word (record { shape = shape; stale = false })
+  pub sets : SetsWord v.space space address word
+  pub named : IsSome names
+  pub size : length (numbers_of names) ≡ length (numbers_of v.names)
+  pub appears : NameAppears (maps_of v.names) (maps_of names) address v.made
+
 -- An object was made.
-pub publish_advances : (v : View) (space : SpaceWords) (names : Option heap.Names) (t word : ℕ) (o : Op)
-    (address stored dst : ℕ) (shape : Shape) → MayAdvance v t o → stage_of v t ≡ Some (Claimed address shape stored dst)
-    → stored + 1 ≡ cost_of shape → word ≡ header_word (record { shape = shape; stale = false })
-    → SetsWord v.space space address word →
-    IsSome names → length (numbers_of names) ≡ length (numbers_of v.names)
-    → NameAppears (maps_of v.names) (maps_of names) address v.made
+pub publish_advances : {v : View} {space : SpaceWords} {names : Option heap.Names} {t word : ℕ} {o : Op}
+    {address stored dst : ℕ} {shape : Shape} → Publishing v space names t word o address stored dst shape
     → Advances v (published v space names t shape dst address) t o (Answered reply.Done)
-publish_advances v space names t word o address stored dst shape asks at all is sets some size appears =
+publish_advances {v} {space} {names} {t} {word} {o} {address} {stored} {dst} {shape} made_it =
+    let asks : MayAdvance v t o = made_it.asks in
+    let at : stage_of v t ≡ Some (Claimed address shape stored dst) = made_it.at in
+    let all : stored + 1 ≡ cost_of shape = made_it.all in
+    let appears : NameAppears (maps_of v.names) (maps_of names) address v.made = made_it.appears in
     let s : Standing false v = asks.stands in
     let stage : Stage = Claimed address shape stored dst in
     let before : Call = record { op = o; stage = stage } in
@@ -403,14 +429,11 @@ publish_advances v space names t word o address stored dst shape asks at all is 
     let header : Header = record { shape = shape; stale = false } in
     let task : task_of o ≡ Some (Making dst shape) = fits_at v t o stage asks at in
     let same : o ≡ op.New dst shape.refs shape.nums = new_is o dst shape task in
-    let changes : WordChanges (state v) (state w) address (header_word header) = record {
-      base = ap (λ (n : ℕ). record (base_in v.space v.globals) { size = n }) sets.size;
-      free = refl;
-      here = sets.here ∙ is;
-      others = sets.others;
-      global = λ g. refl;
-      forward = λ p. refl;
-    } in
+    let changed : (held : List Registers)
+    → WordChanges (state v) (shown space v.globals held v.free) address (header_word header) =
+    λ held. subst (WordChanges (state v) (shown space v.globals held v.free) address) made_it.header
+    (word_set v space held address word made_it.sets) in
+    let changes : WordChanges (state v) (state w) address (header_word header) = changed w.held in
     let named : NameAppears (maps v) (maps w) address (makes v.log) =
     subst (NameAppears (maps v) (maps w) address) s.counted appears in
     let event : (told : Bool) → Event told v.log (maps v) (maps w) (state v) (state w) (region address shape) 0
@@ -431,15 +454,17 @@ publish_advances v space names t word o address stored dst shape asks at all is 
       happens = λ told stands. record {
         event = subst (λ (k : ℕ). Event told v.log (maps v) (maps w) (state v) (state w) (region address shape) k
             (Some (Make shape.refs shape.nums))) (sym (ap cleared_by at)) (event told);
-        log = refl;
-        calls = refl;
-        threads = threads_set (record v { names = names }) t dst address;
-        others = λ u differ. registers_other v.held t u (set (registers_in v.held t) dst address) differ;
-        named = some;
-        room = size;
-        made = ap (λ (n : ℕ). n + 1) stands.counted ∙ made_one v.log t shape;
+        kept = record {
+          log = refl;
+          calls = refl;
+          threads = threads_set (record v { names = names }) t dst address;
+          others = λ u differ. registers_other v.held t u (set (registers_in v.held t) dst address) differ;
+          named = made_it.named;
+          room = made_it.size;
+          made = ap (λ (n : ℕ). n + 1) stands.counted ∙ made_one v.log t shape;
+        };
         first = stands.first;
-        bounded = bounded_is w (length v.space.list) v.free v.stop (set v.calls t None) sets.size refl refl refl
+        bounded = bounded_is w (length v.space.list) v.free v.stop (set v.calls t None) made_it.sets.size refl refl refl
             (bounded_call (length v.space.list) v.free v.stop v.calls t None within
             (claims_ends v.stop (stage_of v t) (λ need lacks. let e : Some stage ≡ Some (Lacking need) =
             sym at ∙ lacks in cc)) stands.bounded);
@@ -452,23 +477,14 @@ publish_advances v space names t word o address stored dst shape asks at all is 
         mine_is = others_apart v t o stage asks at;
         apart = λ c none. absurd (cc);
         counts = λ x. Counts_published v w t address stored dst before shape (entry t (Make shape.refs shape.nums))
-            (as_told told v x stands) asks.thread call refl named refl refl refl sets.size refl;
+            (as_told told v x stands) asks.thread call refl named refl refl refl made_it.sets.size refl;
       };
     } in
     let stay : (u : ℕ) → held_values names (registers_in v.held u) ≡ values_of v u =
     λ u. values_stay v (record w { held = v.held }) u 0 s
     (evolves_event false v.log (maps v) (maps w) (state v) (state (record w { held = v.held })) (region address shape) 0
     (Some (Make shape.refs shape.nums)) s.holds.formed
-    (publishes address stored shape known.0 known.1 all
-    (record {
-      base = changes.base;
-      free = changes.free;
-      here = changes.here;
-      others = changes.others;
-      global =
-          changes.global;
-      forward = changes.forward;
-    }) named)) refl in
+    (publishes address stored shape known.0 known.1 all (changed v.held) named)) refl in
     advances v w t o (Answered reply.Done) asks made refl
     (subst (λ (g : Option Stage). Applies (maps v) (maps w) (state v) (state w)
     (change_of (state v) (register_in v.held t) g)) (sym at)

@@ -29,9 +29,6 @@ use Rattle.melt_core.specs.Events.{PlaceChanges}
 below_refs : (i : ℕ) (z w : Shape) → z ≡ w → i < w.refs → i < z.refs
 below_refs i z w same below = let e : z.refs ≡ w.refs = ap (λ (x : Shape). x.refs) same in omega arith
 
-below_nums : (j : ℕ) (z w : Shape) → z ≡ w → j < w.nums → j < z.nums
-below_nums j z w same below = let e : z.nums ≡ w.nums = ap (λ (x : Shape). x.nums) same in omega arith
-
 -- the address of an object is in range
 named_in_range : (maps : Maps) (s : State) (a : ℕ) → FormedWords maps s → IsNamed maps a → IsAddress a
 named_in_range maps s a formed named =

@@ -1,6 +1,6 @@
 -- Events that leave the names, the first free place and the stop word, and whose thread owns no words before and behind
 -- them. What each of these shows is less.
-use Rattle.std.proofs.Common.{◌≡◌, ◌≢◌, ℕ, ◌<◌, ◌≤◌, List, [], ◌∷◌, length, refl, sym, ◌∙◌, ap, subst, arith}
+use Rattle.std.proofs.Common.{◌≡◌, ◌≢◌, ℕ, ◌<◌, ◌≤◌, inl, List, [], ◌∷◌, length, refl, sym, ◌∙◌, ap, subst, arith}
 use Rattle.std.proofs.Math.ListN.{set}
 use Rattle.std.specs.Prelude.{Bool, true, Option, None, Some, IsSome}
 use Rattle.std.specs.List.{cons_option}
@@ -18,12 +18,13 @@ use Rattle.melt_core.specs.Answering.{entry, with_entry}
 use Rattle.melt_core.specs.Known.{Known, region_of}
 use Rattle.melt_core.specs.Stages.{Fits}
 use Rattle.melt_core.specs.Events.{Event}
-use Rattle.melt_core.specs.Views.{View, Standing, Counts, maps, state, numbers_of, registers_in, call_of, stage_in, stage_of, claimed_in, claims_left}
+use Rattle.melt_core.specs.Views.{View, Standing, Counts, maps, state, numbers_of, registers_in}
+use Rattle.melt_core.specs.Views.{call_of, stage_in, stage_of, claimed_in, claims_left}
 use Rattle.melt_core.proofs.Keeping.{event_keeps}
 use Rattle.melt_core.proofs.Staying.{hold_stays}
 use Rattle.melt_core.proofs.Regions.{no_region_apart}
 use Rattle.melt_core.proofs.Claims.{bounded_is, bounded_call}
-use Rattle.melt_core.proofs.Counting.{Counts_same, Counts_entry}
+use Rattle.melt_core.proofs.Counting.{Claims, Counts_same, Counts_entry}
 use Rattle.melt_core.proofs.Standing.{Made}
 
 -- an act that makes no object, or none at all
@@ -31,16 +32,21 @@ abbrev pub MakesNothing : Option Act → Type 0
 MakesNothing None = Unit {0}
 MakesNothing (Some act) = shape_made act ≡ None
 
+-- Words, globals and registers may differ, the history has the entry more, and the call of the thread is this.
+abbrev pub OnlyMoves : View → View → ℕ → Option Act → Option Call → Type 0
+OnlyMoves v w t act after = w ≡ record v {
+  space = w.space;
+  globals = w.globals;
+  held = w.held;
+  calls = set v.calls t after;
+  log = with_entry t v.log act;
+}
+
 pub record Plain (v w : View) (t : ℕ) (cleared : ℕ) (act : Option Act) (after : Option Call) : Type 0 where
   pub event : (told : Bool) → Standing told v
       → Event told v.log (maps v) (maps w) (state v) (state w) no_region cleared act
   pub nothing : MakesNothing act
-  pub log : w.log ≡ with_entry t v.log act
-  pub calls : w.calls ≡ set v.calls t after
-  pub names : w.names ≡ v.names
-  pub free : w.free ≡ v.free
-  pub made : w.made ≡ v.made
-  pub stop : w.stop ≡ v.stop
+  pub moves : OnlyMoves v w t act after
   pub words : length w.space.list ≡ length v.space.list
   pub threads : length w.held ≡ length v.held
   pub others : (u : ℕ) → u ≢ t → registers_in w.held u ≡ registers_in v.held u
@@ -69,13 +75,24 @@ unclaimed_region (Cleared place target dst) none = refl
 unclaimed_region (Claimed address shape stored dst) none = absurd (omega arith)
 unclaimed_region (Lacking need) none = refl
 
+plain_claims : (v w : View) (t cleared : ℕ) (act : Option Act) (after : Option Call) → Plain v w t cleared act after
+    → Claims v w t after
+plain_claims v w t cleared act after p = record {
+  names = ap (λ (x : View). x.names) p.moves;
+  words = p.words;
+  calls = ap (λ (x : View). x.calls) p.moves;
+  below = let free : w.free ≡ v.free = ap (λ (x : View). x.free) p.moves in
+      omega (arith, p.unclaimed, p.unclaimed_before);
+  within = inl (omega (arith, p.unclaimed, p.unclaimed_before));
+}
+
 counts_plain : (v w : View) (t cleared : ℕ) (act : Option Act) (after : Option Call) → Standing true v
     → t < length v.held → Plain v w t cleared act after → Counts w
 counts_plain v w t cleared None after s within p =
-    Counts_same v w t after s within p.names p.log p.free p.words p.calls (p.unclaimed ∙ sym p.unclaimed_before)
+    Counts_same v w t after s within (ap (λ (x : View). x.log) p.moves) (plain_claims v w t cleared None after p)
 counts_plain v w t cleared (Some act) after s within p =
-    Counts_entry v w t after (entry t act) s within p.names p.log p.nothing p.free p.words p.calls
-    (p.unclaimed ∙ sym p.unclaimed_before)
+    Counts_entry v w t after (entry t act) s within (ap (λ (x : View). x.log) p.moves)
+    (plain_claims v w t cleared (Some act) after p)
 
 -- where it is told, it is told so
 pub as_told : (told : Bool) (v : View) → told ≡ true → Standing told v → Standing true v
@@ -89,17 +106,24 @@ plain v w t cleared act after within p = record {
   after = after;
   happens = λ told s.
       let inside : t < length v.calls = let each : length v.calls ≡ length v.held = s.each in omega arith in
+      let log : w.log ≡ with_entry t v.log act = ap (λ (x : View). x.log) p.moves in
+      let calls : w.calls ≡ set v.calls t after = ap (λ (x : View). x.calls) p.moves in
+      let free : w.free ≡ v.free = ap (λ (x : View). x.free) p.moves in
       record {
         event = p.event told s;
-        log = p.log;
-        calls = p.calls;
-        threads = p.threads;
-        others = p.others;
-        named = subst IsSome (sym p.names) s.named;
-        room = ap (λ n. length (numbers_of n)) p.names;
-        made = p.made ∙ (s.counted ∙ (made_same v.log t act p.nothing ∙ ap makes (sym p.log)));
-        first = let first : 1 ≤ v.free = s.first in let same : w.free ≡ v.free = p.free in omega arith;
-        bounded = bounded_is w (length v.space.list) v.free v.stop (set v.calls t after) p.words p.free p.stop p.calls
+        kept = record {
+          log = log;
+          calls = calls;
+          threads = p.threads;
+          others = p.others;
+          named = subst IsSome (sym (ap (λ (x : View). x.names) p.moves)) s.named;
+          room = ap (λ (x : View). length (numbers_of x.names)) p.moves;
+          made = ap (λ (x : View). x.made) p.moves
+              ∙ (s.counted ∙ (made_same v.log t act p.nothing ∙ ap makes (sym log)));
+        };
+        first = let first : 1 ≤ v.free = s.first in omega arith;
+        bounded = bounded_is w (length v.space.list) v.free v.stop (set v.calls t after) p.words free
+            (ap (λ (x : View). x.stop) p.moves) calls
             (bounded_call (length v.space.list) v.free v.stop v.calls t after inside p.claims s.bounded);
         may_hold = λ r. hold_stays (maps v) (maps w) (state v) (state w) cleared s.holds.formed
             (event_keeps told t v.log (maps v) (maps w) (state v) (state w) no_region cleared act s.legal s.holds

@@ -3,6 +3,7 @@ use Rattle.std.proofs.Common.{◌≡◌, ℕ, ◌<◌, ◌≤◌, inl, inr, List
 use Rattle.std.proofs.lemmas.Bool.{cases_lt}
 use Rattle.std.specs.Prelude.{Option, None, Some}
 use Rattle.melt_model.specs.Thread.{value_in}
+use Rattle.melt_model.specs.declared.history.Act.{Act}
 use Rattle.melt_model.specs.declared.history.Act.TheVariants.{Read}
 use Rattle.melt_model.specs.declared.history.Slot.TheVariants as slots
 use Rattle.melt_model.specs.declared.history.Value.{Value}
@@ -17,24 +18,24 @@ use Rattle.melt_word.specs.declared.header.Header.{Header}
 use Rattle.melt_scion.specs.Regions.{no_region}
 use Rattle.melt_scion.specs.Heaps.{register_in}
 use Rattle.melt_scion.proofs.Geometry.{one_header}
-use Rattle.melt_core.specs.declared.answer.StepResult.TheVariants.{Answered}
+use Rattle.melt_core.specs.declared.answer.StepResult.TheVariants.{Going, Answered}
 use Rattle.melt_core.specs.declared.call.Access.{Access}
 use Rattle.melt_core.specs.declared.call.Access.TheVariants.{Load, Store, Get, Put}
 use Rattle.melt_core.specs.declared.call.Place.TheVariants.{Field, Global}
 use Rattle.melt_core.specs.declared.call.Task.TheVariants.{Use}
 use Rattle.melt_core.specs.declared.call.Stage.{Stage}
-use Rattle.melt_core.specs.declared.call.Stage.TheVariants.{Polled, Headed, Lacking}
+use Rattle.melt_core.specs.declared.call.Stage.TheVariants.{Polled, Headed}
 use Rattle.melt_core.specs.Answering.{Answers, entry}
 use Rattle.melt_core.specs.Known.{IsObjectAt}
 use Rattle.melt_core.specs.Events.{Event, quiet, reads_number, number_place}
-use Rattle.melt_core.specs.Stages.{Next, MustPause, HasPart, Fits, Applies, change_of, cleared_by, task_of}
+use Rattle.melt_core.specs.Stages.{Next, Nothing, HasPart, Fits, change_of, task_of}
 use Rattle.melt_core.specs.Changed.{with_call, noted}
 use Rattle.melt_core.specs.Advances.{MayAdvance, Advances, LeavesClean}
-use Rattle.melt_core.specs.Views.{View, maps, state, stage_of, values_of, claimed_in}
-use Rattle.melt_core.proofs.Claims.{claims_ends}
-use Rattle.melt_core.proofs.Asked.{call_at, fits_at, known_at}
-use Rattle.melt_core.proofs.Plain.{Plain}
-use Rattle.melt_core.proofs.Answered.{answered, same_words, use_room}
+use Rattle.melt_core.specs.Views.{View, maps, state, stage_of, values_of}
+use Rattle.melt_core.proofs.Asked.{fits_at, known_at}
+use Rattle.melt_core.proofs.Words.{same_words}
+use Rattle.melt_core.proofs.Going.{go_advances}
+use Rattle.melt_core.proofs.Answered.{ends_at, local_still, over_advances, use_room}
 use Rattle.melt_core.proofs.Answers.{range_answers, get_answers, LacksPart}
 use Rattle.melt_core.proofs.Objects.{object_held, object_of, object_shape, value_named}
 use Rattle.melt_core.proofs.Tasks.{LoadsNothing, get_is, no_load}
@@ -42,33 +43,25 @@ use Rattle.melt_core.proofs.Tasks.{LoadsNothing, get_is, no_load}
 past : (i n : ℕ) → (i < n → ⊥) → n ≤ i
 past i n lacks = elim (cases_lt i n) [ inl below ↦ absurd (lacks below) | inr above ↦ above ]
 
+lacks_by : (rs : List Value) (src r n i bound : ℕ) (access same : Access) (z : Shape) → src ≡ r → access ≡ same
+    → value_in rs r ≡ Object n → (HasPart access z → ⊥) → (i < bound → HasPart same z)
+    → (value_in rs src ≡ Object n) × (bound ≤ i)
+lacks_by rs src r n i bound access same z register is value lacks has = (
+  ap (value_in rs) register ∙ value,
+  past i bound (λ below. lacks (subst (λ (a : Access). HasPart a z) (sym is) (has below))),
+)
+
 lacks_part : (rs : List Value) (o : Op) (r n : ℕ) (access : Access) (z : Shape) → task_of o ≡ Some (Use r access)
     → value_in rs r ≡ Object n → (HasPart access z → ⊥) → LacksPart rs o n z
 lacks_part rs (op.New dst refs nums) r n access z is value lacks = absurd (cc)
 lacks_part rs (op.Load dst src i) r n access z is value lacks =
-    let same : access ≡ Load dst i = cc in (
-      let e : src ≡ r = cc in ap (value_in rs) e
-          ∙ value,
-      past i z.refs (λ below. lacks (subst (λ (a : Access). HasPart a z) (sym same) below)),
-    )
+    lacks_by rs src r n i z.refs access (Load dst i) z (cc) (cc) value lacks (λ below. below)
 lacks_part rs (op.Store obj i src) r n access z is value lacks =
-    let same : access ≡ Store i src = cc in (
-      let e : obj ≡ r = cc in ap (value_in rs) e
-          ∙ value,
-      past i z.refs (λ below. lacks (subst (λ (a : Access). HasPart a z) (sym same) below)),
-    )
+    lacks_by rs obj r n i z.refs access (Store i src) z (cc) (cc) value lacks (λ below. below)
 lacks_part rs (op.Get src j) r n access z is value lacks =
-    let same : access ≡ Get j = cc in (
-      let e : src ≡ r = cc in ap (value_in rs) e
-          ∙ value,
-      past j z.nums (λ below. lacks (subst (λ (a : Access). HasPart a z) (sym same) below)),
-    )
+    lacks_by rs src r n j z.nums access (Get j) z (cc) (cc) value lacks (λ below. below)
 lacks_part rs (op.Put obj j v) r n access z is value lacks =
-    let same : access ≡ Put j v = cc in (
-      let e : obj ≡ r = cc in ap (value_in rs) e
-          ∙ value,
-      past j z.nums (λ below. lacks (subst (λ (a : Access). HasPart a z) (sym same) below)),
-    )
+    lacks_by rs obj r n j z.nums access (Put j v) z (cc) (cc) value lacks (λ below. below)
 lacks_part rs (op.GLoad dst g) r n access z is value lacks = absurd (cc)
 lacks_part rs (op.GStore g src) r n access z is value lacks = absurd (cc)
 lacks_part rs o r n access z is value lacks = absurd (cc)
@@ -80,54 +73,28 @@ one_shape v address y z first second =
     sym first.shape_is ∙ (ap (λ (h : Header). h.shape)
     (one_header (state v) address first.header second.header first.starts second.starts) ∙ second.shape_is)
 
--- the call is over, and nothing else changes
-over_plain : (v : View) (t : ℕ) (o : Op) (stage : Stage) → MayAdvance v t o → stage_of v t ≡ Some stage
-    → cleared_by (Some stage) ≡ 0 → claimed_in (Some (record { op = o; stage = stage })) ≡ 0
-    → ((need : ℕ) → stage ≡ Lacking need → ⊥) → Plain v (with_call v t None) t (cleared_by (stage_of v t)) None None
-over_plain v t o stage asks at clears unclaimed no_lack = record {
-  event = λ told stands. subst (λ (k : ℕ). Event told v.log (maps v) (maps v) (state v) (state v) no_region k None)
-      (sym (ap cleared_by at ∙ clears)) (quiet refl (same_words v));
-  nothing = tt;
-  log = refl;
-  calls = refl;
-  names = refl;
-  free = refl;
-  made = refl;
-  stop = refl;
-  words = refl;
-  threads = refl;
-  others = λ u differ. refl;
-  may_hold = asks.stands.registers t;
-  known = λ c is. absurd (cc);
-  fits = λ c is. absurd (cc);
-  unclaimed = refl;
-  unclaimed_before = ap claimed_in (call_at v t o stage asks at) ∙ unclaimed;
-  claims = claims_ends v.stop (stage_of v t)
-      (λ need is. no_lack need (let e : Some stage ≡ Some (Lacking need) = sym at ∙ is in cc));
-}
-
 pub range_advances : (v : View) (t : ℕ) (o : Op) (r : ℕ) (access : Access) (shape : Shape) → MayAdvance v t o
     → stage_of v t ≡ Some (Polled (Use r access)) → IsObjectAt (maps v) (state v) (register_in v.held t r) shape
     → (HasPart access shape → ⊥) → Advances v (with_call v t None) t o (Answered reply.Range)
 range_advances v t o r access shape asks at object lacks =
-    let w : View = with_call v t None in
-    let task : task_of o ≡ Some (Use r access) = (fits_at v t o (Polled (Use r access)) asks at).0 in
-    answered v w t o reply.Range None asks (over_plain v t o (Polled (Use r access)) asks at refl refl (λ need is. cc))
-    refl
-    (subst (λ (g : Option Stage). Applies (maps v) (maps w) (state v) (state w)
-    (change_of (state v) (register_in v.held t) g)) (sym at) (refl, same_words v))
-    (record {
-      last = λ next is.
-          let goes : Next (maps v) (state v) (register_in v.held t) v.stop o (Some (Polled (Use r access))) next =
-          subst (λ (g : Option Stage). Next (maps v) (state v) (register_in v.held t) v.stop o g next) at is in
-          lacks (subst (HasPart access) (one_shape v (register_in v.held t r) goes.0 shape goes.1 object) goes.2);
-      no_pause = λ is. subst (MustPause (register_in v.held t) v.stop o) at is;
+    let stage : Stage = Polled (Use r access) in
+    let task : task_of o ≡ Some (Use r access) = (fits_at v t o stage asks at).0 in
+    over_advances v (with_call v t None) t o stage None reply.Range asks (record {
+      ends = ends_at v t o stage at tt
+          (λ next goes. lacks
+          (subst (HasPart access) (one_shape v (register_in v.held t r) goes.0 shape goes.1 object) goes.2));
+      event = λ told s. quiet refl (same_words v);
+      applies = (refl, same_words v);
+      nothing = tt;
+      moves = refl;
+      words = refl;
+      local = local_still v t asks.stands;
       answers = λ told. range_answers t v.log (values_of v t) o object.number shape reply.Range v.log (values_of v t)
           (lacks_part (values_of v t) o r object.number access shape task
           (value_named v t r (register_in v.held t r) object.number refl object.named) lacks)
           (object_shape v (register_in v.held t r) object.number shape told object object.named) refl refl refl;
       registers = λ k other. refl;
-      room = λ told. use_room v o r access task;
+      room = use_room v o r access task;
       clean = range_clean v t o r access shape task object lacks;
     })
   where
@@ -154,49 +121,28 @@ pub get_advances : (v : View) (t : ℕ) (o : Op) (address j n number : ℕ) (sha
     (Answered (reply.Num number))
 get_advances v t o address j n number shape asks at named is =
     let stage : Stage = Headed address shape (Get j) in
-    let w : View = with_call (noted v (entry t (Read (slots.Cell n j) (Num number)))) t None in
+    let act : Act = Read (slots.Cell n j) (Num number) in
+    let w : View = with_call (noted v (entry t act)) t None in
     let fits : Fits (register_in v.held t) o stage = fits_at v t o stage asks at in
     let object : IsObjectAt (maps v) (state v) address shape = known_at v t o stage asks at in
-    let same : o ≡ op.Get fits.0 j = get_is o fits.0 j fits.1 in
-    answered v w t o (reply.Num number) (Some (Read (slots.Cell n j) (Num number))) asks (record {
-      event = λ told stands. subst
-          (λ (k : ℕ). Event told v.log (maps v) (maps v) (state v) (state v) no_region k
-          (Some (Read (slots.Cell n j) (Num number)))) (sym (ap cleared_by at))
-          (subst (λ (x : ℕ). Event told v.log (maps v) (maps v) (state v) (state v) no_region 0
+    over_advances v w t o stage (Some act) (reply.Num number) asks (record {
+      ends = ends_at v t o stage at tt (λ next goes. goes);
+      event = λ told s. subst (λ (x : ℕ). Event told v.log (maps v) (maps v) (state v) (state v) no_region 0
           (Some (Read (slots.Cell n j) (Num x)))) (sym is)
           (reads_number address n j shape refl (same_words v)
-          (record { object_is = object; below = fits.3; named = named })));
+          (record { object_is = object; below = fits.3; named = named }));
+      applies = (refl, same_words v);
       nothing = refl;
-      log = refl;
-      calls = refl;
-      names = refl;
-      free = refl;
-      made = refl;
-      stop = refl;
+      moves = refl;
       words = refl;
-      threads = refl;
-      others = λ u differ. refl;
-      may_hold = asks.stands.registers t;
-      known = λ c none. absurd (cc);
-      fits = λ c none. absurd (cc);
-      unclaimed = refl;
-      unclaimed_before = ap claimed_in (call_at v t o stage asks at);
-      claims = claims_ends v.stop (stage_of v t) (λ need lacks. let e : Some stage ≡ Some (Lacking need) =
-          sym at ∙ lacks in cc);
-    }) refl
-    (subst (λ (g : Option Stage). Applies (maps v) (maps w) (state v) (state w)
-    (change_of (state v) (register_in v.held t) g)) (sym at) (refl, same_words v))
-    (record {
-      last = λ next goes. subst (λ (g : Option Stage). Next (maps v) (state v) (register_in v.held t) v.stop o g next)
-          at goes;
-      no_pause = λ pause. subst (MustPause (register_in v.held t) v.stop o) at pause;
+      local = local_still v t asks.stands;
       answers = λ told. subst (λ (p : Op). Answers t v.log (values_of v t) p (reply.Num number) w.log (values_of v t))
-          (sym same)
+          (sym (get_is o fits.0 j fits.1))
           (get_answers t v.log (values_of v t) fits.0 j n number shape (reply.Num number) w.log (values_of v t)
           (value_named v t fits.0 address n fits.2 named) (object_shape v address n shape told object named) fits.3 refl
           refl refl);
       registers = λ k other. refl;
-      room = λ told. use_room v o fits.0 (Get j) fits.1;
+      room = use_room v o fits.0 (Get j) fits.1;
       clean = λ place dst loads there tagged. no_load (register_in v.held t) o place dst
           (subst LoadsNothing (sym fits.1) tt) loads;
     })
@@ -211,3 +157,20 @@ head_object v t o r address access shape asks at is shaped =
     let held = object_held v t r asks.stands fits.1 in
     object_of v address held.0 shape (subst (λ (a : ℕ). IsObjectAt (maps v) (state v) a held.0.shape) (sym is) held.1)
     shaped
+
+-- the call goes on, and has read the header
+pub head_advances : (v : View) (t : ℕ) (o : Op) (r address : ℕ) (access : Access) (shape : Shape) → MayAdvance v t o
+    → stage_of v t ≡ Some (Polled (Use r access)) → address ≡ register_in v.held t r
+    → IsObjectAt (maps v) (state v) address shape → HasPart access shape
+    → Advances v (with_call v t (Some (record { op = o; stage = Headed address shape access }))) t o Going
+head_advances v t o r address access shape asks at is object part =
+    go_advances v t o (Headed address shape access) asks
+    (subst (λ (g : Option Stage). change_of (state v) (register_in v.held t) g ≡ Nothing) (sym at) refl)
+    (subst (λ (g : Option Stage). Next (maps v) (state v) (register_in v.held t) v.stop o g
+    (Headed address shape access)) (sym at) (
+      shape,
+      subst (λ (a : ℕ). IsObjectAt (maps v) (state v) a shape) is object,
+      part,
+      ap (λ (a : ℕ). Headed a shape access) is,
+    ))
+    object refl

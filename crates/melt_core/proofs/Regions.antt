@@ -1,19 +1,16 @@
 -- Regions apart, what is claimed, and how a call comes nearer to its end.
 use Rattle.std.proofs.Common.{◌≡◌, ℕ, ◌+◌, ◌<◌, ◌≤◌, refl, sym, ap, subst, arith, ◌-◌, inl, inr}
 use Rattle.std.proofs.lemmas.Bool.{cases_lt}
-use Rattle.std.specs.Prelude.{Bool, false, List, Option, None, Some}
-use Rattle.melt_model.specs.History.{made}
-use Rattle.melt_model.specs.declared.history.Act.TheVariants as act
-use Rattle.melt_model.specs.declared.history.Entry.{Entry}
+use Rattle.std.specs.Prelude.{Bool, Option, None, Some}
 use Rattle.melt_model.specs.declared.operations.Op.{Op}
 use Rattle.melt_model.specs.declared.operations.Op.TheVariants as op
-use Rattle.melt_word.specs.Words.{IsShape, header_word, cost_of}
+use Rattle.melt_word.specs.Words.{IsShape, cost_of}
 use Rattle.melt_word.specs.declared.header.Shape.{Shape}
 use Rattle.melt_word.specs.declared.header.Header.{Header}
 use Rattle.melt_scion.specs.State.{Base, State, HeaderAt}
 use Rattle.melt_scion.specs.Placed.{Maps, FormedWords}
-use Rattle.melt_scion.specs.Regions.{Region, no_region, Apart, Owns, HasStored}
-use Rattle.melt_scion.specs.Changes.{WordChanges, FreeMoves, NameAppears}
+use Rattle.melt_scion.specs.Regions.{Region, no_region, Apart, Owns}
+use Rattle.melt_scion.specs.Changes.{FreeMoves}
 use Rattle.melt_scion.specs.Heaps.{register_in}
 use Rattle.melt_scion.proofs.Geometry.{one_header, header_moves}
 use Rattle.melt_core.specs.declared.call.Access.TheVariants.{Load}
@@ -21,12 +18,10 @@ use Rattle.melt_core.specs.declared.call.Task.TheVariants.{Make, Use, LoadGlobal
 use Rattle.melt_core.specs.declared.call.Stage.{Stage}
 use Rattle.melt_core.specs.declared.call.Stage.TheVariants.{Polled, Headed, Looked, Cleared, Claimed, Lacking}
 use Rattle.melt_core.specs.declared.call.Call.{Call}
-use Rattle.melt_core.specs.Known.{region, Known, RegionStays}
-use Rattle.melt_core.specs.Events.{Event}
+use Rattle.melt_core.specs.Known.{Known}
 use Rattle.melt_core.specs.Stages.{task_of, Fits, Next, events_left}
 use Rattle.melt_core.specs.Views.{View, maps, state, call_of, stage_in, stage_of}
 use Rattle.melt_core.specs.Advances.{InBounds, Continues, MayAdvance}
-use Rattle.melt_core.proofs.Owning.{regions_event}
 
 pub apart_sym : (a b : Region) → Apart a b → Apart b a
 apart_sym a b apart = record {
@@ -74,18 +69,6 @@ claimed_apart maps s words r owns =
       behind = λ less. absurd (omega arith);
       differ = λ some_r some. omega arith;
     }
-
--- the regions of other threads stay where one becomes an object
-pub region_publishes : (h : List Entry) (maps new : Maps) (s t : State) (address stored : ℕ) (shape : Shape) →
-    FormedWords maps s → IsShape shape → HasStored maps s (region address shape) (λ k. 0) stored →
-    stored + 1 ≡ cost_of shape → WordChanges s t address (header_word (record { shape = shape; stale = false })) →
-    NameAppears maps new address (made h) → (r : Region) → Owns maps s r → Apart (region address shape) r →
-    RegionStays new s t r
-region_publishes h maps new s t address stored shape formed small stores all changes appears r owns apart =
-    let event : Event false h maps new s t (region address shape) 0 (Some (act.Make shape.refs shape.nums)) =
-    Event.publishes address stored shape small stores all changes appears in
-    regions_event false h maps new s t (region address shape) 0 (Some (act.Make shape.refs shape.nums)) formed event r
-    owns apart
 
 -- what is known where a call is at this stage, if it is at one
 abbrev pub AtStage : Maps → State → (ℕ → ℕ) → Op → Option Stage → Type 0

@@ -45,9 +45,5 @@ values_set v t r address within =
     ap (held_values v.names) (registers_set v.held t (set (registers_in v.held t) r address) within)
     ∙ held_values-set v.names (registers_in v.held t) r address
 
-pub values_other : (v : View) (t u r address : ℕ) → u ≢ t → values_of (with_register v t r address) u ≡ values_of v u
-values_other v t u r address other =
-    ap (held_values v.names) (registers_other v.held t u (set (registers_in v.held t) r address) other)
-
 pub threads_set : (v : View) (t r address : ℕ) → length (with_register v t r address).held ≡ length v.held
 threads_set v t r address = length-set v.held t (record { regs = set (registers_in v.held t) r address })

@@ -1,10 +1,12 @@
 -- How a core begins and ends: between two epochs no call is in flight, and no region is owned.
-use Rattle.std.proofs.Common.{◌≡◌, ℕ, zero, suc, ◌+◌, ◌-◌, ◌^◌, ◌<◌, ◌≤◌, inl, inr, List, [], ◌∷◌, length, get_or, refl, sym, ◌∙◌, ap, subst, arith}
+use Rattle.std.proofs.Common.{◌≡◌, ℕ, zero, suc, ◌+◌, ◌-◌, ◌^◌, ◌<◌, ◌≤◌, inl, inr}
+use Rattle.std.proofs.Common.{List, [], ◌∷◌, length, get_or, refl, sym, ◌∙◌, ap, subst, arith}
 use Rattle.std.proofs.Math.ListN.{set, length-set}
 use Rattle.std.proofs.lemmas.Bool.{cases_eq}
 use Rattle.std.proofs.lemmas.List.{length-replicate}
 use Rattle.std.proofs.lemmas.List.Sums.{sum-map, sum_by-cons}
-use Rattle.std.specs.Prelude.{Bool, true, false, Option, None, Some, replicate, vec_capacity, slice_set, slice_index, min}
+use Rattle.std.specs.Prelude.{Bool, true, false, Option, None, Some}
+use Rattle.std.specs.Prelude.{replicate, vec_capacity, slice_set, slice_index, min}
 use Rattle.melt_model.specs.Alive.{words_of}
 use Rattle.melt_model.proofs.Sums.{CostsSum-empty}
 use Rattle.melt_space.specs.Space.{SpaceWords, word_at}
@@ -25,10 +27,12 @@ use Rattle.melt_core.proofs.Staying.{known_stays}
 use Rattle.melt_core.proofs.Regions.{no_region_apart}
 use Rattle.melt_core.specs.Stages.{Fits}
 use Rattle.melt_core.specs.Epochs.{no_registers, IsNewRest, core_of, AtRest, HasDropped}
-use Rattle.melt_core.specs.Views.{View, InUse, view, maps, state, call_of, held_values, claimed_in, claimed, Standing, IsQuiet}
+use Rattle.melt_core.specs.Views.{View, InUse, view, maps, state, call_of}
+use Rattle.melt_core.specs.Views.{held_values, claimed_in, claimed, Standing, IsQuiet}
 use Rattle.melt_core.specs.Changed.{stopped}
 use Rattle.melt_core.proofs.Claims.{bounded_stop}
 use Rattle.melt_core.proofs.Values.{get_or_replicate}
+use Rattle.melt_core.proofs.Words.{same_behind}
 use Rattle.melt_core.proofs.Registers.{registers_set, registers_other}
 use Rattle.melt_scion.specs.Changes.{FreeMoves, SameWords}
 use Rattle.melt_scion.proofs.Staying.{free_shifts}
@@ -143,8 +147,7 @@ dropped v t within none = record {
                     (sym (registers_other v.held t u (replicate 16 0) other)) (s.registers u r)
               ]);
           known = λ u c is. known_words (maps v) (state v) (state w) c.stage
-              (record { base = refl; free = refl; word = λ k. refl; global = λ g. refl; forward = λ p. refl })
-              s.holds.formed (s.known u c is);
+              (same_behind v w.held) s.holds.formed (s.known u c is);
           fits = λ u c is. elim (cases_eq u t) [
             | inl same ↦ absurd (let e : None ≡ Some c = sym none ∙ (ap (call_of v) (sym same) ∙ is) in cc)
             | inr other ↦ subst (λ (regs : List ℕ). Fits (slice_index regs) c.op c.stage)

@@ -53,6 +53,6 @@ shared_laws told thread h maps base old new = record {
       (Event.publishes address stored shape small stores all (word_changes base old new address _ replaces) appears);
   untags = λ object i target at value before is in_range word named fresh last replaces.
       event_keeps told thread h maps maps (shown base old) (shown base new) no_region 0 _ before.legal before.holds
-      (Event.untags (Field object i) at (Stale target) target value refl is in_range word named fresh (λ tell. refl) last
-      (word_changes base old new (object + 2 + i) _ replaces));
+      (Event.untags (Field object i) at (Stale target) target value refl is in_range word named fresh (λ tell. refl)
+      last (word_changes base old new (object + 2 + i) _ replaces));
 }

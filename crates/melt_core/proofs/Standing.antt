@@ -21,16 +21,15 @@ use Rattle.melt_core.specs.Advances.{Advances, MayAdvance, Outcome, LeavesClean}
 use Rattle.melt_core.specs.Known.{Known, Evolves, region_of}
 use Rattle.melt_core.specs.Stages.{Fits, Applies, change_of, cleared_by}
 use Rattle.melt_core.specs.Events.{Event, Keeps}
-use Rattle.melt_core.specs.Views.{View, Standing, Counts, Bounded, maps, state, maps_of, numbers_of, registers_in, call_of, stage_of, values_of, held_value, held_values}
+use Rattle.melt_core.specs.Views.{View, Standing, Counts, Bounded, maps, state, maps_of, numbers_of}
+use Rattle.melt_core.specs.Views.{registers_in, call_of, stage_of, values_of, held_value, held_values}
 use Rattle.melt_core.proofs.Keeping.{event_keeps}
 use Rattle.melt_core.proofs.Staying.{known_stays, hold_stays, held_value_stays}
 use Rattle.melt_core.proofs.Values.{same_values, value_held, may_value}
 use Rattle.melt_core.proofs.Regions.{apart_sym}
 
--- One event of a thread, whose call is this behind it.
-pub record Happens (told : Bool) (v w : View) (t : ℕ) (mine : Region) (cleared : ℕ) (act : Option Act)
-    (after : Option Call) : Type 0 where
-  pub event : Event told v.log (maps v) (maps w) (state v) (state w) mine cleared act
+-- What an event keeps: calls and registers of the others, the count of objects, and a table of names as long as before.
+pub record Kept (v w : View) (t : ℕ) (act : Option Act) (after : Option Call) : Type 0 where
   pub log : w.log ≡ with_entry t v.log act
   pub calls : w.calls ≡ set v.calls t after
   pub threads : length w.held ≡ length v.held
@@ -38,6 +37,26 @@ pub record Happens (told : Bool) (v w : View) (t : ℕ) (mine : Region) (cleared
   pub named : IsSome w.names
   pub room : length (numbers_of w.names) ≡ length (numbers_of v.names)
   pub made : w.made ≡ makes w.log
+
+-- an event that leaves registers, names and history
+pub kept_own : (told : Bool) (v w : View) (t : ℕ) (after : Option Call) → Standing told v
+    → w ≡ record v { space = w.space; calls = set v.calls t after; free = w.free; stop = w.stop }
+    → Kept v w t None after
+kept_own told v w t after s moves = record {
+  log = ap (λ (x : View). x.log) moves;
+  calls = ap (λ (x : View). x.calls) moves;
+  threads = ap (λ (x : View). length x.held) moves;
+  others = λ u differ. ap (λ (x : View). registers_in x.held u) moves;
+  named = subst (λ (x : View). IsSome x.names) (sym moves) s.named;
+  room = ap (λ (x : View). length (numbers_of x.names)) moves;
+  made = subst (λ (x : View). x.made ≡ makes x.log) (sym moves) s.counted;
+}
+
+-- One event of a thread, whose call is this behind it.
+pub record Happens (told : Bool) (v w : View) (t : ℕ) (mine : Region) (cleared : ℕ) (act : Option Act)
+    (after : Option Call) : Type 0 where
+  pub event : Event told v.log (maps v) (maps w) (state v) (state w) mine cleared act
+  pub kept : Kept v w t act after
   pub first : 1 ≤ w.free
   pub bounded : Bounded w
   pub may_hold : (r : ℕ) → MayHold (maps w) (state w) (register_in w.held t r)
@@ -94,38 +113,38 @@ stands_behind told v w t mine cleared act after s e =
     let evolves : Evolves (maps v) (maps w) (state v) (state w) cleared = keeps.evolves in
     let size : length w.space.list ≡ length v.space.list = ap (λ (b : Base). b.size) evolves.base in
     record {
-      named = e.named;
-      room = e.room ∙ (s.room ∙ sym size);
-      few = omega (arith, s.few, e.threads);
-      each = ap length e.calls ∙ (length-set v.calls t after ∙ (s.each ∙ sym e.threads));
-      counted = e.made;
+      named = e.kept.named;
+      room = e.kept.room ∙ (s.room ∙ sym size);
+      few = omega (arith, s.few, e.kept.threads);
+      each = ap length e.kept.calls ∙ (length-set v.calls t after ∙ (s.each ∙ sym e.kept.threads));
+      counted = e.kept.made;
       first = e.first;
       bounded = e.bounded;
-      holds = subst (λ (h : List Entry). Holds told h (maps w) (state w)) (sym e.log) keeps.holds;
-      legal = λ is. subst (λ (h : List Entry). Legal h (length w.globals)) (sym e.log) (keeps.legal is);
+      holds = subst (λ (h : List Entry). Holds told h (maps w) (state w)) (sym e.kept.log) keeps.holds;
+      legal = λ is. subst (λ (h : List Entry). Legal h (length w.globals)) (sym e.kept.log) (keeps.legal is);
       registers = λ u r. elim (cases_eq u t) [
         | inl same ↦ subst (λ (k : ℕ). MayHold (maps w) (state w) (register_in w.held k r)) (sym same) (e.may_hold r)
         | inr differ ↦
-            subst (λ (regs : List ℕ). MayHold (maps w) (state w) (slice_index regs r)) (sym (e.others u differ))
+            subst (λ (regs : List ℕ). MayHold (maps w) (state w) (slice_index regs r)) (sym (e.kept.others u differ))
             (hold_stays (maps v) (maps w) (state v) (state w) cleared s.holds.formed evolves (register_in v.held u r)
             (s.registers u r))
       ];
-      known = λ u c is. elim (call_behind v w t u after c e.calls is) [
+      known = λ u c is. elim (call_behind v w t u after c e.kept.calls is) [
         | inl here ↦ e.known c here.1
         | inr there ↦ known_stays (maps v) (maps w) (state v) (state w) cleared s.holds.formed evolves c.stage
             (λ owns. keeps.regions (region_of c.stage) owns (e.mine_is u c there.0 there.1)) (s.known u c there.1)
       ];
-      fits = λ u c is. elim (call_behind v w t u after c e.calls is) [
+      fits = λ u c is. elim (call_behind v w t u after c e.kept.calls is) [
         | inl here ↦ subst (λ (k : ℕ). Fits (register_in w.held k) c.op c.stage) (sym here.0) (e.fits c here.1)
-        | inr there ↦ subst (λ (regs : List ℕ). Fits (slice_index regs) c.op c.stage) (sym (e.others u there.0))
+        | inr there ↦ subst (λ (regs : List ℕ). Fits (slice_index regs) c.op c.stage) (sym (e.kept.others u there.0))
             (s.fits u c there.1)
       ];
-      apart = λ a b c d differ first second. elim (call_behind v w t a after c e.calls first) [
-        | inl here ↦ elim (call_behind v w t b after d e.calls second) [
+      apart = λ a b c d differ first second. elim (call_behind v w t a after c e.kept.calls first) [
+        | inl here ↦ elim (call_behind v w t b after d e.kept.calls second) [
           | inl also ↦ absurd (differ (here.0 ∙ sym also.0))
           | inr there ↦ e.apart c here.1 b d there.0 there.1
         ]
-        | inr there ↦ elim (call_behind v w t b after d e.calls second) [
+        | inr there ↦ elim (call_behind v w t b after d e.kept.calls second) [
           | inl here ↦ apart_sym (region_of d.stage) (region_of c.stage) (e.apart d here.1 a c there.0 there.1)
           | inr also ↦ s.apart a b c d differ there.1 also.1
         ]
@@ -174,11 +193,11 @@ advances v w t o result asks made capacity applies outcome clean =
       others = record {
         globals = ap (λ (b : Base). b.globals) evolves.base;
         words = ap (λ (b : Base). b.size) evolves.base;
-        threads = h.threads;
+        threads = h.kept.threads;
         capacity = capacity;
-        calls = λ u differ. call_there v w t u made.after h.calls differ;
-        registers = h.others;
-        values = λ u differ. values_stay v w u cleared s evolves (h.others u differ);
+        calls = λ u differ. call_there v w t u made.after h.kept.calls differ;
+        registers = h.kept.others;
+        values = λ u differ. values_stay v w u cleared s evolves (h.kept.others u differ);
       };
       outcome = outcome;
       clean = clean;

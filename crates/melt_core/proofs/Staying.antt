@@ -17,7 +17,8 @@ use Rattle.melt_core.specs.declared.call.Place.{Place}
 use Rattle.melt_core.specs.declared.call.Place.TheVariants.{Field, Global}
 use Rattle.melt_core.specs.declared.call.Stage.{Stage}
 use Rattle.melt_core.specs.declared.call.Stage.TheVariants.{Polled, Headed, Looked, Cleared, Claimed, Lacking}
-use Rattle.melt_core.specs.Known.{IsObjectAt, word_in, IsPlace, IsTagged, HasLooked, region, Known, region_of, Evolves, RegionStays}
+use Rattle.melt_core.specs.Known.{IsObjectAt, word_in, IsPlace, IsTagged}
+use Rattle.melt_core.specs.Known.{HasLooked, region, Known, region_of, Evolves, RegionStays}
 
 -- the header without the stale bit
 abbrev pub cleared_header : Header → Header

@@ -1,18 +1,17 @@
 -- What the registers of threads hold, and the names of addresses.
-use Rattle.std.proofs.Common.{◌≡◌, ℕ, ◌+◌, ◌*◌, ◌<◌, ◌≤◌, zero, suc, List, [], ◌∷◌, length, get_or, refl, sym, ◌∙◌, ap, subst, arith, inl, inr}
+use Rattle.std.proofs.Common.{◌≡◌, ℕ, ◌<◌, zero, suc, List, [], ◌∷◌}
+use Rattle.std.proofs.Common.{length, get_or, refl, sym, ◌∙◌, ap, subst, inl, inr}
 use Rattle.std.proofs.Math.ListN.{set, get_or-map, length-map}
 use Rattle.std.proofs.lemmas.List.{map-set, ext_get_or}
 use Rattle.std.specs.Prelude.{Option, None, Some, unwrap_or, replicate}
 use Rattle.std.specs.Option.{option_map}
-use Rattle.melt_model.specs.History.{made, IsReference}
+use Rattle.melt_model.specs.History.{made}
 use Rattle.melt_model.specs.Thread.{value_in}
 use Rattle.melt_model.specs.declared.history.Value.{Value}
 use Rattle.melt_model.specs.declared.history.Value.TheVariants.{Nil, Ref}
 use Rattle.melt_model.specs.declared.history.Entry.{Entry}
-use Rattle.melt_word.specs.Words.{cost_of}
-use Rattle.melt_word.specs.declared.reference.Ref.TheVariants.{Null, Clean}
 use Rattle.melt_scion.specs.State.{State}
-use Rattle.melt_scion.specs.Placed.{Maps, Stands, IsReferenceWord, MayHold, FormedWords, Tells, value_at}
+use Rattle.melt_scion.specs.Placed.{Maps, MayHold, FormedWords, Tells, value_at}
 use Rattle.melt_scion.specs.Names.{name_at}
 use Rattle.melt_scion.specs.declared.heap.Names as heap
 use Rattle.melt_scion.proofs.Entries.{was_made}
@@ -71,75 +70,12 @@ may_value names s address (inr holds) =
 pub no_name_at : (names : Option heap.Names) (n : ℕ) → name_at (numbers_of names) 0 ≡ Some n → ⊥
 no_name_at names n named = cc
 
-unwrap_ref : (o : Option ℕ) (n : ℕ) → unwrap_or (option_map Ref o) Nil ≡ Ref n → o ≡ Some n
-unwrap_ref None n is = absurd (cc)
-unwrap_ref (Some m) n is = cc
-
--- the address of an object
-pub held_named : (names : Option heap.Names) (address n : ℕ) → held_value names address ≡ Ref n
-    → (maps_of names).address address ≡ Some n
-held_named names zero n is = absurd (cc)
-held_named names (suc address) n is = unwrap_ref (name_at (numbers_of names) (suc address)) n is
-
 -- an object of the map was made
 pub named_made : (h : List Entry) (maps : Maps) (s : State) (address n : ℕ) → FormedWords maps s → Tells h maps s
     → maps.address address ≡ Some n → n < made h
 named_made h maps s address n formed tells named =
     let object = formed.objects address n named in
     was_made h n _ (tells.shapes address n object.0 named object.1.starts)
-
--- what may stand in a register is Nil or an object that was made
-pub may_reference : (h : List Entry) (names : Option heap.Names) (s : State) (address : ℕ)
-    → FormedWords (maps_of names) s → Tells h (maps_of names) s → MayHold (maps_of names) s address
-    → IsReference h (held_value names address)
-may_reference h names s address formed tells (inl nothing) =
-    let at_zero : IsReference h (held_value names 0) = tt in
-    subst (λ (a : ℕ). IsReference h (held_value names a)) (sym nothing) at_zero
-may_reference h names s address formed tells (inr holds) =
-    let is : held_value names address ≡ Ref holds.0.0 =
-    held_is names address (Ref holds.0.0) (named_value names address holds.0.0 holds.0.1) in
-    let made_it : IsReference h (Ref holds.0.0) =
-    named_made h (maps_of names) s address holds.0.0 formed tells holds.0.1 in
-    subst (IsReference h) (sym is) made_it
-
--- an address that may stand in a register is small
-pub may_small : (maps : Maps) (s : State) (address : ℕ) → FormedWords maps s → MayHold maps s address
-    → address ≤ s.base.size
-may_small maps s address formed (inl nothing) = omega arith
-may_small maps s address formed (inr holds) =
-    let object = formed.objects address holds.0.0 holds.0.1 in
-    let within : address + cost_of object.0.shape ≤ s.base.size + 1 = object.1.within in
-    omega arith
-
--- the word of a clean reference to what may stand in a register
-pub may_stand : (maps : Maps) (s : State) (address : ℕ) → FormedWords maps s → MayHold maps s address
-    → IsReferenceWord maps s (4 * address)
-may_stand maps s address formed (inl nothing) =
-    record { reference = Null; in_range = tt; is = omega arith; stands = tt }
-may_stand maps s address formed (inr holds) =
-    let object = formed.objects address holds.0.0 holds.0.1 in
-    let within : address + cost_of object.0.shape ≤ s.base.size + 1 = object.1.within in
-    let first : 1 ≤ address = object.1.first in
-    let small : s.base.size < 1073741824 = formed.small in
-    record {
-      reference = Clean address;
-      in_range = record { not_null = omega arith; small = omega arith };
-      is = refl;
-      stands = holds;
-    }
-
-pub stands_for_held : (maps : Maps) (s : State) (address : ℕ) (v : Value) → FormedWords maps s → MayHold maps s address
-    → value_at maps address ≡ Some v → Stands maps (4 * address) v
-stands_for_held maps s zero v formed may is = record { reference = Null; in_range = tt; is = refl; stands_for = is }
-stands_for_held maps s (suc address) v formed may is =
-    let below : suc address ≤ s.base.size = may_small maps s (suc address) formed may in
-    let small : s.base.size < 1073741824 = formed.small in
-    record {
-      reference = Clean (suc address);
-      in_range = record { not_null = omega arith; small = omega arith };
-      is = refl;
-      stands_for = is;
-    }
 
 -- the values of registers that stand for the same
 pub same_values : (old new : Option heap.Names) (regs after : List ℕ) → length after ≡ length regs

@@ -1,4 +1,5 @@
--- What the laws of events give a program whose threads share plain words: no heap, no names, and no registers in the state.
+-- What the laws of events give a program whose threads share plain words: no heap, no names, and no registers in the
+-- state.
 use Rattle.std.specs.Prelude.{◌≡◌, ◌≢◌, ℕ, ◌+◌, ◌*◌, ◌≤◌, Bool, true, false, List, Option, None, Some}
 use Rattle.melt_model.specs.History.{Legal, made}
 use Rattle.melt_model.specs.declared.history.Value.{Value}
@@ -53,7 +54,8 @@ After told thread h maps new base old table mine act =
     Keeps told h (with_entry thread h act) maps new (shown base old) (shown base table) mine 0
 
 -- Four events, each by any thread.
-pub record SharedLaws (told : Bool) (thread : ℕ) (h : List Entry) (maps : Maps) (base : Base) (old new : Table) : Type 0 where
+pub record SharedLaws (told : Bool) (thread : ℕ) (h : List Entry) (maps : Maps) (base : Base) (old new : Table)
+    : Type 0 where
   -- an address that a register may hold is stored to a slot of an object
   pub stores_slot : (object i address : ℕ) (at : Slot) (value : Value) → Before told h maps base old →
       IsPlace maps (shown base old) (Field object i) → SlotAt maps (Field object i) at →
@@ -74,7 +76,8 @@ pub record SharedLaws (told : Bool) (thread : ℕ) (h : List Entry) (maps : Maps
   -- the tag of a stale reference in a slot is taken away, which reads the slot
   pub untags : (object i target : ℕ) (at : Slot) (value : Value) → Before told h maps base old →
       IsPlace maps (shown base old) (Field object i) → IsRef (Stale target) →
-      old.words (2 + (object + 2 + i)) ≡ ref_word (Stale target) → IsNamed maps target → IsFresh (shown base old) target →
+      old.words (2 + (object + 2 + i)) ≡ ref_word (Stale target) → IsNamed maps target →
+      IsFresh (shown base old) target →
       (told ≡ true → LastAt h maps (Field object i) at value) →
       Replaces old new (2 + (object + 2 + i)) (ref_word (Clean target)) →
       After told thread h maps maps base old new no_region (Some (Read at value))

@@ -1,6 +1,7 @@
 -- The events of an operation, one after the other: what it has to do, the stages that its call reaches, what each of
 -- its events changes, and which stage comes next.
-use Rattle.std.specs.Prelude.{◌≡◌, ◌≢◌, ℕ, ◌+◌, ◌*◌, ◌-◌, ◌<◌, ◌≤◌, ◌==◌, if◌then◌else◌, Bool, true, false, Option, None, Some}
+use Rattle.std.specs.Prelude.{◌≡◌, ◌≢◌, ℕ, ◌+◌, ◌*◌, ◌-◌, ◌<◌, ◌≤◌, ◌==◌}
+use Rattle.std.specs.Prelude.{if◌then◌else◌, Bool, true, false, Option, None, Some}
 use Rattle.melt_model.specs.declared.operations.Op.{Op}
 use Rattle.melt_model.specs.declared.operations.Op.TheVariants as op
 use Rattle.melt_word.specs.Words.{ref_word, header_word, cost_of}

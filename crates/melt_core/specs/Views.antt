@@ -1,5 +1,7 @@
 -- What a core shows, and when it stands for its history.
-use Rattle.std.specs.Prelude.{◌≡◌, ◌≢◌, ◌⊎◌, ℕ, ◌+◌, ◌*◌, ◌≤◌, Bool, true, List, [], length, map, sum, slice_index, slice_index_or, vec_capacity, Option, None, Some, IsSome, unwrap_or, if◌then◌else◌}
+use Rattle.std.specs.Prelude.{◌≡◌, ◌≢◌, ◌⊎◌, ℕ, ◌+◌, ◌*◌, ◌≤◌, Bool, true, List, [], length, map}
+use Rattle.std.specs.Prelude.{sum, slice_index, slice_index_or, vec_capacity}
+use Rattle.std.specs.Prelude.{Option, None, Some, IsSome, unwrap_or, if◌then◌else◌}
 use Rattle.melt_model.specs.History.{made as makes, Legal}
 use Rattle.melt_model.specs.Thread.{value_in}
 use Rattle.melt_model.specs.Alive.{words_of, CostsSum}

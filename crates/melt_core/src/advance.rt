@@ -5,7 +5,10 @@ ghost use Rattle.melt_core.specs.Views.{stage_of, view};
 
 use crate::answer::StepResult;
 use crate::call::{Access, Place, Stage, Task};
+use crate::load::Looked;
 use crate::machine::Core;
+use crate::make::Claim;
+use crate::parts::Cell;
 use melt_io::RecordReader;
 use melt_model::Op;
 use melt_word::Shape;
@@ -42,8 +45,8 @@ impl Core {
         match access {
             Access::Load { dst, i } => self.look(thread, op, Place::Field { object, i }, dst),
             Access::Store { i, src } => self.store(thread, op, Place::Field { object, i }, src),
-            Access::Get { j } => self.get(thread, op, address, shape, j),
-            Access::Put { j, v } => self.put(thread, op, address, shape, j, v),
+            Access::Get { j } => self.get(thread, op, Cell { address, shape, j }),
+            Access::Put { j, v } => self.put(thread, op, Cell { address, shape, j }, v),
         }
     }
 
@@ -62,7 +65,7 @@ impl Core {
         requires { MayAdvance (view self.old) thread op }
         ensures { Advances (view self.old) (view self.new) thread op result }
     {
-        let Some(call) = self.rest.calls[thread as usize] else {
+        let Some(call) = &self.rest.calls[thread as usize] else {
             return self.begin_call(thread, op);
         };
         match call.stage {
@@ -72,14 +75,26 @@ impl Core {
                 shape,
                 access,
             } => self.after_head(thread, op, address, shape, access),
-            Stage::Looked { place, target, dst } => self.clear(thread, op, place, target, dst),
-            Stage::Cleared { place, target, dst } => self.untag(thread, op, place, target, dst),
+            Stage::Looked { place, target, dst } => {
+                self.clear(thread, op, Looked { place, target, dst })
+            }
+            Stage::Cleared { place, target, dst } => {
+                self.untag(thread, op, Looked { place, target, dst })
+            }
             Stage::Claimed {
                 address,
                 shape,
                 stored,
                 dst,
-            } => self.fill(thread, op, address, shape, stored, dst),
+            } => {
+                let claim = Claim {
+                    address,
+                    shape,
+                    stored,
+                    dst,
+                };
+                self.fill(thread, op, claim)
+            }
             Stage::Lacking { need } => self.lack(thread, op, need),
         }
     }

@@ -1,7 +1,7 @@
 //! Calls in flight: what an operation has still to do with the words that threads share.
 //!
-//! A stage holds all that the rest of the call needs, so that no event looks at the operation again. What a stage claims
-//! of the words stays true whatever other threads do between two events.
+//! A stage holds all that the rest of the call needs, so that no event looks at the operation again. What a stage
+//! claims of the words stays true whatever other threads do between two events.
 ghost use Rattle.std.specs.Prelude.{◌↔◌, IsTrue};
 ghost use Rattle.melt_core.specs.Stages.{HasPart};
 
@@ -80,8 +80,8 @@ pub enum Stage {
         target: u32,
         dst: u8,
     },
-    /// The words from the address on are for a new object of this shape, which is to come into register `dst`. So many of
-    /// those behind its header were stored.
+    /// The words from the address on are for a new object of this shape, which is to come into register `dst`. So many
+    /// of those behind its header were stored.
     Claimed {
         address: u32,
         shape: Shape,

@@ -1,9 +1,10 @@
 //! Reads of objects and globals, and the read barrier.
 //!
 //! A load looks at a word once. One without a tag is answered at once: that is the fast path. A stale address takes the
-//! slow path, one event after the other: the stale bit of the object is cleared first, and then the word is exchanged for
-//! the clean one, if it is still what was found. So no clean address is ever that of an object with the stale bit, and the
-//! word that the exchange finds is always one that may be answered: a word with a tag can only have become one without.
+//! slow path, one event after the other: the stale bit of the object is cleared first, and then the word is exchanged
+//! for the clean one, if it is still what was found. So no clean address is ever that of an object with the stale bit,
+//! and the word that the exchange finds is always one that may be answered: a word with a tag can only have become one
+//! without.
 ghost use Rattle.std.specs.Prelude.{◌≡◌, ◌<◌, false, length, Some, None};
 ghost use Rattle.melt_core.specs.Advances.{Advances, MayAdvance};
 ghost use Rattle.melt_core.specs.Changed.{HasRead, HoldsRef};
@@ -12,11 +13,19 @@ ghost use Rattle.melt_core.specs.Stages.{LooksFrom};
 ghost use Rattle.melt_core.specs.Views.{Standing, maps, stage_of, state, view};
 
 use crate::answer::StepResult;
-use crate::call::{Access, Call, Place, Stage, Task};
+use crate::call::{Access, Place, Stage, Task};
 use crate::machine::Core;
-use crate::parts::{found, reference, value_at};
+use crate::parts::{Cell, found, reference, value_at};
 use melt_model::{Act, Op, Reply, Slot, Value};
-use melt_word::{Header, Ref, Shape, encode_header, encode_ref};
+use melt_word::{Header, Ref, encode_header, encode_ref};
+
+/// What a load found that takes the slow path: the stale address `target` at the place, for register `dst`.
+#[derive(Clone, Copy)]
+pub(crate) struct Looked {
+    pub(crate) place: Place,
+    pub(crate) target: u32,
+    pub(crate) dst: u8,
+}
 
 impl Core {
     /// Reads the header of the object in a register. Its shape never changes, so that what is known of it stays.
@@ -33,25 +42,21 @@ impl Core {
                 shape,
                 access,
             };
-            return self.go(thread, op, stage);
+            self.set_stage(thread, op, stage);
+            return StepResult::Going;
         }
         self.set_call(thread, None);
         StepResult::Answered(Reply::Range)
     }
 
     /// Reads a number word of an object.
-    pub(crate) fn get(
-        &mut self,
-        thread: u32,
-        op: Op,
-        address: u32,
-        shape: Shape,
-        j: u8,
-    ) -> StepResult
+    pub(crate) fn get(&mut self, thread: u32, op: Op, cell: Cell) -> StepResult
         requires asks { MayAdvance (view self.old) thread op }
-        requires stage { stage_of (view self.old) thread ≡ Some (Stage.Headed address shape (Access.Get j)) }
+        requires stage { stage_of (view self.old) thread
+            ≡ Some (Stage.Headed cell.address cell.shape (Access.Get cell.j)) }
         ensures { Advances (view self.old) (view self.new) thread op result }
     {
+        let Cell { address, shape, j } = cell;
         let at = address + 2 + u32::from(shape.refs) + u32::from(j);
         let number = self.heap.space.word(at);
         let slot = Slot::Cell(self.number_at(address), j);
@@ -89,6 +94,8 @@ impl Core {
     }
 
     /// Looks at the word at a place.
+    // (inlined, since each caller has a place of one kind and needs no code for the other)
+    #[inline(always)]
     pub(crate) fn look(&mut self, thread: u32, op: Op, place: Place, dst: u8) -> StepResult
         requires asks { MayAdvance (view self.old) thread op }
         requires stage { LooksFrom (stage_of (view self.old) thread) place dst }
@@ -97,50 +104,41 @@ impl Core {
         match self.reference_in(place) {
             Ref::Null => self.read(thread, place, dst, 0),
             Ref::Clean(address) => self.read(thread, place, dst, address),
-            Ref::Stale(target) => self.go(thread, op, Stage::Looked { place, target, dst }),
+            Ref::Stale(target) => {
+                self.set_stage(thread, op, Stage::Looked { place, target, dst });
+                StepResult::Going
+            }
             // (no object has a home yet)
             Ref::Disk(_) => unreachable!(),
         }
     }
 
     /// Clears the stale bit of the object that a load found.
-    pub(crate) fn clear(
-        &mut self,
-        thread: u32,
-        op: Op,
-        place: Place,
-        target: u32,
-        dst: u8,
-    ) -> StepResult
+    pub(crate) fn clear(&mut self, thread: u32, op: Op, looked: Looked) -> StepResult
         requires asks { MayAdvance (view self.old) thread op }
-        requires stage { stage_of (view self.old) thread ≡ Some (Stage.Looked place target dst) }
+        requires stage { stage_of (view self.old) thread ≡ Some (Stage.Looked looked.place looked.target looked.dst) }
         ensures { Advances (view self.old) (view self.new) thread op result }
     {
-        // Nothing but this bit of a header ever changes, and it is only ever cleared in an epoch: a plain store will do.
+        let Looked { place, target, dst } = looked;
+        // Nothing but this bit of a header ever changes, and it is only ever cleared in an epoch, so that a plain store
+        // will do.
         let header = Header {
             shape: self.heap.space.shape(target),
             stale: false,
         };
         self.heap.space.set_word(target, encode_header(header));
-        let stage = Stage::Cleared { place, target, dst };
-        self.set_call(thread, Some(Call { op, stage }));
+        self.set_stage(thread, op, Stage::Cleared { place, target, dst });
         StepResult::Going
     }
 
     /// Exchanges the word at a place for that of the clean address, if it is still that of the stale one. The load is
     /// answered with the reference that stands there then.
-    pub(crate) fn untag(
-        &mut self,
-        thread: u32,
-        op: Op,
-        place: Place,
-        target: u32,
-        dst: u8,
-    ) -> StepResult
+    pub(crate) fn untag(&mut self, thread: u32, op: Op, looked: Looked) -> StepResult
         requires asks { MayAdvance (view self.old) thread op }
-        requires stage { stage_of (view self.old) thread ≡ Some (Stage.Cleared place target dst) }
+        requires stage { stage_of (view self.old) thread ≡ Some (Stage.Cleared looked.place looked.target looked.dst) }
         ensures { Advances (view self.old) (view self.new) thread op result }
     {
+        let Looked { place, target, dst } = looked;
         match self.reference_in(place) {
             Ref::Null => self.read(thread, place, dst, 0),
             Ref::Clean(current) => self.read(thread, place, dst, current),

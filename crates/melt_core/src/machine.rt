@@ -63,8 +63,8 @@ pub struct Core {
 }
 
 impl Core {
-    /// Begins an epoch with the stop word not set. The words behind those in use are free. The heap has names, since the
-    /// history speaks of objects by their numbers.
+    /// Begins an epoch with the stop word not set. The words behind those in use are free. The heap has names, since
+    /// the history speaks of objects by their numbers.
     pub fn begin(heap: Heap, rest: Rest) -> Core
         requires names { IsSome heap.names }
         ensures { result ≡ core_of heap rest }

@@ -9,11 +9,21 @@ ghost use Rattle.melt_core.specs.Advances.{Advances, MayAdvance};
 ghost use Rattle.melt_core.specs.Views.{stage_of, view};
 
 use crate::answer::{Pause, Refusal, StepResult};
-use crate::call::{Call, Stage, Task};
+use crate::call::{Stage, Task};
 use crate::machine::Core;
 use crate::parts::set_name;
 use melt_model::{Act, Op, Reply};
 use melt_word::{Header, Shape, cost, encode_header};
+
+/// The words that a call claimed, from the address on, for a new object of the shape, which is to come into register
+/// `dst`. So many of those behind the header were stored.
+#[derive(Clone, Copy)]
+pub(crate) struct Claim {
+    pub(crate) address: u32,
+    pub(crate) shape: Shape,
+    pub(crate) stored: u32,
+    pub(crate) dst: u8,
+}
 
 impl Core {
     /// Claims the words for an object.
@@ -24,7 +34,7 @@ impl Core {
     {
         let address = self.free;
         let need = cost(shape);
-        // Each thread claims past the last word at most once before it reads the stop word, so that the sum stays small.
+        // Each thread claims past the last word at most once before it reads the stop word: the sum stays small.
         self.free = address + need;
         let stage = if self.free > self.heap.space.words() + 1 {
             Stage::Lacking { need }
@@ -36,25 +46,24 @@ impl Core {
                 dst,
             }
         };
-        self.set_call(thread, Some(Call { op, stage }));
+        self.set_stage(thread, op, stage);
         StepResult::Going
     }
 
     /// Stores 0 in the next word of the region of a call.
-    fn store_zero(
-        &mut self,
-        thread: u32,
-        op: Op,
-        address: u32,
-        shape: Shape,
-        stored: u32,
-        dst: u8,
-    ) -> StepResult
+    fn store_zero(&mut self, thread: u32, op: Op, claim: Claim) -> StepResult
         requires asks { MayAdvance (view self.old) thread op }
-        requires stage { stage_of (view self.old) thread ≡ Some (Stage.Claimed address shape stored dst) }
-        requires few { stored + 1 < cost_of shape }
+        requires stage { stage_of (view self.old) thread
+            ≡ Some (Stage.Claimed claim.address claim.shape claim.stored claim.dst) }
+        requires few { claim.stored + 1 < cost_of claim.shape }
         ensures { Advances (view self.old) (view self.new) thread op result }
     {
+        let Claim {
+            address,
+            shape,
+            stored,
+            dst,
+        } = claim;
         self.heap.space.set_word(address + 1 + stored, 0);
         let stage = Stage::Claimed {
             address,
@@ -62,25 +71,24 @@ impl Core {
             stored: stored + 1,
             dst,
         };
-        self.set_call(thread, Some(Call { op, stage }));
+        self.set_stage(thread, op, stage);
         StepResult::Going
     }
 
     /// Stores the header: the words are an object now, which has the next number.
-    fn publish(
-        &mut self,
-        thread: u32,
-        op: Op,
-        address: u32,
-        shape: Shape,
-        stored: u32,
-        dst: u8,
-    ) -> StepResult
+    fn publish(&mut self, thread: u32, op: Op, claim: Claim) -> StepResult
         requires asks { MayAdvance (view self.old) thread op }
-        requires stage { stage_of (view self.old) thread ≡ Some (Stage.Claimed address shape stored dst) }
-        requires all { stored + 1 ≡ cost_of shape }
+        requires stage { stage_of (view self.old) thread
+            ≡ Some (Stage.Claimed claim.address claim.shape claim.stored claim.dst) }
+        requires all { claim.stored + 1 ≡ cost_of claim.shape }
         ensures { Advances (view self.old) (view self.new) thread op result }
     {
+        let Claim {
+            address,
+            shape,
+            dst,
+            ..
+        } = claim;
         let header = Header {
             shape,
             stale: false,
@@ -97,23 +105,16 @@ impl Core {
     }
 
     /// Stores the next word of the region of a call, the header last.
-    pub(crate) fn fill(
-        &mut self,
-        thread: u32,
-        op: Op,
-        address: u32,
-        shape: Shape,
-        stored: u32,
-        dst: u8,
-    ) -> StepResult
+    pub(crate) fn fill(&mut self, thread: u32, op: Op, claim: Claim) -> StepResult
         requires asks { MayAdvance (view self.old) thread op }
-        requires stage { stage_of (view self.old) thread ≡ Some (Stage.Claimed address shape stored dst) }
+        requires stage { stage_of (view self.old) thread
+            ≡ Some (Stage.Claimed claim.address claim.shape claim.stored claim.dst) }
         ensures { Advances (view self.old) (view self.new) thread op result }
     {
-        if stored + 1 < cost(shape) {
-            return self.store_zero(thread, op, address, shape, stored, dst);
+        if claim.stored + 1 < cost(claim.shape) {
+            return self.store_zero(thread, op, claim);
         }
-        self.publish(thread, op, address, shape, stored, dst)
+        self.publish(thread, op, claim)
     }
 
     /// Sets the stop word, as the words that were claimed end past the last one.

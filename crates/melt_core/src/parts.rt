@@ -8,13 +8,21 @@ ghost use Rattle.melt_core.specs.Answering.{entry};
 ghost use Rattle.melt_core.specs.Changed.{HoldsRef, OnlyWords, noted, with_call, with_register};
 ghost use Rattle.melt_core.specs.Events.{PlaceChanges};
 ghost use Rattle.melt_core.specs.Known.{IsPlace, SlotAt, word_in};
-ghost use Rattle.melt_core.specs.Views.{Standing, held_value, maps, maps_of, numbers_of, state, view};
+ghost use Rattle.melt_core.specs.Views.{Standing, call_of, held_value, maps, maps_of, numbers_of, state, view};
 
-use crate::call::{Call, Place};
+use crate::call::{Call, Place, Stage};
 use crate::machine::Core;
-use melt_model::{Act, Entry, Reply, Slot, Value};
+use melt_model::{Act, Entry, Op, Reply, Slot, Value};
 use melt_scion::{Globals, Names};
-use melt_word::{Ref, decode_ref, encode_ref};
+use melt_word::{Ref, Shape, decode_ref, encode_ref};
+
+/// A number word of the object at the address, which has this shape.
+#[derive(Clone, Copy)]
+pub(crate) struct Cell {
+    pub(crate) address: u32,
+    pub(crate) shape: Shape,
+    pub(crate) j: u8,
+}
 
 /// The value that an address in a register stands for.
 pub(crate) fn value_at(names: &Option<Names>, address: u32) -> Value
@@ -108,6 +116,17 @@ impl Core {
         ensures { view self.new ≡ with_call (view self.old) thread call }
     {
         self.rest.calls[thread as usize] = call;
+    }
+
+    /// Says how far the call of a thread has come now. Its operation stays where it is.
+    pub(crate) fn set_stage(&mut self, thread: u32, op: Op, stage: Stage)
+        requires thread { thread < length (view self.old).calls }
+        requires call { (was : Stage) × (call_of (view self.old) thread ≡ Some (record { op = op; stage = was })) }
+        ensures { view self.new ≡ with_call (view self.old) thread (Some (record { op = op; stage = stage })) }
+    {
+        if let Some(call) = &mut self.rest.calls[thread as usize] {
+            call.stage = stage;
+        }
     }
 
     /// Writes the entry of a call into the history: the only place where it grows. Its room was taken when the core was

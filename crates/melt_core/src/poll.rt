@@ -5,9 +5,8 @@
 ghost use Rattle.std.specs.Prelude.{◌≡◌, Some, None};
 ghost use Rattle.melt_scion.specs.Heaps.{register_in};
 ghost use Rattle.melt_core.specs.Advances.{Advances, MayAdvance};
-ghost use Rattle.melt_core.specs.Known.{Known};
-ghost use Rattle.melt_core.specs.Stages.{Next, Nothing, Shares, change_of, task_of};
-ghost use Rattle.melt_core.specs.Views.{call_of, claimed_in, maps, stage_of, state, view};
+ghost use Rattle.melt_core.specs.Stages.{Shares, task_of};
+ghost use Rattle.melt_core.specs.Views.{call_of, view};
 
 use crate::answer::{Pause, Refusal, StepResult};
 use crate::call::{Access, Call, Stage, Task};
@@ -16,19 +15,6 @@ use melt_model::{Op, Reply};
 use melt_word::Shape;
 
 impl Core {
-    /// The call goes on at this stage, and no word that threads share changes.
-    pub(crate) fn go(&mut self, thread: u32, op: Op, stage: Stage) -> StepResult
-        requires asks { MayAdvance (view self.old) thread op }
-        requires still { change_of (state (view self.old)) (register_in (view self.old).held thread) (stage_of (view self.old) thread) ≡ Nothing }
-        requires next { Next (maps (view self.old)) (state (view self.old)) (register_in (view self.old).held thread) (view self.old).stop op (stage_of (view self.old) thread) stage }
-        requires known { Known (maps (view self.old)) (state (view self.old)) stage }
-        requires words { claimed_in (Some (record { op = op; stage = stage })) ≡ 0 }
-        ensures { Advances (view self.old) (view self.new) thread op result }
-    {
-        self.set_call(thread, Some(Call { op, stage }));
-        StepResult::Going
-    }
-
     /// Reads the stop word.
     fn poll(&mut self, thread: u32, op: Op, task: Task) -> StepResult
         requires asks { MayAdvance (view self.old) thread op }
@@ -39,10 +25,13 @@ impl Core {
         if self.stop {
             return StepResult::Refused(Refusal::Pause(Pause::Asked));
         }
-        self.go(thread, op, Stage::Polled { task })
+        let stage = Stage::Polled { task };
+        self.set_call(thread, Some(Call { op, stage }));
+        StepResult::Going
     }
 
-    /// Begins an operation on a part of the object in a register. Where that holds none, the answer needs no shared word.
+    /// Begins an operation on a part of the object in a register. Where that holds none, the answer needs no shared
+    /// word.
     fn poll_object(&mut self, thread: u32, op: Op, r: u8, access: Access) -> StepResult
         requires asks { MayAdvance (view self.old) thread op }
         requires first { call_of (view self.old) thread ≡ None }

@@ -1,7 +1,7 @@
 //! Writes to objects and globals.
 //!
-//! A register never holds an object with the stale bit, so that what is written needs no tag. The entry of the history and
-//! the word are written in one event: no other thread can come between.
+//! A register never holds an object with the stale bit, so that what is written needs no tag. The entry of the history
+//! and the word are written in one event: no other thread can come between.
 ghost use Rattle.std.specs.Prelude.{◌≡◌, Some};
 ghost use Rattle.melt_core.specs.Advances.{Advances, MayAdvance};
 ghost use Rattle.melt_core.specs.Stages.{StoresFrom};
@@ -10,12 +10,13 @@ ghost use Rattle.melt_core.specs.Views.{stage_of, view};
 use crate::answer::StepResult;
 use crate::call::{Access, Place, Stage};
 use crate::machine::Core;
-use crate::parts::{reference_word, value_at};
+use crate::parts::{Cell, reference_word, value_at};
 use melt_model::{Act, Op, Reply, Slot, Value};
-use melt_word::Shape;
 
 impl Core {
     /// Writes what a register holds into a slot of an object, or into a global.
+    // (inlined for the same reason as `look`)
+    #[inline(always)]
     pub(crate) fn store(&mut self, thread: u32, op: Op, place: Place, src: u8) -> StepResult
         requires asks { MayAdvance (view self.old) thread op }
         requires stage { StoresFrom (stage_of (view self.old) thread) place src }
@@ -31,19 +32,13 @@ impl Core {
     }
 
     /// Writes a number word of an object.
-    pub(crate) fn put(
-        &mut self,
-        thread: u32,
-        op: Op,
-        address: u32,
-        shape: Shape,
-        j: u8,
-        number: u64,
-    ) -> StepResult
+    pub(crate) fn put(&mut self, thread: u32, op: Op, cell: Cell, number: u64) -> StepResult
         requires asks { MayAdvance (view self.old) thread op }
-        requires stage { stage_of (view self.old) thread ≡ Some (Stage.Headed address shape (Access.Put j number)) }
+        requires stage { stage_of (view self.old) thread
+            ≡ Some (Stage.Headed cell.address cell.shape (Access.Put cell.j number)) }
         ensures { Advances (view self.old) (view self.new) thread op result }
     {
+        let Cell { address, shape, j } = cell;
         let slot = Slot::Cell(self.number_at(address), j);
         let value = Value::Num(number);
         let at = address + 2 + u32::from(shape.refs) + u32::from(j);

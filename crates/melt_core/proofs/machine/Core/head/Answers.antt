@@ -1,16 +1,30 @@
-use Rattle.std.proofs.Common.{sym, subst}
+use Rattle.std.proofs.Common.{refl, sym, subst}
 use Rattle.melt_model.specs.declared.operations.Reply.TheVariants as reply
 use Rattle.melt_core.specs.Advances.{Advances}
 use Rattle.melt_core.specs.Known.{IsObjectAt}
-use Rattle.melt_core.specs.declared.answer.StepResult.TheVariants.{Answered}
+use Rattle.melt_core.specs.declared.answer.StepResult.TheVariants.{Going, Answered}
+use Rattle.melt_core.specs.declared.call.Stage.{Stage}
+use Rattle.melt_core.specs.declared.call.Stage.TheVariants.{Polled}
+use Rattle.melt_core.specs.declared.call.Task.TheVariants.{Use}
 use Rattle.melt_core.specs.Views.{View, maps, state, view}
-use Rattle.melt_core.proofs.Reading.{head_object, range_advances}
+use Rattle.melt_core.proofs.Asked.{call_at}
+use Rattle.melt_core.proofs.Reading.{head_object, head_advances, range_advances}
 use Rattle.melt_core.proofs.machine.Core.head.Goals as goal
 
-pub go-requires-clause-known : goal.go-requires-clause-known
-go-requires-clause-known c =
-    head_object (view c.args.self.now) c.args.thread c.args.op c.args.r c.register-address.result c.args.access
-    c.shape-shape.result c.requires.asks c.requires.stage c.register-address.ensures c.shape-shape.ensures
+pub set_stage-requires-clause-call : goal.set_stage-requires-clause-call
+set_stage-requires-clause-call c =
+    let stage : Stage = Polled (Use c.args.r c.args.access) in
+    (stage, call_at (view c.args.self.now) c.args.thread c.args.op stage c.requires.asks c.requires.stage)
+
+pub returns-then-is_within : goal.returns-then-is_within
+returns-then-is_within c =
+    let v : View = view c.args.self.now in
+    subst (λ (w : View). Advances v w c.args.thread c.args.op Going) (sym c.set_stage.ensures)
+    (head_advances v c.args.thread c.args.op c.args.r c.register-address.result c.args.access c.shape-shape.result
+    c.requires.asks c.requires.stage c.register-address.ensures
+    (head_object v c.args.thread c.args.op c.args.r c.register-address.result c.args.access c.shape-shape.result
+    c.requires.asks c.requires.stage c.register-address.ensures c.shape-shape.ensures)
+    (c.if-is_within.ensures.0 refl))
 
 pub returns : goal.returns
 returns c =

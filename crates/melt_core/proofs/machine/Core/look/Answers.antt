@@ -1,14 +1,24 @@
-use Rattle.melt_core.specs.Views.{View, view}
-use Rattle.melt_core.proofs.Loading.{looks_at, looked_known, finds_null, finds_clean, look_reads}
+use Rattle.std.proofs.Common.{sym, subst}
+use Rattle.melt_core.specs.Advances.{Advances}
+use Rattle.melt_core.specs.declared.answer.StepResult.TheVariants.{Going}
+use Rattle.melt_core.specs.Views.{View, stage_of, view}
+use Rattle.melt_core.proofs.Asked.{call_at}
+use Rattle.melt_core.proofs.Loading.{looks_at, looks_stage, look_advances, look_reads, finds_null, finds_clean}
 use Rattle.melt_core.proofs.Objects.{place_no_home, tagged_is}
 use Rattle.melt_core.proofs.machine.Core.look.Goals as goal
 
-pub go-requires-clause-known : goal.go-requires-clause-known
-go-requires-clause-known c =
+pub set_stage-requires-clause-call : goal.set_stage-requires-clause-call
+set_stage-requires-clause-call c =
     let v : View = view c.args.self.now in
-    looked_known v c.args.thread c.args.place c.in-Stale.target c.requires.asks.stands
-    (looks_at v c.args.thread c.args.op c.args.place c.args.dst c.requires.asks c.requires.stage).1
-    c.in-Stale.ensures
+    let at = looks_stage (stage_of v c.args.thread) c.args.place c.args.dst c.requires.stage in
+    (at.0, call_at v c.args.thread c.args.op at.0 c.requires.asks at.1)
+
+pub returns-in-Stale : goal.returns-in-Stale
+returns-in-Stale c =
+    let v : View = view c.args.self.now in
+    subst (λ (w : View). Advances v w c.args.thread c.args.op Going) (sym c.set_stage.ensures)
+    (look_advances v c.args.thread c.args.op c.args.place c.in-Stale.target c.args.dst c.requires.asks c.requires.stage
+    c.in-Stale.ensures)
 
 pub unreachable-requires : goal.unreachable-requires
 unreachable-requires c =

@@ -24,9 +24,15 @@ returns c =
     (subst (λ (w : View). Advances v (with_call w c.args.thread None) c.args.thread c.args.op (Answered reply.Done))
     (sym c.set_register.ensures)
     (subst (λ (w : View). Advances v
-    (with_call (with_register w c.args.thread c.args.dst c.args.address) c.args.thread None) c.args.thread c.args.op
-    (Answered reply.Done)) (sym c.note.ensures)
-    (publish_advances v c.set_word.new.self c.set_name.new.names c.args.thread c.encode_header.result c.args.op
-    c.args.address c.args.stored c.args.dst c.args.shape c.requires.asks c.requires.stage c.requires.all
-    c.encode_header.ensures c.set_word.ensures c.set_name.ensures.named c.set_name.ensures.size
-    c.set_name.ensures.appears)))
+    (with_call (with_register w c.args.thread c.args.claim.dst c.args.claim.address) c.args.thread None) c.args.thread
+    c.args.op (Answered reply.Done)) (sym c.note.ensures)
+    (publish_advances (record {
+      asks = c.requires.asks;
+      at = c.requires.stage;
+      all = c.requires.all;
+      header = c.encode_header.ensures;
+      sets = c.set_word.ensures;
+      named = c.set_name.ensures.named;
+      size = c.set_name.ensures.size;
+      appears = c.set_name.ensures.appears;
+    }))))

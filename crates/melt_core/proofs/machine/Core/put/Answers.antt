@@ -15,7 +15,7 @@ returns c =
     subst (λ (w : View). Advances v w c.args.thread c.args.op (Answered reply.Done)) (sym c.set_call.ensures)
     (subst (λ (n : View). Advances v (with_call n c.args.thread None) c.args.thread c.args.op (Answered reply.Done))
     (sym c.note.ensures)
-    (put_advances v c.set_word.new.self c.args.thread c.args.op c.args.address c.args.j c.number_at.result c.args.number
-    _ c.args.shape c.requires.asks c.requires.stage c.number_at.ensures
-    (let e : _ ≡ number_place c.args.address c.args.shape c.args.j = omega (arith, c.from.ensures, c.from-2.ensures) in
-    e) c.set_word.ensures))
+    (put_advances v c.set_word.new.self c.args.thread c.args.op c.args.cell.address c.args.cell.j c.number_at.result
+    c.args.number _ c.args.cell.shape c.requires.asks c.requires.stage c.number_at.ensures
+    (let e : _ ≡ number_place c.args.cell.address c.args.cell.shape c.args.cell.j =
+    omega (arith, c.from.ensures, c.from-2.ensures) in e) c.set_word.ensures))

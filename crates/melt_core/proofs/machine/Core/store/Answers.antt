@@ -1,28 +1,24 @@
-use Rattle.std.proofs.Common.{sym, subst, ◌≡◌, ℕ, ◌*◌}
+use Rattle.std.proofs.Common.{sym, subst, ◌*◌}
 use Rattle.std.specs.Prelude.{None}
 use Rattle.melt_model.specs.declared.history.Act.TheVariants.{Write}
 use Rattle.melt_model.specs.declared.history.Value.{Value}
 use Rattle.melt_model.specs.declared.operations.Reply.TheVariants as reply
 use Rattle.melt_core.specs.Advances.{Advances}
 use Rattle.melt_core.specs.Answering.{entry}
-use Rattle.melt_core.specs.Changed.{with_call, noted}
-use Rattle.melt_core.specs.Events.{PlaceChanges}
+use Rattle.melt_core.specs.Changed.{OnlyWords, with_call, noted}
 use Rattle.melt_core.specs.declared.answer.StepResult.TheVariants.{Answered}
-use Rattle.melt_core.specs.Views.{View, state, view}
-use Rattle.melt_core.proofs.Writing.{store_advances, store_words, written}
+use Rattle.melt_core.specs.Views.{View, view}
+use Rattle.melt_core.proofs.Words.{only_place}
+use Rattle.melt_core.proofs.Writing.{store_advances, written}
 use Rattle.melt_core.proofs.machine.Core.store.Goals as goal
 
 pub returns : goal.returns
 returns c =
     let v : View = view c.args.self.now in
     let m : View = view c.set_word_in.new.self in
-    let only : m ≡ record v { space = m.space; globals = m.globals } = c.set_word_in.ensures.only in
-    let changes : PlaceChanges (state v) (state (record v { space = m.space; globals = m.globals })) c.args.place
-    (4 * c.register-address.result) =
-    subst (λ (word : ℕ). PlaceChanges (state v) (state (record v { space = m.space; globals = m.globals })) c.args.place
-    word) c.reference_word.ensures
-    (subst (λ (x : View). PlaceChanges (state v) (state x) c.args.place c.reference_word.result) only
-    c.set_word_in.ensures.changes) in
+    let only : OnlyWords v m = c.set_word_in.ensures.only in
+    let changes = only_place v m c.args.place (4 * c.register-address.result) c.reference_word.result only
+    c.reference_word.ensures c.set_word_in.ensures.changes in
     subst (λ (w : View). Advances v w c.args.thread c.args.op (Answered reply.Done)) (sym c.set_call.ensures)
     (subst (λ (n : View). Advances v (with_call n c.args.thread None) c.args.thread c.args.op (Answered reply.Done))
     (sym c.note.ensures)
@@ -33,4 +29,4 @@ returns c =
     c.args.thread c.args.op (Answered reply.Done)) (sym c.value_at-value.ensures)
     (store_advances v m.space m.globals c.args.thread c.args.op c.args.place c.slot_at-slot.result c.args.src
     c.register-address.result c.requires.asks c.requires.stage c.register-address.ensures c.slot_at-slot.ensures
-    (store_words v m.space m.globals c.args.place (4 * c.register-address.result) changes) changes))))
+    changes))))

@@ -1,13 +1,22 @@
 use Rattle.std.proofs.Common.{sym, subst}
 use Rattle.melt_core.specs.Advances.{Advances}
 use Rattle.melt_core.specs.declared.answer.StepResult.TheVariants.{Going}
+use Rattle.melt_core.specs.declared.call.Stage.{Stage}
+use Rattle.melt_core.specs.declared.call.Stage.TheVariants.{Claimed}
 use Rattle.melt_core.specs.Views.{View, view}
+use Rattle.melt_core.proofs.Asked.{call_at}
 use Rattle.melt_core.proofs.Making.{store_zero_advances}
 use Rattle.melt_core.proofs.machine.Core.store_zero.Goals as goal
+
+pub set_stage-requires-clause-call : goal.set_stage-requires-clause-call
+set_stage-requires-clause-call c =
+    let stage : Stage = Claimed c.args.claim.address c.args.claim.shape c.args.claim.stored c.args.claim.dst in
+    (stage, call_at (view c.args.self.now) c.args.thread c.args.op stage c.requires.asks c.requires.stage)
 
 pub returns : goal.returns
 returns c =
     let v : View = view c.args.self.now in
-    subst (λ (w : View). Advances v w c.args.thread c.args.op Going) (sym c.set_call.ensures)
-    (store_zero_advances v c.set_word.new.self c.args.thread c.args.op c.args.address c.args.stored c.args.dst
-    c.args.shape c.requires.asks c.requires.stage c.requires.few c.set_word.ensures)
+    subst (λ (w : View). Advances v w c.args.thread c.args.op Going) (sym c.set_stage.ensures)
+    (store_zero_advances v c.set_word.new.self c.args.thread c.args.op c.args.claim.address
+    c.args.claim.stored c.args.claim.dst c.args.claim.shape c.requires.asks c.requires.stage c.requires.few
+    c.set_word.ensures)

@@ -1,11 +1,12 @@
-use Rattle.std.proofs.Common.{sym, subst, ◌≡◌, ℕ}
+use Rattle.std.proofs.Common.{sym, subst}
 use Rattle.melt_word.specs.Words.{ref_word}
 use Rattle.melt_word.specs.declared.reference.Ref.TheVariants.{Clean}
-use Rattle.melt_core.specs.Changed.{HasRead}
-use Rattle.melt_core.specs.Events.{PlaceChanges}
+use Rattle.melt_core.specs.Changed.{HasRead, OnlyWords}
 use Rattle.melt_core.specs.Known.{IsPlace}
 use Rattle.melt_core.specs.Views.{View, maps, state, view}
-use Rattle.melt_core.proofs.Loading.{cleared_known, cleared_loads, finds_null, finds_clean, untag_lost, untag_won, untag_place, over}
+use Rattle.melt_core.proofs.Words.{only_place}
+use Rattle.melt_core.proofs.Loading.{IsCleared, cleared_known, cleared_loads, finds_null, finds_clean}
+use Rattle.melt_core.proofs.Loading.{untag_lost, untag_won, untag_place}
 use Rattle.melt_core.proofs.Objects.{place_no_home, tagged_is}
 use Rattle.melt_core.proofs.machine.Core.untag.Goals as goal
 
@@ -13,60 +14,52 @@ pub read-requires-in-Stale-clause-place : goal.read-requires-in-Stale-clause-pla
 read-requires-in-Stale-clause-place c =
     let v : View = view c.args.self.now in
     let m : View = view c.set_word_in.new.self in
-    let only : m ≡ over v m.space m.globals = c.set_word_in.ensures.only in
-    let changes : PlaceChanges (state v) (state (over v m.space m.globals)) c.args.place
-    (ref_word (Clean c.args.target)) =
-    subst (λ (word : ℕ). PlaceChanges (state v) (state (over v m.space m.globals)) c.args.place word)
-    c.encode_ref.ensures
-    (subst (λ (x : View). PlaceChanges (state v) (state x) c.args.place c.encode_ref.result) only
-    c.set_word_in.ensures.changes) in
-    subst (λ (x : View). IsPlace (maps x) (state x) c.args.place) (sym only)
-    (untag_place v m.space m.globals c.args.thread c.args.op c.args.place c.args.target c.args.dst c.in-Stale.field-0
-    c.requires.asks c.requires.stage c.in-Stale.ensures changes)
+    let only : OnlyWords v m = c.set_word_in.ensures.only in
+    let changes = only_place v m c.args.looked.place (ref_word (Clean c.args.looked.target)) c.encode_ref.result only
+    c.encode_ref.ensures c.set_word_in.ensures.changes in
+    let is : IsCleared v c.args.thread c.args.op c.args.looked.place c.args.looked.target c.args.looked.dst =
+    record { asks = c.requires.asks; at = c.requires.stage } in
+    subst (λ (x : View). IsPlace (maps x) (state x) c.args.looked.place) (sym only)
+    (untag_place m.space m.globals c.in-Stale.field-0 is c.in-Stale.ensures changes)
 
 pub unreachable-requires : goal.unreachable-requires
 unreachable-requires c =
     let v : View = view c.args.self.now in
-    place_no_home v c.args.place c.in-Disk.field-0 c.requires.asks.stands
-    (cleared_known v c.args.thread c.args.op c.args.place c.args.target c.args.dst c.requires.asks
-    c.requires.stage).0.at c.in-Disk.ensures
+    let is : IsCleared v c.args.thread c.args.op c.args.looked.place c.args.looked.target c.args.looked.dst =
+    record { asks = c.requires.asks; at = c.requires.stage } in
+    place_no_home v c.args.looked.place c.in-Disk.field-0 c.requires.asks.stands (cleared_known is).0.at
+    c.in-Disk.ensures
 
 pub returns-in-Null : goal.returns-in-Null
 returns-in-Null c =
     let v : View = view c.args.self.now in
-    let known = cleared_known v c.args.thread c.args.op c.args.place c.args.target c.args.dst c.requires.asks
-    c.requires.stage in
-    untag_lost v (view c.read.new.self) c.args.thread c.args.op c.args.place c.args.target c.args.dst 0 c.read.result
-    c.requires.asks c.requires.stage
-    (finds_null v c.args.thread c.args.op c.args.place c.args.dst c.requires.asks.stands
-    (cleared_loads v c.args.thread c.args.op c.args.place c.args.target c.args.dst c.requires.asks c.requires.stage)
-    known.0.at c.in-Null.ensures)
+    let is : IsCleared v c.args.thread c.args.op c.args.looked.place c.args.looked.target c.args.looked.dst =
+    record { asks = c.requires.asks; at = c.requires.stage } in
+    untag_lost is
+    (finds_null v c.args.thread c.args.op c.args.looked.place c.args.looked.dst c.requires.asks.stands
+    (cleared_loads is) (cleared_known is).0.at c.in-Null.ensures)
     (tagged_is _ _ c.in-Null.ensures) c.read.ensures
 
 pub returns-in-Clean : goal.returns-in-Clean
 returns-in-Clean c =
     let v : View = view c.args.self.now in
-    let known = cleared_known v c.args.thread c.args.op c.args.place c.args.target c.args.dst c.requires.asks
-    c.requires.stage in
-    untag_lost v (view c.read-in-Clean.new.self) c.args.thread c.args.op c.args.place c.args.target c.args.dst
-    c.in-Clean.current c.read-in-Clean.result c.requires.asks c.requires.stage
-    (finds_clean v c.args.thread c.args.op c.args.place c.args.dst c.in-Clean.current c.requires.asks.stands
-    (cleared_loads v c.args.thread c.args.op c.args.place c.args.target c.args.dst c.requires.asks c.requires.stage)
-    known.0.at c.in-Clean.ensures)
+    let is : IsCleared v c.args.thread c.args.op c.args.looked.place c.args.looked.target c.args.looked.dst =
+    record { asks = c.requires.asks; at = c.requires.stage } in
+    untag_lost is
+    (finds_clean v c.args.thread c.args.op c.args.looked.place c.args.looked.dst c.in-Clean.current
+    c.requires.asks.stands (cleared_loads is) (cleared_known is).0.at c.in-Clean.ensures)
     (tagged_is _ _ c.in-Clean.ensures) c.read-in-Clean.ensures
 
 pub returns-in-Stale : goal.returns-in-Stale
 returns-in-Stale c =
     let v : View = view c.args.self.now in
     let m : View = view c.set_word_in.new.self in
-    let only : m ≡ over v m.space m.globals = c.set_word_in.ensures.only in
-    let changes : PlaceChanges (state v) (state (over v m.space m.globals)) c.args.place
-    (ref_word (Clean c.args.target)) =
-    subst (λ (word : ℕ). PlaceChanges (state v) (state (over v m.space m.globals)) c.args.place word)
-    c.encode_ref.ensures
-    (subst (λ (x : View). PlaceChanges (state v) (state x) c.args.place c.encode_ref.result) only
-    c.set_word_in.ensures.changes) in
-    untag_won v m.space m.globals (view c.read-in-Stale.new.self) c.args.thread c.args.op c.args.place c.args.target
-    c.args.dst c.in-Stale.field-0 c.read-in-Stale.result c.requires.asks c.requires.stage c.in-Stale.ensures changes
-    (subst (λ (x : View). HasRead x (view c.read-in-Stale.new.self) c.args.thread c.args.place c.args.dst c.args.target
+    let w : View = view c.read-in-Stale.new.self in
+    let only : OnlyWords v m = c.set_word_in.ensures.only in
+    let changes = only_place v m c.args.looked.place (ref_word (Clean c.args.looked.target)) c.encode_ref.result only
+    c.encode_ref.ensures c.set_word_in.ensures.changes in
+    let is : IsCleared v c.args.thread c.args.op c.args.looked.place c.args.looked.target c.args.looked.dst =
+    record { asks = c.requires.asks; at = c.requires.stage } in
+    untag_won m.space m.globals c.in-Stale.field-0 is c.in-Stale.ensures changes
+    (subst (λ (x : View). HasRead x w c.args.thread c.args.looked.place c.args.looked.dst c.args.looked.target
     c.read-in-Stale.result) only c.read-in-Stale.ensures)

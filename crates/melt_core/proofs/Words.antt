@@ -1,0 +1,42 @@
+-- How the words of a view stay, or change, whatever registers, calls and history are behind it.
+use Rattle.std.proofs.Common.{◌≡◌, ℕ, List, refl, ap, subst}
+use Rattle.melt_space.specs.Space.{SpaceWords, SetsWord}
+use Rattle.melt_scion.specs.Changes.{SameWords, WordChanges}
+use Rattle.melt_scion.specs.declared.registers.Registers.{Registers}
+use Rattle.melt_core.specs.declared.call.Place.{Place}
+use Rattle.melt_core.specs.Changed.{OnlyWords}
+use Rattle.melt_core.specs.Events.{PlaceChanges}
+use Rattle.melt_core.specs.Views.{View, state, shown, base_in}
+
+-- nothing changes but registers
+pub same_behind : (v : View) (held : List Registers)
+    → SameWords (state v) (shown v.space v.globals held v.free)
+same_behind v held = record { base = refl; free = refl; word = λ k. refl; global = λ g. refl; forward = λ p. refl }
+
+-- nothing changes
+pub same_words : (v : View) → SameWords (state v) (state v)
+same_words v = same_behind v v.held
+
+-- a word of the space was set
+pub word_set : (v : View) (space : SpaceWords) (held : List Registers) (at word : ℕ)
+    → SetsWord v.space space at word → WordChanges (state v) (shown space v.globals held v.free) at word
+word_set v space held at word sets = record {
+  base = ap (λ (n : ℕ). record (base_in v.space v.globals) { size = n }) sets.size;
+  free = refl;
+  here = sets.here;
+  others = sets.others;
+  global = λ g. refl;
+  forward = λ p. refl;
+}
+
+-- only words of the space and globals differ
+abbrev pub over : View → SpaceWords → List ℕ → View
+over v space globals = record v { space = space; globals = globals }
+
+-- the word that was set at a place, in a view that differs in words alone
+pub only_place : (v m : View) (place : Place) (word set : ℕ) → OnlyWords v m → set ≡ word
+    → PlaceChanges (state v) (state m) place set
+    → PlaceChanges (state v) (state (over v m.space m.globals)) place word
+only_place v m place word set only is changes =
+    subst (PlaceChanges (state v) (state (over v m.space m.globals)) place) is
+    (subst (λ (x : View). PlaceChanges (state v) (state x) place set) only changes)
