@@ -1,7 +1,7 @@
 -- Heaps that are built by hand, for tests: one without objects, and one with three.
 use Rattle.std.proofs.Common.{◌≡◌, ◌≢◌, ℕ, ◌+◌, ◌^◌, ◌<◌, zero, suc, List, [], ◌∷◌, length, replicate, refl, sym, subst, ap, ◌∙◌, arith, lit≤, ◌⊎◌, inl, inr}
 use Rattle.std.specs.Prelude.{◌/◌, Bool, Option, None, Some, true, false, slice_index}
-use Rattle.std.specs.FinMap.{FinMap, empty, get}
+use Rattle.std.specs.FinMap.{FinMap, empty, get, get-empty}
 use Rattle.std.specs.Ordering.{nat_cmp}
 use Rattle.std.proofs.lemmas.List.{length-replicate, get_or-replicate, get_or_past}
 use Rattle.std.proofs.lemmas.Bool.{cases_lt}
@@ -41,7 +41,7 @@ new_formed words globals forward h held small new registers =
       maps = maps;
       disk = no_homes_on;
       names = subst (λ (o : Option heap.Names). HasNames o h.maps maps) (sym new.names)
-          (λ k. sym (none_at words k), λ k. refl);
+          (λ k. sym (none_at words k), λ k. sym (get-empty {X = ℕ} nat_cmp k));
       made = record {
         scions = ap (λ (table : Scions). length table.pairs) new.scions
             ∙ (length-replicate {A = Option (ℕ × ℕ)} (words / 2) None
@@ -254,7 +254,7 @@ three_formed h held names first second third is =
       maps = maps;
       disk = no_homes_on;
       names = subst (λ (o : Option heap.Names). HasNames o h.maps maps) (sym is.has)
-          (λ k. refl, λ k. sym (ap (λ (m : FinMap nat_cmp ℕ). get m k) is.no_homes));
+          (λ k. refl, λ k. sym (ap (λ (m : FinMap nat_cmp ℕ). get m k) is.no_homes ∙ get-empty {X = ℕ} nat_cmp k));
       made = record {
         scions = ap (λ (table : Scions). length table.pairs) is.scions
             ∙ (length-replicate {A = Option (ℕ × ℕ)} 5 None ∙ ap (λ (n : ℕ). n / 2) (sym size));

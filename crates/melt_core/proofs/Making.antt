@@ -430,8 +430,8 @@ publish_advances {v} {space} {names} {t} {word} {o} {address} {stored} {dst} {sh
     let task : task_of o ≡ Some (Making dst shape) = fits_at v t o stage asks at in
     let same : o ≡ op.New dst shape.refs shape.nums = new_is o dst shape task in
     let changed : (held : List Registers)
-    → WordChanges (state v) (shown space v.globals held v.free) address (header_word header) =
-    λ held. subst (WordChanges (state v) (shown space v.globals held v.free) address) made_it.header
+    → WordChanges (state v) (shown v space held v.free) address (header_word header) =
+    λ held. subst (WordChanges (state v) (shown v space held v.free) address) made_it.header
     (word_set v space held address word made_it.sets) in
     let changes : WordChanges (state v) (state w) address (header_word header) = changed w.held in
     let named : NameAppears (maps v) (maps w) address (makes v.log) =
@@ -461,6 +461,8 @@ publish_advances {v} {space} {names} {t} {word} {o} {address} {stored} {dst} {sh
           others = λ u differ. registers_other v.held t u (set (registers_in v.held t) dst address) differ;
           named = made_it.named;
           room = made_it.size;
+          scions = refl;
+          forward = refl;
           made = ap (λ (n : ℕ). n + 1) stands.counted ∙ made_one v.log t shape;
         };
         first = stands.first;

@@ -118,6 +118,8 @@ plain v w t cleared act after within p = record {
           others = p.others;
           named = subst IsSome (sym (ap (λ (x : View). x.names) p.moves)) s.named;
           room = ap (λ (x : View). length (numbers_of x.names)) p.moves;
+          scions = ap (λ (x : View). x.scions) p.moves;
+          forward = ap (λ (x : View). x.forward) p.moves;
           made = ap (λ (x : View). x.made) p.moves
               ∙ (s.counted ∙ (made_same v.log t act p.nothing ∙ ap makes (sym log)));
         };

@@ -5,14 +5,17 @@ use Rattle.std.proofs.Math.ListN.{set, length-set}
 use Rattle.std.proofs.lemmas.Bool.{cases_eq}
 use Rattle.std.proofs.lemmas.List.{length-replicate}
 use Rattle.std.proofs.lemmas.List.Sums.{sum-map, sum_by-cons}
-use Rattle.std.specs.Prelude.{Bool, true, false, Option, None, Some}
+use Rattle.std.specs.Prelude.{◌/◌, Bool, true, false, Option, None, Some}
 use Rattle.std.specs.Prelude.{replicate, vec_capacity, slice_set, slice_index, min}
 use Rattle.melt_model.specs.Alive.{words_of}
 use Rattle.melt_model.proofs.Sums.{CostsSum-empty}
 use Rattle.melt_space.specs.Space.{SpaceWords, word_at}
 use Rattle.melt_scion.specs.State.{State}
 use Rattle.melt_scion.specs.Placed.{Maps, MayHold, FormedWords, Holds}
-use Rattle.melt_scion.specs.Heaps.{register_in, IsNewHeap}
+use Rattle.std.specs.FinMap.{get-empty}
+use Rattle.std.specs.Ordering.{nat_cmp}
+use Rattle.melt_scion.specs.Scions.{empty_table}
+use Rattle.melt_scion.specs.Heaps.{register_in, no_names, IsNewHeap}
 use Rattle.melt_scion.specs.Names.{name_at}
 use Rattle.melt_scion.specs.declared.heap.Heap.{Heap}
 use Rattle.melt_core.specs.declared.call.Call.{Call}
@@ -37,7 +40,8 @@ use Rattle.melt_core.proofs.Registers.{registers_set, registers_other}
 use Rattle.melt_scion.specs.Changes.{FreeMoves, SameWords}
 use Rattle.melt_scion.proofs.Staying.{free_shifts}
 use Rattle.melt_scion.proofs.Following.{same_history}
-use Rattle.melt_scion.proofs.Starting.{NoObjects, IsEmpty, FormedWords_start, NoGaps_start, Tells_start}
+use Rattle.melt_scion.proofs.Starting.{NoObjects, IsEmpty, nothing_at, no_scion_in}
+use Rattle.melt_scion.proofs.Starting.{FormedWords_start, NoGaps_start, Tells_start}
 use Rattle.melt_core.proofs.Holding.{holds_same}
 use Rattle.melt_core.proofs.Making.{hold_words}
 use Rattle.melt_model.specs.declared.history.Entry.{Entry}
@@ -81,6 +85,8 @@ stands_finish told v space s still words used =
     record {
       named = s.named;
       room = s.room ∙ sym size;
+      scions_made = s.scions_made ∙ ap (λ (n : ℕ). n / 2) (sym size);
+      settled = s.settled;
       few = s.few;
       each = s.each;
       counted = s.counted;
@@ -129,6 +135,8 @@ dropped v t within none = record {
         record {
           named = s.named;
           room = s.room;
+          scions_made = s.scions_made;
+          settled = s.settled;
           few = omega (arith, s.few, size);
           each = s.each ∙ sym size;
           counted = s.counted;
@@ -163,6 +171,8 @@ pub stands_stopped : (told : Bool) (v : View) → Standing told v → Standing t
 stands_stopped told v s = record {
   named = s.named;
   room = s.room;
+  scions_made = s.scions_made;
+  settled = s.settled;
   few = s.few;
   each = s.each;
   counted = s.counted;
@@ -189,11 +199,13 @@ no_name words zero = refl
 no_name words (suc k) = get_or_replicate words k None
 
 -- a new heap of these words, under threads that made nothing
-new_view : SpaceWords → ℕ → ℕ → ℕ → ℕ → View
-new_view space words globals threads capacity = record {
+new_view : SpaceWords → ℕ → ℕ → ℕ → ℕ → ℕ → View
+new_view space words globals forward threads capacity = record {
   space = space;
+  scions = empty_table (words / 2);
   globals = replicate globals 0;
-  names = Some (record { addresses = replicate words None });
+  forward = replicate forward 0;
+  names = Some (no_names words);
   held = replicate threads no_registers;
   calls = replicate threads None;
   log = [];
@@ -203,20 +215,20 @@ new_view space words globals threads capacity = record {
   stop = false;
 }
 
-stands_new : (told : Bool) (space : SpaceWords) (words globals threads capacity : ℕ) → length space.list ≡ words
-    → space.used ≡ 0 → words < 2 ^ 30 → threads ≤ 8 → Standing told (new_view space words globals threads capacity)
+stands_new : (told : Bool) (space : SpaceWords) (words globals forward threads capacity : ℕ) → length space.list ≡ words
+    → space.used ≡ 0 → words < 2 ^ 30 → threads ≤ 8 → Standing told (new_view space words globals forward threads capacity)
 unfolding new_view
-stands_new told space words globals threads capacity size unused small few =
-    let v : View = new_view space words globals threads capacity in
+stands_new told space words globals forward threads capacity size unused small few =
+    let v : View = new_view space words globals forward threads capacity in
     let still : IsQuiet v = λ t. get_or_replicate threads t None in
     let gone : (t : ℕ) (c : Call) → call_of v t ≡ Some c → ⊥ =
     λ t c is. (let e : None ≡ Some c = sym (still t) ∙ is in cc) in
     let unclaimed : claimed v.calls ≡ 0 = claimed_none v.calls still in
-    let objects : NoObjects (maps v) = record { address = no_name words; home = λ home. refl } in
+    let objects : NoObjects (maps v) = record { address = no_name words; home = get-empty {X = ℕ} nat_cmp } in
     let empty : IsEmpty (state v) = record {
       small = omega (arith, size, small);
-      forwards = λ p below. refl;
-      scions = λ k. refl;
+      forwards = λ p below. nothing_at forward p;
+      scions = no_scion_in (words / 2);
       end = refl;
       homes = refl;
       free_homes = refl;
@@ -225,6 +237,8 @@ stands_new told space words globals threads capacity size unused small few =
     record {
       named = refl;
       room = length-replicate words None ∙ sym size;
+      scions_made = length-replicate {A = Option (ℕ × ℕ)} (words / 2) None ∙ ap (λ (n : ℕ). n / 2) (sym size);
+      settled = nothing_at forward;
       few = omega (arith, length-replicate threads no_registers, few);
       each = length-replicate threads None ∙ sym (length-replicate threads no_registers);
       counted = refl;
@@ -250,14 +264,14 @@ stands_new told space words globals threads capacity size unused small few =
     }
 
 -- before the first event
-pub start_at_rest : (told : Bool) (words globals threads entries : ℕ) (heap : Heap) (rest : Rest) → words < 2 ^ 30
-    → threads ≤ 8 → IsNewHeap words globals true heap → IsNewRest threads entries rest → AtRest told heap rest
+pub start_at_rest : (told : Bool) (words globals forward threads entries : ℕ) (heap : Heap) (rest : Rest)
+    → words < 2 ^ 30 → threads ≤ 8 → IsNewHeap words globals forward true heap → IsNewRest threads entries rest → AtRest told heap rest
 unfolding new_view
-start_at_rest told words globals threads entries heap rest small few is_new is_rest =
-    let same : new_view heap.space words globals threads (vec_capacity rest.log) ≡ view (core_of heap rest) = cc in
+start_at_rest told words globals forward threads entries heap rest small few is_new is_rest =
+    let same : new_view heap.space words globals forward threads (vec_capacity rest.log) ≡ view (core_of heap rest) = cc in
     record {
       stands = subst (Standing told) same
-          (stands_new told heap.space words globals threads (vec_capacity rest.log) is_new.space.size is_new.space.used
+          (stands_new told heap.space words globals forward threads (vec_capacity rest.log) is_new.space.size is_new.space.used
           small few);
       quiet = λ t. ap (λ (calls : List (Option Call)). get_or calls t None) is_rest.calls
           ∙ get_or_replicate threads t None;

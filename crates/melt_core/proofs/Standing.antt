@@ -3,7 +3,8 @@ use Rattle.std.proofs.Common.{◌≡◌, ◌≢◌, ℕ, ◌<◌, ◌≤◌, ◌
 use Rattle.std.proofs.Math.ListN.{set, length-set}
 use Rattle.std.proofs.lemmas.Bool.{cases_eq, cases_lt}
 use Rattle.std.proofs.lemmas.List.{get_or-set_same, get_or-set_other, get_or_past}
-use Rattle.std.specs.Prelude.{Bool, true, false, Option, None, Some, IsSome, slice_index}
+use Rattle.std.specs.Prelude.{◌/◌, Bool, true, false, Option, None, Some, IsSome, slice_index}
+use Rattle.melt_scion.specs.Scions.{Scions}
 use Rattle.melt_model.specs.History.{made as makes, Legal}
 use Rattle.melt_model.specs.declared.history.Entry.{Entry}
 use Rattle.melt_model.specs.Thread.{value_in}
@@ -36,6 +37,8 @@ pub record Kept (v w : View) (t : ℕ) (act : Option Act) (after : Option Call) 
   pub others : (u : ℕ) → u ≢ t → registers_in w.held u ≡ registers_in v.held u
   pub named : IsSome w.names
   pub room : length (numbers_of w.names) ≡ length (numbers_of v.names)
+  pub scions : w.scions ≡ v.scions
+  pub forward : w.forward ≡ v.forward
   pub made : w.made ≡ makes w.log
 
 -- an event that leaves registers, names and history
@@ -49,6 +52,8 @@ kept_own told v w t after s moves = record {
   others = λ u differ. ap (λ (x : View). registers_in x.held u) moves;
   named = subst (λ (x : View). IsSome x.names) (sym moves) s.named;
   room = ap (λ (x : View). length (numbers_of x.names)) moves;
+  scions = ap (λ (x : View). x.scions) moves;
+  forward = ap (λ (x : View). x.forward) moves;
   made = subst (λ (x : View). x.made ≡ makes x.log) (sym moves) s.counted;
 }
 
@@ -115,6 +120,9 @@ stands_behind told v w t mine cleared act after s e =
     record {
       named = e.kept.named;
       room = e.kept.room ∙ (s.room ∙ sym size);
+      scions_made = ap (λ (table : Scions). length table.pairs) e.kept.scions
+          ∙ (s.scions_made ∙ ap (λ (n : ℕ). n / 2) (sym size));
+      settled = λ p. ap (λ (words : List ℕ). slice_index words p) e.kept.forward ∙ s.settled p;
       few = omega (arith, s.few, e.kept.threads);
       each = ap length e.kept.calls ∙ (length-set v.calls t after ∙ (s.each ∙ sym e.kept.threads));
       counted = e.kept.made;

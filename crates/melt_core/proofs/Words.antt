@@ -10,7 +10,7 @@ use Rattle.melt_core.specs.Views.{View, state, shown, base_in}
 
 -- nothing changes but registers
 pub same_behind : (v : View) (held : List Registers)
-    → SameWords (state v) (shown v.space v.globals held v.free)
+    → SameWords (state v) (shown v v.space held v.free)
 same_behind v held = record { base = refl; free = refl; word = λ k. refl; global = λ g. refl; forward = λ p. refl }
 
 -- nothing changes
@@ -19,9 +19,9 @@ same_words v = same_behind v v.held
 
 -- a word of the space was set
 pub word_set : (v : View) (space : SpaceWords) (held : List Registers) (at word : ℕ)
-    → SetsWord v.space space at word → WordChanges (state v) (shown space v.globals held v.free) at word
+    → SetsWord v.space space at word → WordChanges (state v) (shown v space held v.free) at word
 word_set v space held at word sets = record {
-  base = ap (λ (n : ℕ). record (base_in v.space v.globals) { size = n }) sets.size;
+  base = ap (λ (n : ℕ). record (base_in v.space v.scions v.globals v.forward) { size = n }) sets.size;
   free = refl;
   here = sets.here;
   others = sets.others;

@@ -34,7 +34,9 @@ pub record AtRest (told : Bool) (heap : Heap) (rest : Rest) : Type 0 where
 pub record HasFinished (v w : View) : Type 0 where
   pub words : w.space.list ≡ v.space.list
   pub used : w.space.used ≡ min (v.free - 1) (length v.space.list)
+  pub scions : w.scions ≡ v.scions
   pub globals : w.globals ≡ v.globals
+  pub forward : w.forward ≡ v.forward
   pub names : w.names ≡ v.names
   pub held : w.held ≡ v.held
   pub calls : w.calls ≡ v.calls

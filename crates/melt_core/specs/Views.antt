@@ -1,7 +1,8 @@
 -- What a core shows, and when it stands for its history.
-use Rattle.std.specs.Prelude.{◌≡◌, ◌≢◌, ◌⊎◌, ℕ, ◌+◌, ◌*◌, ◌≤◌, Bool, true, List, [], length, map}
+use Rattle.std.specs.Prelude.{◌≡◌, ◌≢◌, ◌⊎◌, ℕ, ◌+◌, ◌*◌, ◌/◌, ◌≤◌, Bool, true, List, [], length, map}
 use Rattle.std.specs.Prelude.{sum, slice_index, slice_index_or, vec_capacity}
 use Rattle.std.specs.Prelude.{Option, None, Some, IsSome, unwrap_or, if◌then◌else◌}
+use Rattle.std.specs.FinMap.{empty}
 use Rattle.melt_model.specs.History.{made as makes, Legal}
 use Rattle.melt_model.specs.Thread.{value_in}
 use Rattle.melt_model.specs.Alive.{words_of, CostsSum}
@@ -13,7 +14,9 @@ use Rattle.melt_scion.specs.State.{Base, State}
 use Rattle.melt_scion.specs.Placed.{Maps, MayHold, value_at, Holds}
 use Rattle.melt_scion.specs.Regions.{Apart}
 use Rattle.melt_scion.specs.Names.{name_at}
-use Rattle.melt_scion.specs.Heaps.{register_in}
+use Rattle.melt_scion.specs.HomeNames.{NamedHomes, home_name}
+use Rattle.melt_scion.specs.Scions.{Scions}
+use Rattle.melt_scion.specs.Heaps.{no_homes_on, scion_in, register_in}
 use Rattle.melt_scion.specs.declared.registers.Registers.{Registers}
 use Rattle.melt_scion.specs.declared.heap.Names as heap
 use Rattle.melt_core.specs.declared.call.Stage.{Stage}
@@ -23,12 +26,14 @@ use Rattle.melt_core.specs.declared.machine.Core.{Core}
 use Rattle.melt_core.specs.Known.{Known, region_of}
 use Rattle.melt_core.specs.Stages.{Fits}
 
--- The words of the space, the globals, the names of addresses, the registers and the call in flight of each thread,
--- the history, how many entries it has room for and how many objects were made in it, the first free place, and whether
--- the stop word is set.
+-- The words of the space, the scions, the globals, the forwarding words, the names of objects, the registers and the call
+-- in flight of each thread, the history, how many entries it has room for and how many objects were made in it, the first
+-- free place, and whether the stop word is set.
 pub record View : Type 0 where
   pub space : SpaceWords
+  pub scions : Scions
   pub globals : List ℕ
+  pub forward : List ℕ
   pub names : Option heap.Names
   pub held : List Registers
   pub calls : List (Option Call)
@@ -41,7 +46,9 @@ pub record View : Type 0 where
 abbrev pub view : Core → View
 view core = record {
   space = core.heap.space;
+  scions = core.heap.scions;
   globals = core.heap.globals;
+  forward = core.heap.forward;
   names = core.heap.names;
   held = core.rest.held.items;
   calls = core.rest.calls.items;
@@ -52,13 +59,17 @@ view core = record {
   stop = core.stop;
 }
 
--- the numbers of objects by their addresses; no home has one yet
+-- the numbers of objects by their addresses, and by their homes
 abbrev pub numbers_of : Option heap.Names → List (Option ℕ)
 numbers_of None = []
 numbers_of (Some names) = names.addresses
 
+abbrev pub homes_of : Option heap.Names → NamedHomes
+homes_of None = record { names = empty; spare = 0 }
+homes_of (Some names) = names.homes
+
 abbrev pub maps_of : Option heap.Names → Maps
-maps_of names = record { address = name_at (numbers_of names); home = λ home. None }
+maps_of names = record { address = name_at (numbers_of names); home = home_name (homes_of names) }
 
 -- the value that an address in a register stands for
 abbrev pub held_value : Option heap.Names → ℕ → Value
@@ -81,32 +92,32 @@ value v t r = value_in (values_of v t) r
 abbrev pub maps : View → Maps
 maps v = maps_of v.names
 
--- The state that these parts show. There are no scions and no forwarding words yet, and no homes: word 1 on disk is
--- past all of them.
-abbrev pub base_in : SpaceWords → List ℕ → Base
-base_in space globals = record {
+-- The state that these parts show. There are no homes yet: word 1 on disk is past all of them.
+abbrev pub base_in : SpaceWords → Scions → List ℕ → List ℕ → Base
+base_in space scions globals forward = record {
   size = length space.list;
   globals = length globals;
-  forwards = 0;
-  scion = λ k. None;
-  end = 1;
-  homes = [];
-  free_homes = [];
-  image = λ k. 0;
+  forwards = length forward;
+  scion = scion_in scions;
+  end = no_homes_on.end;
+  homes = no_homes_on.homes;
+  free_homes = no_homes_on.free_homes;
+  image = no_homes_on.image;
 }
 
-abbrev pub shown : SpaceWords → List ℕ → List Registers → ℕ → State
-shown space globals held free = record {
-  base = base_in space globals;
+-- the state of a view, with other words of the space, registers and first free place
+abbrev pub shown : View → SpaceWords → List Registers → ℕ → State
+shown v space held free = record {
+  base = base_in space v.scions v.globals v.forward;
   free = free;
   word = word_at space;
-  global = slice_index globals;
-  forward = λ p. 0;
+  global = slice_index v.globals;
+  forward = slice_index v.forward;
   register = register_in held;
 }
 
 abbrev pub state : View → State
-state v = shown v.space v.globals v.held v.free
+state v = shown v v.space v.held v.free
 
 -- the call of a thread that is in flight, if one is
 abbrev pub call_in : List (Option Call) → ℕ → Option Call
@@ -157,10 +168,12 @@ Bounded v = (v.free ≤ length v.space.list + 1)
     v.space.list + 1 + 126 * length v.calls)
 
 -- What stands between two events, told or not. The words hold as they are, and so do registers; each call in flight
--- knows what its stage says, and fits its operation; regions of calls are apart.
+-- knows what its stage says, and fits its operation; regions of calls are apart. No call makes a forwarding yet.
 pub record Standing (told : Bool) (v : View) : Type 0 where
   pub named : IsSome v.names
   pub room : length (numbers_of v.names) ≡ length v.space.list
+  pub scions_made : length v.scions.pairs ≡ length v.space.list / 2
+  pub settled : (p : ℕ) → slice_index v.forward p ≡ 0
   pub few : length v.held ≤ 8
   pub each : length v.calls ≡ length v.held
   pub counted : v.made ≡ makes v.log

@@ -1,6 +1,7 @@
 //! The core: a heap, the registers and calls of threads, and the history.
 ghost use Rattle.std.specs.Prelude.{◌≡◌, ◌+◌, ◌-◌, ◌<◌, Bool, true, length, None, IfOk, IsSome};
 ghost use Rattle.std.specs.Borrow.{sem};
+ghost use Rattle.melt_scion.specs.Heaps.{IsSettled};
 ghost use Rattle.melt_core.specs.Views.{IsQuiet, Standing, call_of, view};
 ghost use Rattle.melt_core.specs.Epochs.{AtRest, HasDropped, HasFinished, IsNewRest, core_of};
 ghost use Rattle.melt_core.specs.Lending.{LendsHeld};
@@ -64,9 +65,10 @@ pub struct Core {
 
 impl Core {
     /// Begins an epoch with the stop word not set. The words behind those in use are free. The heap has names, since
-    /// the history speaks of objects by their numbers.
+    /// the history speaks of objects by their numbers, and no forwarding word is filled.
     pub fn begin(heap: Heap, rest: Rest) -> Core
         requires names { IsSome heap.names }
+        requires settled { IsSettled heap }
         ensures { result ≡ core_of heap rest }
     {
         let free = heap.space.used() + 1;

@@ -91,7 +91,7 @@ fn new_core(alloc: Global, words: u32) -> Result<Core, NoMemory>
     ensures history { IfOk result (λ core. (view core).log ≡ []) }
     ensures room { IfOk result (λ core. 32 ≤ (view core).capacity) }
 {
-    let heap = Heap::new(alloc, words, 1, true)?;
+    let heap = Heap::new(alloc, words, 1, 0, true)?;
     let rest = Rest::new(alloc, 2, 32)?;
     Ok(Core::begin(heap, rest))
 }

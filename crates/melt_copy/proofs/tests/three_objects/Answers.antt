@@ -26,8 +26,8 @@ returns-clause-formed c = three_formed _ (second_holds c.in_ok-second.second) c.
   homes = _;
   no_homes = c.new-2.ensures.names;
   has = refl;
-  scions = ?;
-  forward = ?;
+  scions = c.in_ok-scions.ensures.empty;
+  forward = c.new-forward.ensures.items;
   globals = c.in_ok-items.ensures.items_if_clones_equal (λ y is. is) ∙ ap (λ (word : ℕ). replicate 1 word) c.encode_ref-2.ensures;
   registers = fourth_held c.in_ok-second.second;
 })
