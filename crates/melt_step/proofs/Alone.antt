@@ -27,10 +27,10 @@ use Rattle.std.proofs.lemmas.Bool.{cases_lt}
 use Rattle.melt_core.specs.Views.{View, values_of, call_of, maps, state, Standing}
 use Rattle.melt_core.specs.Advances.{Advances, Continues, KeepsOthers, IsAnswered, IsRefused, Goes}
 use Rattle.melt_core.specs.Views.{stage_in}
-use Rattle.melt_step.specs.declared.seat.Seat.{Seat}
-use Rattle.melt_step.specs.declared.seat.Mode.TheVariants.{Lacking}
-use Rattle.melt_step.specs.Seats.{owes_silent, TakesReply, DropsIfEnded, LacksAlone, CalledAlone}
-use Rattle.melt_step.proofs.Calling.{KeepsOthers_both, told_seat, told_stands}
+use Rattle.melt_step.specs.declared.thread.ThreadState.{ThreadState}
+use Rattle.melt_step.specs.declared.thread.Mode.TheVariants.{Lacking}
+use Rattle.melt_step.specs.Threads.{owes_silent, TakesReply, DropsIfEnded, LacksAlone, CalledAlone}
+use Rattle.melt_step.proofs.Calling.{KeepsOthers_both, told_state, told_stands}
 
 -- a call that has claimed nothing yet
 abbrev pub IsEarly : Option Stage → Type 0
@@ -138,7 +138,7 @@ call_goes v w x t o on advances =
     }
 
 -- the call was answered
-pub call_told : (v w x y : View) (t : ℕ) (o : Op) (reply : Reply) (s after : Seat) → s.mode ≡ Lacking → s.op ≡ Some o → o ≢ Collect → OnCall v w t o → Standing true x → KeepsOthers w x t → IsAnswered w x t o reply → TakesReply s after reply → DropsIfEnded x y t after.mode → CalledAlone v y t s after None
+pub call_told : (v w x y : View) (t : ℕ) (o : Op) (reply : Reply) (s after : ThreadState) → s.mode ≡ Lacking → s.op ≡ Some o → o ≢ Collect → OnCall v w t o → Standing true x → KeepsOthers w x t → IsAnswered w x t o reply → TakesReply s after reply → DropsIfEnded x y t after.mode → CalledAlone v y t s after None
 call_told v w x y t o reply s after lacking next no_collect on stands others answered takes drops =
     let behind = told_stands x y t after.mode stands drops in
     let values : (u : ℕ) → values_of w u ≡ values_of v u = λ u. elim (cases_eq u t) [
@@ -148,7 +148,7 @@ call_told v w x y t o reply s after lacking next no_collect on stands others ans
     record {
       stands = behind.0;
       others = KeepsOthers_both v w y t on.others (KeepsOthers_both w x y t others behind.1);
-      what = inl (refl, told_seat v w x y t o reply s after next no_collect on.history values on.others.words on.stands answered (ap owes_silent lacking) takes drops);
+      what = inl (refl, told_state v w x y t o reply s after next no_collect on.history values on.others.words on.stands answered (ap owes_silent lacking) takes drops);
     }
 
 -- a stage is that of a call, which is the one of the operation
@@ -160,7 +160,7 @@ lacking_fits v t o need (Some c) is stands continued lacking =
     (subst (Fits (register_in v.held t) c.op) (same_Some c.stage (stage.Lacking need) lacking) fits)
 
 -- the call was refused: its claim ended past the last word of the heap
-pub call_lacks : (v w x : View) (t : ℕ) (o : Op) (need : ℕ) (s : Seat) → s.op ≡ Some o → OnCall v w t o → Advances w x t o (Refused (Pause (Space need))) → CalledAlone v x t s s (Some need)
+pub call_lacks : (v w x : View) (t : ℕ) (o : Op) (need : ℕ) (s : ThreadState) → s.op ≡ Some o → OnCall v w t o → Advances w x t o (Refused (Pause (Space need))) → CalledAlone v x t s s (Some need)
 call_lacks v w x t o need s next on advances =
     let refused : IsRefused w x t o need = advances.outcome in
     let fits : Fits (register_in w.held t) o (stage.Lacking need) = lacking_fits w t o need (call_of w t) refl on.stands on.continued refused.stage in

@@ -36,7 +36,7 @@ use Rattle.melt_core.specs.Epochs.{AtRest, core_of, HasFinished}
 use Rattle.melt_core.proofs.Values.{same_values}
 use Rattle.melt_policy.specs.Policy.{planned}
 use Rattle.melt_step.specs.Journals.{made_as}
-use Rattle.melt_step.specs.Seats.{Collected, IsPlanning, PlansBy}
+use Rattle.melt_step.specs.Threads.{CoreCollected, IsPlanning, PlansBy}
 use Rattle.melt_step.specs.declared.collector.Collector.{Collector}
 
 -- the names of a heap are those of its map
@@ -112,22 +112,22 @@ unclaimed (c ∷ calls) quiet =
 
 -- the view of a rest behind a collection, with the calls and the history from before
 collected_view : Heap → Rest → List Registers → View
-collected_view new rest held = record (view (core_of new rest)) { held = held }
+collected_view new rest registers = record (view (core_of new rest)) { held = registers }
 
 -- the collected heap and registers stand for the history of the rest
-collected_stands : (heap new : Heap) (rest : Rest) (held : List Registers) (phase : Phase) (journal : Journal) → AtRest true heap rest → IsCopying phase → Collects heap rest.held.items new held phase journal → length held ≡ length rest.held.items → ((t : ℕ) → length (registers_in held t) ≡ length (registers_in rest.held.items t)) → Collected (view (core_of heap rest)) (collected_view new rest held)
+collected_stands : (heap new : Heap) (rest : Rest) (registers : List Registers) (phase : Phase) (journal : Journal) → AtRest true heap rest → IsCopying phase → Collects heap rest.held.items new registers phase journal → length registers ≡ length rest.held.items → ((t : ℕ) → length (registers_in registers t) ≡ length (registers_in rest.held.items t)) → CoreCollected (view (core_of heap rest)) (collected_view new rest registers)
 unfolding collected_view
-collected_stands heap new rest held phase journal at_rest copying collects threads sizes =
+collected_stands heap new rest registers phase journal at_rest copying collects threads sizes =
     let v : View = view (core_of heap rest) in
-    let w : View = collected_view new rest held in
+    let w : View = collected_view new rest registers in
     let s : Standing true v = at_rest.stands in
     let before : Placed v.log (value v) (maps v) (state v) = placed_now v s in
-    let has : HasCollected (maps v) 1 heap new rest.held.items held phase journal = collects (maps v) 1 (names_are heap.names) before.formed in
+    let has : HasCollected (maps v) 1 heap new rest.held.items registers phase journal = collects (maps v) 1 (names_are heap.names) before.formed in
     let placed_at : Placed v.log (value v) has.after (state w) = has.collected.placed v.log (value v) before in
     let same : has.after ≡ maps w = same_maps heap.names new.names has.after s.named has.names_stay has.names (λ home n. no_homes v.log has.after (state w) home n placed_at.tells refl) in
     let placed : Placed v.log (value v) (maps w) (state w) = subst (λ (m : Maps). Placed v.log (value v) m (state w)) same placed_at in
     let values : (t : ℕ) → values_of w t ≡ values_of v t = λ t.
-    same_values heap.names new.names (registers_in rest.held.items t) (registers_in held t) (sizes t) (placed.registers t) in
+    same_values heap.names new.names (registers_in rest.held.items t) (registers_in registers t) (sizes t) (placed.registers t) in
     let value_is : value v ≡ value w = fun_ext (λ t. fun_ext (λ r. ap (λ (vs : List Value). value_in vs r) (sym (values t)))) in
     let size : length new.space.list ≡ length heap.space.list = has.collected.size in
     let globals : length new.globals ≡ length heap.globals = has.collected.globals in
@@ -180,8 +180,8 @@ collected_stands heap new rest held phase journal at_rest copying collects threa
     }
 
 -- a thread that is there has its registers in the list, and one that is not has none
-registers_at : (held : List Registers) (t : ℕ) → registers_in held t ≡ (get_or held t (record { regs = [] })).regs
-registers_at held t = get_or-map (λ (x : Registers). x.regs) held t (record { regs = [] })
+registers_at : (registers : List Registers) (t : ℕ) → registers_in registers t ≡ (get_or registers t (record { regs = [] })).regs
+registers_at registers t = get_or-map (λ (x : Registers). x.regs) registers t (record { regs = [] })
 
 -- a thread has as many registers as before, whether it is there or not
 sizes_at : (old new : List Registers) (t : ℕ) → length new ≡ length old → All (λ (x : Registers). length x.regs ≡ 16) old → All (λ (x : Registers). length x.regs ≡ 16) new → (t < length old) ⊎ (length old ≤ t) → length (registers_in new t) ≡ length (registers_in old t)
@@ -201,21 +201,21 @@ pub same_sizes : (old new : List Registers) → length new ≡ length old → Al
 same_sizes old new threads before after t = sizes_at old new t threads before after (cases_lt t (length old))
 
 -- they were collected, and nothing else of the rest changed
-pub rest_collected : (heap new : Heap) (rest after : Rest) (phase : Phase) (journal : Journal) → AtRest true heap rest → IsCopying phase → Collects heap rest.held.items new after.held.items phase journal → length after.held.items ≡ length rest.held.items → ((t : ℕ) → length (registers_in after.held.items t) ≡ length (registers_in rest.held.items t)) → after.calls.items ≡ rest.calls.items → after.log ≡ rest.log → after.made ≡ rest.made → Collected (view (core_of heap rest)) (view (core_of new after))
+pub rest_collected : (heap new : Heap) (rest after : Rest) (phase : Phase) (journal : Journal) → AtRest true heap rest → IsCopying phase → Collects heap rest.held.items new after.held.items phase journal → length after.held.items ≡ length rest.held.items → ((t : ℕ) → length (registers_in after.held.items t) ≡ length (registers_in rest.held.items t)) → after.calls.items ≡ rest.calls.items → after.log ≡ rest.log → after.made ≡ rest.made → CoreCollected (view (core_of heap rest)) (view (core_of new after))
 unfolding collected_view
 rest_collected heap new rest after phase journal at_rest copying collects threads sizes calls log made =
     let same : collected_view new rest after.held.items ≡ view (core_of new after) = cc in
-    subst (Collected (view (core_of heap rest))) same (collected_stands heap new rest after.held.items phase journal at_rest copying collects threads sizes)
+    subst (CoreCollected (view (core_of heap rest))) same (collected_stands heap new rest after.held.items phase journal at_rest copying collects threads sizes)
 
 -- the collected heap has names
-pub collected_named : (heap new : Heap) (rest : Rest) (held : List Registers) (phase : Phase) (journal : Journal) → AtRest true heap rest → Collects heap rest.held.items new held phase journal → IsSome new.names
-collected_named heap new rest held phase journal at_rest collects =
-    let has : HasCollected (maps_of heap.names) 1 heap new rest.held.items held phase journal =
+pub collected_named : (heap new : Heap) (rest : Rest) (registers : List Registers) (phase : Phase) (journal : Journal) → AtRest true heap rest → Collects heap rest.held.items new registers phase journal → IsSome new.names
+collected_named heap new rest registers phase journal at_rest collects =
+    let has : HasCollected (maps_of heap.names) 1 heap new rest.held.items registers phase journal =
     collects (maps_of heap.names) 1 (names_are heap.names) (record { words = at_rest.stands.holds.formed; registers = at_rest.stands.registers }) in
     keeps_some heap.names new.names at_rest.stands.named has.names_stay
 
 -- a collection of what an epoch left is one of the epoch's core
-pub finished_collected : (v x w : View) → HasFinished v x → Collected x w → Collected v w
+pub finished_collected : (v x w : View) → HasFinished v x → CoreCollected x w → CoreCollected v w
 finished_collected v x w finished collected = record {
   stands = collected.stands;
   quiet = collected.quiet;
@@ -240,7 +240,7 @@ no_move Move copying is = absurd copying
 
 -- the words that a collection left, as its entry has them
 pub record LeavesWords (w : View) (journal : Journal) : Type 0 where
-  pub held : journal.held ≤ journal.live
+  pub held_within : journal.held ≤ journal.live
   pub live : w.free ≡ journal.live + 1
   pub within : journal.live ≤ length w.space.list
 
@@ -257,12 +257,12 @@ left_words heap new rest after phase journal at_rest copying collects =
     let live : CostsSum (words_of v.log) (InUse has.after) journal.live = in_use_costs v.log (value v) has.after t journal.live placed_at has.live in
     let alive : CostsSum (words_of v.log) (Alive v.log (value v)) journal.live =
     live_costs v.log (value v) (maps v) (state v) before phase has.after t has.to no_home journal.live (s.legal refl) (heap_has_no_scions heap rest.held.items 1) refl (none_leave phase (state v) copying) has.collected has.live in
-    let held : CostsSum (words_of v.log) (Held (value v)) journal.held = held_costs v.log (value v) (maps v) (state v) before journal.held has.held_words in
+    let by_registers : CostsSum (words_of v.log) (Held (value v)) journal.held = held_costs v.log (value v) (maps v) (state v) before journal.held has.held_words in
     let fewer : journal.live ≤ told.in_use =
     CostsSum-part (words_of v.log) (InUse has.after) (InUse (maps v)) journal.live told.in_use (λ n is. was_in_use phase (maps v) has.after (state v) t has.to no_home n has.collected is) live told.adds_up in
     let size : length new.space.list ≡ length heap.space.list = has.collected.size in
     record {
-      held = CostsSum-part (words_of v.log) (Held (value v)) (Alive v.log (value v)) journal.held journal.live (λ n is. Alive.in_register n is) held alive;
+      held_within = CostsSum-part (words_of v.log) (Held (value v)) (Alive v.log (value v)) journal.held journal.live (λ n is. Alive.in_register n is) by_registers alive;
       live = omega (arith, has.told.live_words);
       within = omega (arith, fewer, size, told.within);
     }
@@ -282,7 +282,7 @@ planned_by old plans new w phase journal before planning same copying of_phase p
       entry = journal;
       journal = items;
       of_phase = of_phase;
-      held = left.held;
+      held_within = left.held_within;
       live = left.live;
       within = left.within;
       next = keeps ∙ (next ∙ ap (λ (p : Phase). made_as (planned journal.live old.config.heap p old.config.mark old.config.move_)) (sym of_phase));

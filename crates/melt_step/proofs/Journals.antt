@@ -8,7 +8,7 @@ use Rattle.melt_model.specs.declared.reports.Phase.{Phase}
 use Rattle.melt_model.proofs.Histories.{last_place, slice_get-append_seam}
 use Rattle.melt_core.specs.Views.{View, view}
 use Rattle.melt_step.specs.Journals.{forced, next_of, before, IsTight, IsJournalOf}
-use Rattle.melt_step.specs.Seats.{PlansBy, Planned, CollectorStands, JustCollected}
+use Rattle.melt_step.specs.Threads.{PlansBy, Planned, CollectorStands, JustCollected}
 use Rattle.melt_step.specs.declared.collector.Collector.{Collector}
 use Rattle.melt_step.specs.declared.run.Run.{Run}
 
@@ -53,7 +53,7 @@ collector_more config old new w phase stands plans words may =
     let js : List Journal = old.journal.items in
     let entry : Journal = plans.entry in
     let pushed : IsJournalOf config (js ++ entry ∷ []) =
-    journal_push config js entry stands.journal (subst (MayBe config js) (sym plans.of_phase) may) plans.held (omega (arith, plans.within, words)) in
+    journal_push config js entry stands.journal (subst (MayBe config js) (sym plans.of_phase) may) plans.held_within (omega (arith, plans.within, words)) in
     record {
       planning = plans.planning;
       numbers = plans.config ∙ stands.numbers;
@@ -88,6 +88,6 @@ planned_none a b (Planned.none _) = refl
 -- where a claim ends past the last word behind a collection, the largest object may have no room there
 pub tight : (config : Config) (run : Run) (need : ℕ) → JustCollected run → length (view run.core).space.list ≡ config.heap → need ≤ 126 → length (view run.core).space.list + 1 < (view run.core).free + need → IsTight config (before run.collector.journal.items (length run.collector.journal.items))
 tight config run need just words small above =
-    let last : before run.collector.journal.items (length run.collector.journal.items) ≡ Some just.last = ap (λ (xs : List Journal). before xs (length xs)) just.journal ∙ before_end just.front just.last in
+    let last : before run.collector.journal.items (length run.collector.journal.items) ≡ Some just.last = ap (λ (xs : List Journal). before xs (length xs)) just.journal ∙ before_end just.prefix just.last in
     let room : config.heap < just.last.live + 126 = omega (arith, words, small, above, just.free) in
     subst (IsTight config) (sym last) room

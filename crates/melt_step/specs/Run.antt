@@ -97,7 +97,7 @@ EndsWithCollect ops = (k : ℕ) × (length ops ≡ suc k) × (slice_get ops k �
 -- At some moment the next operation of the thread makes an object that needs more words than the heap has beside those
 -- of the objects that registers and globals reach. All silent collections were made by then, but for those behind a
 -- `collect` that was answered at the same safepoint.
-pub record LacksRoom (script : Script) (log : List Entry) (replies : ℕ → List Reply) (config : Config) (t held need : ℕ) : Type 0 where
+pub record LacksRoom (script : Script) (log : List Entry) (replies : ℕ → List Reply) (config : Config) (t held_words need : ℕ) : Type 0 where
   pub cut : Cut
   pub is_cut : IsCutAt script log replies config t (length (replies t)) cut
   pub over : (u : ℕ) → cut.replies u ≡ length (operations script u) → (cut.ended u ≡ true) ⊎ (IsDue config (length (operations script u)) × EndsWithCollect (operations script u))
@@ -106,27 +106,27 @@ pub record LacksRoom (script : Script) (log : List Entry) (replies : ℕ → Lis
   pub nums : ℕ
   pub next : slice_get (operations script t) (length (replies t)) ≡ Some (New dst refs nums)
   pub needed : need ≡ 2 + refs + nums
-  pub reach : ReachesWords script log cut held
-  pub above : config.heap < held + need
+  pub reach : ReachesWords script log cut held_words
+  pub above : config.heap < held_words + need
 
 -- At some moment at which the thread had got k replies, the heap had so many words beside those of the objects that
 -- registers and globals reached.
 pub record HadRoom (script : Script) (log : List Entry) (replies : ℕ → List Reply) (config : Config) (t k need : ℕ) : Type 0 where
   pub cut : Cut
   pub is_cut : IsCutAt script log replies config t k cut
-  pub held : ℕ
-  pub reach : ReachesWords script log cut held
-  pub fits : held + need ≤ config.heap
+  pub held_words : ℕ
+  pub reach : ReachesWords script log cut held_words
+  pub fits : held_words + need ≤ config.heap
 
 -- If operation k of the thread makes an object, there was room for it.
-abbrev pub HasRoom : Script → List Entry → (ℕ → List Reply) → Config → ℕ → ℕ → Type 0
-HasRoom script log replies config t k =
+abbrev pub HadRoomToMake : Script → List Entry → (ℕ → List Reply) → Config → ℕ → ℕ → Type 0
+HadRoomToMake script log replies config t k =
     (dst refs nums : ℕ) → slice_get (operations script t) k ≡ Some (New dst refs nums) → HadRoom script log replies config t k (2 + refs + nums)
 
 -- why a thread may end so
 abbrev pub MayEnd : Script → Config → Report → ℕ → ThreadEnd → Type 0
 MayEnd script config report t end.Done = answered report t ≡ length (operations script t)
-MayEnd script config report t (end.OutOfHeap held need) = LacksRoom script report.log (replies_in report) config t held need
+MayEnd script config report t (end.OutOfHeap held_words need) = LacksRoom script report.log (replies_in report) config t held_words need
 MayEnd script config report t end.DiskFault = ⊥
 MayEnd script config report t (end.Damaged home at word) = ⊥
 MayEnd script config report t end.Halted = ⊥
@@ -152,7 +152,7 @@ collections script config replies (suc n) = collections script config replies n 
 pub record IsStepReport (script : Script) (config : Config) (report : Report) : Type 0 where
   pub history : HasHistory script report.log report
   pub ends : (t : ℕ) (r : ThreadReport) → slice_get report.threads t ≡ Some r → MayEnd script config report t r.end
-  pub room : (t k : ℕ) → k < answered report t → HasRoom script report.log (replies_in report) config t k
+  pub room : (t k : ℕ) → k < answered report t → HadRoomToMake script report.log (replies_in report) config t k
   pub no_halt : report.halt ≡ None
   pub no_moves : All (λ j. j.phase ≢ Move) report.journal
   pub journal : IsJournalOf config report.journal

@@ -6,7 +6,7 @@ ghost use Rattle.melt_core.specs.Views.{IsQuiet, Standing, view};
 ghost use Rattle.melt_policy.specs.Policy.{planned};
 ghost use Rattle.melt_model.specs.declared.reports.Phase.{Phase};
 ghost use Rattle.melt_step.specs.Journals.{made_as};
-ghost use Rattle.melt_step.specs.Seats.{Collected, IsPlanning, PlansBy};
+ghost use Rattle.melt_step.specs.Threads.{CoreCollected, IsPlanning, PlansBy};
 
 use melt_copy::collect_copy;
 use melt_core::Core;
@@ -84,7 +84,7 @@ impl Collector {
         requires phase { IsCopying phase }
         requires stands { Standing true (view core) }
         requires quiet { IsQuiet (view core) }
-        ensures collected { IfOk result (λ after. Collected (view core) (view after)) }
+        ensures collected { IfOk result (λ after. CoreCollected (view core) (view after)) }
         ensures plans { IfOk result (λ after. PlansBy self.old self.new (view after) phase) }
     {
         let (mut heap, mut rest) = core.finish();
@@ -116,7 +116,7 @@ impl Collector {
         requires planning { IsPlanning self.old }
         requires stands { Standing true (view core) }
         requires quiet { IsQuiet (view core) }
-        ensures collected { IfOk result (λ after. Collected (view core) (view after)) }
+        ensures collected { IfOk result (λ after. CoreCollected (view core) (view after)) }
         ensures plans { IfOk result (λ after. PlansBy self.old self.new (view after) self.old.planned) }
     {
         self.collect(alloc, core, self.planned)

@@ -2,7 +2,7 @@ ghost use Rattle.std.specs.Prelude.{◌≡◌, ◌≤◌, ℕ};
 ghost use Rattle.melt_model.specs.Config.{InRanges};
 ghost use Rattle.melt_model.specs.declared.config.Config.{Config};
 ghost use Rattle.melt_core.specs.Views.{view};
-ghost use Rattle.melt_step.specs.Seats.{KeepsRun, KnowsStop, RunStands};
+ghost use Rattle.melt_step.specs.Threads.{KeepsRun, KnowsStop, RunStands};
 
 use super::*;
 use crate::run::{Run, new_run};
@@ -161,19 +161,19 @@ fn an_object_that_nothing_reaches_gives_its_words_back(rt: HostRuntime) -> Resul
 /// behind the last.
 fn expect_events<R: Abort>(rt: &R, trace: &Trace, run: &mut Run<'_>, events: &[(u32, usize)])
     requires stands { (config : Config) × RunStands trace.now config run.old }
-    requires stop { KnowsStop (view run.old.core) run.old.seats.items }
+    requires stop { KnowsStop (view run.old.core) run.old.states.items }
     ensures keeps { KeepsRun run.old run.new }
 {
     let mut turns = Turns::new();
     for &(thread, replies) in events {
-        let Some(next) = turns.next(trace, &run.seats) else {
+        let Some(next) = turns.next(trace, &run.states) else {
             panic!(rt; "no thread can go on");
         };
         assert_eq!(rt; next, thread);
         run.step(next);
-        assert_eq!(rt; run.seats[next as usize].replies.len(), replies);
+        assert_eq!(rt; run.states[next as usize].replies.len(), replies);
     }
-    assert_eq!(rt; turns.next(trace, &run.seats), None);
+    assert_eq!(rt; turns.next(trace, &run.states), None);
 }
 
 #[test]

@@ -2,8 +2,8 @@
 use Rattle.std.proofs.Common.{◌≡◌, ◌<◌, List, length, subst, arith}
 use Rattle.std.proofs.lemmas.Option.{slice_get_within}
 use Rattle.std.specs.Prelude.{Some, slice_get}
-use Rattle.melt_step.specs.declared.seat.Seat.{Seat}
-use Rattle.melt_step.specs.Seats.{MayGo}
+use Rattle.melt_step.specs.declared.thread.ThreadState.{ThreadState}
+use Rattle.melt_step.specs.Threads.{MayGo}
 use Rattle.melt_step.proofs.tests.expect_events.Goals as goal
 
 pub step-requires-clause-stands : goal.step-requires-clause-stands
@@ -11,14 +11,14 @@ step-requires-clause-stands g c = (c.args.trace.now, (c.requires.stands.0, c.loo
 
 pub step-requires-clause-goes : goal.step-requires-clause-goes
 step-requires-clause-goes g c =
-    subst (λ (xs : List Seat). (s : Seat) × (slice_get xs c.in-Some.next ≡ Some s) × MayGo s.mode) c.deref.ensures.value c.in-Some.ensures.goes
+    subst (λ (xs : List ThreadState). (s : ThreadState) × (slice_get xs c.in-Some.next ≡ Some s) × MayGo s.mode) c.deref.ensures.value c.in-Some.ensures.goes
 
 pub index-requires : goal.index-requires
 index-requires g c =
-    let within : c.in-Some.next < length c.loop-thread.run.seats.items =
-    subst (λ (xs : List Seat). c.in-Some.next < length xs) c.deref.ensures.value
+    let within : c.in-Some.next < length c.loop-thread.run.states.items =
+    subst (λ (xs : List ThreadState). c.in-Some.next < length xs) c.deref.ensures.value
     (slice_get_within c.deref.result.now c.in-Some.next c.in-Some.ensures.goes.0 c.in-Some.ensures.goes.1) in
-    omega (arith, within, c.step.ensures.count, c.step.new.self.seats.ok)
+    omega (arith, within, c.step.ensures.count, c.step.new.self.states.ok)
 
 pub loop-thread-preserved : goal.loop-thread-preserved
 loop-thread-preserved g c = record {

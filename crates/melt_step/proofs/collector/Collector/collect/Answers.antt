@@ -10,7 +10,7 @@ use Rattle.melt_core.specs.Epochs.{core_of}
 use Rattle.melt_core.specs.Lending.{with_held}
 use Rattle.melt_core.specs.declared.machine.Core.{Core}
 use Rattle.melt_core.specs.declared.machine.Rest.{Rest}
-use Rattle.melt_step.specs.Seats.{Collected}
+use Rattle.melt_step.specs.Threads.{CoreCollected}
 use Rattle.melt_step.proofs.Collecting.{names_are, rest_formed, rest_collected, collected_named, finished_collected, same_sizes, LeavesWords, left_words, planned_by}
 use Rattle.melt_step.proofs.collector.Collector.collect.Goals as goal
 
@@ -44,7 +44,7 @@ returns-clause-collected c =
     let collects : Collects heap rest.held.items new after.held.items c.args.phase c.in_ok-journal.journal =
     subst (λ (xs : List Registers). Collects heap xs new after.held.items c.args.phase c.in_ok-journal.journal) lent
     (subst (λ (xs : List Registers). Collects heap c.registers.result.now new xs c.args.phase c.in_ok-journal.journal) (sym items) c.in_ok-journal.ensures.collected) in
-    subst (λ (core : Core). Collected (view c.args.core) (view core)) (sym c.begin.ensures)
+    subst (λ (core : Core). CoreCollected (view c.args.core) (view core)) (sym c.begin.ensures)
     (finished_collected (view c.args.core) (view (core_of heap rest)) (view (core_of new after)) c.finish-heap.ensures.finished
     (rest_collected heap new rest after c.args.phase c.in_ok-journal.journal (c.finish-heap.ensures.rests true c.requires.stands) c.requires.phase collects same (same_sizes rest.held.items after.held.items same before sixteen) refl refl refl))
 

@@ -1,8 +1,8 @@
 -- A turn is an event or a safepoint.
 use Rattle.std.proofs.Common.{◌≡◌, List, ◌∙◌, subst}
 use Rattle.std.specs.Prelude.{Some, slice_get}
-use Rattle.melt_step.specs.declared.seat.Seat.{Seat}
-use Rattle.melt_step.specs.Seats.{MayGo}
+use Rattle.melt_step.specs.declared.thread.ThreadState.{ThreadState}
+use Rattle.melt_step.specs.Threads.{MayGo}
 use Rattle.melt_step.proofs.Going.{safepoint_less}
 use Rattle.melt_step.proofs.run.Run.run_all.Goals as goal
 
@@ -11,7 +11,7 @@ step-requires-clause-stands c = (c.args.trace.now, (c.requires.stands.0, c.loop-
 
 pub step-requires-clause-goes : goal.step-requires-clause-goes
 step-requires-clause-goes c =
-    subst (λ (xs : List Seat). (s : Seat) × (slice_get xs c.in-Some.t ≡ Some s) × MayGo s.mode) c.deref.ensures.value c.in-Some.ensures.goes
+    subst (λ (xs : List ThreadState). (s : ThreadState) × (slice_get xs c.in-Some.t ≡ Some s) × MayGo s.mode) c.deref.ensures.value c.in-Some.ensures.goes
 
 pub loop-t-preserved-in-Some : goal.loop-t-preserved-in-Some
 loop-t-preserved-in-Some c = record {
