@@ -50,19 +50,6 @@ pub record OnCall (v w : View) (t : ℕ) (o : Op) : Type 0 where
   pub free : IsEarly (stage_in (call_of w t)) → w.free ≡ v.free
   pub lacks : (need : ℕ) → stage_in (call_of w t) ≡ Some (stage.Lacking need) → length v.space.list + 1 < v.free + need
 
--- the call is to begin
-pub call_begins : (v : View) (t : ℕ) (o : Op) → Standing true v → call_of v t ≡ None → v.stop ≡ false → OnCall v v t o
-call_begins v t o stands none stop = record {
-  stands = stands;
-  others = record { globals = refl; words = refl; threads = refl; capacity = refl; calls = λ u other. refl; registers = λ u other. refl; values = λ u other. refl };
-  continued = subst (λ (c : Option Call). Continues c o) (sym none) tt;
-  history = refl;
-  values = refl;
-  stop = stop;
-  free = λ early. refl;
-  lacks = λ need is. absurd (let no : None ≡ Some (stage.Lacking need) = ap stage_in (sym none) ∙ is in cc);
-}
-
 -- an event behind which nothing was claimed yet leaves the first free place
 goes_free : (m n : Maps) (s x : State) (register : ℕ → ℕ) (stop : Bool) (o : Op) (from : Option Stage) (next : Stage) → Next m s register stop o from next → Applies m n s x (change_of s register from) → IsEarly (Some next) → x.free ≡ s.free
 goes_free m n s x register stop o None next is applies early = applies.1.free

@@ -3,7 +3,7 @@ use Rattle.std.proofs.Common.{◌≡◌, ◌≢◌, ℕ, ◌<◌, true, false, L
 use Rattle.std.proofs.lemmas.Bool.{cases_eq}
 use Rattle.std.proofs.lemmas.List.{length-replicate}
 use Rattle.std.proofs.lemmas.List.Elements.{All-nil}
-use Rattle.std.specs.Prelude.{All, Option, None, replicate}
+use Rattle.std.specs.Prelude.{All, Option, replicate}
 use Rattle.melt_model.specs.History.{Legal}
 use Rattle.melt_model.specs.Standing.{Stands}
 use Rattle.melt_model.specs.Thread.{does}
@@ -21,10 +21,10 @@ use Rattle.melt_scion.specs.declared.heap.Heap.{Heap}
 use Rattle.melt_scion.specs.declared.heap.Names as name_table
 use Rattle.melt_scion.specs.declared.registers.Registers.{Registers}
 use Rattle.melt_core.specs.Answering.{with_entry}
-use Rattle.melt_core.specs.Views.{View, view, values_of, registers_in, held_values, call_of, IsQuiet, Standing}
+use Rattle.melt_core.specs.Views.{View, view, values_of, registers_in, held_values, IsQuiet, Standing}
 use Rattle.melt_core.specs.Changed.{stopped}
 use Rattle.melt_core.specs.Epochs.{no_registers, IsNewRest, AtRest, core_of, HasFinished, HasDropped}
-use Rattle.melt_core.specs.Advances.{MayAdvance, Advances, KeepsOthers, IsAnswered, Goes, Refuses, Pauses}
+use Rattle.melt_core.specs.Advances.{MayAdvance, Advances, KeepsOthers, IsAnswered, Goes, Refuses}
 use Rattle.melt_core.specs.declared.machine.Rest.{Rest}
 use Rattle.melt_core.specs.declared.answer.Pause.TheVariants as pause
 use Rattle.melt_core.specs.declared.answer.Refusal.{Refusal}
@@ -37,7 +37,7 @@ use Rattle.melt_step.specs.Threads.{CoreCollected}
 use Rattle.melt_step.proofs.Collecting.{rest_collected, same_sizes}
 use Rattle.melt_step.proofs.Modes.{dropped_keeps}
 use Rattle.melt_step.proofs.Starting.{registers_new}
-use Rattle.melt_step.proofs.Tables.{told_with, with_own, Stands_answers}
+use Rattle.melt_step.proofs.Telling.{told_with, with_own, Stands_answers}
 
 -- a thread stands in the history, and until it drops its registers these hold what it was told
 record StandsSoFar (v : View) (t : ℕ) (s : SoFar) : Type 0 where
@@ -214,7 +214,7 @@ collection_stands threads globals all heap new rest after a quiet c =
     let at_rest : AtRest true heap rest = record { stands = a.stands; quiet = quiet } in
     let collected : CoreCollected (view (core_of heap rest)) (view (core_of new after)) =
     rest_collected heap new rest after c.phase c.journal at_rest c.copying c.collects c.threads (same_sizes rest.held.items after.held.items c.threads c.before c.behind) c.calls c.log c.made in
-    all_as threads globals (view (core_of heap rest)) (view (core_of new after)) all a collected.stands collected.history collected.threads collected.globals collected.values
+    all_as threads globals (view (core_of heap rest)) (view (core_of new after)) all a collected.stays.stands collected.stays.history collected.stays.threads collected.stays.globals collected.stays.values
 
 -- they stand after each choice
 chosen_stands : (threads globals : ℕ) (v : View) (all : ℕ → SoFar) → Chosen threads globals v all → AllStand threads globals v all

@@ -143,38 +143,40 @@ collected_stands heap new rest registers phase journal at_rest copying collects 
     (live_costs v.log (value v) (maps v) (state v) before phase has.after (state w) has.to no_home new.space.used (s.legal refl) (heap_has_no_scions heap rest.held.items 1) refl (none_leave phase (state v) copying) has.collected counted) in
     let within : new.space.used ≤ length new.space.list = omega (arith, none, size, fewer, told.within) in
     record {
-      stands = record {
-        named = keeps_some heap.names new.names s.named has.names_stay;
-        room = keeps_room heap.names new.names has.names_stay ∙ (s.room ∙ sym size);
-        few = subst (λ (n : ℕ). n ≤ 8) (sym threads) s.few;
-        each = s.each ∙ sym threads;
-        counted = s.counted;
-        first = omega arith;
-        bounded = inl (omega (arith, within));
-        holds = record {
-          formed = placed.formed.words;
-          no_gaps = record { filled = λ home address k i below sends less. absurd (omega arith) };
-          tells = λ is. placed.tells;
+      stays = record {
+        stands = record {
+          named = keeps_some heap.names new.names s.named has.names_stay;
+          room = keeps_room heap.names new.names has.names_stay ∙ (s.room ∙ sym size);
+          few = subst (λ (n : ℕ). n ≤ 8) (sym threads) s.few;
+          each = s.each ∙ sym threads;
+          counted = s.counted;
+          first = omega arith;
+          bounded = inl (omega (arith, within));
+          holds = record {
+            formed = placed.formed.words;
+            no_gaps = record { filled = λ home address k i below sends less. absurd (omega arith) };
+            tells = λ is. placed.tells;
+          };
+          legal = λ is. subst (Legal v.log) (sym globals) (s.legal refl);
+          registers = placed.formed.registers;
+          known = λ t c is. let quiet : call_of v t ≡ None = at_rest.quiet t in absurd (cc);
+          fits = λ t c is. let quiet : call_of v t ≡ None = at_rest.quiet t in absurd (cc);
+          apart = λ t u c d other is at. let quiet : call_of v t ≡ None = at_rest.quiet t in absurd (cc);
+          counts = λ is. record {
+            in_use = new.space.used;
+            adds_up = subst (λ (m : Maps). CostsSum (words_of v.log) (InUse m) new.space.used) same live;
+            below = omega (arith, none);
+            within = omega (arith, none, within);
+          };
         };
-        legal = λ is. subst (Legal v.log) (sym globals) (s.legal refl);
-        registers = placed.formed.registers;
-        known = λ t c is. let quiet : call_of v t ≡ None = at_rest.quiet t in absurd (cc);
-        fits = λ t c is. let quiet : call_of v t ≡ None = at_rest.quiet t in absurd (cc);
-        apart = λ t u c d other is at. let quiet : call_of v t ≡ None = at_rest.quiet t in absurd (cc);
-        counts = λ is. record {
-          in_use = new.space.used;
-          adds_up = subst (λ (m : Maps). CostsSum (words_of v.log) (InUse m) new.space.used) same live;
-          below = omega (arith, none);
-          within = omega (arith, none, within);
-        };
+        quiet = at_rest.quiet;
+        globals = globals;
+        words = size;
+        threads = threads;
+        capacity = refl;
+        history = refl;
+        values = values;
       };
-      quiet = at_rest.quiet;
-      globals = globals;
-      words = size;
-      threads = threads;
-      capacity = refl;
-      history = refl;
-      values = values;
       stop = refl;
       alive = λ used is. subst (CostsSum (words_of v.log) (Alive v.log (value w))) (omega (arith, is)) alive;
     }
@@ -217,17 +219,19 @@ collected_named heap new rest registers phase journal at_rest collects =
 -- a collection of what an epoch left is one of the epoch's core
 pub finished_collected : (v x w : View) → HasFinished v x → CoreCollected x w → CoreCollected v w
 finished_collected v x w finished collected = record {
-  stands = collected.stands;
-  quiet = collected.quiet;
-  globals = collected.globals ∙ ap length finished.globals;
-  words = collected.words ∙ ap length finished.words;
-  threads = collected.threads ∙ ap length finished.held;
-  capacity = collected.capacity ∙ finished.capacity;
-  history = collected.history ∙ finished.log;
-  values = λ t.
-      collected.values t
-      ∙ (ap (λ (names : Option heap.Names). held_values names (registers_in x.held t)) finished.names
-      ∙ ap (λ (held : List Registers). held_values v.names (registers_in held t)) finished.held);
+  stays = record {
+    stands = collected.stays.stands;
+    quiet = collected.stays.quiet;
+    globals = collected.stays.globals ∙ ap length finished.globals;
+    words = collected.stays.words ∙ ap length finished.words;
+    threads = collected.stays.threads ∙ ap length finished.held;
+    capacity = collected.stays.capacity ∙ finished.capacity;
+    history = collected.stays.history ∙ finished.log;
+    values = λ t.
+        collected.stays.values t
+        ∙ (ap (λ (names : Option heap.Names). held_values names (registers_in x.held t)) finished.names
+        ∙ ap (λ (registers : List Registers). held_values v.names (registers_in registers t)) finished.held);
+  };
   stop = collected.stop;
   alive = collected.alive;
 }

@@ -20,7 +20,8 @@ use Rattle.melt_step.specs.Run.{collections}
 use Rattle.std.proofs.lemmas.Option.{get_or_from_slice_get}
 use Rattle.melt_step.specs.Threads.{MakesFor, Planned, collections_for, DueBy, IsPaused, owes_silent, with_first, left, MayGo, IsEnded, FitsMode, replies_of, TableStands, TakesReply, DropsIfEnded, ThreadTold, ThreadStep, owes, owing, CollectorStands, JustCollected, MakesPlanned, RunStands, ForCollection, jobs, jobs_of, CollectedFor}
 use Rattle.melt_step.proofs.Journals.{collector_planned, planned_one, plans_count}
-use Rattle.melt_step.proofs.Tables.{Adds, adds_silent, Table_collected, Table_step, table_ready, collections_grow}
+use Rattle.melt_step.proofs.Tables.{Table_collected, Table_step, table_ready}
+use Rattle.melt_step.proofs.Counting.{Adds, adds_silent, collections_grow}
 use Rattle.melt_step.proofs.Modes.{nothing_keeps, dropped_keeps, Table_runs, ends_done, Table_gone}
 
 -- behind a planned collection all threads stand, and there is one entry to spare
@@ -31,7 +32,7 @@ made_table script config old mid stands made =
 
 made_collector : (script : Script) (config : Config) (old mid : Run) → RunStands script config old → MakesPlanned old mid → CollectorStands config mid.collector
 made_collector script config old mid stands made =
-    collector_planned config old.collector mid.collector (view mid.core) stands.collector made.plans (made.collected.words ∙ stands.table.words)
+    collector_planned config old.collector mid.collector (view mid.core) stands.collector made.plans (made.collected.stays.words ∙ stands.table.words)
 
 made_spare : (script : Script) (config : Config) (old mid : Run) → RunStands script config old → MakesPlanned old mid → collections script config (replies_of mid.states.items) (length script.programs) + 1 ≤ length mid.collector.journal.items + owing mid.states.items
 made_spare script config old mid stands made =
@@ -131,7 +132,7 @@ Run_answered script config old mid new t s after stands made at mode takes drops
     let table : TableStands script config (view mid.core) states = made_table script config old mid stands made in
     let by : DueBy config.every s after = subst (λ (n : ℕ). DueBy n s after) (made.every ∙ stands.every) due in
     let step : ThreadStep (view mid.core) (view new.core) t s after =
-    collect_step (view mid.core) (view new.core) t s after made.collected.stands (made.collected.quiet t) mode (collecting_op script config old t s stands at mode) takes drops in
+    collect_step (view mid.core) (view new.core) t s after made.collected.stays.stands (made.collected.stays.quiet t) mode (collecting_op script config old t s stands at mode) takes drops in
     let grown = collections_grow script config (view mid.core) (view new.core) states t s after table here step by in
     let adds : Adds script config states new.states.items grown.0 = subst (λ (xs : List ThreadState). Adds script config states xs grown.0) (sym same) grown.2 in
     record {
@@ -207,7 +208,7 @@ Run_goes_on script config old mid new t s after stands made at mode on drops eve
     let all : Adds script config states new.states.items 1 = subst (λ (xs : List ThreadState). Adds script config states xs 1) (sym same) adds in
     record {
       table = subst (TableStands script config (view new.core)) (sym same)
-          (Table_goes_on script config (view mid.core) (view new.core) states t s after table here (λ over. subst IsEnded mode over) (made.collected.quiet t) on drops);
+          (Table_goes_on script config (view mid.core) (view new.core) states t s after table here (λ over. subst IsEnded mode over) (made.collected.stays.quiet t) on drops);
       every = every ∙ (made.every ∙ stands.every);
       collector = subst (CollectorStands config) (sym collector) (made_collector script config old mid stands made);
       collected = omega (arith, all, made_spare script config old mid stands made, ap (λ (c : Collector). length c.journal.items) collector);

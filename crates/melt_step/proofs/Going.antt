@@ -10,7 +10,8 @@ use Rattle.melt_step.specs.declared.run.Run.{Run}
 use Rattle.melt_step.specs.declared.thread.ThreadState.{ThreadState}
 use Rattle.melt_step.specs.declared.collector.Collector.{Collector}
 use Rattle.melt_step.specs.Threads.{CollectorStands, DueBy, KeepsRun, MayGo, Passed, RunStands, ThreadStep, ThreadTold, TableStands, potential}
-use Rattle.melt_step.proofs.Tables.{Adds, Table_step, collections_step, goes_on}
+use Rattle.melt_step.proofs.Tables.{Table_step, goes_on}
+use Rattle.melt_step.proofs.Counting.{Adds, collections_step}
 use Rattle.melt_step.proofs.Potentials.{step_nearer, safepoint_nearer}
 
 -- a run stands on behind an event of a thread that can go on

@@ -21,7 +21,8 @@ use Rattle.melt_step.specs.declared.thread.Mode.{Mode}
 use Rattle.melt_step.specs.declared.thread.Mode.TheVariants.{Running, Due, Silent, Collecting, Asked, Lacking, Ended}
 use Rattle.melt_step.specs.Threads.{with_first, left, MayGo, IsEnded, ThreadStands, EndsSo, LacksNow, Later, TableStands, AllWait, Waits, KnowsStop, SetsStop, SomeGoesOn}
 use Rattle.melt_step.proofs.Cuts.{replies_here, LacksNow_same}
-use Rattle.melt_step.proofs.Tables.{get_set_same, get_set_other, replies_same, later_set, Moves, Table_moves, mode_stands, same_moves}
+use Rattle.melt_step.proofs.Telling.{get_set_same, get_set_other, replies_same, later_set}
+use Rattle.melt_step.proofs.Tables.{Moves, Table_moves, mode_stands, same_moves}
 
 -- where nothing changes, the others are as they were
 pub nothing_keeps : (v : View) (t : ℕ) → KeepsOthers v v t

@@ -1,9 +1,11 @@
 -- What a safepoint does to all threads.
-use Rattle.std.proofs.Common.{◌≡◌, ℕ, ◌+◌, ◌<◌, ◌≤◌, true, false, List, ◌∷◌, length, drop, refl, sym, ◌∙◌, ap, subst, arith, inl, inr}
+use Rattle.std.proofs.Common.{◌≡◌, ℕ, ◌+◌, ◌<◌, ◌≤◌, true, false, List, ◌∷◌, Vec, Global, length, drop, refl, sym, ◌∙◌, ap, subst, arith, inl, inr}
 use Rattle.std.proofs.Math.ListN.{set, length-set}
 use Rattle.std.proofs.lemmas.Bool.{cases_eq}
+use Rattle.std.proofs.lemmas.List.{with_items_is}
 use Rattle.std.proofs.lemmas.Option.{same_Some, slice_get_within, slice_get_cases}
 use Rattle.std.specs.Prelude.{Option, Some, IsSome, slice_get, slice_set, ◌⊎◌}
+use Rattle.std.specs.Vec.{with_items}
 use Rattle.melt_model.specs.declared.config.Config.{Config}
 use Rattle.melt_model.specs.declared.operations.Op.{Op}
 use Rattle.melt_model.specs.declared.operations.Op.TheVariants.{Collect}
@@ -22,8 +24,10 @@ use Rattle.melt_step.specs.declared.thread.Mode.TheVariants.{Running, Due, Silen
 use Rattle.melt_step.specs.Threads.{CollectorStands, KeepsRun, owes, IsPaused, NoneWaits, AllWait, MayGo, OweBehindCollects, ThreadStands, owes_silent, with_first, IsEnded, FitsMode, TableStands, CallsAgain, ForCollection, Waits, KnowsStop, jobs, jobs_of, left, CollectedFor, CollectedAt, CollectedAll, CalledAt, Resumed, Passed, Renewed}
 use Rattle.melt_step.proofs.Cuts.{first_left}
 use Rattle.melt_step.proofs.Modes.{Table_runs}
-use Rattle.melt_step.proofs.Tables.{Adds, adds_mode, set_got, Table_renewed}
-use Rattle.melt_step.proofs.Tables.{get_set_same, get_set_other}
+use Rattle.melt_step.proofs.Telling.{set_got}
+use Rattle.melt_step.proofs.Tables.{Table_renewed}
+use Rattle.melt_step.proofs.Counting.{Adds, adds_mode}
+use Rattle.melt_step.proofs.Telling.{get_set_same, get_set_other}
 
 -- a call was refused or was not
 calls_again : (mode : Mode) → CallsAgain mode ⊎ (CallsAgain mode → ⊥)
@@ -88,16 +92,6 @@ pub record AgainBelow (states after : List ThreadState) (n : ℕ) : Type 0 where
   pub table : (script : Script) (config : Config) (v : View) → TableStands script config v states → IsQuiet v → TableStands script config v after
   pub collected : (script : Script) (config : Config) (v : View) → TableStands script config v states → IsQuiet v → Adds script config states after 0
 
--- none of them does so yet
-pub again_none : (states : List ThreadState) → AgainBelow states states 0
-again_none states = record {
-  count = refl;
-  done = λ t s below at. absurd (omega (arith, below));
-  rest = λ t above. refl;
-  table = λ script config v table quiet. table;
-  collected = λ script config v table quiet. omega arith;
-}
-
 -- one thread more makes its call again
 pub again_more : (states after : List ThreadState) (n : ℕ) (s x : ThreadState) → AgainBelow states after n → slice_get after n ≡ Some s → MadeAgain s x → AgainBelow states (set after n x) (n + 1)
 again_more states after n s x so_far at made = record {
@@ -128,6 +122,13 @@ again_more states after n s x so_far at made = record {
       ] in
       omega (arith, before, one);
 }
+
+-- all of them do so, once none is left, in the list that a loop over them wrote
+pub again_done : (states : Vec ThreadState Global) (after : List ThreadState) (n : ℕ) → AgainBelow states.items after n
+    → AgainBelow states.items (with_items states after).items n
+again_done states after n again =
+    subst (λ (xs : List ThreadState). AgainBelow states.items xs n)
+    (sym (with_items_is states after (again.count ∙ sym states.ok.0))) again
 
 -- a thread whose call is made again has as much to do as before
 made_again_jobs : (s x : ThreadState) → MadeAgain s x → jobs_of x ≡ jobs_of s

@@ -15,7 +15,7 @@ use Rattle.melt_step.specs.declared.thread.ThreadState.{ThreadState}
 use Rattle.melt_step.specs.Threads.{CalledAlone, CalledAt, CalledFirst, CollectedAll, CollectedFor, ForCollection, IsPaused, JustCollected, MakesCollections, MakesFor, MakesForAll, NoneBelow, Planned, SomeLacks, Waits, collections_due, collections_for}
 use Rattle.melt_step.proofs.Journals.{planned_none, planned_then}
 use Rattle.melt_step.proofs.Passing.{CollectedBelow, NoneOwn, for_collection, waits_for}
-use Rattle.melt_step.proofs.Tables.{get_set_same, get_set_other}
+use Rattle.melt_step.proofs.Telling.{get_set_same, get_set_other}
 
 -- a thread that waits for a collection waits
 own_paused : (mode : Mode) → ForCollection mode → IsPaused mode

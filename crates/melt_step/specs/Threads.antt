@@ -245,7 +245,7 @@ pub record ThreadStep (v w : View) (t : ℕ) (s after : ThreadState) : Type 0 wh
   pub others : KeepsOthers v w t
   pub what : ((mode : Mode) × ThreadWaits v w t s after mode) ⊎ (ThreadGoes v w t s after ⊎ (ThreadRefused v w t s after ⊎ ThreadTold v w t s after))
 
--- a new epoch, in which all stands as before
+-- a new epoch, in which all stands as before: history, values and registers, and no call is in flight
 pub record Renewed (v w : View) : Type 0 where
   pub stands : Standing true w
   pub quiet : IsQuiet w
@@ -256,16 +256,9 @@ pub record Renewed (v w : View) : Type 0 where
   pub history : w.log ≡ v.log
   pub values : (t : ℕ) → values_of w t ≡ values_of v t
 
--- A collection: history, values and calls stay, and the words in use are those of what registers and globals reach.
+-- A collection: all stands as before, and the words in use are those of what registers and globals reach.
 pub record CoreCollected (v w : View) : Type 0 where
-  pub stands : Standing true w
-  pub quiet : IsQuiet w
-  pub globals : length w.globals ≡ length v.globals
-  pub words : length w.space.list ≡ length v.space.list
-  pub threads : length w.held ≡ length v.held
-  pub capacity : w.capacity ≡ v.capacity
-  pub history : w.log ≡ v.log
-  pub values : (t : ℕ) → values_of w t ≡ values_of v t
+  pub stays : Renewed v w
   pub stop : w.stop ≡ false
   pub alive : (used : ℕ) → w.free ≡ used + 1 → CostsSum (words_of w.log) (Alive w.log (value w)) used
 
@@ -517,3 +510,7 @@ abbrev pub potential : List ThreadState → List (Option Call) → ℕ
 potential [] calls = 0
 potential (s ∷ states) [] = 2000 * jobs s.mode (length (left s)) + turn_left s.mode None + potential states []
 potential (s ∷ states) (c ∷ calls) = 2000 * jobs s.mode (length (left s)) + turn_left s.mode c + potential states calls
+
+-- a run has less to do than before
+abbrev pub IsNearer : Run → Run → Type 0
+IsNearer old new = potential new.states.items (view new.core).calls < potential old.states.items (view old.core).calls

@@ -23,10 +23,10 @@ fn count_registers(registers: Registers)
 {}
 
 /// Each thread has 16 registers.
-fn count_all_registers(held: &[Registers])
-    ensures { All (λ registers. length registers.regs ≡ 16) held.now }
+fn count_all_registers(all: &[Registers])
+    ensures { All (λ each. length each.regs ≡ 16) all.now }
 {
-    for &registers in held {
+    for &registers in all {
         count_registers(registers);
     }
 }
@@ -35,23 +35,23 @@ fn count_all_registers(held: &[Registers])
 fn collect_uncounted<L: Ledger>(
     alloc: Global,
     heap: &mut Heap,
-    held: &mut [Registers],
+    registers: &mut [Registers],
     phase: Phase,
     blank: Blank,
 ) -> Result<Journal, NoMemory>
     requires name { blank.name ≡ L.name }
     requires parts { blank.parts ≡ L.parts }
     requires some { 0 < blank.parts }
-    requires formed { IsFormed heap.old held.old }
+    requires formed { IsFormed heap.old registers.old }
     requires phase { IsCopying phase }
-    ensures collected { IfOk result (Collects heap.old held.old heap.new held.new phase) }
-    ensures before { All (λ registers. length registers.regs ≡ 16) held.old }
-    ensures after { OnOk result (All (λ registers. length registers.regs ≡ 16) held.new) }
+    ensures collected { IfOk result (Collects heap.old registers.old heap.new registers.new phase) }
+    ensures before { All (λ each. length each.regs ≡ 16) registers.old }
+    ensures after { OnOk result (All (λ each. length each.regs ≡ 16) registers.new) }
 {
-    count_all_registers(held);
+    count_all_registers(registers);
     let mut steps = Steps::<L>::new(blank);
-    let journal = collect_copy(alloc, heap, held, phase, &mut steps)?;
-    count_all_registers(held);
+    let journal = collect_copy(alloc, heap, registers, phase, &mut steps)?;
+    count_all_registers(registers);
     Ok(journal)
 }
 

@@ -61,7 +61,19 @@ pub fn make_event(core: &mut Core, state: &mut ThreadState<'_>, thread: u32, eve
     }
 }
 
-/// A thread got a reply. One that has ended drops its registers.
+/// A thread that has ended drops its registers.
+pub fn drop_if_ended(core: &mut Core, mode: Mode, thread: u32)
+    requires stands { Standing true (view core.old) }
+    requires thread { thread < length (view core.old).held }
+    requires no_call { call_of (view core.old) thread ≡ None }
+    ensures { DropsIfEnded (view core.old) (view core.new) thread mode }
+{
+    if let Mode::Ended(_) = mode {
+        core.drop_all(thread);
+    }
+}
+
+/// A thread got a reply.
 pub fn answered(core: &mut Core, state: &mut ThreadState<'_>, thread: u32, reply: Reply, every: u32)
     requires stands { Standing true (view core.old) }
     requires thread { thread < length (view core.old).held }
@@ -72,9 +84,7 @@ pub fn answered(core: &mut Core, state: &mut ThreadState<'_>, thread: u32, reply
     ensures due { DueBy every state.old state.new }
 {
     state.take_reply(reply, every);
-    if state.has_ended() {
-        core.drop_all(thread);
-    }
+    drop_if_ended(core, state.mode, thread);
 }
 
 /// Makes the call of a thread alone, while all others wait. Answers the words that it lacked, if it was refused.

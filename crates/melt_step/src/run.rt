@@ -1,12 +1,12 @@
 //! Runs a trace by its written order.
-ghost use Rattle.std.specs.Prelude.{◌≡◌, ℕ, ◌<◌, length, slice_get, Some, true, false, IfOk};
+ghost use Rattle.std.specs.Prelude.{◌≡◌, ℕ, ◌<◌, length, slice_get, Some, None, IsSome, IfSome, true, false, IfOk};
 ghost use Rattle.melt_model.specs.Config.{InRanges};
 ghost use Rattle.melt_model.specs.declared.config.Config.{Config};
 ghost use Rattle.melt_trace.specs.Script.{Script};
 ghost use Rattle.melt_core.specs.Views.{view};
 ghost use Rattle.melt_step.specs.Run.{HasRun};
 ghost use Rattle.melt_step.specs.declared.thread.ThreadState.{ThreadState};
-ghost use Rattle.melt_step.specs.Threads.{AreNewThreads, IsEnded, KeepsRun, KnowsStop, MayGo, RunStands, SomeGoesOn, potential};
+ghost use Rattle.melt_step.specs.Threads.{AllWait, AreNewThreads, IsEnded, IsNearer, KeepsRun, KnowsStop, RunStands, SomeGoesOn};
 
 use crate::collector::Collector;
 use crate::events::make_event;
@@ -28,18 +28,22 @@ pub struct Run<'a> {
 }
 
 impl<'a> Run<'a> {
-    /// Makes the next event of a thread that can go on.
-    pub fn step(&mut self, thread: u32)
-        requires stands { (script : Script) × ((config : Config) × RunStands script config self.old) }
-        requires goes { (s : ThreadState) × (slice_get self.old.states.items thread ≡ Some s) × MayGo s.mode }
+    /// Makes the next event of the thread whose turn it is, and answers which one that is, if one can go on.
+    pub fn take_turn(&mut self, turns: &mut Turns, trace: &Trace) -> Option<u32>
+        requires stands { (config : Config) × RunStands trace.now config self.old }
         requires stop { KnowsStop (view self.old.core) self.old.states.items }
         ensures keeps { KeepsRun self.old self.new }
         ensures stop { KnowsStop (view self.new.core) self.new.states.items }
-        ensures count { length self.new.states.items ≡ length self.old.states.items }
-        ensures nearer { potential self.new.states.items (view self.new.core).calls < potential self.old.states.items (view self.old.core).calls }
+        ensures there { IfSome result (λ t. t < length self.new.states.items) }
+        ensures nearer { IsSome result → IsNearer self.old self.new }
+        ensures waits { result ≡ None → (self.new ≡ self.old) × AllWait self.old.states.items }
     {
+        let Some(thread) = turns.next(trace, &self.states) else {
+            return None;
+        };
         let state = &mut self.states[thread as usize];
         make_event(&mut self.core, state, thread, self.every);
+        Some(thread)
     }
 
     /// Whether all threads have ended.
@@ -57,7 +61,6 @@ impl<'a> Run<'a> {
 
     /// Gives out events until all threads have ended.
     fn run_all(self, alloc: Global, trace: &Trace) -> Result<Run<'a>, NoMemory>
-        requires count { length self.states.items ≡ length trace.now.programs }
         requires stands { (config : Config) × RunStands trace.now config self }
         requires stop { KnowsStop (view self.core) self.states.items }
         ensures keeps { IfOk result (KeepsRun self.entry) }
@@ -66,13 +69,13 @@ impl<'a> Run<'a> {
         let mut run = self;
         let mut turns = Turns::new();
         loop {
-            if let Some(t) = turns.next(trace, &run.states) {
-                run.step(t);
-            } else if run.has_ended() {
-                return Ok(run);
-            } else {
-                run = run.pass_safepoint(alloc)?;
+            if run.take_turn(&mut turns, trace).is_some() {
+                continue;
             }
+            if run.has_ended() {
+                return Ok(run);
+            }
+            run = run.pass_safepoint(alloc)?;
         }
     }
 

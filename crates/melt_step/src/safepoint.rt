@@ -6,7 +6,7 @@ ghost use Rattle.melt_core.specs.Views.{IsQuiet, Standing, view};
 ghost use Rattle.melt_step.specs.declared.thread.ThreadState.{ThreadState};
 ghost use Rattle.melt_step.specs.Threads.{AllWait, CalledAt, CalledFirst, CollectedAll, CollectedAt, ForCollection, IsPlanning, JustCollected, KeepsRun, KnowsStop, MakesCollections, MakesFor, MakesForAll, MakesPlanned, NoneBelow, Passed, Resumed, RunStands, SomeGoesOn, StandsCollected};
 
-use crate::events::{answered, call_alone};
+use crate::events::{call_alone, drop_if_ended};
 use crate::run::Run;
 use crate::thread::Mode;
 use melt_core::Core;
@@ -39,28 +39,20 @@ impl<'a> Run<'a> {
     {
         match self.states[thread as usize].mode {
             Mode::Collecting => {
-                let Run {
-                    mut core,
-                    mut states,
-                    collector,
-                    every,
-                } = self.collect(alloc)?;
-                let state = &mut states[thread as usize];
-                answered(&mut core, state, thread, Reply::Done, every);
-                Ok(Run {
-                    core,
-                    states,
-                    collector,
-                    every,
-                })
+                let mut run = self.collect(alloc)?;
+                let every = run.every;
+                let state = &mut run.states[thread as usize];
+                state.take_reply(Reply::Done, every);
+                let mode = state.mode;
+                drop_if_ended(&mut run.core, mode, thread);
+                Ok(run)
             }
             Mode::Silent => {
                 let mut run = self.collect(alloc)?;
                 let state = &mut run.states[thread as usize];
                 state.go_on();
-                if state.has_ended() {
-                    run.core.drop_all(thread);
-                }
+                let mode = state.mode;
+                drop_if_ended(&mut run.core, mode, thread);
                 Ok(run)
             }
             _ => Ok(self),

@@ -166,11 +166,10 @@ fn expect_events<R: Abort>(rt: &R, trace: &Trace, run: &mut Run<'_>, events: &[(
 {
     let mut turns = Turns::new();
     for &(thread, replies) in events {
-        let Some(next) = turns.next(trace, &run.states) else {
+        let Some(next) = run.take_turn(&mut turns, trace) else {
             panic!(rt; "no thread can go on");
         };
         assert_eq!(rt; next, thread);
-        run.step(next);
         assert_eq!(rt; run.states[next as usize].replies.len(), replies);
     }
     assert_eq!(rt; turns.next(trace, &run.states), None);

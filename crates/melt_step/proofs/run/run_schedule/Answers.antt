@@ -2,9 +2,6 @@
 use Rattle.std.proofs.lemmas.Result.{IfOk-weaker}
 use Rattle.melt_step.proofs.run.run_schedule.Goals as goal
 
-pub run_all-requires-clause-count : goal.run_all-requires-clause-count
-run_all-requires-clause-count c = c.in_ok-run.ensures.stands.table.count
-
 pub run_all-requires-clause-stands : goal.run_all-requires-clause-stands
 run_all-requires-clause-stands c = (c.args.config, c.in_ok-run.ensures.stands)
 

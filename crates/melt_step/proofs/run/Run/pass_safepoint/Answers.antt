@@ -71,7 +71,7 @@ before_call c =
             keeps = λ script config stands. Run_collected script config mid run stands made;
             states = made.states;
             just = just_made mid run run made refl refl refl;
-            quiet = made.collected.quiet;
+            quiet = made.collected.stays.quiet;
             own = λ some. absurd (some none.0);
             room = λ nothing. one;
           })
