@@ -58,7 +58,8 @@ in_front k front is =
     elim (cases_lt k front) [ inl below ↦ below | inr above ↦ absurd (let not = le-ltb k front above in cc) ]
 
 module _ (phase : Phase) (maps : Maps) (s t : State) (f : ℕ → ℕ) (moves : List Relocation) (front : ℕ)
-    (whole : IsWhole s) (copy : IsCopy phase s t f moves front) (none : HasNoScions s.base) (formed : Formed maps s) where
+    (whole : IsWhole s) (copy : IsCopy phase s t f moves front) (none : HasNoScions s.base)
+    (formed : Formed maps s) where
   -- the object that was found at an address, and its header before and after
   record FoundAt (a : ℕ) (header : Header) : Type 0 where
     pub index : ℕ

@@ -14,7 +14,8 @@ use Rattle.melt_word.specs.declared.header.Shape.{Shape}
 use Rattle.melt_word.specs.declared.header.Header.{Header}
 use Rattle.melt_record.specs.Records.{IsSlotWord}
 use Rattle.melt_scion.specs.State.{Base, State, HeaderAt, Follow, IsReserved}
-use Rattle.melt_scion.specs.Placed.{Maps, HasObject, IsTaken, IsFreeHome, IsBody, IsStub, IsForwarded, HomeStands, value_of, value_at, Stands, FormedWords, Tells, Placed}
+use Rattle.melt_scion.specs.Placed.{Maps, HasObject, IsTaken, IsFreeHome, IsBody, IsStub, IsForwarded, HomeStands}
+use Rattle.melt_scion.specs.Placed.{value_of, value_at, Stands, FormedWords, Tells, Placed}
 use Rattle.melt_scion.proofs.Homeless.{HasNoScions}
 use Rattle.melt_copy.specs.declared.forwarding.Relocation.{Relocation}
 use Rattle.melt_copy.specs.Moving.{IsWhole, IsCopy, name_after, maps_after}

@@ -1,5 +1,6 @@
 -- What was copied, and what is put back.
-use Rattle.std.specs.Prelude.{◌≡◌, ℕ, ◌<◌, ◌≤◌, nat_lt, List, length, map, take, slice_get, slice_index, Option, None, Some}
+use Rattle.std.specs.Prelude.{◌≡◌, ℕ, ◌<◌, ◌≤◌, nat_lt, List, length, map, take, slice_get, slice_index, Option, None}
+use Rattle.std.specs.Prelude.{Some}
 use Rattle.melt_model.specs.declared.reports.Phase.{Phase}
 use Rattle.melt_space.specs.Space.{Replaces}
 use Rattle.melt_scion.specs.State.{State}
@@ -25,16 +26,19 @@ pub record IsCopied (phase : Phase) (s : State) (names : Option Names) (copied :
   pub whole : IsWhole s
   pub holds : Relocates s (goes copied.forwarding) copied.forwarding.moves.items copied.forwarding.next
   pub size : length copied.words.items ≡ words_in copied.forwarding.moves.items
-  pub objects : (k : ℕ) (m : Relocation) → slice_get copied.forwarding.moves.items k ≡ Some m → ObjectMoves phase (nat_lt k front) (goes copied.forwarding) s (word_in copied.words.items) m
+  pub objects : (k : ℕ) (m : Relocation) → slice_get copied.forwarding.moves.items k ≡ Some m
+      → ObjectMoves phase (nat_lt k front) (goes copied.forwarding) s (word_in copied.words.items) m
   pub globals_count : length copied.globals.items ≡ s.base.globals
-  pub globals : (g : ℕ) → g < s.base.globals → WordMoves phase (goes copied.forwarding) (s.global g) (slice_index copied.globals.items g)
+  pub globals : (g : ℕ) → g < s.base.globals
+      → WordMoves phase (goes copied.forwarding) (s.global g) (slice_index copied.globals.items g)
   pub held : AreHeld s copied.forwarding.moves.items front
   pub held_words : copied.held ≡ words_in (take front copied.forwarding.moves.items)
   pub numbers : NumbersAre names copied.forwarding.moves.items copied.numbers.items
 
 -- for each map with which the heap is well formed
 abbrev pub Copies : Phase → Heap → List Registers → Copied → Type 0
-Copies phase heap held copied = (maps : Maps) (end : ℕ) → Formed maps (state_of heap held end) → IsCopied phase (state_of heap held end) heap.names copied
+Copies phase heap held copied = (maps : Maps) (end : ℕ) → Formed maps (state_of heap held end)
+    → IsCopied phase (state_of heap held end) heap.names copied
 
 -- the names can be given anew
 pub record CanRename (used : ℕ) (names : Names) (moves : List Relocation) (numbers : List (Option ℕ)) : Type 0 where
@@ -42,7 +46,8 @@ pub record CanRename (used : ℕ) (names : Names) (moves : List Relocation) (num
   pub behind : (k : ℕ) → used < k → name_at names.addresses k ≡ None
   pub numbers_are : numbers ≡ map (λ (m : Relocation). name_at names.addresses m.from) moves
   pub places : (k : ℕ) (m : Relocation) → slice_get moves k ≡ Some m → (1 ≤ m.to) × (m.to ≤ used)
-  pub apart : (i j : ℕ) (m n : Relocation) → slice_get moves i ≡ Some m → slice_get moves j ≡ Some n → m.to ≡ n.to → i ≡ j
+  pub apart : (i j : ℕ) (m n : Relocation) → slice_get moves i ≡ Some m → slice_get moves j ≡ Some n → m.to ≡ n.to
+      → i ≡ j
 
 abbrev pub MayRename : ℕ → Option Names → List Relocation → List (Option ℕ) → Type 0
 MayRename used None moves numbers = Unit {0}
@@ -51,7 +56,9 @@ MayRename used (Some names) moves numbers = CanRename used names moves numbers
 -- names are those of the moved objects, where there are any
 abbrev pub AreRenamed : Option Names → Option Names → List Relocation → Type 0
 AreRenamed None None moves = Unit {0}
-AreRenamed (Some old) (Some new) moves = ((k : ℕ) → name_at new.addresses k ≡ name_after (name_at old.addresses) moves k) × (length new.addresses ≡ length old.addresses)
+AreRenamed (Some old) (Some new) moves =
+    ((k : ℕ) → name_at new.addresses k ≡ name_after (name_at old.addresses) moves k)
+    × (length new.addresses ≡ length old.addresses)
 AreRenamed None (Some new) moves = ⊥
 AreRenamed (Some old) None moves = ⊥
 

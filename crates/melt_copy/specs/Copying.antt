@@ -29,7 +29,8 @@ pub record Journals (journal : Journal) (phase : Phase) (used : ℕ) : Type 0 wh
 
 -- What was collected, by the maps with which heap and registers were well formed: the maps after it, and where each
 -- object went. Live are the words of all objects after it, and held those of the objects in registers before it.
-pub record HasCollected (maps : Maps) (end : ℕ) (old new : Heap) (held held_after : List Registers) (phase : Phase) (journal : Journal) : Type 0 where
+pub record HasCollected (maps : Maps) (end : ℕ) (old new : Heap) (held held_after : List Registers) (phase : Phase)
+    (journal : Journal) : Type 0 where
   pub after : Maps
   pub to : ℕ → ℕ
   pub names : HasNames new.names after

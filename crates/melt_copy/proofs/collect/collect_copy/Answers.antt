@@ -36,4 +36,6 @@ returns-clause-collected g c =
     let copied = c.in_ok-copied.copied in
     let OfCopy : Heap → Type 0 = λ h. Copies c.args.phase h c.args.held.now copied in
     let OfPut : Heap → Type 0 = λ h. IsPutBack h c.put_back.new.heap c.args.held.now c.put_back.new.held copied in
-    put_collects c.args.heap.now _ c.args.held.now c.put_back.new.held copied c.args.phase _ c.requires.phase (subst OfCopy c.room_for_copy.ensures c.in_ok-copied.ensures) (subst OfPut c.room_for_copy.ensures c.put_back.ensures) refl refl c.used.ensures.value refl refl refl
+    put_collects c.args.heap.now _ c.args.held.now c.put_back.new.held copied c.args.phase _ c.requires.phase
+    (subst OfCopy c.room_for_copy.ensures c.in_ok-copied.ensures)
+    (subst OfPut c.room_for_copy.ensures c.put_back.ensures) refl refl c.used.ensures.value refl refl refl
