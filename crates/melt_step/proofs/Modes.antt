@@ -1,5 +1,6 @@
 -- What a run keeps where the mode of a thread changes, and what it knows of the stop word.
-use Rattle.std.proofs.Common.{◌≡◌, ◌≢◌, ℕ, true, false, List, [], length, take, refl, sym, ◌∙◌, ap, subst, arith, inl, inr}
+use Rattle.std.proofs.Common.{◌≡◌, ◌≢◌, ℕ, true, false, List, [], length, take, refl, sym, ◌∙◌, ap, subst, arith, inl}
+use Rattle.std.proofs.Common.{inr}
 use Rattle.std.proofs.Math.ListN.{set, length-set}
 use Rattle.std.proofs.lemmas.Bool.{cases_eq}
 use Rattle.std.proofs.lemmas.List.{append-nil}
@@ -19,24 +20,40 @@ use Rattle.melt_core.specs.Epochs.{HasDropped, no_registers}
 use Rattle.melt_step.specs.declared.thread.ThreadState.{ThreadState}
 use Rattle.melt_step.specs.declared.thread.Mode.{Mode}
 use Rattle.melt_step.specs.declared.thread.Mode.TheVariants.{Running, Due, Silent, Collecting, Asked, Lacking, Ended}
-use Rattle.melt_step.specs.Threads.{with_first, left, MayGo, IsEnded, ThreadStands, EndsSo, LacksNow, Later, TableStands, AllWait, Waits, KnowsStop, SetsStop, SomeGoesOn}
+use Rattle.melt_step.specs.Threads.{with_first, left, MayGo, IsEnded, ThreadStands, EndsSo, LacksNow, Later}
+use Rattle.melt_step.specs.Threads.{TableStands, AllWait, Waits, KnowsStop, SetsStop, SomeGoesOn}
 use Rattle.melt_step.proofs.Cuts.{replies_here, LacksNow_same}
 use Rattle.melt_step.proofs.Telling.{get_set_same, get_set_other, replies_same, later_set}
 use Rattle.melt_step.proofs.Tables.{Moves, Table_moves, mode_stands, same_moves}
 
 -- where nothing changes, the others are as they were
 pub nothing_keeps : (v : View) (t : ℕ) → KeepsOthers v v t
-nothing_keeps v t = record { globals = refl; words = refl; threads = refl; capacity = refl; calls = λ u differ. refl; registers = λ u differ. refl; values = λ u differ. refl }
+nothing_keeps v t =
+    record {
+      globals = refl;
+      words = refl;
+      threads = refl;
+      capacity = refl;
+      calls = λ u differ. refl;
+      registers = λ u differ. refl;
+      values = λ u differ. refl;
+    }
 
 -- a thread without a call in flight runs on with its next operation
-pub Table_runs : (script : Script) (config : Config) (v : View) (states : List ThreadState) (t : ℕ) (s : ThreadState) → TableStands script config v states → slice_get states t ≡ Some s → (IsEnded s.mode → ⊥) → IsSome s.op → call_of v t ≡ None → TableStands script config v (set states t (record s { mode = Running }))
+pub Table_runs : (script : Script) (config : Config) (v : View) (states : List ThreadState) (t : ℕ) (s : ThreadState)
+    → TableStands script config v states → slice_get states t ≡ Some s → (IsEnded s.mode → ⊥) → IsSome s.op
+    → call_of v t ≡ None → TableStands script config v (set states t (record s { mode = Running }))
 Table_runs script config v states t s table at goes op no_call =
     let runs : ThreadStands script v t (record s { mode = Running }) =
     mode_stands script v v t s Running (table.each t s at) goes (λ over. over) refl refl op (λ c is. absurd (cc)) in
-    Table_moves script config v v states t s (record s { mode = Running }) table at goes table.stands (nothing_keeps v t) (same_moves script config v v states t s Running (λ owes. absurd (let wrong : false ≡ true = owes in cc)) (λ over. over) refl runs)
+    Table_moves script config v v states t s (record s { mode = Running }) table at goes table.stands
+    (nothing_keeps v t) (same_moves script config v v states t s Running
+    (λ owes. absurd (let wrong : false ≡ true = owes in cc)) (λ over. over) refl runs)
 
 -- a thread that has no operation left has its replies
-pub ends_done : (script : Script) (config : Config) (v : View) (states : List ThreadState) (t : ℕ) (s : ThreadState) → TableStands script config v states → slice_get states t ≡ Some s → s.op ≡ None → EndsSo script v.log states config t (Ended end.Done)
+pub ends_done : (script : Script) (config : Config) (v : View) (states : List ThreadState) (t : ℕ) (s : ThreadState)
+    → TableStands script config v states → slice_get states t ≡ Some s → s.op ≡ None
+    → EndsSo script v.log states config t (Ended end.Done)
 ends_done script config v states t s table at none =
     let st : ThreadStands script v t s = table.each t s at in
     let nothing : left s ≡ [] = ap (λ (o : Option Op). with_first o s.cursor.operations) none ∙ st.none_left none in
@@ -50,26 +67,34 @@ dropped_keeps v w t dropped = record {
   threads = ap (λ (x : View). length x.held) dropped.only ∙ length-set v.held t no_registers;
   capacity = ap (λ (x : View). x.capacity) dropped.only;
   calls = λ u differ. ap (λ (x : View). call_of x u) dropped.only;
-  registers = λ u differ. ap (λ (x : View). registers_in x.held u) dropped.only ∙ registers_other v.held t u (replicate 16 0) differ;
+  registers = λ u differ. ap (λ (x : View). registers_in x.held u) dropped.only
+      ∙ registers_other v.held t u (replicate 16 0) differ;
   values = dropped.others;
 }
 
 -- why a thread ends is so when it has ended
-ends_gone : (script : Script) (log : List Entry) (states : List ThreadState) (config : Config) (t : ℕ) (s : ThreadState) (e : ThreadEnd) → slice_get states t ≡ Some s → (IsEnded s.mode → ⊥) → EndsSo script log states config t (Ended e) → EndsSo script log (set states t (record s { mode = Ended e })) config t (Ended e)
+ends_gone : (script : Script) (log : List Entry) (states : List ThreadState) (config : Config) (t : ℕ) (s : ThreadState)
+    (e : ThreadEnd) → slice_get states t ≡ Some s → (IsEnded s.mode → ⊥) → EndsSo script log states config t (Ended e)
+    → EndsSo script log (set states t (record s { mode = Ended e })) config t (Ended e)
 ends_gone script log states config t s end.Done at goes ends =
     let after : ThreadState = record s { mode = Ended end.Done } in
     ap length (replies_same states t s after at ∙ sym (replies_here states t s at)) ∙ ends
 ends_gone script log states config t s (end.OutOfHeap held_words need) at goes ends =
     let after : ThreadState = record s { mode = Ended (end.OutOfHeap held_words need) } in
-    let later : Later states (set states t after) = later_set states t s after [] at goes (sym (append-nil s.replies.items)) in
+    let later : Later states (set states t after) =
+    later_set states t s after [] at goes (sym (append-nil s.replies.items)) in
     subst (λ (h : List Entry). LacksNow script h (set states t after) config t held_words need) (append-nil log)
-    (LacksNow_same script log [] states (set states t after) config t held_words need later (replies_same states t s after at ∙ sym (replies_here states t s at)) ends)
+    (LacksNow_same script log [] states (set states t after) config t held_words need later
+    (replies_same states t s after at ∙ sym (replies_here states t s at)) ends)
 ends_gone script log states config t s end.DiskFault at goes ends = absurd ends
 ends_gone script log states config t s (end.Damaged home place word) at goes ends = absurd ends
 ends_gone script log states config t s end.Halted at goes ends = absurd ends
 
 -- a thread ends, and its registers are dropped
-pub Table_gone : (script : Script) (config : Config) (v w : View) (states : List ThreadState) (t : ℕ) (s : ThreadState) (e : ThreadEnd) → TableStands script config v states → slice_get states t ≡ Some s → (IsEnded s.mode → ⊥) → HasDropped v w t → call_of v t ≡ None → EndsSo script v.log states config t (Ended e) → TableStands script config w (set states t (record s { mode = Ended e }))
+pub Table_gone : (script : Script) (config : Config) (v w : View) (states : List ThreadState) (t : ℕ) (s : ThreadState)
+    (e : ThreadEnd) → TableStands script config v states → slice_get states t ≡ Some s → (IsEnded s.mode → ⊥)
+    → HasDropped v w t → call_of v t ≡ None → EndsSo script v.log states config t (Ended e)
+    → TableStands script config w (set states t (record s { mode = Ended e }))
 Table_gone script config v w states t s e table at goes dropped no_call ends =
     let st : ThreadStands script v t s = table.each t s at in
     let after : ThreadState = record s { mode = Ended e } in
@@ -79,10 +104,13 @@ Table_gone script config v w states t s e table at goes dropped no_call ends =
       within = st.within;
       none_left = st.none_left;
       registers = st.registers;
-      told = subst (λ (h : List Entry). Stands h t (take (length s.replies.items) (operations script t)) s.replies.items st.registers) (sym history) st.told;
+      told =
+          subst (λ (h : List Entry). Stands h t (take (length s.replies.items) (operations script t)) s.replies.items
+          st.registers) (sym history) st.told;
       in_registers = inl tt;
       dropped = λ over. dropped.here;
-      call = λ c is. absurd (let none : call_of w t ≡ None = ap (λ (x : View). call_of x t) dropped.only ∙ no_call in cc);
+      call =
+          λ c is. absurd (let none : call_of w t ≡ None = ap (λ (x : View). call_of x t) dropped.only ∙ no_call in cc);
       fits = tt;
       in_range = st.in_range;
       globals = st.globals;
@@ -95,11 +123,13 @@ Table_gone script config v w states t s e table at goes dropped no_call ends =
       replies = sym (append-nil s.replies.items);
       stands = gone;
       due = λ owes. absurd (let wrong : false ≡ true = owes in cc);
-      ends = subst (λ (h : List Entry). EndsSo script h (set states t after) config t (Ended e)) (sym history) (ends_gone script v.log states config t s e at goes ends);
+      ends = subst (λ (h : List Entry). EndsSo script h (set states t after) config t (Ended e)) (sym history)
+          (ends_gone script v.log states config t s e at goes ends);
       made_last = λ k below last. absurd (omega arith);
       entries = let same : length w.log ≡ length v.log = ap length history in omega arith;
     } in
-    Table_moves script config v w states t s after table at goes (dropped.keeps true table.stands) (dropped_keeps v w t dropped) moves
+    Table_moves script config v w states t s after table at goes (dropped.keeps true table.stands)
+    (dropped_keeps v w t dropped) moves
 
 -- a thread that can go on does not wait
 goes_waits : (mode : Mode) → MayGo mode → Waits mode → ⊥
@@ -116,11 +146,14 @@ abbrev SomeWaits : List ThreadState → Type 0
 SomeWaits states = (t : ℕ) × ((s : ThreadState) × (slice_get states t ≡ Some s) × Waits s.mode)
 
 -- what is known of the stop word stays known
-pub stop_known : (v w : View) (states : List ThreadState) (t : ℕ) (s after : ThreadState) → KnowsStop v states → slice_get states t ≡ Some s → MayGo s.mode → SetsStop v w after → KnowsStop w (set states t after)
+pub stop_known : (v w : View) (states : List ThreadState) (t : ℕ) (s after : ThreadState) → KnowsStop v states
+    → slice_get states t ≡ Some s → MayGo s.mode → SetsStop v w after → KnowsStop w (set states t after)
 stop_known v w states t s after known at goes sets = record {
   waits = λ u x is waits. elim (cases_eq u t) [
     | inl same ↦
-        let is_after : after ≡ x = same_Some after x (sym (get_set_same states t s after at) ∙ (ap (λ (k : ℕ). slice_get (set states t after) k) (sym same) ∙ is)) in
+        let is_after : after ≡ x =
+        same_Some after x (sym (get_set_same states t s after at)
+        ∙ (ap (λ (k : ℕ). slice_get (set states t after) k) (sym same) ∙ is)) in
         sets.waits (subst (λ (y : ThreadState). Waits y.mode) (sym is_after) waits)
     | inr differ ↦ sets.stays (known.waits u x (sym (get_set_other states t u after differ) ∙ is) waits)
   ];
@@ -137,14 +170,17 @@ stop_known v w states t s after known at goes sets = record {
   ];
   asked = λ u x is mode. elim (cases_eq u t) [
     | inl same ↦
-        let is_after : after ≡ x = same_Some after x (sym (get_set_same states t s after at) ∙ (ap (λ (k : ℕ). slice_get (set states t after) k) (sym same) ∙ is)) in
+        let is_after : after ≡ x =
+        same_Some after x (sym (get_set_same states t s after at)
+        ∙ (ap (λ (k : ℕ). slice_get (set states t after) k) (sym same) ∙ is)) in
         sets.asked (ap (λ (y : ThreadState). y.mode) is_after ∙ mode)
     | inr differ ↦ sets.stays (known.asked u x (sym (get_set_other states t u after differ) ∙ is) mode)
   ];
 }
 
 -- a thread that can not go on waits, or was refused as another does
-waits_by : (v : View) (states : List ThreadState) → KnowsStop v states → (t : ℕ) (s : ThreadState) (mode : Mode) → slice_get states t ≡ Some s → s.mode ≡ mode → (MayGo mode → ⊥) → (IsEnded mode → ⊥) → SomeWaits states
+waits_by : (v : View) (states : List ThreadState) → KnowsStop v states → (t : ℕ) (s : ThreadState) (mode : Mode)
+    → slice_get states t ≡ Some s → s.mode ≡ mode → (MayGo mode → ⊥) → (IsEnded mode → ⊥) → SomeWaits states
 waits_by v states known t s Running at is stays goes = absurd (stays tt)
 waits_by v states known t s Due at is stays goes = absurd (stays tt)
 waits_by v states known t s Silent at is stays goes = (t, (s, at, subst Waits (sym is) tt))
@@ -154,6 +190,7 @@ waits_by v states known t s Lacking at is stays goes = (t, (s, at, subst Waits (
 waits_by v states known t s (Ended e) at is stays goes = absurd (goes tt)
 
 -- where no thread can go on, one waits
-pub someone_waits : (v : View) (states : List ThreadState) → KnowsStop v states → AllWait states → SomeGoesOn states → (t : ℕ) × ((s : ThreadState) × (slice_get states t ≡ Some s) × Waits s.mode)
+pub someone_waits : (v : View) (states : List ThreadState) → KnowsStop v states → AllWait states → SomeGoesOn states
+    → (t : ℕ) × ((s : ThreadState) × (slice_get states t ≡ Some s) × Waits s.mode)
 someone_waits v states known waits some =
     waits_by v states known some.0 some.1.0 some.1.0.mode some.1.1 refl (waits some.0 some.1.0 some.1.1) some.1.2

@@ -1,5 +1,6 @@
 -- What a safepoint does to all threads.
-use Rattle.std.proofs.Common.{◌≡◌, ℕ, ◌+◌, ◌<◌, ◌≤◌, true, false, List, ◌∷◌, Vec, Global, length, drop, refl, sym, ◌∙◌, ap, subst, arith, inl, inr}
+use Rattle.std.proofs.Common.{◌≡◌, ℕ, ◌+◌, ◌<◌, ◌≤◌, true, false, List, ◌∷◌, Vec, Global, length, drop, refl, sym, ◌∙◌}
+use Rattle.std.proofs.Common.{ap, subst, arith, inl, inr}
 use Rattle.std.proofs.Math.ListN.{set, length-set}
 use Rattle.std.proofs.lemmas.Bool.{cases_eq}
 use Rattle.std.proofs.lemmas.List.{with_items_is}
@@ -21,7 +22,10 @@ use Rattle.melt_step.specs.declared.run.Run.{Run}
 use Rattle.melt_step.specs.declared.thread.ThreadState.{ThreadState}
 use Rattle.melt_step.specs.declared.thread.Mode.{Mode}
 use Rattle.melt_step.specs.declared.thread.Mode.TheVariants.{Running, Due, Silent, Collecting, Asked, Lacking, Ended}
-use Rattle.melt_step.specs.Threads.{CollectorStands, KeepsRun, owes, IsPaused, NoneWaits, AllWait, MayGo, OweBehindCollects, ThreadStands, owes_silent, with_first, IsEnded, FitsMode, TableStands, CallsAgain, ForCollection, Waits, KnowsStop, jobs, jobs_of, left, CollectedFor, CollectedAt, CollectedAll, CalledAt, Resumed, Passed, Renewed}
+use Rattle.melt_step.specs.Threads.{CollectorStands, KeepsRun, owes, IsPaused, NoneWaits, AllWait, MayGo}
+use Rattle.melt_step.specs.Threads.{OweBehindCollects, ThreadStands, owes_silent, with_first, IsEnded, FitsMode}
+use Rattle.melt_step.specs.Threads.{TableStands, CallsAgain, ForCollection, Waits, KnowsStop, jobs, jobs_of, left}
+use Rattle.melt_step.specs.Threads.{CollectedFor, CollectedAt, CollectedAll, CalledAt, Resumed, Passed, Renewed}
 use Rattle.melt_step.proofs.Cuts.{first_left}
 use Rattle.melt_step.proofs.Modes.{Table_runs}
 use Rattle.melt_step.proofs.Telling.{set_got}
@@ -87,38 +91,53 @@ pub record MadeAgain (s after : ThreadState) : Type 0 where
 -- So many threads make their calls again, and the others are as they were.
 pub record AgainBelow (states after : List ThreadState) (n : ℕ) : Type 0 where
   pub count : length after ≡ length states
-  pub done : (t : ℕ) (s : ThreadState) → t < n → slice_get states t ≡ Some s → (x : ThreadState) × (slice_get after t ≡ Some x) × MadeAgain s x
+  pub done : (t : ℕ) (s : ThreadState) → t < n → slice_get states t ≡ Some s
+      → (x : ThreadState) × (slice_get after t ≡ Some x) × MadeAgain s x
   pub rest : (t : ℕ) → n ≤ t → slice_get after t ≡ slice_get states t
-  pub table : (script : Script) (config : Config) (v : View) → TableStands script config v states → IsQuiet v → TableStands script config v after
-  pub collected : (script : Script) (config : Config) (v : View) → TableStands script config v states → IsQuiet v → Adds script config states after 0
+  pub table : (script : Script) (config : Config) (v : View) → TableStands script config v states → IsQuiet v
+      → TableStands script config v after
+  pub collected : (script : Script) (config : Config) (v : View) → TableStands script config v states → IsQuiet v
+      → Adds script config states after 0
 
 -- one thread more makes its call again
-pub again_more : (states after : List ThreadState) (n : ℕ) (s x : ThreadState) → AgainBelow states after n → slice_get after n ≡ Some s → MadeAgain s x → AgainBelow states (set after n x) (n + 1)
+pub again_more : (states after : List ThreadState) (n : ℕ) (s x : ThreadState) → AgainBelow states after n
+    → slice_get after n ≡ Some s → MadeAgain s x → AgainBelow states (set after n x) (n + 1)
 again_more states after n s x so_far at made = record {
   count = length-set after n x ∙ so_far.count;
   done = λ t y below there. elim (cases_eq t n) [
     | inl same ↦
-        let here : slice_get states t ≡ Some s = ap (slice_get states) same ∙ (sym (so_far.rest n (omega arith)) ∙ at) in
-        (x, ap (slice_get (set after n x)) same ∙ get_set_same after n s x at, subst (λ (z : ThreadState). MadeAgain z x) (same_Some s y (sym here ∙ there)) made)
+        let here : slice_get states t ≡ Some s =
+        ap (slice_get states) same ∙ (sym (so_far.rest n (omega arith)) ∙ at) in (
+          x,
+          ap (slice_get (set after n x)) same
+              ∙ get_set_same after n s x at,
+          subst (λ (z : ThreadState). MadeAgain z x) (same_Some s y (sym here ∙ there)) made,
+        )
     | inr other ↦
-        let w : (z : ThreadState) × (slice_get after t ≡ Some z) × MadeAgain y z = so_far.done t y (omega (arith, other, below)) there in
+        let w : (z : ThreadState) × (slice_get after t ≡ Some z) × MadeAgain y z =
+        so_far.done t y (omega (arith, other, below)) there in
         (w.0, get_set_other after n t x other ∙ w.1, w.2)
   ];
-  rest = λ t above. get_set_other after n t x (λ same. omega (arith, same, above)) ∙ so_far.rest t (omega (arith, above));
+  rest = λ t above. get_set_other after n t x (λ same. omega (arith, same, above))
+      ∙ so_far.rest t (omega (arith, above));
   table = λ script config v table quiet.
       let before : TableStands script config v after = so_far.table script config v table quiet in
       elim (calls_again s.mode) [
         | inl again ↦
             subst (λ (z : ThreadState). TableStands script config v (set after n z)) (sym (made.again again))
-            (Table_runs script config v after n s before at (again_open s.mode again) (again_some s.mode s.op again (before.each n s at).fits) (quiet n))
-        | inr not ↦ subst (TableStands script config v) (sym (ap (set after n) (made.same not) ∙ set_got after n s at)) before
+            (Table_runs script config v after n s before at (again_open s.mode again)
+            (again_some s.mode s.op again (before.each n s at).fits) (quiet n))
+        | inr not ↦ subst (TableStands script config v)
+            (sym (ap (set after n) (made.same not) ∙ set_got after n s at)) before
       ];
   collected = λ script config v table quiet.
       let before : Adds script config states after 0 = so_far.collected script config v table quiet in
       let stands : TableStands script config v after = so_far.table script config v table quiet in
       let one : Adds script config after (set after n x) 0 = elim (calls_again s.mode) [
-        | inl again ↦ subst (λ (z : ThreadState). Adds script config after (set after n z) 0) (sym (made.again again)) (adds_mode script config after n s Running at stands.count (again_owes s.mode again))
-        | inr not ↦ subst (λ (xs : List ThreadState). Adds script config after xs 0) (sym (ap (set after n) (made.same not) ∙ set_got after n s at)) (omega arith)
+        | inl again ↦ subst (λ (z : ThreadState). Adds script config after (set after n z) 0) (sym (made.again again))
+            (adds_mode script config after n s Running at stands.count (again_owes s.mode again))
+        | inr not ↦ subst (λ (xs : List ThreadState). Adds script config after xs 0)
+            (sym (ap (set after n) (made.same not) ∙ set_got after n s at)) (omega arith)
       ] in
       omega (arith, before, one);
 }
@@ -151,7 +170,8 @@ paused_for (Ended e) paused = absurd paused
 made_again_goes : (s x : ThreadState) → (ForCollection s.mode → ⊥) → MadeAgain s x → IsPaused x.mode → ⊥
 made_again_goes s x own made paused = elim (calls_again s.mode) [
   | inl again ↦ subst (λ (z : ThreadState). IsPaused z.mode) (made.again again) paused
-  | inr not ↦ elim (paused_for s.mode (subst (λ (z : ThreadState). IsPaused z.mode) (made.same not) paused)) [ inl for ↦ own for | inr again ↦ not again ]
+  | inr not ↦ elim (paused_for s.mode (subst (λ (z : ThreadState). IsPaused z.mode) (made.same not) paused))
+      [ inl for ↦ own for | inr again ↦ not again ]
 ]
 
 -- no thread waits for a collection of its own
@@ -159,24 +179,28 @@ abbrev pub NoneOwn : List ThreadState → Type 0
 NoneOwn states = (t : ℕ) (s : ThreadState) → slice_get states t ≡ Some s → ForCollection s.mode → ⊥
 
 -- so no thread waits any more
-pub again_goes : (states after : List ThreadState) (n : ℕ) → AgainBelow states after n → length states ≤ n → NoneOwn states → NoneWaits after
+pub again_goes : (states after : List ThreadState) (n : ℕ) → AgainBelow states after n → length states ≤ n
+    → NoneOwn states → NoneWaits after
 again_goes states after n again all own = λ t x at paused.
     let below : t < length after = slice_get_within after t x at in
     elim (slice_get_cases states t).1 [
       | inl w ↦
-          let z : (z : ThreadState) × (slice_get after t ≡ Some z) × MadeAgain w.0 z = again.done t w.0 (omega (arith, all, w.1)) w.2 in
+          let z : (z : ThreadState) × (slice_get after t ≡ Some z) × MadeAgain w.0 z =
+          again.done t w.0 (omega (arith, all, w.1)) w.2 in
           made_again_goes w.0 x (own t w.0 w.2) (subst (MadeAgain w.0) (same_Some z.0 x (sym z.1 ∙ at)) z.2) paused
       | inr w ↦ absurd (omega (arith, below, again.count, w.0))
     ]
 
 -- and all threads have as much to do as before
-pub again_resumed : (states after : List ThreadState) (n : ℕ) → AgainBelow states after n → length states ≤ n → NoneOwn states → Resumed states after
+pub again_resumed : (states after : List ThreadState) (n : ℕ) → AgainBelow states after n → length states ≤ n
+    → NoneOwn states → Resumed states after
 again_resumed states after n again all own = record {
   goes = again_goes states after n again all own;
   count = again.count;
   each = λ t s at.
       let below : t < length states = slice_get_within states t s at in
-      let w : (x : ThreadState) × (slice_get after t ≡ Some x) × MadeAgain s x = again.done t s (omega (arith, all, below)) at in
+      let w : (x : ThreadState) × (slice_get after t ≡ Some x) × MadeAgain s x =
+      again.done t s (omega (arith, all, below)) at in
       (w.0, w.1, made_again_jobs s w.0 w.2);
 }
 
@@ -199,7 +223,8 @@ made_again_asked s x made asked = elim (calls_again s.mode) [
 ]
 
 -- what is known of a stop word that is not set, once all threads made their calls again
-pub again_knows : (states after : List ThreadState) (n : ℕ) (v : View) → AgainBelow states after n → length states ≤ n → NoneOwn states → v.stop ≡ false → KnowsStop v after
+pub again_knows : (states after : List ThreadState) (n : ℕ) (v : View) → AgainBelow states after n → length states ≤ n
+    → NoneOwn states → v.stop ≡ false → KnowsStop v after
 again_knows states after n v again all own none = record {
   waits = λ t x at waits. absurd (again_goes states after n again all own t x at (waits_paused x.mode waits));
   stop = λ is. absurd (let wrong : true ≡ false = sym is ∙ none in cc);
@@ -207,14 +232,16 @@ again_knows states after n v again all own none = record {
       let below : t < length after = slice_get_within after t x at in
       elim (slice_get_cases states t).1 [
         | inl w ↦
-            let z : (z : ThreadState) × (slice_get after t ≡ Some z) × MadeAgain w.0 z = again.done t w.0 (omega (arith, all, w.1)) w.2 in
+            let z : (z : ThreadState) × (slice_get after t ≡ Some z) × MadeAgain w.0 z =
+            again.done t w.0 (omega (arith, all, w.1)) w.2 in
             absurd (made_again_asked w.0 x (subst (MadeAgain w.0) (same_Some z.0 x (sym z.1 ∙ at)) z.2) is)
         | inr w ↦ absurd (omega (arith, below, again.count, w.0))
       ];
 }
 
 -- what an epoch left begins a new one, in which all stands as before
-pub finished_renewed : (v : View) (heap : Heap) (rest : Rest) → AtRest true heap rest → HasFinished v (view (core_of heap rest)) → Renewed v (view (core_of heap rest))
+pub finished_renewed : (v : View) (heap : Heap) (rest : Rest) → AtRest true heap rest
+    → HasFinished v (view (core_of heap rest)) → Renewed v (view (core_of heap rest))
 finished_renewed v heap rest at_rest finished = record {
   stands = at_rest.stands;
   quiet = at_rest.quiet;
@@ -231,7 +258,8 @@ finished_renewed v heap rest at_rest finished = record {
 -- So many threads have their collections, and the others are as they were.
 pub record CollectedBelow (states after : List ThreadState) (n : ℕ) : Type 0 where
   pub count : length after ≡ length states
-  pub done : (t : ℕ) (s : ThreadState) → t < n → slice_get states t ≡ Some s → (x : ThreadState) × (slice_get after t ≡ Some x) × CollectedFor s x
+  pub done : (t : ℕ) (s : ThreadState) → t < n → slice_get states t ≡ Some s
+      → (x : ThreadState) × (slice_get after t ≡ Some x) × CollectedFor s x
   pub rest : (t : ℕ) → n ≤ t → slice_get after t ≡ slice_get states t
 
 -- none of them has it yet
@@ -243,7 +271,8 @@ collected_none states = record {
 }
 
 -- one thread more has its collection
-pub collected_more : (states after next : List ThreadState) (n : ℕ) → CollectedBelow states after n → n < length after → CollectedAt after next n → CollectedBelow states next (n + 1)
+pub collected_more : (states after next : List ThreadState) (n : ℕ) → CollectedBelow states after n → n < length after
+    → CollectedAt after next n → CollectedBelow states next (n + 1)
 collected_more states after next n so_far within at_n =
     elim (slice_get_cases after n).1 [
       | inl w ↦
@@ -255,22 +284,32 @@ collected_more states after next n so_far within at_n =
             count = length-set after n x ∙ so_far.count;
             done = λ t y below there. elim (cases_eq t n) [
               | inl same ↦
-                  let here : slice_get states t ≡ Some s = ap (slice_get states) same ∙ (sym (so_far.rest n (omega arith)) ∙ w.2) in
-                  (x, ap (slice_get (set after n x)) same ∙ get_set_same after n s x w.2, subst (λ (z : ThreadState). CollectedFor z x) (same_Some s y (sym here ∙ there)) one.2)
+                  let here : slice_get states t ≡ Some s =
+                  ap (slice_get states) same ∙ (sym (so_far.rest n (omega arith)) ∙ w.2) in (
+                    x,
+                    ap (slice_get (set after n x)) same
+                        ∙ get_set_same after n s x w.2,
+                    subst (λ (z : ThreadState). CollectedFor z x)
+                        (same_Some s y (sym here ∙ there)) one.2,
+                  )
               | inr other ↦
-                  let z : (z : ThreadState) × (slice_get after t ≡ Some z) × CollectedFor y z = so_far.done t y (omega (arith, other, below)) there in
+                  let z : (z : ThreadState) × (slice_get after t ≡ Some z) × CollectedFor y z =
+                  so_far.done t y (omega (arith, other, below)) there in
                   (z.0, get_set_other after n t x other ∙ z.1, z.2)
             ];
-            rest = λ t above. get_set_other after n t x (λ same. omega (arith, same, above)) ∙ so_far.rest t (omega (arith, above));
+            rest = λ t above. get_set_other after n t x (λ same. omega (arith, same, above))
+                ∙ so_far.rest t (omega (arith, above));
           })
       | inr w ↦ absurd (omega (arith, within, w.0))
     ]
 
 -- all of them have it
-pub collected_all : (states after : List ThreadState) (n : ℕ) → CollectedBelow states after n → length states ≤ n → CollectedAll states after
+pub collected_all : (states after : List ThreadState) (n : ℕ) → CollectedBelow states after n → length states ≤ n
+    → CollectedAll states after
 collected_all states after n below all = record {
   count = below.count;
-  each = λ t s at. let within : t < length states = slice_get_within states t s at in below.done t s (omega (arith, all, within)) at;
+  each = λ t s at. let within : t < length states =
+      slice_get_within states t s at in below.done t s (omega (arith, all, within)) at;
 }
 
 -- a thread waits for a collection or does not
@@ -311,7 +350,8 @@ collected_jobs s x collected = elim (for_collection s.mode) [
 ]
 
 -- behind the collections, silent ones are still to come only where a `collect` was answered just now
-pub owe_behind : (script : Script) (config : Config) (v : View) (states mid : List ThreadState) → TableStands script config v states → AllWait states → CollectedAll states mid → OweBehindCollects script mid
+pub owe_behind : (script : Script) (config : Config) (v : View) (states mid : List ThreadState)
+    → TableStands script config v states → AllWait states → CollectedAll states mid → OweBehindCollects script mid
 owe_behind script config v states mid table waits all = λ t x at owes. elim (slice_get_cases states t).1 [
   | inl w ↦
       let s : ThreadState = w.0 in
@@ -323,15 +363,20 @@ owe_behind script config v states mid table waits all = λ t x at owes. elim (sl
         | inl for ↦
             let by = made.owes for owes in
             let first : Collect ∷ s.cursor.operations ≡ drop (length s.replies.items) (operations script t) =
-            ap (λ (o : Option Op). with_first o s.cursor.operations) (sym by.0) ∙ st.to_come in
-            (length s.replies.items, by.1, first_left (operations script t) (length s.replies.items) Collect s.cursor.operations first)
-        | inr not ↦ absurd (no_due s.mode (waits t s w.2) not (ap (λ (z : ThreadState). owes_silent z.mode) (sym (made.same not)) ∙ owes))
+            ap (λ (o : Option Op). with_first o s.cursor.operations) (sym by.0) ∙ st.to_come in (
+              length s.replies.items,
+              by.1,
+              first_left (operations script t) (length s.replies.items) Collect s.cursor.operations first,
+            )
+        | inr not ↦ absurd (no_due s.mode (waits t s w.2) not
+            (ap (λ (z : ThreadState). owes_silent z.mode) (sym (made.same not)) ∙ owes))
       ]
   | inr w ↦ absurd (let within : t < length mid = slice_get_within mid t x at in omega (arith, within, all.count, w.0))
 ]
 
 -- a safepoint at which no thread lacks room behind the collections
-pub passed_collected : (states mid after : List ThreadState) → CollectedAll states mid → ((t : ℕ) (s : ThreadState) → slice_get mid t ≡ Some s → s.mode ≡ Lacking → ⊥) → Resumed mid after
+pub passed_collected : (states mid after : List ThreadState) → CollectedAll states mid
+    → ((t : ℕ) (s : ThreadState) → slice_get mid t ≡ Some s → s.mode ≡ Lacking → ⊥) → Resumed mid after
     → ((t : ℕ) × ((s : ThreadState) × (slice_get states t ≡ Some s) × Waits s.mode)) → Passed states after
 passed_collected states mid after all none resumed waits = record {
   goes = resumed.goes;
@@ -353,11 +398,15 @@ passed_collected states mid after all none resumed waits = record {
 }
 
 -- a safepoint at which the call of a thread was made behind the collections
-pub passed_called : (states mid called after : List ThreadState) (t : ℕ) (s : ThreadState) → CollectedAll states mid → slice_get mid t ≡ Some s → CalledAt mid called t → Resumed called after → Passed states after
+pub passed_called : (states mid called after : List ThreadState) (t : ℕ) (s : ThreadState) → CollectedAll states mid
+    → slice_get mid t ≡ Some s → CalledAt mid called t → Resumed called after → Passed states after
 passed_called states mid called after t s all at calls resumed =
-    let one : (x : ThreadState) × (called ≡ slice_set mid t x) × (jobs_of x < jobs_of s) × (IsPaused x.mode → ⊥) = calls s at in
-    let here : slice_get called t ≡ Some one.0 = ap (λ (ss : List ThreadState). slice_get ss t) one.1 ∙ get_set_same mid t s one.0 at in
-    let last : (y : ThreadState) × (slice_get after t ≡ Some y) × (jobs_of y ≡ jobs_of one.0) = resumed.each t one.0 here in
+    let one : (x : ThreadState) × (called ≡ slice_set mid t x) × (jobs_of x < jobs_of s) × (IsPaused x.mode → ⊥) =
+    calls s at in
+    let here : slice_get called t ≡ Some one.0 =
+    ap (λ (ss : List ThreadState). slice_get ss t) one.1 ∙ get_set_same mid t s one.0 at in
+    let last : (y : ThreadState) × (slice_get after t ≡ Some y) × (jobs_of y ≡ jobs_of one.0) =
+    resumed.each t one.0 here in
     let below : t < length mid = slice_get_within mid t s at in
     record {
       goes = resumed.goes;
@@ -370,8 +419,10 @@ passed_called states mid called after t s all at calls resumed =
                 let is : s ≡ x.0 = same_Some s x.0 (sym at ∙ (ap (slice_get mid) (sym same) ∙ x.1)) in
                 (last.0, ap (slice_get after) same ∙ last.1, omega (arith, last.2, one.2, ap jobs_of is, fewer))
             | inr other ↦
-                let still : slice_get called u ≡ Some x.0 = ap (λ (ss : List ThreadState). slice_get ss u) one.1 ∙ (get_set_other mid t u one.0 other ∙ x.1) in
-                let y : (y : ThreadState) × (slice_get after u ≡ Some y) × (jobs_of y ≡ jobs_of x.0) = resumed.each u x.0 still in
+                let still : slice_get called u ≡ Some x.0 =
+                ap (λ (ss : List ThreadState). slice_get ss u) one.1 ∙ (get_set_other mid t u one.0 other ∙ x.1) in
+                let y : (y : ThreadState) × (slice_get after u ≡ Some y) × (jobs_of y ≡ jobs_of x.0) =
+                resumed.each u x.0 still in
                 (y.0, y.1, omega (arith, y.2, fewer))
           ];
       one = elim (slice_get_cases states t).1 [
@@ -386,23 +437,29 @@ passed_called states mid called after t s all at calls resumed =
 -- The run goes on with the stop word not set, in the same epoch or in a new one, and all threads stand there as before.
 pub record Begun (v w : View) : Type 0 where
   pub no_stop : w.stop ≡ false
-  pub table : (script : Script) (config : Config) (states : List ThreadState) → TableStands script config v states → TableStands script config w states
+  pub table : (script : Script) (config : Config) (states : List ThreadState) → TableStands script config v states
+      → TableStands script config w states
 
 -- in the same epoch
 pub begun_same : (v : View) → v.stop ≡ false → Begun v v
 begun_same v none = record { no_stop = none; table = λ script config states table. table }
 
 -- in a new epoch
-pub begun_new : (v : View) (heap : Heap) (rest : Rest) → AtRest true heap rest → HasFinished v (view (core_of heap rest)) → Begun v (view (core_of heap rest))
+pub begun_new : (v : View) (heap : Heap) (rest : Rest) → AtRest true heap rest
+    → HasFinished v (view (core_of heap rest)) → Begun v (view (core_of heap rest))
 begun_new v heap rest at_rest finished = record {
   no_stop = refl;
-  table = λ script words states table. Table_renewed script words v (view (core_of heap rest)) states table (finished_renewed v heap rest at_rest finished);
+  table = λ script words states table. Table_renewed script words v (view (core_of heap rest)) states table
+      (finished_renewed v heap rest at_rest finished);
 }
 
 -- a run whose threads made their calls again, and that goes on so
-pub resumed_keeps : (old new : Run) (v : View) (n : ℕ) → AgainBelow old.states.items new.states.items n → IsQuiet (view old.core) → Begun (view old.core) v → view new.core ≡ v → new.collector ≡ old.collector → new.every ≡ old.every → KeepsRun old new
+pub resumed_keeps : (old new : Run) (v : View) (n : ℕ) → AgainBelow old.states.items new.states.items n
+    → IsQuiet (view old.core) → Begun (view old.core) v → view new.core ≡ v → new.collector ≡ old.collector
+    → new.every ≡ old.every → KeepsRun old new
 resumed_keeps old new v n again quiet begun core collector every = λ script config stands.
-    let adds : Adds script config old.states.items new.states.items 0 = again.collected script config (view old.core) stands.table quiet in
+    let adds : Adds script config old.states.items new.states.items 0 =
+    again.collected script config (view old.core) stands.table quiet in
     record {
       table = subst (λ (w : View). TableStands script config w new.states.items) (sym core)
           (begun.table script config new.states.items (again.table script config (view old.core) stands.table quiet));

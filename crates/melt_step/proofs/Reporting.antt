@@ -1,5 +1,6 @@
 -- A run begins with the threads of its script, and reports when all of them have ended.
-use Rattle.std.proofs.Common.{◌≡◌, ℕ, ◌+◌, ◌*◌, ◌≤◌, List, [], ◌∷◌, ◌++◌, length, refl, sym, ◌∙◌, ap, subst, arith, length-append, inl, inr}
+use Rattle.std.proofs.Common.{◌≡◌, ℕ, ◌+◌, ◌*◌, ◌≤◌, List, [], ◌∷◌, ◌++◌, length, refl, sym, ◌∙◌, ap, subst, arith}
+use Rattle.std.proofs.Common.{length-append, inl, inr}
 use Rattle.std.proofs.lemmas.List.Elements.{All-nil}
 use Rattle.std.proofs.lemmas.List.Sums.{sum-map, sum_by_push}
 use Rattle.std.specs.Prelude.{true, Some, slice_get}
@@ -22,26 +23,37 @@ use Rattle.melt_step.specs.declared.thread.ThreadState.{ThreadState}
 use Rattle.melt_step.specs.declared.thread.Mode.{Mode}
 use Rattle.melt_step.specs.declared.thread.Mode.TheVariants.{Running, Due, Silent, Collecting, Asked, Lacking, Ended}
 use Rattle.melt_step.specs.Journals.{before, next_of, IsJournalOf}
-use Rattle.melt_step.specs.Threads.{left, to_reply, IsEnded, IsNewThread, AreNewThreads, TableStands, IsPlanning, RunStands}
+use Rattle.melt_step.specs.Threads.{left, to_reply, IsEnded, IsNewThread, AreNewThreads, TableStands, IsPlanning}
+use Rattle.melt_step.specs.Threads.{RunStands}
 use Rattle.melt_step.proofs.Starting.{Table_new, collections_new}
 use Rattle.melt_step.proofs.Tables.{goes_on, waiting_quiet}
 
 -- the first k threads of a script before their first events, and how many operations they have together
 pub record NewSoFar (script : Script) (k : ℕ) (states : List ThreadState) (amount : ℕ) : Type 0 where
   pub count : length states ≡ k
-  pub each : (t : ℕ) (s : ThreadState) → slice_get states t ≡ Some s → IsNewThread (operations script t) script.globals s
+  pub each : (t : ℕ) (s : ThreadState) → slice_get states t ≡ Some s
+      → IsNewThread (operations script t) script.globals s
   pub entries : amount ≡ to_reply states
   pub few : amount ≤ k * 1048576
 
 -- there are none yet
 pub new_none : (script : Script) → NewSoFar script 0 [] 0
-new_none script = record { count = refl; each = λ t s at. absurd (let none : slice_get [] t ≡ Some s = at in cc); entries = refl; few = omega arith }
+new_none script =
+    record {
+      count = refl;
+      each = λ t s at. absurd (let none : slice_get [] t ≡ Some s = at in cc);
+      entries = refl;
+      few = omega arith;
+    }
 
 -- and one more
-pub new_more : (script : Script) (k amount n : ℕ) (states : List ThreadState) (s : ThreadState) → NewSoFar script k states amount → IsNewThread (operations script k) script.globals s → n ≡ length (operations script k) → n ≤ 1048576 → NewSoFar script (k + 1) (states ++ s ∷ []) (amount + n)
+pub new_more : (script : Script) (k amount n : ℕ) (states : List ThreadState) (s : ThreadState)
+    → NewSoFar script k states amount → IsNewThread (operations script k) script.globals s
+    → n ≡ length (operations script k) → n ≤ 1048576 → NewSoFar script (k + 1) (states ++ s ∷ []) (amount + n)
 new_more script k amount n states s so_far new is few =
     let f : ThreadState → ℕ = λ (x : ThreadState). length (left x) in
-    let all : to_reply (states ++ s ∷ []) ≡ to_reply states + length (left s) = omega (arith, sum-map f states, sum-map f (states ++ s ∷ []), sum_by_push f states s) in
+    let all : to_reply (states ++ s ∷ []) ≡ to_reply states + length (left s) =
+    omega (arith, sum-map f states, sum-map f (states ++ s ∷ []), sum_by_push f states s) in
     record {
       count = omega (arith, length-append states (s ∷ []), so_far.count);
       each = λ t x at. elim (last_place states s t x at) [
@@ -56,7 +68,8 @@ new_more script k amount n states s so_far new is few =
     }
 
 -- those of all threads
-pub new_all : (script : Script) (k amount : ℕ) (states : List ThreadState) → k ≡ length script.programs → k ≤ 8 → NewSoFar script k states amount → AreNewThreads script states amount
+pub new_all : (script : Script) (k amount : ℕ) (states : List ThreadState) → k ≡ length script.programs → k ≤ 8
+    → NewSoFar script k states amount → AreNewThreads script states amount
 new_all script k amount states all eight so_far = record {
   count = so_far.count ∙ all;
   each = so_far.each;
@@ -67,21 +80,32 @@ new_all script k amount states all eight so_far = record {
 -- a run before its first event
 pub Run_new : (script : Script) (config : Config) (entries globals threads : ℕ) (heap : Heap) (rest : Rest) (run : Run)
     → InRanges config → globals ≡ script.globals → threads ≡ length script.programs → threads ≤ 8
-    → IsNewHeap config.heap globals true heap → IsNewRest threads entries rest → AreNewThreads script run.states.items entries → run.core ≡ core_of heap rest → run.every ≡ config.every → IsPlanning run.collector → run.collector.journal.items ≡ [] → run.collector.planned ≡ Inactive → run.collector.config ≡ config
+    → IsNewHeap config.heap globals true heap → IsNewRest threads entries rest
+    → AreNewThreads script run.states.items entries → run.core ≡ core_of heap rest → run.every ≡ config.every
+    → IsPlanning run.collector → run.collector.journal.items ≡ [] → run.collector.planned ≡ Inactive
+    → run.collector.config ≡ config
     → RunStands script config run
-Run_new script config entries globals threads heap rest run ranges all_globals all_threads eight is_heap is_rest new_states begins every planning none planned numbers =
+Run_new script config entries globals threads heap rest run ranges all_globals all_threads eight is_heap is_rest
+    new_states begins every planning none planned numbers =
     let states : List ThreadState = run.states.items in
-    let new_heap : IsNewHeap config.heap script.globals true heap = subst (λ (n : ℕ). IsNewHeap config.heap n true heap) all_globals is_heap in
-    let new_rest : IsNewRest (length script.programs) entries rest = subst (λ (n : ℕ). IsNewRest n entries rest) all_threads is_rest in
+    let new_heap : IsNewHeap config.heap script.globals true heap =
+    subst (λ (n : ℕ). IsNewHeap config.heap n true heap) all_globals is_heap in
+    let new_rest : IsNewRest (length script.programs) entries rest =
+    subst (λ (n : ℕ). IsNewRest n entries rest) all_threads is_rest in
     let table : TableStands script config (view (core_of heap rest)) states =
-    Table_new script config entries heap rest states (omega (arith, ranges.heap_most)) (omega (arith, all_threads, eight)) new_heap new_rest new_states in
+    Table_new script config entries heap rest states (omega (arith, ranges.heap_most))
+    (omega (arith, all_threads, eight)) new_heap new_rest new_states in
     record {
       table = subst (λ (core : Core). TableStands script config (view core) states) (sym begins) table;
       every = every;
       collector = record {
         planning = planning;
         numbers = numbers;
-        journal = subst (IsJournalOf config) (sym none) (record { phases = λ k j at. absurd (let wrong : slice_get [] k ≡ Some j = at in cc); words = All-nil (λ (j : Journal). (j.held ≤ j.live) × (j.live ≤ config.heap)) });
+        journal = subst (IsJournalOf config) (sym none)
+            (record {
+              phases = λ k j at. absurd (let wrong : slice_get [] k ≡ Some j = at in cc);
+              words = All-nil (λ (j : Journal). (j.held ≤ j.live) × (j.live ≤ config.heap));
+            });
         next = planned ∙ ap (λ (js : List Journal). next_of config (before js (length js))) (sym none);
       };
       collected = omega (arith, collections_new script config entries (length script.programs) states new_states);
@@ -98,24 +122,33 @@ ended_so Lacking over = absurd over
 ended_so (Ended e) over = (e, refl)
 
 -- where all threads have ended, no call is in flight
-pub ended_quiet : (script : Script) (config : Config) (run : Run) → RunStands script config run → ((t : ℕ) (s : ThreadState) → slice_get run.states.items t ≡ Some s → IsEnded s.mode) → IsQuiet (view run.core)
-ended_quiet script config run stands ended = waiting_quiet script config (view run.core) run.states.items stands.table (λ t s at goes. goes_on s.mode goes (ended t s at))
+pub ended_quiet : (script : Script) (config : Config) (run : Run) → RunStands script config run
+    → ((t : ℕ) (s : ThreadState) → slice_get run.states.items t ≡ Some s → IsEnded s.mode) → IsQuiet (view run.core)
+ended_quiet script config run stands ended =
+    waiting_quiet script config (view run.core) run.states.items stands.table
+    (λ t s at goes. goes_on s.mode goes (ended t s at))
 
 -- a thread that a list has behind others has ended
-pub ended_next : (states before behind : List ThreadState) (s : ThreadState) → before ++ s ∷ behind ≡ states → ((t : ℕ) (x : ThreadState) → slice_get states t ≡ Some x → IsEnded x.mode) → IsEnded s.mode
-ended_next states before behind s is ended = ended (length before) s (ap (λ (xs : List ThreadState). slice_get xs (length before)) (sym is) ∙ slice_get-append_seam before s behind)
+pub ended_next : (states before behind : List ThreadState) (s : ThreadState) → before ++ s ∷ behind ≡ states
+    → ((t : ℕ) (x : ThreadState) → slice_get states t ≡ Some x → IsEnded x.mode) → IsEnded s.mode
+ended_next states before behind s is ended =
+    ended (length before) s (ap (λ (xs : List ThreadState). slice_get xs (length before)) (sym is)
+    ∙ slice_get-append_seam before s behind)
 
 -- the reports of threads have their replies and ends
 pub record Reported (states : List ThreadState) (threads : List ThreadReport) : Type 0 where
   pub count : length threads ≡ length states
-  pub each : (t : ℕ) (s : ThreadState) (r : ThreadReport) → slice_get states t ≡ Some s → slice_get threads t ≡ Some r → (r.replies ≡ s.replies.items) × (s.mode ≡ Ended r.end)
+  pub each : (t : ℕ) (s : ThreadState) (r : ThreadReport) → slice_get states t ≡ Some s → slice_get threads t ≡ Some r
+      → (r.replies ≡ s.replies.items) × (s.mode ≡ Ended r.end)
 
 -- none is reported yet
 pub reported_none : Reported [] []
 reported_none = record { count = refl; each = λ t s r at is. absurd (let none : slice_get [] t ≡ Some s = at in cc) }
 
 -- and one more
-pub reported_more : (states : List ThreadState) (threads : List ThreadReport) (s : ThreadState) (r : ThreadReport) → Reported states threads → r.replies ≡ s.replies.items → s.mode ≡ Ended r.end → Reported (states ++ s ∷ []) (threads ++ r ∷ [])
+pub reported_more : (states : List ThreadState) (threads : List ThreadReport) (s : ThreadState) (r : ThreadReport)
+    → Reported states threads → r.replies ≡ s.replies.items → s.mode ≡ Ended r.end
+    → Reported (states ++ s ∷ []) (threads ++ r ∷ [])
 reported_more states threads s r so_far replies ended = record {
   count = omega (arith, length-append states (s ∷ []), length-append threads (r ∷ []), so_far.count);
   each = λ t x y at is. elim (last_place states s t x at) [

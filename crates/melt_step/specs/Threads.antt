@@ -1,5 +1,7 @@
 -- The threads of a run between two events.
-use Rattle.std.specs.Prelude.{◌≡◌, ◌≢◌, ℕ, zero, suc, ◌+◌, ◌*◌, ◌^◌, ◌%◌, ◌<◌, ◌≤◌, Bool, true, false, if◌then◌else◌, List, [], ◌∷◌, ◌++◌, length, map, sum, take, drop, replicate, slice_get, slice_set, vec_capacity, All, Option, None, Some, IfSome, IsSome, ◌⊎◌, ◌↔◌}
+use Rattle.std.specs.Prelude.{◌≡◌, ◌≢◌, ℕ, zero, suc, ◌+◌, ◌*◌, ◌^◌, ◌%◌, ◌<◌, ◌≤◌, Bool, true, false, if◌then◌else◌}
+use Rattle.std.specs.Prelude.{List, [], ◌∷◌, ◌++◌, length, map, sum, take, drop, replicate, slice_get, slice_set}
+use Rattle.std.specs.Prelude.{vec_capacity, All, Option, None, Some, IfSome, IsSome, ◌⊎◌, ◌↔◌}
 use Rattle.melt_model.specs.Standing.{Stands}
 use Rattle.melt_model.specs.Alive.{Alive, words_of, CostsSum}
 use Rattle.melt_model.specs.declared.config.Config.{Config}
@@ -92,19 +94,23 @@ GoneIn states cut = (u : ℕ) (s : ThreadState) → slice_get states u ≡ Some 
 
 -- as in the report of a run, while it goes on
 abbrev pub LacksNow : Script → List Entry → List ThreadState → Config → ℕ → ℕ → ℕ → Type 0
-LacksNow script log states config t held_words need = (x : LacksRoom script log (replies_of states) config t held_words need) × GoneIn states x.cut
+LacksNow script log states config t held_words need =
+    (x : LacksRoom script log (replies_of states) config t held_words need) × GoneIn states x.cut
 
 abbrev pub HadNow : Script → List Entry → List ThreadState → Config → ℕ → ℕ → ℕ → Type 0
-HadNow script log states config t k need = (x : HadRoom script log (replies_of states) config t k need) × GoneIn states x.cut
+HadNow script log states config t k need =
+    (x : HadRoom script log (replies_of states) config t k need) × GoneIn states x.cut
 
 abbrev pub MadeSo : Script → List Entry → List ThreadState → Config → ℕ → ℕ → Type 0
 MadeSo script log states config t k =
-    (dst refs nums : ℕ) → slice_get (operations script t) k ≡ Some (New dst refs nums) → HadNow script log states config t k (2 + refs + nums)
+    (dst refs nums : ℕ) → slice_get (operations script t) k ≡ Some (New dst refs nums)
+    → HadNow script log states config t k (2 + refs + nums)
 
 -- why a thread may have ended
 abbrev pub EndsSo : Script → List Entry → List ThreadState → Config → ℕ → Mode → Type 0
 EndsSo script log states config t (Ended end.Done) = length (replies_of states t) ≡ length (operations script t)
-EndsSo script log states config t (Ended (end.OutOfHeap held_words need)) = LacksNow script log states config t held_words need
+EndsSo script log states config t (Ended (end.OutOfHeap held_words need)) =
+    LacksNow script log states config t held_words need
 EndsSo script log states config t (Ended end.DiskFault) = ⊥
 EndsSo script log states config t (Ended (end.Damaged home at word)) = ⊥
 EndsSo script log states config t (Ended end.Halted) = ⊥
@@ -122,7 +128,8 @@ HadCollect script t s = (k : ℕ) × (length s.replies.items ≡ suc k) × (slic
 
 -- a thread has a silent collection still to come only where its last reply was that to a collection
 abbrev pub OweBehindCollects : Script → List ThreadState → Type 0
-OweBehindCollects script states = (t : ℕ) (s : ThreadState) → slice_get states t ≡ Some s → owes_silent s.mode ≡ true → HadCollect script t s
+OweBehindCollects script states = (t : ℕ) (s : ThreadState) → slice_get states t ≡ Some s → owes_silent s.mode ≡ true
+    → HadCollect script t s
 
 -- how many threads have a silent collection still to come
 abbrev pub owes : Mode → ℕ
@@ -150,7 +157,8 @@ pub record TableStands (script : Script) (config : Config) (v : View) (states : 
   pub words : length v.space.list ≡ config.heap
   pub each : (t : ℕ) (s : ThreadState) → slice_get states t ≡ Some s → ThreadStands script v t s
   pub own : All (λ (e : Entry). e.thread < length script.programs) v.log
-  pub due : (t : ℕ) (s : ThreadState) → slice_get states t ≡ Some s → owes_silent s.mode ≡ true → IsDue config (length s.replies.items)
+  pub due : (t : ℕ) (s : ThreadState) → slice_get states t ≡ Some s → owes_silent s.mode ≡ true
+      → IsDue config (length s.replies.items)
   pub ends : (t : ℕ) (s : ThreadState) → slice_get states t ≡ Some s → EndsSo script v.log states config t s.mode
   pub made : (t k : ℕ) → k < length (replies_of states t) → MadeSo script v.log states config t k
   pub entries : length v.log + to_reply states ≤ v.capacity
@@ -195,7 +203,8 @@ pub record TakesReply (s after : ThreadState) (reply : Reply) : Type 0 where
   pub replies : after.replies.items ≡ s.replies.items ++ reply ∷ []
   pub to_come : left after ≡ s.cursor.operations
   pub none_left : after.op ≡ None → after.cursor.operations ≡ []
-  pub fits : (after.mode ≡ Running) × IsSome after.op ⊎ ((after.mode ≡ Due) ⊎ ((after.mode ≡ Ended end.Done) × (left after ≡ [])))
+  pub fits : (after.mode ≡ Running) × IsSome after.op
+      ⊎ ((after.mode ≡ Due) ⊎ ((after.mode ≡ Ended end.Done) × (left after ≡ [])))
   pub in_range : IfSome after.op (InRange s.cursor.globals)
   pub globals : after.cursor.globals ≡ s.cursor.globals
   pub capacity : vec_capacity after.replies ≡ vec_capacity s.replies
@@ -203,7 +212,8 @@ pub record TakesReply (s after : ThreadState) (reply : Reply) : Type 0 where
 -- Where a thread got a reply, a silent collection is due exactly where the number of its replies is a multiple of this
 -- number, and the number is not 0.
 abbrev pub DueBy : ℕ → ThreadState → ThreadState → Type 0
-DueBy every s after = after.replies.items ≢ s.replies.items → ((after.mode ≡ Due) ↔ ((every ≢ 0) × (length after.replies.items % every ≡ 0)))
+DueBy every s after = after.replies.items ≢ s.replies.items
+    → ((after.mode ≡ Due) ↔ ((every ≢ 0) × (length after.replies.items % every ≡ 0)))
 
 -- a thread that has ended drops its registers, and nothing else changes
 abbrev pub DropsIfEnded : View → View → ℕ → Mode → Type 0
@@ -243,7 +253,8 @@ pub record IsReady (v : View) (t : ℕ) (s : ThreadState) : Type 0 where
 pub record ThreadStep (v w : View) (t : ℕ) (s after : ThreadState) : Type 0 where
   pub stands : Standing true w
   pub others : KeepsOthers v w t
-  pub what : ((mode : Mode) × ThreadWaits v w t s after mode) ⊎ (ThreadGoes v w t s after ⊎ (ThreadRefused v w t s after ⊎ ThreadTold v w t s after))
+  pub what : ((mode : Mode) × ThreadWaits v w t s after mode)
+      ⊎ (ThreadGoes v w t s after ⊎ (ThreadRefused v w t s after ⊎ ThreadTold v w t s after))
 
 -- a new epoch, in which all stands as before: history, values and registers, and no call is in flight
 pub record Renewed (v w : View) : Type 0 where
@@ -275,7 +286,8 @@ pub record IsNewThread (ops : List Op) (globals : ℕ) (s : ThreadState) : Type 
 -- the threads of a script before their first events, and how many operations they have together
 pub record AreNewThreads (script : Script) (states : List ThreadState) (amount : ℕ) : Type 0 where
   pub count : length states ≡ length script.programs
-  pub each : (t : ℕ) (s : ThreadState) → slice_get states t ≡ Some s → IsNewThread (operations script t) script.globals s
+  pub each : (t : ℕ) (s : ThreadState) → slice_get states t ≡ Some s
+      → IsNewThread (operations script t) script.globals s
   pub entries : amount ≡ to_reply states
   pub few : to_reply states ≤ 8388608
 
@@ -296,7 +308,8 @@ pub record LacksAlone (v w : View) (t : ℕ) (s after : ThreadState) (need : ℕ
 pub record CalledAlone (v w : View) (t : ℕ) (s after : ThreadState) (lacks : Option ℕ) : Type 0 where
   pub stands : Standing true w
   pub others : KeepsOthers v w t
-  pub what : ((lacks ≡ None) × ThreadTold v w t s after) ⊎ ((need : ℕ) × LacksAlone v w t s after need × (lacks ≡ Some need))
+  pub what : ((lacks ≡ None) × ThreadTold v w t s after)
+      ⊎ ((need : ℕ) × LacksAlone v w t s after need × (lacks ≡ Some need))
 
 -- A collector: each collection was of a phase in which objects stay in the heap, and so is the one that is planned.
 pub record IsPlanning (c : Collector) : Type 0 where
@@ -332,7 +345,8 @@ pub record RunStands (script : Script) (config : Config) (run : Run) : Type 0 wh
   pub table : TableStands script config (view run.core) run.states.items
   pub every : run.every ≡ config.every
   pub collector : CollectorStands config run.collector
-  pub collected : collections script config (replies_of run.states.items) (length script.programs) ≤ length run.collector.journal.items + owing run.states.items
+  pub collected : collections script config (replies_of run.states.items)
+      (length script.programs) ≤ length run.collector.journal.items + owing run.states.items
 
 -- the last event of a run was a collection, or a reply to it
 pub record JustCollected (run : Run) : Type 0 where
@@ -432,17 +446,19 @@ jobs mode count = 1 + 2 * count
 abbrev pub jobs_of : ThreadState → ℕ
 jobs_of s = jobs s.mode (length (left s))
 
--- The collection of a thread was made, if it waited for one, and it waits no longer. A silent collection is due then only
--- behind the `collect` that was answered.
+-- The collection of a thread was made, if it waited for one, and it waits no longer. A silent collection is due then
+-- only behind the `collect` that was answered.
 pub record CollectedFor (s after : ThreadState) : Type 0 where
   pub fewer : ForCollection s.mode → jobs_of after < jobs_of s
   pub goes : ForCollection s.mode → IsPaused after.mode → ⊥
-  pub owes : ForCollection s.mode → owes_silent after.mode ≡ true → (s.op ≡ Some Collect) × (length after.replies.items ≡ suc (length s.replies.items))
+  pub owes : ForCollection s.mode → owes_silent after.mode ≡ true → (s.op ≡ Some Collect)
+      × (length after.replies.items ≡ suc (length s.replies.items))
   pub same : (ForCollection s.mode → ⊥) → after ≡ s
 
 -- at most this thread changed, for whose collection it was
 abbrev pub CollectedAt : List ThreadState → List ThreadState → ℕ → Type 0
-CollectedAt states after t = (s : ThreadState) → slice_get states t ≡ Some s → (x : ThreadState) × (after ≡ slice_set states t x) × CollectedFor s x
+CollectedAt states after t = (s : ThreadState) → slice_get states t ≡ Some s
+    → (x : ThreadState) × (after ≡ slice_set states t x) × CollectedFor s x
 
 -- What was collected for a thread: one collection as it was planned, if it waited for one. Else the core is as before.
 pub record MakesFor (s : ThreadState) (old new : Run) : Type 0 where
@@ -463,11 +479,13 @@ NoneBelow Is states t = (u : ℕ) (s : ThreadState) → u < t → slice_get stat
 -- and so all threads
 pub record CollectedAll (states after : List ThreadState) : Type 0 where
   pub count : length after ≡ length states
-  pub each : (t : ℕ) (s : ThreadState) → slice_get states t ≡ Some s → (x : ThreadState) × (slice_get after t ≡ Some x) × CollectedFor s x
+  pub each : (t : ℕ) (s : ThreadState) → slice_get states t ≡ Some s → (x : ThreadState) × (slice_get after t ≡ Some x)
+      × CollectedFor s x
 
 -- only this thread changed, has less to do, and does not wait
 abbrev pub CalledAt : List ThreadState → List ThreadState → ℕ → Type 0
-CalledAt states after t = (s : ThreadState) → slice_get states t ≡ Some s → (x : ThreadState) × (after ≡ slice_set states t x) × (jobs_of x < jobs_of s) × (IsPaused x.mode → ⊥)
+CalledAt states after t = (s : ThreadState) → slice_get states t ≡ Some s
+    → (x : ThreadState) × (after ≡ slice_set states t x) × (jobs_of x < jobs_of s) × (IsPaused x.mode → ⊥)
 
 -- The call of a thread was made alone. Where it was refused, and only there, a collection was forced.
 pub record CalledFirst (old new : Run) (t : ℕ) : Type 0 where
@@ -496,14 +514,17 @@ NoneWaits states = (t : ℕ) (s : ThreadState) → slice_get states t ≡ Some s
 pub record Resumed (states after : List ThreadState) : Type 0 where
   pub goes : NoneWaits after
   pub count : length after ≡ length states
-  pub each : (t : ℕ) (s : ThreadState) → slice_get states t ≡ Some s → (x : ThreadState) × (slice_get after t ≡ Some x) × (jobs_of x ≡ jobs_of s)
+  pub each : (t : ℕ) (s : ThreadState) → slice_get states t ≡ Some s → (x : ThreadState) × (slice_get after t ≡ Some x)
+      × (jobs_of x ≡ jobs_of s)
 
 -- A safepoint: no thread waits behind it, none has more to do than before, and one has less.
 pub record Passed (states after : List ThreadState) : Type 0 where
   pub goes : NoneWaits after
   pub count : length after ≡ length states
-  pub each : (t : ℕ) (s : ThreadState) → slice_get states t ≡ Some s → (x : ThreadState) × (slice_get after t ≡ Some x) × (jobs_of x ≤ jobs_of s)
-  pub one : (t : ℕ) × ((s : ThreadState) × ((x : ThreadState) × (slice_get states t ≡ Some s) × (slice_get after t ≡ Some x) × (jobs_of x < jobs_of s)))
+  pub each : (t : ℕ) (s : ThreadState) → slice_get states t ≡ Some s → (x : ThreadState) × (slice_get after t ≡ Some x)
+      × (jobs_of x ≤ jobs_of s)
+  pub one : (t : ℕ) × ((s : ThreadState)
+      × ((x : ThreadState) × (slice_get states t ≡ Some s) × (slice_get after t ≡ Some x) × (jobs_of x < jobs_of s)))
 
 -- All threads together. It gets smaller with each event and with each safepoint.
 abbrev pub potential : List ThreadState → List (Option Call) → ℕ

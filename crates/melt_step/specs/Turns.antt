@@ -14,11 +14,13 @@ NoneGoes states from to = (t : ℕ) → from ≤ t → t < to → GoesAt states 
 
 -- no line of the trace, of those from one place on and before another, is of a thread that can go on
 abbrev pub NoLine : List (ℕ × ℕ) → List ThreadState → ℕ → ℕ → Type 0
-NoLine orders states from to = (k : ℕ) (line : ℕ × ℕ) → from ≤ k → k < to → slice_get orders k ≡ Some line → GoesAt states line.0 → ⊥
+NoLine orders states from to = (k : ℕ) (line : ℕ × ℕ) → from ≤ k → k < to → slice_get orders k ≡ Some line
+    → GoesAt states line.0 → ⊥
 
 -- how many events a line gives that is begun, or that is to be begun
 abbrev pub GivesEvents : Turns → ℕ → ℕ → ℕ → Type 0
-GivesEvents turns k events count = ((k ≡ turns.line) × (turns.left ≢ 0) × (count ≡ turns.left)) ⊎ (((k ≢ turns.line) ⊎ (turns.left ≡ 0)) × (count ≡ events))
+GivesEvents turns k events count = ((k ≡ turns.line) × (turns.left ≢ 0) × (count ≡ turns.left))
+    ⊎ (((k ≢ turns.line) ⊎ (turns.left ≡ 0)) × (count ≡ events))
 
 -- The next event is one of a line: the first, from where the turns stand, whose thread can go on. Lines before it are
 -- dropped, and so is the line itself with its last event.
@@ -41,7 +43,8 @@ pub record OfLine (orders : List (ℕ × ℕ)) (states : List ThreadState) (old 
 pub record InTurn (orders : List (ℕ × ℕ)) (states : List ThreadState) (old new : Turns) (t : ℕ) : Type 0 where
   pub no_line : NoLine orders states old.line (length orders)
   pub goes : GoesAt states t
-  pub first : ((old.turn ≤ t) × NoneGoes states old.turn t) ⊎ (NoneGoes states old.turn (length states) × NoneGoes states 0 t)
+  pub first : ((old.turn ≤ t) × NoneGoes states old.turn t)
+      ⊎ (NoneGoes states old.turn (length states) × NoneGoes states 0 t)
   pub turn : new.turn ≡ t + 1
   pub line : old.line ≤ length orders → new.line ≡ length orders
   pub none_left : old.line < length orders → new.left ≡ 0

@@ -101,7 +101,8 @@ impl Collector {
         ensures planning { IsPlanning self.new }
         ensures journal { self.new.journal ≡ self.old.journal }
         ensures config { self.new.config ≡ self.old.config }
-        ensures next { self.new.planned ≡ made_as (planned live self.old.config.heap phase self.old.config.mark self.old.config.move_) }
+        ensures next { self.new.planned ≡ made_as
+            (planned live self.old.config.heap phase self.old.config.mark self.old.config.move_) }
     {
         let config = self.config;
         let next = next_phase(live, config.heap, phase, config.mark, config.move_);

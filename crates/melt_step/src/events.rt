@@ -4,7 +4,8 @@ ghost use Rattle.melt_model.specs.declared.operations.Op.{Op};
 ghost use Rattle.melt_core.specs.Advances.{InBounds};
 ghost use Rattle.melt_core.specs.Changed.{HasRoomForEntry};
 ghost use Rattle.melt_core.specs.Views.{Standing, call_of, view};
-ghost use Rattle.melt_step.specs.Threads.{CalledAlone, DropsIfEnded, DueBy, IsReady, MayGo, ThreadStep, SetsStop, TakesReply};
+ghost use Rattle.melt_step.specs.Threads.{CalledAlone, DropsIfEnded, DueBy, IsReady, MayGo, ThreadStep, SetsStop};
+ghost use Rattle.melt_step.specs.Threads.{TakesReply};
 
 use crate::thread::{Mode, ThreadState};
 use melt_core::{Core, Pause, Refusal, StepResult};

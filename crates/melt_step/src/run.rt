@@ -6,7 +6,8 @@ ghost use Rattle.melt_trace.specs.Script.{Script};
 ghost use Rattle.melt_core.specs.Views.{view};
 ghost use Rattle.melt_step.specs.Run.{HasRun};
 ghost use Rattle.melt_step.specs.declared.thread.ThreadState.{ThreadState};
-ghost use Rattle.melt_step.specs.Threads.{AllWait, AreNewThreads, IsEnded, IsNearer, KeepsRun, KnowsStop, RunStands, SomeGoesOn};
+ghost use Rattle.melt_step.specs.Threads.{AllWait, AreNewThreads, IsEnded, IsNearer, KeepsRun, KnowsStop, RunStands};
+ghost use Rattle.melt_step.specs.Threads.{SomeGoesOn};
 
 use crate::collector::Collector;
 use crate::events::make_event;
@@ -48,7 +49,8 @@ impl<'a> Run<'a> {
 
     /// Whether all threads have ended.
     pub fn has_ended(&self) -> bool
-        ensures ended { result ≡ true → (t : ℕ) (s : ThreadState) → slice_get self.now.states.items t ≡ Some s → IsEnded s.mode }
+        ensures ended { result ≡ true → (t : ℕ) (s : ThreadState) → slice_get self.now.states.items t ≡ Some s
+            → IsEnded s.mode }
         ensures goes { result ≡ false → SomeGoesOn self.now.states.items }
     {
         for state in &self.states {
@@ -64,7 +66,8 @@ impl<'a> Run<'a> {
         requires stands { (config : Config) × RunStands trace.now config self }
         requires stop { KnowsStop (view self.core) self.states.items }
         ensures keeps { IfOk result (KeepsRun self.entry) }
-        ensures ended { IfOk result (λ run. (t : ℕ) (s : ThreadState) → slice_get run.states.items t ≡ Some s → IsEnded s.mode) }
+        ensures ended { IfOk result (λ run. (t : ℕ) (s : ThreadState) → slice_get run.states.items t ≡ Some s
+            → IsEnded s.mode) }
     {
         let mut run = self;
         let mut turns = Turns::new();
@@ -83,7 +86,8 @@ impl<'a> Run<'a> {
     pub fn report(self, alloc: Global) -> Result<(Report, Option<Heap>), NoMemory>
         requires ended { (t : ℕ) (s : ThreadState) → slice_get self.states.items t ≡ Some s → IsEnded s.mode }
         requires stands { (script : Script) × ((config : Config) × RunStands script config self) }
-        ensures { IfOk result (λ done. (script : Script) (config : Config) → RunStands script config self.entry → HasRun script config done.0 done.1) }
+        ensures { IfOk result (λ done. (script : Script) (config : Config) → RunStands script config self.entry
+            → HasRun script config done.0 done.1) }
     {
         let Run {
             core,

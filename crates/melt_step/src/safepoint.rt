@@ -4,7 +4,10 @@ ghost use Rattle.melt_model.specs.declared.config.Config.{Config};
 ghost use Rattle.melt_trace.specs.Script.{Script};
 ghost use Rattle.melt_core.specs.Views.{IsQuiet, Standing, view};
 ghost use Rattle.melt_step.specs.declared.thread.ThreadState.{ThreadState};
-ghost use Rattle.melt_step.specs.Threads.{AllWait, CalledAt, CalledFirst, CollectedAll, CollectedAt, ForCollection, IsPlanning, JustCollected, KeepsRun, KnowsStop, MakesCollections, MakesFor, MakesForAll, MakesPlanned, NoneBelow, Passed, Resumed, RunStands, SomeGoesOn, StandsCollected};
+ghost use Rattle.melt_step.specs.Threads.{AllWait, CalledAt, CalledFirst, CollectedAll, CollectedAt, ForCollection};
+ghost use Rattle.melt_step.specs.Threads.{IsPlanning, JustCollected, KeepsRun, KnowsStop, MakesCollections, MakesFor};
+ghost use Rattle.melt_step.specs.Threads.{MakesForAll, MakesPlanned, NoneBelow, Passed, Resumed, RunStands, SomeGoesOn};
+ghost use Rattle.melt_step.specs.Threads.{StandsCollected};
 
 use crate::events::{call_alone, drop_if_ended};
 use crate::run::Run;
@@ -35,7 +38,8 @@ impl<'a> Run<'a> {
         ensures keeps { IfOk result (KeepsRun self.entry) }
         ensures quiet { IfOk result (λ run. IsQuiet (view run.core)) }
         ensures only { IfOk result (λ run. CollectedAt self.entry.states.items run.states.items thread) }
-        ensures made { IfOk result (λ run. (s : ThreadState) → slice_get self.entry.states.items thread ≡ Some s → MakesFor s self.entry run) }
+        ensures made { IfOk result (λ run. (s : ThreadState) → slice_get self.entry.states.items thread ≡ Some s
+            → MakesFor s self.entry run) }
     {
         match self.states[thread as usize].mode {
             Mode::Collecting => {
@@ -78,9 +82,11 @@ impl<'a> Run<'a> {
     /// The lowest thread that waits for room.
     fn lacking(&self) -> Option<u32>
         requires stands { (script : Script) × ((config : Config) × RunStands script config self.now) }
-        ensures some { IfSome result (λ t. (s : ThreadState) × (slice_get self.now.states.items t ≡ Some s) × (s.mode ≡ Mode.Lacking)) }
+        ensures some { IfSome result
+            (λ t. (s : ThreadState) × (slice_get self.now.states.items t ≡ Some s) × (s.mode ≡ Mode.Lacking)) }
         ensures first { IfSome result (NoneBelow (λ mode. mode ≡ Mode.Lacking) self.now.states.items) }
-        ensures none { IfNone result ((t : ℕ) (s : ThreadState) → slice_get self.now.states.items t ≡ Some s → s.mode ≡ Mode.Lacking → ⊥) }
+        ensures none { IfNone result
+            ((t : ℕ) (s : ThreadState) → slice_get self.now.states.items t ≡ Some s → s.mode ≡ Mode.Lacking → ⊥) }
     {
         for (t, state) in self.states.iter().enumerate() {
             if let Mode::Lacking = state.mode {
@@ -90,14 +96,15 @@ impl<'a> Run<'a> {
         None
     }
 
-    /// Makes the call of the first thread that lacked room, after a collection. If it lacks room even after a forced one,
-    /// the thread ends.
+    /// Makes the call of the first thread that lacked room, after a collection. If it lacks room even after a forced
+    /// one, the thread ends.
     fn call_first(self, alloc: Global, thread: u32) -> Result<Run<'a>, NoMemory>
         requires stands { (script : Script) × ((config : Config) × StandsCollected script config self) }
         requires waits { (s : ThreadState) × (slice_get self.states.items thread ≡ Some s) × (s.mode ≡ Mode.Lacking) }
         requires first { NoneBelow (λ mode. mode ≡ Mode.Lacking) self.states.items thread }
         requires quiet { IsQuiet (view self.core) }
-        ensures keeps { IfOk result (λ run. (script : Script) (config : Config) → StandsCollected script config self.entry → RunStands script config run) }
+        ensures keeps { IfOk result (λ run. (script : Script) (config : Config)
+            → StandsCollected script config self.entry → RunStands script config run) }
         ensures quiet { IfOk result (λ run. IsQuiet (view run.core)) }
         ensures only { IfOk result (λ run. CalledAt self.entry.states.items run.states.items thread) }
         ensures called { IfOk result (λ run. CalledFirst self.entry run thread) }
@@ -131,7 +138,8 @@ impl<'a> Run<'a> {
     fn resume(mut self) -> Run<'a>
         requires stands { (script : Script) × ((config : Config) × RunStands script config self) }
         requires quiet { IsQuiet (view self.core) }
-        requires collected { (t : ℕ) (s : ThreadState) → slice_get self.states.items t ≡ Some s → ForCollection s.mode → ⊥ }
+        requires collected { (t : ℕ) (s : ThreadState) → slice_get self.states.items t ≡ Some s → ForCollection s.mode
+            → ⊥ }
         ensures keeps { KeepsRun self.entry result }
         ensures quiet { IsQuiet (view result.core) }
         ensures stop { KnowsStop (view result.core) result.states.items }
@@ -158,7 +166,8 @@ impl<'a> Run<'a> {
         ensures keeps { IfOk result (KeepsRun self.entry) }
         ensures quiet { IfOk result (λ run. IsQuiet (view run.core)) }
         ensures stop { IfOk result (λ run. KnowsStop (view run.core) run.states.items) }
-        ensures made { IfOk result (λ run. MakesCollections self.entry.states.items self.entry.collector run.collector) }
+        ensures made { IfOk result (λ run.
+            MakesCollections self.entry.states.items self.entry.collector run.collector) }
         ensures passed { IfOk result (λ run. Passed self.entry.states.items run.states.items) }
     {
         let run = self.collect_for_all(alloc)?;

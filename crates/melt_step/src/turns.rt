@@ -42,7 +42,8 @@ impl Turns {
         ensures line { IfSome result (OfLine trace.now.orders states.now self.old self.new) }
         ensures none { IfNone result (NoLine trace.now.orders states.now self.old.line (length trace.now.orders)) }
         ensures turn { self.new.turn ≡ self.old.turn }
-        ensures over { IfNone result (self.old.line ≤ length trace.now.orders → self.new.line ≡ length trace.now.orders) }
+        ensures over { IfNone result
+            (self.old.line ≤ length trace.now.orders → self.new.line ≡ length trace.now.orders) }
         ensures none_left { IfNone result (self.old.line < length trace.now.orders → self.new.left ≡ 0) }
     {
         while self.line < trace.orders() {
@@ -66,7 +67,9 @@ impl Turns {
         requires { length states.now ≡ length trace.now.programs }
         ensures goes { IfSome result (λ t. (s : ThreadState) × (slice_get states.now t ≡ Some s) × MayGo s.mode) }
         ensures none { IfNone result ((t : ℕ) (s : ThreadState) → slice_get states.now t ≡ Some s → MayGo s.mode → ⊥) }
-        ensures given { IfSome result (λ t. OfLine trace.now.orders states.now self.old self.new t ⊎ InTurn trace.now.orders states.now self.old self.new t) }
+        ensures given { IfSome result
+            (λ t. OfLine trace.now.orders states.now self.old self.new t
+            ⊎ InTurn trace.now.orders states.now self.old self.new t) }
         ensures waits { IfNone result (NoTurn states.now self.old self.new) }
     {
         let count = trace.threads();
@@ -95,7 +98,8 @@ fn first_from(states: &[ThreadState<'_>], start: u32, count: u32) -> Option<u32>
     requires { count ≡ length states.now }
     ensures goes { IfSome result (λ t. (s : ThreadState) × (slice_get states.now t ≡ Some s) × MayGo s.mode) }
     ensures first { IfSome result (λ t. (start ≤ t) × NoneGoes states.now start t) }
-    ensures none { IfNone result ((t : ℕ) (s : ThreadState) → start ≤ t → slice_get states.now t ≡ Some s → MayGo s.mode → ⊥) }
+    ensures none { IfNone result ((t : ℕ) (s : ThreadState) → start ≤ t → slice_get states.now t ≡ Some s → MayGo s.mode
+        → ⊥) }
 {
     for t in start..count {
         if states[t as usize].can_go() {

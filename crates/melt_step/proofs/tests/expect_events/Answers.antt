@@ -11,7 +11,8 @@ index-requires g c = omega (arith, c.in-Some.ensures.there, c.take_turn.new.self
 
 pub loop-thread-preserved : goal.loop-thread-preserved
 loop-thread-preserved g c = record {
-  keeps = λ script config stands. c.take_turn.ensures.keeps script config (c.loop-thread.invariant.keeps script config stands);
+  keeps = λ script config stands.
+      c.take_turn.ensures.keeps script config (c.loop-thread.invariant.keeps script config stands);
   stop = c.take_turn.ensures.stop;
 }
 

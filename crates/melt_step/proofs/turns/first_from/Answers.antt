@@ -8,18 +8,26 @@ use Rattle.melt_step.specs.declared.thread.ThreadState.{ThreadState}
 use Rattle.melt_step.proofs.turns.first_from.Goals as goal
 
 -- a state that was read is the one that stands there
-state_there : (states : List ThreadState) (t k : ℕ) (x s : ThreadState) → k ≡ t → x ≡ get_or states t x → slice_get states k ≡ Some s → x ≡ s
-state_there states t k x s same is at = is ∙ (ap (λ (n : ℕ). get_or states n x) (sym same) ∙ get_or_from_slice_get states k s x at)
+state_there : (states : List ThreadState) (t k : ℕ) (x s : ThreadState) → k ≡ t → x ≡ get_or states t x
+    → slice_get states k ≡ Some s → x ≡ s
+state_there states t k x s same is at =
+    is ∙ (ap (λ (n : ℕ). get_or states n x) (sym same) ∙ get_or_from_slice_get states k s x at)
 
 pub returns-then-can_go-clause-goes : goal.returns-then-can_go-clause-goes
-returns-then-can_go-clause-goes c =
-    (c.index-states-t.result, slice_get_read c.args.states.now c.args.count c.loop-t.t c.index-states-t.result c.requires c.loop-t-test.true c.index-states-t.is, c.can_go.ensures.0 c.if-can_go.true)
+returns-then-can_go-clause-goes c = (
+  c.index-states-t.result,
+  slice_get_read c.args.states.now c.args.count c.loop-t.t c.index-states-t.result
+      c.requires c.loop-t-test.true c.index-states-t.is,
+  c.can_go.ensures.0 c.if-can_go.true,
+)
 
 pub loop-t-preserved : goal.loop-t-preserved
 loop-t-preserved c = λ k s from below is goes. elim (cases_eq k c.loop-t.t) [
   | inl same ↦ absurd (
-      let here : c.index-states-t.result ≡ s = state_there c.args.states.now c.loop-t.t k c.index-states-t.result s same c.index-states-t.is is in
-      let yes : c.can_go.result ≡ true = c.can_go.ensures.1 (subst (λ (x : ThreadState). MayGo x.mode) (sym here) goes) in
+      let here : c.index-states-t.result ≡ s =
+      state_there c.args.states.now c.loop-t.t k c.index-states-t.result s same c.index-states-t.is is in
+      let yes : c.can_go.result ≡ true =
+      c.can_go.ensures.1 (subst (λ (x : ThreadState). MayGo x.mode) (sym here) goes) in
       cc)
   | inr other ↦ c.loop-t.invariant k s from (omega (arith, other)) is goes
 ]

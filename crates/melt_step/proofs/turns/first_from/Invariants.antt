@@ -5,4 +5,5 @@ use Rattle.melt_step.specs.declared.thread.ThreadState.{ThreadState}
 use Rattle.melt_step.proofs.turns.first_from.Given as goal
 
 abbrev pub invariant-loop-t : goal.invariant-loop-t
-invariant-loop-t l = (k : ℕ) (s : ThreadState) → l.start ≤ k → k < l.t → slice_get l.states k ≡ Some s → MayGo s.mode → ⊥
+invariant-loop-t l = (k : ℕ) (s : ThreadState) → l.start ≤ k → k < l.t → slice_get l.states k ≡ Some s → MayGo s.mode
+    → ⊥

@@ -9,78 +9,78 @@ use Rattle.melt_step.specs.Threads.{CalledAlone, CalledFirst, CollectorStands, D
 use Rattle.melt_step.specs.declared.collector.Collector.{Collector}
 use Rattle.melt_step.specs.declared.run.Run.{Run}
 use Rattle.melt_step.specs.declared.thread.ThreadState.{ThreadState}
-use Rattle.melt_step.proofs.First.{AwaitsRoom, MayCall, awaits_room, may_call, may_call_again, waits_again, first_told, first_gone, called_at, forced_stands, run_stands, has_next}
+use Rattle.melt_step.proofs.First.{AwaitsRoom, MayCall, awaits_room, may_call, may_call_again, waits_again, first_told}
+use Rattle.melt_step.proofs.First.{first_gone, called_at, forced_stands, run_stands, has_next}
 use Rattle.melt_step.proofs.Journals.{plans_count}
 use Rattle.melt_step.proofs.Safepoints.{called_quiet}
 use Rattle.melt_step.proofs.run.Run.call_first.Goals as goal
 use Rattle.melt_step.proofs.run.Run.call_first.Goals.{After-index_mut-state, In-Some, In_ok-core}
-use Rattle.melt_step.proofs.run.Run.call_first.Goals.{in-Some+then-is_some+in_ok-core+in-Some-call_alone, in-Some+then-is_some+in_ok-core+in_default-call_alone, in-Some+else-is_some, in_default}
+use Rattle.melt_step.proofs.run.Run.call_first.Goals.{in-Some+then-is_some+in_ok-core+in-Some-call_alone}
+use Rattle.melt_step.proofs.run.Run.call_first.Goals.{in-Some+then-is_some+in_ok-core+in_default-call_alone}
+use Rattle.melt_step.proofs.run.Run.call_first.Goals.{in-Some+else-is_some, in_default}
 
 -- the thread waits for room
 awaits : (c : After-index_mut-state) (script : Script) (config : Config) → StandsCollected script config c.args.self
-    → AwaitsRoom script config (view c.args.self.core) c.args.self.states.items c.args.thread c.index_mut-state.result.now
+    → AwaitsRoom script config (view c.args.self.core) c.args.self.states.items c.args.thread
+    c.index_mut-state.result.now
 awaits c script config alone =
-    awaits_room script config (view c.args.self.core) c.args.self.states.items c.args.thread c.index_mut-state.result.now _ alone.stands.table c.index_mut-state.ensures.value c.requires.waits
+    awaits_room script config (view c.args.self.core) c.args.self.states.items c.args.thread
+    c.index_mut-state.result.now _ alone.stands.table c.index_mut-state.ensures.value c.requires.waits
 
 -- so it may make its call
-may : (c : In-Some) → AwaitsRoom c.requires.stands.0 c.requires.stands.1.0 (view c.args.self.core) c.args.self.states.items c.args.thread c.index_mut-state.result.now
-    → MayCall (view c.args.self.core) c.args.thread c.index_mut-state.result.now c.in-Some.op
-may c waits = may_call c.in-Some.op waits c.in-Some.is
+may : (c : In-Some) → MayCall (view c.args.self.core) c.args.thread c.index_mut-state.result.now c.in-Some.op
+may c =
+    let table = c.requires.stands.1.1.stands.table in
+    let waits = awaits_room c.requires.stands.0 c.requires.stands.1.0 (view c.args.self.core)
+    c.args.self.states.items c.args.thread c.index_mut-state.result.now _ table c.index_mut-state.ensures.value
+    c.requires.waits in
+    may_call c.in-Some.op waits c.in-Some.is
 
 -- and may do so once more, behind a collection
-may_again : (c : In_ok-core) → AwaitsRoom c.requires.stands.0 c.requires.stands.1.0 (view c.args.self.core) c.args.self.states.items c.args.thread c.index_mut-state.result.now
-    → MayCall (view c.in_ok-core.core) c.args.thread c.call_alone.new.state c.in-Some.op
-may_again c waits =
+may_again : (c : In_ok-core) → MayCall (view c.in_ok-core.core) c.args.thread c.call_alone.new.state c.in-Some.op
+may_again c =
+    let table = c.requires.stands.1.1.stands.table in
+    let waits = awaits_room c.requires.stands.0 c.requires.stands.1.0 (view c.args.self.core)
+    c.args.self.states.items c.args.thread c.index_mut-state.result.now _ table c.index_mut-state.ensures.value
+    c.requires.waits in
     let some : IsSome c.call_alone.result = search rules in
     may_call_again c.in-Some.op waits c.in-Some.is some c.call_alone.ensures.called c.in_ok-core.ensures.collected
 
 pub call_alone-requires-clause-no_collect : goal.call_alone-requires-clause-no_collect
-call_alone-requires-clause-no_collect c =
-    let at = goal.at.call_alone-requires-clause-no_collect c in
-    (may at.In-Some (awaits at.After-index_mut-state c.requires.stands.0 c.requires.stands.1.0 c.requires.stands.1.1)).no_collect
+call_alone-requires-clause-no_collect c = (may (goal.at.call_alone-requires-clause-no_collect c).In-Some).no_collect
 
 pub call_alone-requires-clause-bounds : goal.call_alone-requires-clause-bounds
-call_alone-requires-clause-bounds c =
-    let at = goal.at.call_alone-requires-clause-bounds c in
-    (may at.In-Some (awaits at.After-index_mut-state c.requires.stands.0 c.requires.stands.1.0 c.requires.stands.1.1)).bounds
+call_alone-requires-clause-bounds c = (may (goal.at.call_alone-requires-clause-bounds c).In-Some).bounds
 
 pub call_alone-requires-clause-entries : goal.call_alone-requires-clause-entries
-call_alone-requires-clause-entries c =
-    let at = goal.at.call_alone-requires-clause-entries c in
-    (may at.In-Some (awaits at.After-index_mut-state c.requires.stands.0 c.requires.stands.1.0 c.requires.stands.1.1)).entries
+call_alone-requires-clause-entries c = (may (goal.at.call_alone-requires-clause-entries c).In-Some).entries
 
 pub call_alone-requires-clause-room : goal.call_alone-requires-clause-room
-call_alone-requires-clause-room c =
-    let at = goal.at.call_alone-requires-clause-room c in
-    (may at.In-Some (awaits at.After-index_mut-state c.requires.stands.0 c.requires.stands.1.0 c.requires.stands.1.1)).room
+call_alone-requires-clause-room c = (may (goal.at.call_alone-requires-clause-room c).In-Some).room
 
 pub call_alone-requires-clause-no_stop : goal.call_alone-requires-clause-no_stop
 call_alone-requires-clause-no_stop c = c.requires.stands.1.1.collected.stop
 
 pub call_alone-requires-then-is_some-clause-thread : goal.call_alone-requires-then-is_some-clause-thread
 call_alone-requires-then-is_some-clause-thread c =
-    let at = goal.at.call_alone-requires-then-is_some-clause-thread c in
-    (may_again at.In_ok-core (awaits at.After-index_mut-state c.requires.stands.0 c.requires.stands.1.0 c.requires.stands.1.1)).thread
+    (may_again (goal.at.call_alone-requires-then-is_some-clause-thread c).In_ok-core).thread
 
 pub call_alone-requires-then-is_some-clause-bounds : goal.call_alone-requires-then-is_some-clause-bounds
 call_alone-requires-then-is_some-clause-bounds c =
-    let at = goal.at.call_alone-requires-then-is_some-clause-bounds c in
-    (may_again at.In_ok-core (awaits at.After-index_mut-state c.requires.stands.0 c.requires.stands.1.0 c.requires.stands.1.1)).bounds
+    (may_again (goal.at.call_alone-requires-then-is_some-clause-bounds c).In_ok-core).bounds
 
 pub call_alone-requires-then-is_some-clause-entries : goal.call_alone-requires-then-is_some-clause-entries
 call_alone-requires-then-is_some-clause-entries c =
-    let at = goal.at.call_alone-requires-then-is_some-clause-entries c in
-    (may_again at.In_ok-core (awaits at.After-index_mut-state c.requires.stands.0 c.requires.stands.1.0 c.requires.stands.1.1)).entries
+    (may_again (goal.at.call_alone-requires-then-is_some-clause-entries c).In_ok-core).entries
 
 pub call_alone-requires-then-is_some-clause-room : goal.call_alone-requires-then-is_some-clause-room
 call_alone-requires-then-is_some-clause-room c =
-    let at = goal.at.call_alone-requires-then-is_some-clause-room c in
-    (may_again at.In_ok-core (awaits at.After-index_mut-state c.requires.stands.0 c.requires.stands.1.0 c.requires.stands.1.1)).room
+    (may_again (goal.at.call_alone-requires-then-is_some-clause-room c).In_ok-core).room
 
 pub drop_all-requires-clause-thread : goal.drop_all-requires-clause-thread
 drop_all-requires-clause-thread c =
-    let at = goal.at.drop_all-requires-clause-thread c in
-    let there : c.args.thread < length c.in_ok-core.core.rest.held.items = (may_again at.In_ok-core (awaits at.After-index_mut-state c.requires.stands.0 c.requires.stands.1.0 c.requires.stands.1.1)).thread in
+    let there : c.args.thread < length c.in_ok-core.core.rest.held.items =
+    (may_again (goal.at.drop_all-requires-clause-thread c).In_ok-core).thread in
     omega (arith, there, c.call_alone-then-is_some.ensures.called.others.threads)
 
 pub returns-clause-keeps : goal.returns-clause-keeps
@@ -90,26 +90,47 @@ returns-clause-keeps c = λ script config alone.
       | in-Some+then-is_some+in_ok-core+in-Some-call_alone w ↦
           let some : IsSome w.call_alone.result = search rules in
           let second = waits_again first some w.call_alone.ensures.called w.in_ok-core.ensures.collected in
-          let free : (view w.in_ok-core.core).free ≡ w.used-held.result + 1 = let first = w.in_ok-core.ensures.collected.stays.stands.first in omega (arith, w.used-held.ensures, first) in
-          let called = first_gone w.used-held.result w.in-Some-call_alone.need alone.owed second w.in_ok-core.ensures.collected free w.in-Some-call_alone.is w.call_alone-then-is_some.ensures.called w.drop_all.ensures in
+          let free : (view w.in_ok-core.core).free ≡ w.used-held.result + 1 = let first =
+          w.in_ok-core.ensures.collected.stays.stands.first in omega (arith, w.used-held.ensures, first) in
+          let called =
+          first_gone w.used-held.result w.in-Some-call_alone.need alone.owed second w.in_ok-core.ensures.collected free
+          w.in-Some-call_alone.is w.call_alone-then-is_some.ensures.called w.drop_all.ensures in
           run_stands c.args.self _ alone.stands (ap view w.core-is) refl (search rules) called
-          (subst (CollectorStands config) (sym w.collector-is) (forced_stands c.args.self w.collect.new.self alone first.at some w.call_alone.ensures.called w.in_ok-core.ensures.collected w.in_ok-core.ensures.plans))
-          (omega (arith, plans_count c.args.self.collector w.collect.new.self (view w.in_ok-core.core) forced w.in_ok-core.ensures.plans, ap (λ (x : Collector). length x.journal.items) w.collector-is))
+          (subst (CollectorStands config) (sym w.collector-is)
+          (forced_stands c.args.self w.collect.new.self alone first.at some w.call_alone.ensures.called
+          w.in_ok-core.ensures.collected w.in_ok-core.ensures.plans))
+          (omega (
+            arith,
+            plans_count c.args.self.collector w.collect.new.self
+                (view w.in_ok-core.core) forced w.in_ok-core.ensures.plans,
+            ap (λ (x : Collector). length x.journal.items) w.collector-is,
+          ))
       | in-Some+then-is_some+in_ok-core+in_default-call_alone w ↦
           let some : IsSome w.call_alone.result = search rules in
           let none : w.call_alone-then-is_some.result ≡ None = search rules in
           let second = waits_again first some w.call_alone.ensures.called w.in_ok-core.ensures.collected in
-          let due = subst (λ (n : ℕ). DueBy n w.call_alone.new.state w.call_alone-then-is_some.new.state) alone.stands.every w.call_alone-then-is_some.ensures.due in
+          let due =
+          subst (λ (n : ℕ). DueBy n w.call_alone.new.state w.call_alone-then-is_some.new.state) alone.stands.every
+          w.call_alone-then-is_some.ensures.due in
           let called = first_told second none w.call_alone-then-is_some.ensures.called due in
           run_stands c.args.self _ alone.stands (ap view w.core-is) refl (search rules) called
-          (subst (CollectorStands config) (sym w.collector-is) (forced_stands c.args.self w.collect.new.self alone first.at some w.call_alone.ensures.called w.in_ok-core.ensures.collected w.in_ok-core.ensures.plans))
-          (omega (arith, plans_count c.args.self.collector w.collect.new.self (view w.in_ok-core.core) forced w.in_ok-core.ensures.plans, ap (λ (x : Collector). length x.journal.items) w.collector-is))
+          (subst (CollectorStands config) (sym w.collector-is)
+          (forced_stands c.args.self w.collect.new.self alone first.at some w.call_alone.ensures.called
+          w.in_ok-core.ensures.collected w.in_ok-core.ensures.plans))
+          (omega (
+            arith,
+            plans_count c.args.self.collector w.collect.new.self
+                (view w.in_ok-core.core) forced w.in_ok-core.ensures.plans,
+            ap (λ (x : Collector). length x.journal.items) w.collector-is,
+          ))
       | in-Some+else-is_some w ↦
           let none : w.call_alone.result ≡ None = search rules in
-          let due = subst (λ (n : ℕ). DueBy n c.index_mut-state.result.now w.call_alone.new.state) alone.stands.every w.call_alone.ensures.due in
+          let due = subst (λ (n : ℕ). DueBy n c.index_mut-state.result.now w.call_alone.new.state) alone.stands.every
+          w.call_alone.ensures.due in
           let called = first_told first none w.call_alone.ensures.called due in
           run_stands c.args.self _ alone.stands (ap view w.core-is) refl (search rules) called
-          (subst (CollectorStands config) (sym w.collector-is) alone.stands.collector) (omega (arith, ap (λ (x : Collector). length x.journal.items) w.collector-is))
+          (subst (CollectorStands config) (sym w.collector-is) alone.stands.collector)
+          (omega (arith, ap (λ (x : Collector). length x.journal.items) w.collector-is))
       | in_default w ↦ absurd (let next = has_next first in w.in_default.not-Some next.0 next.1)
     ]
 
@@ -119,42 +140,58 @@ returns-clause-quiet c =
     elim c.match-state.branch [
       | in-Some+then-is_some+in_ok-core+in-Some-call_alone w ↦ rw w.core-is (λ u.
           ap (λ (x : View). call_of x u) w.drop_all.ensures.only
-          ∙ called_quiet (view w.in_ok-core.core) (view w.call_alone-then-is_some.new.core) c.args.thread w.call_alone.new.state w.call_alone-then-is_some.new.state w.call_alone-then-is_some.result w.call_alone-then-is_some.ensures.called w.in_ok-core.ensures.collected.stays.quiet u)
+          ∙ called_quiet (view w.in_ok-core.core)
+          (view w.call_alone-then-is_some.new.core) c.args.thread w.call_alone.new.state
+          w.call_alone-then-is_some.new.state w.call_alone-then-is_some.result w.call_alone-then-is_some.ensures.called
+          w.in_ok-core.ensures.collected.stays.quiet u)
       | in-Some+then-is_some+in_ok-core+in_default-call_alone w ↦ rw w.core-is
-          (called_quiet (view w.in_ok-core.core) (view w.call_alone-then-is_some.new.core) c.args.thread w.call_alone.new.state w.call_alone-then-is_some.new.state w.call_alone-then-is_some.result w.call_alone-then-is_some.ensures.called w.in_ok-core.ensures.collected.stays.quiet)
+          (called_quiet (view w.in_ok-core.core)
+          (view w.call_alone-then-is_some.new.core) c.args.thread w.call_alone.new.state
+          w.call_alone-then-is_some.new.state w.call_alone-then-is_some.result w.call_alone-then-is_some.ensures.called
+          w.in_ok-core.ensures.collected.stays.quiet)
       | in-Some+else-is_some w ↦ rw w.core-is
-          (called_quiet (view c.args.self.core) (view w.call_alone.new.core) c.args.thread c.index_mut-state.result.now w.call_alone.new.state w.call_alone.result w.call_alone.ensures.called c.requires.quiet)
+          (called_quiet (view c.args.self.core) (view w.call_alone.new.core) c.args.thread c.index_mut-state.result.now
+          w.call_alone.new.state w.call_alone.result w.call_alone.ensures.called c.requires.quiet)
       | in_default w ↦ rw w.core-is c.requires.quiet
     ]
 
 pub returns-clause-only : goal.returns-clause-only
 returns-clause-only c = λ x there.
     let alone = c.requires.stands.1.1 in
-    let first = awaits (goal.at.returns-clause-only c).After-index_mut-state c.requires.stands.0 c.requires.stands.1.0 alone in
+    let first = awaits (goal.at.returns-clause-only c).After-index_mut-state c.requires.stands.0 c.requires.stands.1.0
+    alone in
     elim c.match-state.branch [
       | in-Some+then-is_some+in_ok-core+in-Some-call_alone w ↦
           let some : IsSome w.call_alone.result = search rules in
           let second = waits_again first some w.call_alone.ensures.called w.in_ok-core.ensures.collected in
-          let free : (view w.in_ok-core.core).free ≡ w.used-held.result + 1 = let first = w.in_ok-core.ensures.collected.stays.stands.first in omega (arith, w.used-held.ensures, first) in
-          let called = first_gone w.used-held.result w.in-Some-call_alone.need alone.owed second w.in_ok-core.ensures.collected free w.in-Some-call_alone.is w.call_alone-then-is_some.ensures.called w.drop_all.ensures in
+          let free : (view w.in_ok-core.core).free ≡ w.used-held.result + 1 = let first =
+          w.in_ok-core.ensures.collected.stays.stands.first in omega (arith, w.used-held.ensures, first) in
+          let called =
+          first_gone w.used-held.result w.in-Some-call_alone.need alone.owed second w.in_ok-core.ensures.collected free
+          w.in-Some-call_alone.is w.call_alone-then-is_some.ensures.called w.drop_all.ensures in
           called_at c.match-state.states.items x second.at called (search rules) there
       | in-Some+then-is_some+in_ok-core+in_default-call_alone w ↦
           let some : IsSome w.call_alone.result = search rules in
           let none : w.call_alone-then-is_some.result ≡ None = search rules in
           let second = waits_again first some w.call_alone.ensures.called w.in_ok-core.ensures.collected in
-          let due = subst (λ (n : ℕ). DueBy n w.call_alone.new.state w.call_alone-then-is_some.new.state) alone.stands.every w.call_alone-then-is_some.ensures.due in
+          let due =
+          subst (λ (n : ℕ). DueBy n w.call_alone.new.state w.call_alone-then-is_some.new.state) alone.stands.every
+          w.call_alone-then-is_some.ensures.due in
           let called = first_told second none w.call_alone-then-is_some.ensures.called due in
           called_at c.match-state.states.items x second.at called (search rules) there
       | in-Some+else-is_some w ↦
           let none : w.call_alone.result ≡ None = search rules in
-          let due = subst (λ (n : ℕ). DueBy n c.index_mut-state.result.now w.call_alone.new.state) alone.stands.every w.call_alone.ensures.due in
+          let due = subst (λ (n : ℕ). DueBy n c.index_mut-state.result.now w.call_alone.new.state) alone.stands.every
+          w.call_alone.ensures.due in
           let called = first_told first none w.call_alone.ensures.called due in
           called_at c.match-state.states.items x first.at called (search rules) there
       | in_default w ↦ absurd (let next = has_next first in w.in_default.not-Some next.0 next.1)
     ]
 
 -- behind a call that was refused a collection was forced
-called_forced : (old new : Run) (u w : View) (c : Collector) (t : ℕ) (s next : ThreadState) (lacks : Option ℕ) → slice_get old.states.items t ≡ Some s → CalledAlone (view old.core) u t s next lacks → IsSome lacks → PlansBy old.collector c w forced → new.collector ≡ c → CalledFirst old new t
+called_forced : (old new : Run) (u w : View) (c : Collector) (t : ℕ) (s next : ThreadState) (lacks : Option ℕ)
+    → slice_get old.states.items t ≡ Some s → CalledAlone (view old.core) u t s next lacks → IsSome lacks
+    → PlansBy old.collector c w forced → new.collector ≡ c → CalledFirst old new t
 called_forced old new u w c t s next lacks at call some plans same = record {
   state = s;
   at = at;
@@ -168,13 +205,18 @@ called_forced old new u w c t s next lacks at call some plans same = record {
 
 pub returns-clause-called : goal.returns-clause-called
 returns-clause-called c =
-    let first = awaits (goal.at.returns-clause-called c).After-index_mut-state c.requires.stands.0 c.requires.stands.1.0 c.requires.stands.1.1 in
+    let first = awaits (goal.at.returns-clause-called c).After-index_mut-state c.requires.stands.0 c.requires.stands.1.0
+    c.requires.stands.1.1 in
     let s : ThreadState = c.index_mut-state.result.now in
     elim c.match-state.branch [
       | in-Some+then-is_some+in_ok-core+in-Some-call_alone w ↦
-          called_forced c.args.self _ (view w.call_alone.new.core) (view w.in_ok-core.core) w.collect.new.self c.args.thread s w.call_alone.new.state w.call_alone.result first.at w.call_alone.ensures.called (search rules) w.in_ok-core.ensures.plans w.collector-is
+          called_forced c.args.self _ (view w.call_alone.new.core)
+          (view w.in_ok-core.core) w.collect.new.self c.args.thread s w.call_alone.new.state w.call_alone.result
+          first.at w.call_alone.ensures.called (search rules) w.in_ok-core.ensures.plans w.collector-is
       | in-Some+then-is_some+in_ok-core+in_default-call_alone w ↦
-          called_forced c.args.self _ (view w.call_alone.new.core) (view w.in_ok-core.core) w.collect.new.self c.args.thread s w.call_alone.new.state w.call_alone.result first.at w.call_alone.ensures.called (search rules) w.in_ok-core.ensures.plans w.collector-is
+          called_forced c.args.self _ (view w.call_alone.new.core)
+          (view w.in_ok-core.core) w.collect.new.self c.args.thread s w.call_alone.new.state w.call_alone.result
+          first.at w.call_alone.ensures.called (search rules) w.in_ok-core.ensures.plans w.collector-is
       | in-Some+else-is_some w ↦
           record {
             state = s;
@@ -184,7 +226,9 @@ returns-clause-called c =
             lacks = w.call_alone.result;
             call = w.call_alone.ensures.called;
             answered = λ none. w.collector-is;
-            refused = λ some. absurd (let none : w.call_alone.result ≡ None = search rules in let wrong = subst (λ (x : Option ℕ). IsSome x) none some in cc);
+            refused =
+                λ some. absurd (let none : w.call_alone.result ≡ None = search rules in
+                let wrong = subst (λ (x : Option ℕ). IsSome x) none some in cc);
           }
       | in_default w ↦ absurd (let next = has_next first in w.in_default.not-Some next.0 next.1)
     ]

@@ -15,17 +15,28 @@ returns-then-not-has_ended-clause-goes c = λ no.
     let states : List ThreadState = c.args.self.now.states.items in
     let items : List ThreadState = c.deref-state-items.result.now in
     let there : slice_get items c.loop-state.state-index ≡ Some c.state-item.result =
-    slice_get_read items (length items) c.loop-state.state-index c.state-item.result refl c.loop-state-test.true c.state-item.is in
+    slice_get_read items (length items) c.loop-state.state-index c.state-item.result refl c.loop-state-test.true
+    c.state-item.is in
     let at : slice_get states c.loop-state.state-index ≡ Some c.state-item.result =
-    subst (λ (xs : List ThreadState). slice_get xs c.loop-state.state-index ≡ Some c.state-item.result) c.deref-state-items.ensures.value there in
-    (c.loop-state.state-index, (c.state-item.result, at, λ over. let yes : c.has_ended.result ≡ true = c.has_ended.ensures.1 over in let wrong : false ≡ true = sym c.if-not-has_ended.true ∙ yes in absurd (cc)))
+    subst (λ (xs : List ThreadState). slice_get xs c.loop-state.state-index ≡ Some c.state-item.result)
+    c.deref-state-items.ensures.value there in (
+      c.loop-state.state-index,
+      (
+        c.state-item.result,
+        at,
+        λ over.
+            let yes : c.has_ended.result ≡ true = c.has_ended.ensures.1 over in let wrong : false ≡ true =
+            sym c.if-not-has_ended.true ∙ yes in absurd (cc),
+      ),
+    )
 
 pub loop-state-preserved : goal.loop-state-preserved
 loop-state-preserved c = λ t s below at. elim (cases_eq t c.loop-state.state-index) [
   | inl same ↦
       let items : List ThreadState = c.deref-state-items.result.now in
       let here : c.state-item.result ≡ s =
-      c.state-item.is ∙ (ap (λ (n : ℕ). get_or items n c.state-item.result) (sym same) ∙ get_or_from_slice_get items t s c.state-item.result at) in
+      c.state-item.is ∙ (ap (λ (n : ℕ). get_or items n c.state-item.result) (sym same)
+      ∙ get_or_from_slice_get items t s c.state-item.result at) in
       subst (λ (x : ThreadState). IsEnded x.mode) here (c.has_ended.ensures.0 c.if-not-has_ended.false)
   | inr other ↦ c.loop-state.invariant t s (omega (arith, other)) at
 ]
@@ -33,6 +44,7 @@ loop-state-preserved c = λ t s below at. elim (cases_eq t c.loop-state.state-in
 pub returns-clause-ended : goal.returns-clause-ended
 returns-clause-ended c = λ yes t s at.
     let items : List ThreadState = c.deref-state-items.result.now in
-    let there : slice_get items t ≡ Some s = subst (λ (xs : List ThreadState). slice_get xs t ≡ Some s) (sym c.deref-state-items.ensures.value) at in
+    let there : slice_get items t ≡ Some s =
+    subst (λ (xs : List ThreadState). slice_get xs t ≡ Some s) (sym c.deref-state-items.ensures.value) at in
     let within : t < length items = slice_get_within items t s there in
     c.loop-state.invariant t s (omega (arith, c.loop-state-test.false)) there

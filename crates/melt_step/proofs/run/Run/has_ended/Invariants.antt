@@ -5,4 +5,5 @@ use Rattle.melt_step.specs.declared.thread.ThreadState.{ThreadState}
 use Rattle.melt_step.proofs.run.Run.has_ended.Given as goal
 
 abbrev pub invariant-loop-state : goal.invariant-loop-state
-invariant-loop-state l = (t : ℕ) (s : ThreadState) → t < l.state-index → slice_get l.state-items t ≡ Some s → IsEnded s.mode
+invariant-loop-state l = (t : ℕ) (s : ThreadState) → t < l.state-index → slice_get l.state-items t ≡ Some s
+    → IsEnded s.mode

@@ -8,19 +8,29 @@ use Rattle.melt_step.specs.declared.thread.ThreadState.{ThreadState}
 use Rattle.melt_step.proofs.run.Run.lacking.Goals as goal
 
 -- what was read of a list is there in the same list
-state_there : (items states : List ThreadState) (t : ℕ) (x : ThreadState) → items ≡ states → t < length items → x ≡ get_or items t x → slice_get states t ≡ Some x
-state_there items states t x same below is = subst (λ (ss : List ThreadState). slice_get ss t ≡ Some x) same (slice_get_read items (length items) t x refl below is)
+state_there : (items states : List ThreadState) (t : ℕ) (x : ThreadState) → items ≡ states → t < length items
+    → x ≡ get_or items t x → slice_get states t ≡ Some x
+state_there items states t x same below is =
+    subst (λ (ss : List ThreadState). slice_get ss t ≡ Some x) same
+    (slice_get_read items (length items) t x refl below is)
 
 -- no thread up to this one
-none_more : (states : List ThreadState) (t : ℕ) (x : ThreadState) → slice_get states t ≡ Some x → (x.mode ≡ Lacking → ⊥) → ((k : ℕ) (s : ThreadState) → k < t → slice_get states k ≡ Some s → s.mode ≡ Lacking → ⊥) → (k : ℕ) (s : ThreadState) → k < t + 1 → slice_get states k ≡ Some s → s.mode ≡ Lacking → ⊥
+none_more : (states : List ThreadState) (t : ℕ) (x : ThreadState) → slice_get states t ≡ Some x → (x.mode ≡ Lacking → ⊥)
+    → ((k : ℕ) (s : ThreadState) → k < t → slice_get states k ≡ Some s → s.mode ≡ Lacking → ⊥)
+    → (k : ℕ) (s : ThreadState) → k < t + 1 → slice_get states k ≡ Some s → s.mode ≡ Lacking → ⊥
 none_more states t x at not before = λ k s below is lacks. elim (cases_eq k t) [
-  | inl same ↦ not (ap (λ (z : ThreadState). z.mode) (same_Some x s (sym at ∙ (ap (slice_get states) (sym same) ∙ is))) ∙ lacks)
+  | inl same ↦ not (ap (λ (z : ThreadState). z.mode) (same_Some x s (sym at ∙ (ap (slice_get states) (sym same) ∙ is)))
+      ∙ lacks)
   | inr other ↦ before k s (omega (arith, other, below)) is lacks
 ]
 
 pub returns-in-Lacking-clause-some : goal.returns-in-Lacking-clause-some
-returns-in-Lacking-clause-some c =
-    (c.state-item.result, state_there c.deref-state-items.result.now c.args.self.now.states.items c.loop-t.t c.state-item.result c.deref-state-items.ensures.value c.loop-t-test.true c.state-item.is, c.in-Lacking.is)
+returns-in-Lacking-clause-some c = (
+  c.state-item.result,
+  state_there c.deref-state-items.result.now c.args.self.now.states.items c.loop-t.t
+      c.state-item.result c.deref-state-items.ensures.value c.loop-t-test.true c.state-item.is,
+  c.in-Lacking.is,
+)
 
 pub returns-in-Lacking-clause-first : goal.returns-in-Lacking-clause-first
 returns-in-Lacking-clause-first c = c.loop-t.invariant
@@ -28,10 +38,12 @@ returns-in-Lacking-clause-first c = c.loop-t.invariant
 pub loop-t-preserved : goal.loop-t-preserved
 loop-t-preserved c =
     none_more c.args.self.now.states.items c.loop-t.t c.state-item.result
-    (state_there c.deref-state-items.result.now c.args.self.now.states.items c.loop-t.t c.state-item.result c.deref-state-items.ensures.value c.loop-t-test.true c.state-item.is)
+    (state_there c.deref-state-items.result.now c.args.self.now.states.items c.loop-t.t c.state-item.result
+    c.deref-state-items.ensures.value c.loop-t-test.true c.state-item.is)
     c.in_default.not-Lacking c.loop-t.invariant
 
 pub returns-clause-none : goal.returns-clause-none
 returns-clause-none c = λ t s is lacks.
     let within : t < length c.args.self.now.states.items = slice_get_within c.args.self.now.states.items t s is in
-    c.loop-t.invariant t s (omega (arith, within, c.loop-t-test.false, ap length c.deref-state-items.ensures.value)) is lacks
+    c.loop-t.invariant t s (omega (arith, within, c.loop-t-test.false, ap length c.deref-state-items.ensures.value)) is
+    lacks

@@ -5,4 +5,5 @@ use Rattle.melt_step.specs.declared.thread.ThreadState.{ThreadState}
 use Rattle.melt_step.proofs.run.Run.lacking.Given as goal
 
 abbrev pub invariant-loop-t : goal.invariant-loop-t
-invariant-loop-t l = (k : ℕ) (s : ThreadState) → k < l.t → slice_get l.self.states.items k ≡ Some s → s.mode ≡ Lacking → ⊥
+invariant-loop-t l = (k : ℕ) (s : ThreadState) → k < l.t → slice_get l.self.states.items k ≡ Some s → s.mode ≡ Lacking
+    → ⊥

@@ -4,4 +4,5 @@ use Rattle.melt_step.proofs.Reporting.{Reported}
 use Rattle.melt_step.proofs.run.Run.report.Given as goal
 
 abbrev pub invariant-loop-state : goal.invariant-loop-state
-invariant-loop-state l = Reported l.yielded l.threads.items × (l.yielded ++ l.state-iterator.rest.items ≡ l.fn.self.states.items)
+invariant-loop-state l = Reported l.yielded l.threads.items
+    × (l.yielded ++ l.state-iterator.rest.items ≡ l.fn.self.states.items)

@@ -23,15 +23,18 @@ given c = subst (λ (xs : List ThreadState). GoesAt xs c.in-Some.thread) c.deref
 pub index_mut-state-requires : goal.index_mut-state-requires
 index_mut-state-requires c =
     let turn = given (goal.at.index_mut-state-requires c).In-Some in
-    let within : c.in-Some.thread < length c.args.self.now.states.items = slice_get_within c.args.self.now.states.items c.in-Some.thread turn.0 turn.1 in
+    let within : c.in-Some.thread < length c.args.self.now.states.items =
+    slice_get_within c.args.self.now.states.items c.in-Some.thread turn.0 turn.1 in
     omega (arith, within, c.args.self.now.states.ok)
 
 -- the state that was borrowed
 here : (c : After-index_mut-state) → GoesAt c.args.self.now.states.items c.in-Some.thread
-    → (slice_get c.args.self.now.states.items c.in-Some.thread ≡ Some c.index_mut-state.result.now) × MayGo c.index_mut-state.result.now.mode
+    → (slice_get c.args.self.now.states.items c.in-Some.thread ≡ Some c.index_mut-state.result.now)
+    × MayGo c.index_mut-state.result.now.mode
 here c turn =
     let is : c.index_mut-state.result.now ≡ turn.0 =
-    c.index_mut-state.ensures.value ∙ get_or_from_slice_get c.args.self.now.states.items c.in-Some.thread turn.0 _ turn.1 in
+    c.index_mut-state.ensures.value
+    ∙ get_or_from_slice_get c.args.self.now.states.items c.in-Some.thread turn.0 _ turn.1 in
     (turn.1 ∙ ap Some (sym is), subst (λ (x : ThreadState). MayGo x.mode) (sym is) turn.2)
 
 pub make_event-requires : goal.make_event-requires
@@ -39,7 +42,9 @@ make_event-requires c =
     let at = goal.at.make_event-requires c in
     let borrowed = here at.After-index_mut-state (given at.In-Some) in
     record {
-      ready = table_ready c.args.trace.now c.requires.stands.0 (view c.args.self.now.core) c.args.self.now.states.items c.in-Some.thread _ c.requires.stands.1.table borrowed.0;
+      ready = table_ready c.args.trace.now c.requires.stands.0
+          (view c.args.self.now.core) c.args.self.now.states.items c.in-Some.thread _ c.requires.stands.1.table
+          borrowed.0;
       goes = borrowed.1;
     }
 
@@ -51,12 +56,17 @@ returns c =
     let after : ThreadState = c.make_event.new.state in
     let states : List ThreadState = c.args.self.now.states.items in
     record {
-      keeps = step_keeps c.args.self.now _ c.in-Some.thread s after borrowed.0 borrowed.1 c.make_event.ensures.step refl c.make_event.ensures.due refl refl;
-      stop = stop_known (view c.args.self.now.core) (view c.make_event.new.core) states c.in-Some.thread s after c.requires.stop borrowed.0 borrowed.1 c.make_event.ensures.stop;
+      keeps = step_keeps c.args.self.now _ c.in-Some.thread s after borrowed.0 borrowed.1 c.make_event.ensures.step refl
+          c.make_event.ensures.due refl refl;
+      stop = stop_known (view c.args.self.now.core)
+          (view c.make_event.new.core) states c.in-Some.thread s after c.requires.stop borrowed.0 borrowed.1
+          c.make_event.ensures.stop;
       there =
           let within : c.in-Some.thread < length states = slice_get_within states c.in-Some.thread s borrowed.0 in
           omega (arith, within, length-set states c.in-Some.thread after);
-      nearer = λ some. step_less c.args.trace.now c.requires.stands.0 (view c.args.self.now.core) (view c.make_event.new.core) states c.in-Some.thread s after c.requires.stands.1.table borrowed.0 borrowed.1 c.make_event.ensures.step;
+      nearer = λ some. step_less c.args.trace.now c.requires.stands.0 (view c.args.self.now.core)
+          (view c.make_event.new.core) states c.in-Some.thread s after c.requires.stands.1.table borrowed.0 borrowed.1
+          c.make_event.ensures.step;
       waits = λ none. absurd (cc);
     }
 
