@@ -30,26 +30,16 @@ use Rattle.melt_step.specs.declared.thread.Mode.TheVariants.{Running, Due, Silen
 use Rattle.melt_step.specs.Threads.{owes_silent, Waits, IsEnded, TakesReply, DropsIfEnded, ThreadTold, ThreadStep}
 use Rattle.melt_step.specs.Threads.{SetsStop}
 use Rattle.melt_step.proofs.Cuts.{alive_same}
-use Rattle.melt_step.proofs.Modes.{dropped_keeps}
+use Rattle.melt_step.proofs.Modes.{dropped_keeps, nothing_keeps, stop_keeps}
 
 -- a thread waits for a collection
 pub waits_step : (v w : View) (t : ℕ) (s : ThreadState) (mode : Mode) → Standing true v → w ≡ stopped v
     → ((s.mode ≡ Running) × (s.op ≡ Some Collect) × (mode ≡ Collecting)) ⊎ ((s.mode ≡ Due) × (mode ≡ Silent))
     → ThreadStep v w t s (record s { mode = mode })
 waits_step v w t s mode stands is before =
-    let others : KeepsOthers v (stopped v) t =
-    record {
-      globals = refl;
-      words = refl;
-      threads = refl;
-      capacity = refl;
-      calls = λ u other. refl;
-      registers = λ u other. refl;
-      values = λ u other. refl;
-    } in
     record {
       stands = subst (Standing true) (sym is) (stands_stopped true v stands);
-      others = subst (λ (x : View). KeepsOthers v x t) (sym is) others;
+      others = subst (λ (x : View). KeepsOthers v x t) (sym is) (stop_keeps v true t);
       what = inl (mode, record { only = refl; stop = is; before = before });
     }
 
@@ -157,21 +147,11 @@ pub told_stands : (w x : View) (t : ℕ) (mode : Mode) → Standing true w → D
 told_stands w x t mode stands drops =
     elim (drop_cases w x t mode drops) [
       | inl ended ↦ (ended.1.keeps true stands, dropped_keeps w x t ended.1, ap (λ (y : View). y.stop) ended.1.only)
-      | inr goes ↦
-          let others : KeepsOthers w w t =
-          record {
-            globals = refl;
-            words = refl;
-            threads = refl;
-            capacity = refl;
-            calls = λ u other. refl;
-            registers = λ u other. refl;
-            values = λ u other. refl;
-          } in (
-            subst (Standing true) (sym goes.1) stands,
-            subst (λ (y : View). KeepsOthers w y t) (sym goes.1) others,
-            ap (λ (y : View). y.stop) goes.1,
-          )
+      | inr goes ↦ (
+        subst (Standing true) (sym goes.1) stands,
+        subst (λ (y : View). KeepsOthers w y t) (sym goes.1) (nothing_keeps w t),
+        ap (λ (y : View). y.stop) goes.1,
+      )
     ]
 
 -- a thread that got a reply does not wait for the stop word

@@ -4,8 +4,8 @@ use Rattle.std.proofs.Common.{length, take, refl, sym, ◌∙◌, ap, subst, ari
 use Rattle.std.proofs.Math.ListN.{set}
 use Rattle.std.proofs.Math.Nat.{div-add-mod, mod-lt, mul-le-mul_left}
 use Rattle.std.proofs.lemmas.Bool.{cases_eq, cases_lt}
-use Rattle.std.proofs.lemmas.List.Sums.{sum-map, sum_by-set, sum_by_push}
-use Rattle.std.proofs.lemmas.Option.{slice_get_within, get_or_from_slice_get}
+use Rattle.std.proofs.lemmas.List.Sums.{sum_by_push}
+use Rattle.std.proofs.lemmas.Option.{slice_get_within}
 use Rattle.std.specs.Prelude.{Some, slice_get, if◌then◌else◌, Bool, ◌⊎◌}
 use Rattle.std.specs.List.{count_by}
 use Rattle.melt_model.specs.declared.config.Config.{Config}
@@ -24,7 +24,7 @@ use Rattle.melt_step.specs.Run.{is_collect, silent_in, collections, collections_
 use Rattle.melt_step.specs.Threads.{DueBy, owes, owing, paused_as, ThreadStands, replies_of, TableStands, TakesReply}
 use Rattle.melt_step.specs.Threads.{ThreadTold, ThreadStep}
 use Rattle.melt_step.proofs.Cuts.{replies_here}
-use Rattle.melt_step.proofs.Telling.{take_next, replies_other, replies_same}
+use Rattle.melt_step.proofs.Telling.{take_next, replies_other, replies_same, sum_set}
 use Rattle.melt_step.proofs.Tables.{told_left}
 
 -- the collections of all threads, where those of each are the same
@@ -230,15 +230,7 @@ silent_collections script config states t s after at same =
 -- how many threads have a silent collection still to come, where a state was set
 pub owing_set : (states : List ThreadState) (t : ℕ) (s after : ThreadState) → slice_get states t ≡ Some s
     → owing (set states t after) + owes s.mode ≡ owing states + owes after.mode
-owing_set states t s after at =
-    let f : ThreadState → ℕ = λ (x : ThreadState). owes x.mode in
-    omega (
-      arith,
-      sum-map f states,
-      sum-map f (set states t after),
-      sum_by-set f states t after s (slice_get_within states t s at),
-      ap f (get_or_from_slice_get states t s s at),
-    )
+owing_set states t s after at = sum_set (λ (x : ThreadState). owes x.mode) states t s after at
 
 -- So many collections more were made for the replies that threads got, and for those that are no longer to come.
 abbrev pub Adds : Script → Config → List ThreadState → List ThreadState → ℕ → Type 0

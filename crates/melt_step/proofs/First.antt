@@ -23,7 +23,8 @@ use Rattle.melt_step.specs.declared.thread.Mode.TheVariants.{Lacking, Ended}
 use Rattle.melt_step.specs.Journals.{forced}
 use Rattle.melt_step.specs.declared.collector.Collector.{Collector}
 use Rattle.melt_step.specs.declared.run.Run.{Run}
-use Rattle.melt_step.specs.Threads.{CollectorStands, DueBy, IsPaused, OweBehindCollects, PlansBy, StandsCollected}
+use Rattle.melt_step.specs.Threads.{CalledAt, CollectorStands, DueBy, IsPaused, OweBehindCollects, PlansBy}
+use Rattle.melt_step.specs.Threads.{StandsCollected}
 use Rattle.melt_step.specs.Threads.{TakesReply, owes, with_first, left, jobs, jobs_of, FitsMode, IsReady, TableStands}
 use Rattle.melt_step.specs.Threads.{RunStands, LacksNow, LacksAlone, CalledAlone, CoreCollected, IsEnded, ThreadTold}
 use Rattle.melt_step.specs.Threads.{ThreadStep}
@@ -251,34 +252,40 @@ first_gone {script} {config} {u} {v} {w} {x} {states} {t} {s} {after} {lacks} he
     subst (λ (y : ThreadState). Called script config x states t s
     (record y { mode = Ended (end.OutOfHeap held_words need) })) (sym alone.same) called
 
+-- what the run keeps behind the call: its threads and its collector stand
+pub record Behind (script : Script) (config : Config) (old run : Run) (t : ℕ) : Type 0 where
+  pub s : ThreadState
+  pub after : ThreadState
+  pub at : slice_get old.states.items t ≡ Some s
+  pub items : run.states.items ≡ set old.states.items t after
+  pub every : run.every ≡ old.every
+  pub called : Called script config (view run.core) old.states.items t s after
+  pub collector : CollectorStands config run.collector
+  pub more : length old.collector.journal.items ≤ length run.collector.journal.items
+
 -- what the run claims of the thread's state
-pub called_at : {script : Script} {config : Config} {w : View} {states : List ThreadState} {t : ℕ}
-    {s after : ThreadState} (items : List ThreadState) (x : ThreadState) → slice_get states t ≡ Some s
-    → Called script config w states t s after → items ≡ set states t after → slice_get states t ≡ Some x
-    → (y : ThreadState) × (items ≡ set states t y) × (jobs_of y < jobs_of x) × (IsPaused y.mode → ⊥)
-called_at {script} {config} {w} {states} {t} {s} {after} items x at called is here = (
-  after,
-  is,
-  subst (λ (z : ThreadState). jobs_of after < jobs_of z) (same_Some s x (sym at ∙ here)) called.fewer,
-  called.goes,
+pub called_at : (script : Script) (config : Config) (old run : Run) (t : ℕ) → Behind script config old run t
+    → CalledAt old.states.items run.states.items t
+called_at script config old run t behind = λ x here. (
+  behind.after,
+  behind.items,
+  subst (λ (z : ThreadState). jobs_of behind.after < jobs_of z)
+      (same_Some behind.s x (sym behind.at ∙ here)) behind.called.fewer,
+  behind.called.goes,
 )
 
--- a run whose threads stand so
-pub run_stands : {script : Script} {config : Config} {w : View} {t : ℕ} {s after : ThreadState} (old run : Run)
-    → RunStands script config old → view run.core ≡ w → run.every ≡ old.every
-    → run.states.items ≡ set old.states.items t after → Called script config w old.states.items t s after
-    → CollectorStands config run.collector → length old.collector.journal.items ≤ length run.collector.journal.items
-    → RunStands script config run
-run_stands {script} {config} {w} {t} {s} {after} old run stands core every items called collector more =
+-- so it stands
+pub run_stands : (script : Script) (config : Config) (old run : Run) (t : ℕ) → RunStands script config old
+    → Behind script config old run t → RunStands script config run
+run_stands script config old run t stands behind =
     let states : List ThreadState = old.states.items in
     let adds : Adds script config states run.states.items 0 =
-    subst (λ (xs : List ThreadState). Adds script config states xs 0) (sym items) called.adds in
+    subst (λ (xs : List ThreadState). Adds script config states xs 0) (sym behind.items) behind.called.adds in
     record {
-      table = subst (λ (v : View). TableStands script config v run.states.items) (sym core)
-          (subst (TableStands script config w) (sym items) called.table);
-      every = every ∙ stands.every;
-      collector = collector;
-      collected = omega (arith, adds, stands.collected, more);
+      table = subst (TableStands script config (view run.core)) (sym behind.items) behind.called.table;
+      every = behind.every ∙ stands.every;
+      collector = behind.collector;
+      collected = omega (arith, adds, stands.collected, behind.more);
     }
 
 -- an object of a script has 126 words at most

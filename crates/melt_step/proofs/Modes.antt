@@ -5,7 +5,7 @@ use Rattle.std.proofs.Math.ListN.{set, length-set}
 use Rattle.std.proofs.lemmas.Bool.{cases_eq}
 use Rattle.std.proofs.lemmas.List.{append-nil}
 use Rattle.std.proofs.lemmas.Option.{same_Some}
-use Rattle.std.specs.Prelude.{replicate, Option, None, Some, IsSome, slice_get}
+use Rattle.std.specs.Prelude.{Bool, replicate, Option, None, Some, IsSome, slice_get}
 use Rattle.melt_model.specs.Standing.{Stands}
 use Rattle.melt_model.specs.declared.config.Config.{Config}
 use Rattle.melt_model.specs.declared.history.Entry.{Entry}
@@ -24,20 +24,23 @@ use Rattle.melt_step.specs.Threads.{with_first, left, MayGo, IsEnded, ThreadStan
 use Rattle.melt_step.specs.Threads.{TableStands, AllWait, Waits, KnowsStop, SetsStop, SomeGoesOn}
 use Rattle.melt_step.proofs.Cuts.{replies_here, LacksNow_same}
 use Rattle.melt_step.proofs.Telling.{get_set_same, get_set_other, replies_same, later_set}
-use Rattle.melt_step.proofs.Tables.{Moves, Table_moves, mode_stands, same_moves}
+use Rattle.melt_step.proofs.Tables.{Moves, Table_moves, mode_stands, same_moves, stands_so}
+
+-- the stop word is of no thread
+pub stop_keeps : (v : View) (stop : Bool) (t : ℕ) → KeepsOthers v (record v { stop = stop }) t
+stop_keeps v stop t = record {
+  globals = refl;
+  words = refl;
+  threads = refl;
+  capacity = refl;
+  calls = λ u differ. refl;
+  registers = λ u differ. refl;
+  values = λ u differ. refl;
+}
 
 -- where nothing changes, the others are as they were
 pub nothing_keeps : (v : View) (t : ℕ) → KeepsOthers v v t
-nothing_keeps v t =
-    record {
-      globals = refl;
-      words = refl;
-      threads = refl;
-      capacity = refl;
-      calls = λ u differ. refl;
-      registers = λ u differ. refl;
-      values = λ u differ. refl;
-    }
+nothing_keeps v t = stop_keeps v v.stop t
 
 -- a thread without a call in flight runs on with its next operation
 pub Table_runs : (script : Script) (config : Config) (v : View) (states : List ThreadState) (t : ℕ) (s : ThreadState)
@@ -99,23 +102,11 @@ Table_gone script config v w states t s e table at goes dropped no_call ends =
     let st : ThreadStands script v t s = table.each t s at in
     let after : ThreadState = record s { mode = Ended e } in
     let history : w.log ≡ v.log = ap (λ (x : View). x.log) dropped.only in
-    let gone : ThreadStands script w t after = record {
-      to_come = st.to_come;
-      within = st.within;
-      none_left = st.none_left;
-      registers = st.registers;
-      told =
-          subst (λ (h : List Entry). Stands h t (take (length s.replies.items) (operations script t)) s.replies.items
-          st.registers) (sym history) st.told;
-      in_registers = inl tt;
-      dropped = λ over. dropped.here;
-      call =
-          λ c is. absurd (let none : call_of w t ≡ None = ap (λ (x : View). call_of x t) dropped.only ∙ no_call in cc);
-      fits = tt;
-      in_range = st.in_range;
-      globals = st.globals;
-      room = st.room;
-    } in
+    let gone : ThreadStands script w t after =
+    stands_so script v w t s (Ended e) st
+    (subst (λ (h : List Entry). Stands h t (take (length s.replies.items) (operations script t)) s.replies.items
+    st.registers) (sym history) st.told) (inl tt) (λ over. dropped.here)
+    (λ c is. absurd (let none : call_of w t ≡ None = ap (λ (x : View). call_of x t) dropped.only ∙ no_call in cc)) tt in
     let moves : Moves script config v w states t s after = record {
       act = None;
       extra = [];

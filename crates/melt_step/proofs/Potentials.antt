@@ -180,6 +180,21 @@ abbrev NotMore : List ThreadState → List ThreadState → Type 0
 NotMore states after = (t : ℕ) (s : ThreadState) → slice_get states t ≡ Some s
     → (x : ThreadState) × (slice_get after t ≡ Some x) × (jobs_of x ≤ jobs_of s)
 
+-- the first of such threads has so many jobs less, and those behind it so many together
+first_less : (n m : ℕ) (s x : ThreadState) (states after : List ThreadState) (a b : List (Option Call))
+    → get_or b 0 None ≡ None → jobs_of x + n ≤ jobs_of s
+    → potential after (drop 1 b) + 2000 * m ≤ potential states (drop 1 a) + 200 * length states
+    → potential (x ∷ after) b + 2000 * (n + m) ≤ potential (s ∷ states) a + 200 * length (s ∷ states)
+first_less n m s x states after a b none fewer behind =
+    omega (
+      arith,
+      potential-first s states a,
+      potential-first x after b,
+      turn_few x.mode (get_or b 0 None) none,
+      fewer,
+      behind,
+    )
+
 -- Threads without calls in flight, none of which has more jobs: only the events before each waits are added.
 potential_within : (states after : List ThreadState) (a b : List (Option Call)) → length after ≡ length states
     → ((u : ℕ) → get_or b u None ≡ None) → NotMore states after
@@ -194,14 +209,7 @@ potential_within (s ∷ states) (x ∷ after) a b count quiet each =
     let behind : potential after (drop 1 b) ≤ potential states (drop 1 a) + 200 * length states =
     potential_within states after (drop 1 a) (drop 1 b) (omega (arith, count))
     (λ u. get_or-drop_first b u ∙ quiet (suc u)) (λ t y at. each (suc t) y at) in
-    omega (
-      arith,
-      potential-first s states a,
-      potential-first x after b,
-      turn_few x.mode (get_or b 0 None) (quiet 0),
-      fewer,
-      behind,
-    )
+    omega (arith, first_less 0 0 s x states after a b (quiet 0) (omega (arith, fewer)) (omega (arith, behind)))
 
 -- and where one thread has less
 potential_under : (states after : List ThreadState) (a b : List (Option Call)) (t : ℕ) (s x : ThreadState)
@@ -217,14 +225,7 @@ potential_under (y ∷ states) (z ∷ after) a b zero s x count quiet each at no
     let behind : potential after (drop 1 b) ≤ potential states (drop 1 a) + 200 * length states =
     potential_within states after (drop 1 a) (drop 1 b) (omega (arith, count))
     (λ u. get_or-drop_first b u ∙ quiet (suc u)) (λ t q there. each (suc t) q there) in
-    omega (
-      arith,
-      potential-first y states a,
-      potential-first z after b,
-      turn_few z.mode (get_or b 0 None) (quiet 0),
-      fewer,
-      behind,
-    )
+    omega (arith, first_less 1 0 y z states after a b (quiet 0) (omega (arith, fewer)) (omega (arith, behind)))
 potential_under (y ∷ states) (z ∷ after) a b (suc t) s x count quiet each at now less =
     let first : (q : ThreadState) × (Some z ≡ Some q) × (jobs_of q ≤ jobs_of y) = each 0 y refl in
     let fewer : jobs_of z ≤ jobs_of y =
@@ -232,14 +233,7 @@ potential_under (y ∷ states) (z ∷ after) a b (suc t) s x count quiet each at
     let behind : potential after (drop 1 b) + 2000 ≤ potential states (drop 1 a) + 200 * length states =
     potential_under states after (drop 1 a) (drop 1 b) t s x (omega (arith, count))
     (λ u. get_or-drop_first b u ∙ quiet (suc u)) (λ t q there. each (suc t) q there) at now less in
-    omega (
-      arith,
-      potential-first y states a,
-      potential-first z after b,
-      turn_few z.mode (get_or b 0 None) (quiet 0),
-      fewer,
-      behind,
-    )
+    omega (arith, first_less 0 1 y z states after a b (quiet 0) (omega (arith, fewer)) (omega (arith, behind)))
 
 -- A safepoint brings a run nearer to its end: one job less outweighs the events that eight threads may have at most
 -- before they wait again.

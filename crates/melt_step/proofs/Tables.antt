@@ -5,7 +5,7 @@ use Rattle.std.proofs.Math.ListN.{set, length-set}
 use Rattle.std.proofs.lemmas.Bool.{cases_eq, cases_lt}
 use Rattle.std.proofs.lemmas.List.{append-nil, get_or_past}
 use Rattle.std.proofs.lemmas.Option.{none-some, same_Some, slice_get_within, slice_get_cases}
-use Rattle.std.specs.Prelude.{Option, None, Some, IfSome, IsSome, All, slice_get, drop, vec_capacity, ◌⊎◌}
+use Rattle.std.specs.Prelude.{Option, None, Some, IfSome, IsSome, All, slice_get, drop, replicate, vec_capacity, ◌⊎◌}
 use Rattle.melt_model.specs.History.{last, Legal}
 use Rattle.melt_model.specs.Standing.{Stands}
 use Rattle.melt_model.specs.Thread.{does}
@@ -13,6 +13,7 @@ use Rattle.melt_model.specs.declared.config.Config.{Config}
 use Rattle.melt_model.specs.declared.history.Act.{Act}
 use Rattle.melt_model.specs.declared.history.Entry.{Entry}
 use Rattle.melt_model.specs.declared.history.Value.{Value}
+use Rattle.melt_model.specs.declared.history.Value.TheVariants.{Nil}
 use Rattle.melt_model.specs.declared.operations.Op.{Op}
 use Rattle.melt_model.specs.declared.operations.Op.TheVariants.{New, Collect}
 use Rattle.melt_model.specs.declared.operations.Reply.{Reply}
@@ -39,26 +40,38 @@ use Rattle.melt_step.proofs.Telling.{get_set_same, get_set_other, set_got, drop_
 use Rattle.melt_step.proofs.Telling.{replies_other, replies_same, later_set, to_reply_set, to_reply_one, with_more}
 use Rattle.melt_step.proofs.Telling.{with_length, with_own, told_with, Stands_answers}
 
--- another thread than that of the event
-other_stands : (script : Script) (v w : View) (t u : ℕ) (s : ThreadState) (act : Option Act) → u ≢ t → KeepsOthers v w t
-    → w.log ≡ with_entry t v.log act → ThreadStands script v u s → ThreadStands script w u s
-other_stands script v w t u s act differ others grown st = record {
+-- A thread stands so too in another history that tells it the same, with another mode.
+pub stands_so : (script : Script) (v w : View) (t : ℕ) (s : ThreadState) (mode : Mode) (st : ThreadStands script v t s)
+    → Stands w.log t (take (length s.replies.items) (operations script t)) s.replies.items st.registers
+    → IsEnded mode ⊎ (st.registers ≡ values_of w t) → (IsEnded mode → values_of w t ≡ replicate 16 Nil)
+    → ((c : Call) → call_of w t ≡ Some c → (mode ≡ Running) × (s.op ≡ Some c.op) × (c.op ≢ Collect))
+    → FitsMode mode s.op → ThreadStands script w t (record s { mode = mode })
+stands_so script v w t s mode st told in_registers dropped call fits = record {
   to_come = st.to_come;
   within = st.within;
   none_left = st.none_left;
   registers = st.registers;
-  told =
-      subst (λ (h : List Entry). Stands h u (take (length s.replies.items) (operations script u)) s.replies.items
-      st.registers) (sym grown) (told_with v.log t u
-      (take (length s.replies.items) (operations script u)) s.replies.items st.registers act differ st.told);
-  in_registers = elim st.in_registers [ inl over ↦ inl over | inr same ↦ inr (same ∙ sym (others.values u differ)) ];
-  dropped = λ over. others.values u differ ∙ st.dropped over;
-  call = λ c is. st.call c (sym (others.calls u differ) ∙ is);
-  fits = st.fits;
+  told = told;
+  in_registers = in_registers;
+  dropped = dropped;
+  call = call;
+  fits = fits;
   in_range = st.in_range;
   globals = st.globals;
   room = st.room;
 }
+
+-- another thread than that of the event
+other_stands : (script : Script) (v w : View) (t u : ℕ) (s : ThreadState) (act : Option Act) → u ≢ t → KeepsOthers v w t
+    → w.log ≡ with_entry t v.log act → ThreadStands script v u s → ThreadStands script w u s
+other_stands script v w t u s act differ others grown st =
+    let told = told_with v.log t u (take (length s.replies.items) (operations script u)) s.replies.items
+    st.registers act differ st.told in
+    stands_so script v w u s s.mode st
+    (subst (λ (h : List Entry). Stands h u (take (length s.replies.items) (operations script u)) s.replies.items
+    st.registers) (sym grown) told)
+    (elim st.in_registers [ inl over ↦ inl over | inr same ↦ inr (same ∙ sym (others.values u differ)) ])
+    (λ over. others.values u differ ∙ st.dropped over) (λ c is. st.call c (sym (others.calls u differ) ∙ is)) st.fits
 
 -- the registers of a thread that has not ended hold what it was told
 held_now : (script : Script) (v : View) (t : ℕ) (s : ThreadState) (st : ThreadStands script v t s)
@@ -70,22 +83,12 @@ pub mode_stands : (script : Script) (v w : View) (t : ℕ) (s : ThreadState) (mo
     → (IsEnded s.mode → ⊥) → (IsEnded mode → ⊥) → w.log ≡ v.log → values_of w t ≡ values_of v t → FitsMode mode s.op
     → ((c : Call) → call_of w t ≡ Some c → (mode ≡ Running) × (s.op ≡ Some c.op) × (c.op ≢ Collect))
     → ThreadStands script w t (record s { mode = mode })
-mode_stands script v w t s mode st runs waits history values fits call = record {
-  to_come = st.to_come;
-  within = st.within;
-  none_left = st.none_left;
-  registers = st.registers;
-  told =
-      subst (λ (h : List Entry). Stands h t (take (length s.replies.items) (operations script t)) s.replies.items
-      st.registers) (sym history) st.told;
-  in_registers = elim st.in_registers [ inl over ↦ absurd (runs over) | inr same ↦ inr (same ∙ sym values) ];
-  dropped = λ over. absurd (waits over);
-  call = call;
-  fits = fits;
-  in_range = st.in_range;
-  globals = st.globals;
-  room = st.room;
-}
+mode_stands script v w t s mode st runs waits history values fits call =
+    stands_so script v w t s mode st
+    (subst (λ (h : List Entry). Stands h t (take (length s.replies.items) (operations script t)) s.replies.items
+    st.registers) (sym history) st.told)
+    (elim st.in_registers [ inl over ↦ absurd (runs over) | inr same ↦ inr (same ∙ sym values) ])
+    (λ over. absurd (waits over)) call fits
 
 -- why a thread has ended stays so
 ends_later : (script : Script) (log more : List Entry) (states after : List ThreadState) (config : Config) (u : ℕ)
@@ -203,8 +206,10 @@ Table_moves script config v w states t s after table at runs stands others m =
           ] in
           subst (λ (h : List Entry). HadNow script h (set states t after) config u k (2 + refs + nums)) (sym longer)
           (HadNow_later script v.log more.0 states (set states t after) config u k (2 + refs + nums) later before);
-      entries = let e : length v.log + to_reply states ≤ v.capacity = table.entries in let c : w.capacity ≡ v.capacity =
-          others.capacity in omega (arith, e, c, to_come, fits, one);
+      entries =
+          let e : length v.log + to_reply states ≤ v.capacity = table.entries in
+          let c : w.capacity ≡ v.capacity = others.capacity in
+          omega (arith, e, c, to_come, fits, one);
       few = let e : length v.log + to_reply states ≤ 8388608 = table.few in omega (arith, e, to_come, fits, one);
     }
 
@@ -578,30 +583,24 @@ Table_renewed script config v w states table renewed = record {
   threads = renewed.threads ∙ table.threads;
   globals = renewed.globals ∙ table.globals;
   words = renewed.words ∙ table.words;
-  each = λ t s at. let st : ThreadStands script v t s = table.each t s at in record {
-    to_come = st.to_come;
-    within = st.within;
-    none_left = st.none_left;
-    registers = st.registers;
-    told =
-        subst (λ (h : List Entry). Stands h t (take (length s.replies.items) (operations script t)) s.replies.items
-        st.registers) (sym renewed.history) st.told;
-    in_registers = elim st.in_registers [ inl over ↦ inl over | inr same ↦ inr (same ∙ sym (renewed.values t)) ];
-    dropped = λ over. renewed.values t ∙ st.dropped over;
-    call = λ c is. absurd (let none : call_of w t ≡ None = renewed.quiet t in cc);
-    fits = st.fits;
-    in_range = st.in_range;
-    globals = st.globals;
-    room = st.room;
-  };
+  each = λ t s at.
+      let st : ThreadStands script v t s = table.each t s at in
+      stands_so script v w t s s.mode st
+      (subst (λ (h : List Entry). Stands h t (take (length s.replies.items) (operations script t)) s.replies.items
+      st.registers) (sym renewed.history) st.told)
+      (elim st.in_registers [ inl over ↦ inl over | inr same ↦ inr (same ∙ sym (renewed.values t)) ])
+      (λ over. renewed.values t ∙ st.dropped over)
+      (λ c is. absurd (let none : call_of w t ≡ None = renewed.quiet t in cc)) st.fits;
   own = subst (All (λ (e : Entry). e.thread < length script.programs)) (sym renewed.history) table.own;
   due = table.due;
   ends = λ t s at. subst (λ (h : List Entry). EndsSo script h states config t s.mode) (sym renewed.history)
       (table.ends t s at);
   made = λ t k below dst refs nums next. subst (λ (h : List Entry). HadNow script h states config t k (2 + refs + nums))
       (sym renewed.history) (table.made t k below dst refs nums next);
-  entries = let e : length v.log + to_reply states ≤ v.capacity = table.entries in let c : w.capacity ≡ v.capacity =
-      renewed.capacity in omega (arith, e, c, ap length renewed.history);
+  entries =
+      let e : length v.log + to_reply states ≤ v.capacity = table.entries in
+      let c : w.capacity ≡ v.capacity = renewed.capacity in
+      omega (arith, e, c, ap length renewed.history);
   few = let e : length v.log + to_reply states ≤ 8388608 = table.few in omega (arith, e, ap length renewed.history);
 }
 

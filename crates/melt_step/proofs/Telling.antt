@@ -8,7 +8,7 @@ use Rattle.std.proofs.lemmas.List.{append-nil, set-get_or}
 use Rattle.std.proofs.lemmas.List.Elements.{All-push}
 use Rattle.std.proofs.lemmas.List.Sums.{sum-map, sum_by-set, get_or-le-sum_by}
 use Rattle.std.proofs.lemmas.Option.{same_Some, slice_get_within, get_or_from_slice_get}
-use Rattle.std.specs.Prelude.{Option, None, Some, All, slice_get, slice_set, drop, nat_lt}
+use Rattle.std.specs.Prelude.{Option, None, Some, All, map, slice_get, slice_set, sum, drop, nat_lt}
 use Rattle.std.specs.Option.{option_map_or}
 use Rattle.melt_model.specs.History.{Shape, shape, made, last, IsReference, MayFollow, Legal}
 use Rattle.melt_model.specs.Standing.{HoldReferences, Stands}
@@ -112,11 +112,10 @@ later_set states t s after extra at runs grown =
       ];
     }
 
--- how many replies are to come, where a state was set
-pub to_reply_set : (states : List ThreadState) (t : ℕ) (s after : ThreadState) → slice_get states t ≡ Some s
-    → to_reply (set states t after) + length (left s) ≡ to_reply states + length (left after)
-to_reply_set states t s after at =
-    let f : ThreadState → ℕ = λ (x : ThreadState). length (left x) in
+-- a sum over all states, where one was set
+pub sum_set : (f : ThreadState → ℕ) (states : List ThreadState) (t : ℕ) (s after : ThreadState)
+    → slice_get states t ≡ Some s → sum (map f (set states t after)) + f s ≡ sum (map f states) + f after
+sum_set f states t s after at =
     omega (
       arith,
       sum-map f states,
@@ -124,6 +123,11 @@ to_reply_set states t s after at =
       sum_by-set f states t after s (slice_get_within states t s at),
       ap f (get_or_from_slice_get states t s s at),
     )
+
+-- how many replies are to come, where a state was set
+pub to_reply_set : (states : List ThreadState) (t : ℕ) (s after : ThreadState) → slice_get states t ≡ Some s
+    → to_reply (set states t after) + length (left s) ≡ to_reply states + length (left after)
+to_reply_set states t s after at = sum_set (λ (x : ThreadState). length (left x)) states t s after at
 
 -- the replies to come of one thread are among those of all
 pub to_reply_one : (states : List ThreadState) (t : ℕ) (s : ThreadState) → slice_get states t ≡ Some s

@@ -4,17 +4,20 @@ use Rattle.std.specs.Prelude.{Option, None, Some, IsSome, slice_get}
 use Rattle.melt_model.specs.declared.config.Config.{Config}
 use Rattle.melt_trace.specs.Script.{Script}
 use Rattle.melt_core.specs.Views.{View, call_of, view}
+use Rattle.melt_model.specs.declared.reports.ThreadEnd.TheVariants as end
 use Rattle.melt_step.specs.Journals.{forced}
+use Rattle.melt_step.specs.declared.thread.Mode.TheVariants.{Ended}
 use Rattle.melt_step.specs.Threads.{CalledAlone, CalledFirst, CollectorStands, DueBy, PlansBy, StandsCollected}
 use Rattle.melt_step.specs.declared.collector.Collector.{Collector}
 use Rattle.melt_step.specs.declared.run.Run.{Run}
 use Rattle.melt_step.specs.declared.thread.ThreadState.{ThreadState}
-use Rattle.melt_step.proofs.First.{AwaitsRoom, MayCall, awaits_room, may_call, may_call_again, waits_again, first_told}
+use Rattle.melt_step.proofs.First.{AwaitsRoom, Behind, Called, MayCall, awaits_room, may_call, may_call_again}
+use Rattle.melt_step.proofs.First.{waits_again, first_told}
 use Rattle.melt_step.proofs.First.{first_gone, called_at, forced_stands, run_stands, has_next}
 use Rattle.melt_step.proofs.Journals.{plans_count}
 use Rattle.melt_step.proofs.Safepoints.{called_quiet}
 use Rattle.melt_step.proofs.run.Run.call_first.Goals as goal
-use Rattle.melt_step.proofs.run.Run.call_first.Goals.{After-index_mut-state, In-Some, In_ok-core}
+use Rattle.melt_step.proofs.run.Run.call_first.Goals.{After-index_mut-state, In-Some, In_ok-core, Joined-state}
 use Rattle.melt_step.proofs.run.Run.call_first.Goals.{in-Some+then-is_some+in_ok-core+in-Some-call_alone}
 use Rattle.melt_step.proofs.run.Run.call_first.Goals.{in-Some+then-is_some+in_ok-core+in_default-call_alone}
 use Rattle.melt_step.proofs.run.Run.call_first.Goals.{in-Some+else-is_some, in_default}
@@ -83,56 +86,96 @@ drop_all-requires-clause-thread c =
     (may_again (goal.at.drop_all-requires-clause-thread c).In_ok-core).thread in
     omega (arith, there, c.call_alone-then-is_some.ensures.called.others.threads)
 
-pub returns-clause-keeps : goal.returns-clause-keeps
-returns-clause-keeps c = λ script config alone.
-    let first = awaits (goal.at.returns-clause-keeps c).After-index_mut-state script config alone in
+-- the run behind the call
+called : (c : Joined-state) (script : Script) (config : Config) → StandsCollected script config c.args.self
+    → Behind script config c.args.self
+    (record {
+      core = c.match-state.core;
+      states = c.match-state.states;
+      collector = c.match-state.collector;
+      every = c.args.self.every;
+    }) c.args.thread
+called c script config alone =
+    let first = awaits_room script config (view c.args.self.core) c.args.self.states.items c.args.thread
+    c.index_mut-state.result.now _ alone.stands.table c.index_mut-state.ensures.value c.requires.waits in
     elim c.match-state.branch [
       | in-Some+then-is_some+in_ok-core+in-Some-call_alone w ↦
           let some : IsSome w.call_alone.result = search rules in
           let second = waits_again first some w.call_alone.ensures.called w.in_ok-core.ensures.collected in
-          let free : (view w.in_ok-core.core).free ≡ w.used-held.result + 1 = let first =
-          w.in_ok-core.ensures.collected.stays.stands.first in omega (arith, w.used-held.ensures, first) in
-          let called =
-          first_gone w.used-held.result w.in-Some-call_alone.need alone.owed second w.in_ok-core.ensures.collected free
-          w.in-Some-call_alone.is w.call_alone-then-is_some.ensures.called w.drop_all.ensures in
-          run_stands c.args.self _ alone.stands (ap view w.core-is) refl (search rules) called
-          (subst (CollectorStands config) (sym w.collector-is)
-          (forced_stands c.args.self w.collect.new.self alone first.at some w.call_alone.ensures.called
-          w.in_ok-core.ensures.collected w.in_ok-core.ensures.plans))
-          (omega (
-            arith,
-            plans_count c.args.self.collector w.collect.new.self
-                (view w.in_ok-core.core) forced w.in_ok-core.ensures.plans,
-            ap (λ (x : Collector). length x.journal.items) w.collector-is,
-          ))
+          let above = w.in_ok-core.ensures.collected.stays.stands.first in
+          let free : (view w.in_ok-core.core).free ≡ w.used-held.result + 1 =
+          omega (arith, w.used-held.ensures, above) in
+          let ended : ThreadState = record w.call_alone-then-is_some.new.state {
+            mode = Ended (end.OutOfHeap w.used-held.result w.in-Some-call_alone.need);
+          } in
+          record {
+            s = w.call_alone.new.state;
+            after = ended;
+            at = second.at;
+            items = search rules;
+            every = refl;
+            called = subst
+                (λ (v : View). Called script config v c.args.self.states.items c.args.thread w.call_alone.new.state
+                ended)
+                (sym (ap view w.core-is))
+                (first_gone w.used-held.result w.in-Some-call_alone.need alone.owed second
+                w.in_ok-core.ensures.collected free
+                w.in-Some-call_alone.is w.call_alone-then-is_some.ensures.called w.drop_all.ensures);
+            collector = subst (CollectorStands config) (sym w.collector-is)
+                (forced_stands c.args.self w.collect.new.self alone first.at some w.call_alone.ensures.called
+                w.in_ok-core.ensures.collected w.in_ok-core.ensures.plans);
+            more =
+                let one = plans_count c.args.self.collector w.collect.new.self (view w.in_ok-core.core) forced
+                w.in_ok-core.ensures.plans in
+                omega (arith, one, ap (λ (x : Collector). length x.journal.items) w.collector-is);
+          }
       | in-Some+then-is_some+in_ok-core+in_default-call_alone w ↦
           let some : IsSome w.call_alone.result = search rules in
           let none : w.call_alone-then-is_some.result ≡ None = search rules in
           let second = waits_again first some w.call_alone.ensures.called w.in_ok-core.ensures.collected in
-          let due =
-          subst (λ (n : ℕ). DueBy n w.call_alone.new.state w.call_alone-then-is_some.new.state) alone.stands.every
-          w.call_alone-then-is_some.ensures.due in
-          let called = first_told second none w.call_alone-then-is_some.ensures.called due in
-          run_stands c.args.self _ alone.stands (ap view w.core-is) refl (search rules) called
-          (subst (CollectorStands config) (sym w.collector-is)
-          (forced_stands c.args.self w.collect.new.self alone first.at some w.call_alone.ensures.called
-          w.in_ok-core.ensures.collected w.in_ok-core.ensures.plans))
-          (omega (
-            arith,
-            plans_count c.args.self.collector w.collect.new.self
-                (view w.in_ok-core.core) forced w.in_ok-core.ensures.plans,
-            ap (λ (x : Collector). length x.journal.items) w.collector-is,
-          ))
+          let due = subst (λ (n : ℕ). DueBy n w.call_alone.new.state w.call_alone-then-is_some.new.state)
+          alone.stands.every w.call_alone-then-is_some.ensures.due in
+          record {
+            s = w.call_alone.new.state;
+            after = w.call_alone-then-is_some.new.state;
+            at = second.at;
+            items = search rules;
+            every = refl;
+            called =
+                subst (λ (v : View). Called script config v c.args.self.states.items c.args.thread
+                w.call_alone.new.state w.call_alone-then-is_some.new.state) (sym (ap view w.core-is))
+                (first_told second none w.call_alone-then-is_some.ensures.called due);
+            collector = subst (CollectorStands config) (sym w.collector-is)
+                (forced_stands c.args.self w.collect.new.self alone first.at some w.call_alone.ensures.called
+                w.in_ok-core.ensures.collected w.in_ok-core.ensures.plans);
+            more =
+                let one = plans_count c.args.self.collector w.collect.new.self (view w.in_ok-core.core) forced
+                w.in_ok-core.ensures.plans in
+                omega (arith, one, ap (λ (x : Collector). length x.journal.items) w.collector-is);
+          }
       | in-Some+else-is_some w ↦
           let none : w.call_alone.result ≡ None = search rules in
-          let due = subst (λ (n : ℕ). DueBy n c.index_mut-state.result.now w.call_alone.new.state) alone.stands.every
-          w.call_alone.ensures.due in
-          let called = first_told first none w.call_alone.ensures.called due in
-          run_stands c.args.self _ alone.stands (ap view w.core-is) refl (search rules) called
-          (subst (CollectorStands config) (sym w.collector-is) alone.stands.collector)
-          (omega (arith, ap (λ (x : Collector). length x.journal.items) w.collector-is))
+          let due = subst (λ (n : ℕ). DueBy n c.index_mut-state.result.now w.call_alone.new.state)
+          alone.stands.every w.call_alone.ensures.due in
+          record {
+            s = c.index_mut-state.result.now;
+            after = w.call_alone.new.state;
+            at = first.at;
+            items = search rules;
+            every = refl;
+            called =
+                subst (λ (v : View). Called script config v c.args.self.states.items c.args.thread
+                c.index_mut-state.result.now w.call_alone.new.state) (sym (ap view w.core-is))
+                (first_told first none w.call_alone.ensures.called due);
+            collector = subst (CollectorStands config) (sym w.collector-is) alone.stands.collector;
+            more = omega (arith, ap (λ (x : Collector). length x.journal.items) w.collector-is);
+          }
       | in_default w ↦ absurd (let next = has_next first in w.in_default.not-Some next.0 next.1)
     ]
+
+pub returns-clause-keeps : goal.returns-clause-keeps
+returns-clause-keeps c = λ script config alone.
+    run_stands script config c.args.self _ c.args.thread alone.stands (called c script config alone)
 
 -- no call is in flight behind the call, nor behind a collection and a second one
 pub returns-clause-quiet : goal.returns-clause-quiet
@@ -156,37 +199,9 @@ returns-clause-quiet c =
     ]
 
 pub returns-clause-only : goal.returns-clause-only
-returns-clause-only c = λ x there.
-    let alone = c.requires.stands.1.1 in
-    let first = awaits (goal.at.returns-clause-only c).After-index_mut-state c.requires.stands.0 c.requires.stands.1.0
-    alone in
-    elim c.match-state.branch [
-      | in-Some+then-is_some+in_ok-core+in-Some-call_alone w ↦
-          let some : IsSome w.call_alone.result = search rules in
-          let second = waits_again first some w.call_alone.ensures.called w.in_ok-core.ensures.collected in
-          let free : (view w.in_ok-core.core).free ≡ w.used-held.result + 1 = let first =
-          w.in_ok-core.ensures.collected.stays.stands.first in omega (arith, w.used-held.ensures, first) in
-          let called =
-          first_gone w.used-held.result w.in-Some-call_alone.need alone.owed second w.in_ok-core.ensures.collected free
-          w.in-Some-call_alone.is w.call_alone-then-is_some.ensures.called w.drop_all.ensures in
-          called_at c.match-state.states.items x second.at called (search rules) there
-      | in-Some+then-is_some+in_ok-core+in_default-call_alone w ↦
-          let some : IsSome w.call_alone.result = search rules in
-          let none : w.call_alone-then-is_some.result ≡ None = search rules in
-          let second = waits_again first some w.call_alone.ensures.called w.in_ok-core.ensures.collected in
-          let due =
-          subst (λ (n : ℕ). DueBy n w.call_alone.new.state w.call_alone-then-is_some.new.state) alone.stands.every
-          w.call_alone-then-is_some.ensures.due in
-          let called = first_told second none w.call_alone-then-is_some.ensures.called due in
-          called_at c.match-state.states.items x second.at called (search rules) there
-      | in-Some+else-is_some w ↦
-          let none : w.call_alone.result ≡ None = search rules in
-          let due = subst (λ (n : ℕ). DueBy n c.index_mut-state.result.now w.call_alone.new.state) alone.stands.every
-          w.call_alone.ensures.due in
-          let called = first_told first none w.call_alone.ensures.called due in
-          called_at c.match-state.states.items x first.at called (search rules) there
-      | in_default w ↦ absurd (let next = has_next first in w.in_default.not-Some next.0 next.1)
-    ]
+returns-clause-only c =
+    called_at c.requires.stands.0 c.requires.stands.1.0 c.args.self _ c.args.thread
+    (called c c.requires.stands.0 c.requires.stands.1.0 c.requires.stands.1.1)
 
 -- behind a call that was refused a collection was forced
 called_forced : (old new : Run) (u w : View) (c : Collector) (t : ℕ) (s next : ThreadState) (lacks : Option ℕ)
