@@ -66,7 +66,8 @@ module _ (phase : Phase) (maps : Maps) (s t : State) (f : ℕ → ℕ) (moves : 
         record {
           starts = record { in_range = is.starts.in_range; word = (copy.objects k m at).header is.header is.starts };
           first = place.0;
-          within = omega (arith, place.1, cost, found_fits s f moves t.free k m whole copy.found at, whole.inside, size_is);
+          within =
+              omega (arith, place.1, cost, found_fits s f moves t.free k m whole copy.found at, whole.inside, size_is);
           below = omega (arith, place.1, cost);
         },
       )

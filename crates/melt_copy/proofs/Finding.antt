@@ -1,5 +1,6 @@
 -- A forwarding that finds one object more.
-use Rattle.std.proofs.Common.{◌≡◌, ◌≢◌, ℕ, ◌+◌, ◌<◌, ◌≤◌, ◌^◌, List, [], ◌∷◌, ◌++◌, length, take, refl, sym, subst, ap, ◌∙◌, arith, ◌⊎◌, inl, inr, get_or, get_or-set_same, get_or-set_other}
+use Rattle.std.proofs.Common.{◌≡◌, ◌≢◌, ℕ, ◌+◌, ◌<◌, ◌≤◌, ◌^◌, List, [], ◌∷◌, ◌++◌, length, take, refl, sym, subst, ap}
+use Rattle.std.proofs.Common.{◌∙◌, arith, ◌⊎◌, inl, inr, get_or, get_or-set_same, get_or-set_other}
 use Rattle.std.proofs.lemmas.List.{take-append-le, length-set, get_or_default}
 use Rattle.std.proofs.lemmas.List.Sums.{sum-map, sum_by_push}
 use Rattle.std.proofs.lemmas.Bool.Decides.{eqb_tells}
@@ -21,23 +22,31 @@ use Rattle.melt_copy.proofs.Places.{place_below}
 use Rattle.melt_copy.proofs.Sources.{found_words}
 
 pub words_in-push : (ms : List Relocation) (m : Relocation) → words_in (ms ++ m ∷ []) ≡ words_in ms + cost_of m.shape
-words_in-push ms m = sum-map (λ (m : Relocation). cost_of m.shape) (ms ++ m ∷ []) ∙ (sum_by_push (λ (m : Relocation). cost_of m.shape) ms m ∙ ap (λ (n : ℕ). n + cost_of m.shape) (sym (sum-map (λ (m : Relocation). cost_of m.shape) ms)))
+words_in-push ms m = sum-map (λ (m : Relocation). cost_of m.shape) (ms ++ m ∷ [])
+    ∙ (sum_by_push (λ (m : Relocation). cost_of m.shape) ms m
+    ∙ ap (λ (n : ℕ). n + cost_of m.shape) (sym (sum-map (λ (m : Relocation). cost_of m.shape) ms)))
 
-in_front : (ms : List Relocation) (m : Relocation) (k : ℕ) (x : Relocation) → slice_get ms k ≡ Some x → slice_get (ms ++ m ∷ []) k ≡ Some x
+in_front : (ms : List Relocation) (m : Relocation) (k : ℕ) (x : Relocation) → slice_get ms k ≡ Some x
+    → slice_get (ms ++ m ∷ []) k ≡ Some x
 in_front ms m k x at = slice_get-append_left ms (m ∷ []) k (slice_get_within ms k x at) ∙ at
 
 -- an object that was not found before takes the next place
-pub relocates_push : (s : State) (f g : ℕ → ℕ) (moves : List Relocation) (free : ℕ) (m : Relocation) (header : Header) → Relocates s f moves free → Reached s m.from → HeaderAt s m.from header → header.shape ≡ m.shape → m.to ≡ free → f m.from ≡ 0 → g m.from ≡ free → ((a : ℕ) → a ≢ m.from → g a ≡ f a) → Relocates s g (moves ++ m ∷ []) (free + cost_of m.shape)
+pub relocates_push : (s : State) (f g : ℕ → ℕ) (moves : List Relocation) (free : ℕ) (m : Relocation) (header : Header)
+    → Relocates s f moves free → Reached s m.from → HeaderAt s m.from header → header.shape ≡ m.shape → m.to ≡ free
+    → f m.from ≡ 0 → g m.from ≡ free → ((a : ℕ) → a ≢ m.from → g a ≡ f a)
+    → Relocates s g (moves ++ m ∷ []) (free + cost_of m.shape)
 relocates_push s f g moves free m header forwarding reached starts shape to unknown here others = record {
   whole = λ k x at. elim (last_place moves m k x at) [
     | inl old ↦ forwarding.whole k x old.1
-    | inr new ↦ subst (IsRelocation s) new.1 (record { reached = reached; header = header; starts = starts; shape = shape })
+    | inr new ↦ subst (IsRelocation s) new.1
+        (record { reached = reached; header = header; starts = starts; shape = shape })
   ];
   found = λ k x at. elim (last_place moves m k x at) [
     | inl old ↦
         let was : f x.from ≡ x.to = forwarding.found k x old.1 in
         let place : x.to ≡ 1 + words_in (take k moves) = forwarding.places k x old.1 in
-        others x.from (λ (same : x.from ≡ m.from). let nought : f x.from ≡ 0 = ap f same ∙ unknown in omega (arith, nought, was, place)) ∙ was
+        others x.from (λ (same : x.from ≡ m.from). let nought : f x.from ≡ 0 = ap f same ∙ unknown in
+        omega (arith, nought, was, place)) ∙ was
     | inr new ↦ subst (λ (y : Relocation). g y.from ≡ y.to) new.1 (here ∙ sym to)
   ];
   only = λ a known. elim (eqb_tells a m.from) [
@@ -47,89 +56,134 @@ relocates_push s f g moves free m header forwarding reached starts shape to unkn
         (was.0, was.1, in_front moves m was.0 was.1 was.2, was.3)
   ];
   places = λ k x at. elim (last_place moves m k x at) [
-    | inl old ↦ forwarding.places k x old.1 ∙ ap (λ (ms : List Relocation). 1 + words_in ms) (sym (take-append-le k moves (m ∷ []) (omega (arith, old.0))))
+    | inl old ↦ forwarding.places k x old.1
+        ∙ ap (λ (ms : List Relocation). 1 + words_in ms) (sym (take-append-le k moves (m ∷ []) (omega (arith, old.0))))
     | inr new ↦ subst (λ (y : Relocation). y.to ≡ 1 + words_in (take k (moves ++ m ∷ []))) new.1
-        (to ∙ (forwarding.behind ∙ ap (λ (ms : List Relocation). 1 + words_in ms) (sym (ap (λ (n : ℕ). take n (moves ++ m ∷ [])) new.0 ∙ take-append_seam moves (m ∷ [])))))
+        (to ∙ (forwarding.behind ∙ ap (λ (ms : List Relocation). 1 + words_in ms)
+        (sym (ap (λ (n : ℕ). take n (moves ++ m ∷ [])) new.0 ∙ take-append_seam moves (m ∷ [])))))
   ];
   behind = omega (arith, words_in-push moves m, forwarding.behind);
 }
 
 -- an object that is found lies within the words in use
-pub at_within : (space : SpaceWords) (s : State) (forwarding : Forwarding) (address : ℕ) → TracksAt space s forwarding address → (1 ≤ address) × (address < length forwarding.addresses.items) × (address ≤ space.used)
+pub at_within : (space : SpaceWords) (s : State) (forwarding : Forwarding) (address : ℕ)
+    → TracksAt space s forwarding address → (1 ≤ address) × (address < length forwarding.addresses.items)
+    × (address ≤ space.used)
 at_within space s forwarding address at =
     let object = at.tracks.whole.objects address at.reached in
     let below : address + cost_of object.0.shape ≤ s.free = object.1.below in
     (object.1.first, omega (arith, below, at.tracks.free, at.tracks.table), omega (arith, below, at.tracks.free))
 
 -- the header of an object that is found, as the space has it
-pub at_header : (space : SpaceWords) (s : State) (forwarding : Forwarding) (address : ℕ) → TracksAt space s forwarding address → HasHeader space address
+pub at_header : (space : SpaceWords) (s : State) (forwarding : Forwarding) (address : ℕ)
+    → TracksAt space s forwarding address → HasHeader space address
 at_header space s forwarding address at =
     let object = at.tracks.whole.objects address at.reached in
-    record { header = object.0; in_range = object.1.starts.in_range; word = sym (at.tracks.word address) ∙ object.1.starts.word }
+    record {
+      header = object.0;
+      in_range = object.1.starts.in_range;
+      word = sym (at.tracks.word address)
+          ∙ object.1.starts.word;
+    }
 
 -- the object at an address takes the next place
-pub relocates_found : (space : SpaceWords) (s : State) (forwarding : Forwarding) (address : ℕ) (shape : Shape) → TracksAt space s forwarding address → goes forwarding address ≡ 0 → ((h : Header) → IsHeader h → word_at space address ≡ header_word h → shape ≡ h.shape) → Relocates s (slice_index (slice_set forwarding.addresses.items address forwarding.next)) (forwarding.moves.items ++ (record { from = address; to = forwarding.next; shape = shape }) ∷ []) (forwarding.next + cost_of shape)
+pub relocates_found : (space : SpaceWords) (s : State) (forwarding : Forwarding) (address : ℕ) (shape : Shape)
+    → TracksAt space s forwarding address → goes forwarding address ≡ 0
+    → ((h : Header) → IsHeader h → word_at space address ≡ header_word h → shape ≡ h.shape)
+    → Relocates s (slice_index (slice_set forwarding.addresses.items address forwarding.next))
+    (forwarding.moves.items ++ (record { from = address; to = forwarding.next; shape = shape }) ∷ [])
+    (forwarding.next + cost_of shape)
 relocates_found space s forwarding address shape at unknown told =
     let object = at.tracks.whole.objects address at.reached in
     let header = object.0 in
-    let same : shape ≡ header.shape = told header object.1.starts.in_range (sym (at.tracks.word address) ∙ object.1.starts.word) in
+    let same : shape ≡ header.shape = told header object.1.starts.in_range
+    (sym (at.tracks.word address) ∙ object.1.starts.word) in
     let m : Relocation = record { from = address; to = forwarding.next; shape = shape } in
-    relocates_push s (goes forwarding) (slice_index (slice_set forwarding.addresses.items address forwarding.next)) forwarding.moves.items forwarding.next m header at.tracks.holds at.reached object.1.starts (sym same) refl unknown
+    relocates_push s (goes forwarding) (slice_index (slice_set forwarding.addresses.items address forwarding.next))
+    forwarding.moves.items forwarding.next m header at.tracks.holds at.reached object.1.starts (sym same) refl unknown
     (get_or-set_same forwarding.addresses.items address forwarding.next 0 (at_within space s forwarding address at).1)
     (λ a other. get_or-set_other forwarding.addresses.items address a forwarding.next 0 other)
 
 -- what is found is within the words in use
-pub next_fits : (space : SpaceWords) (s : State) (forwarding : Forwarding) → Tracks space s forwarding → forwarding.next ≤ space.used + 1
-next_fits space s forwarding tracks = let words = found_words s (goes forwarding) forwarding.moves.items forwarding.next tracks.whole tracks.holds in omega (arith, words, tracks.free, tracks.holds.behind)
+pub next_fits : (space : SpaceWords) (s : State) (forwarding : Forwarding) → Tracks space s forwarding
+    → forwarding.next ≤ space.used + 1
+next_fits space s forwarding tracks = let words =
+    found_words s (goes forwarding) forwarding.moves.items forwarding.next tracks.whole tracks.holds in
+    omega (arith, words, tracks.free, tracks.holds.behind)
 
-pub next_after_fits : (space : SpaceWords) (s : State) (forwarding : Forwarding) (address : ℕ) (shape : Shape) → TracksAt space s forwarding address → goes forwarding address ≡ 0 → ((h : Header) → IsHeader h → word_at space address ≡ header_word h → shape ≡ h.shape) → forwarding.next + cost_of shape ≤ space.used + 1
+pub next_after_fits : (space : SpaceWords) (s : State) (forwarding : Forwarding) (address : ℕ) (shape : Shape)
+    → TracksAt space s forwarding address → goes forwarding address ≡ 0
+    → ((h : Header) → IsHeader h → word_at space address ≡ header_word h → shape ≡ h.shape)
+    → forwarding.next + cost_of shape ≤ space.used + 1
 next_after_fits space s forwarding address shape at unknown told =
     let after = relocates_found space s forwarding address shape at unknown told in
     let words = found_words s _ _ (forwarding.next + cost_of shape) at.tracks.whole after in
     omega (arith, words, at.tracks.free, after.behind)
 
 -- fewer than 2^30 words are in use
-pub used_small : (space : SpaceWords) (s : State) (forwarding : Forwarding) → Tracks space s forwarding → space.used + 1 ≤ 2 ^ 30
+pub used_small : (space : SpaceWords) (s : State) (forwarding : Forwarding) → Tracks space s forwarding
+    → space.used + 1 ≤ 2 ^ 30
 used_small space s forwarding tracks = omega (arith, tracks.whole.small, tracks.whole.inside, tracks.free)
 
 -- the forwarding in which the object at an address has the next place
-pub tracks_found : (space : SpaceWords) (s : State) (forwarding new : Forwarding) (address : ℕ) (shape : Shape) → TracksAt space s forwarding address → goes forwarding address ≡ 0 → ((h : Header) → IsHeader h → word_at space address ≡ header_word h → shape ≡ h.shape) → new.addresses.items ≡ slice_set forwarding.addresses.items address forwarding.next → new.moves.items ≡ forwarding.moves.items ++ (record { from = address; to = forwarding.next; shape = shape }) ∷ [] → new.next ≡ forwarding.next + cost_of shape → Tracks space s new
+pub tracks_found : (space : SpaceWords) (s : State) (forwarding new : Forwarding) (address : ℕ) (shape : Shape)
+    → TracksAt space s forwarding address → goes forwarding address ≡ 0
+    → ((h : Header) → IsHeader h → word_at space address ≡ header_word h → shape ≡ h.shape)
+    → new.addresses.items ≡ slice_set forwarding.addresses.items address forwarding.next
+    → new.moves.items ≡ forwarding.moves.items ++ (record { from = address; to = forwarding.next; shape = shape }) ∷ []
+    → new.next ≡ forwarding.next + cost_of shape → Tracks space s new
 tracks_found space s forwarding new address shape at unknown told forward moves next = record {
   whole = at.tracks.whole;
   word = at.tracks.word;
   size = at.tracks.size;
   free = at.tracks.free;
   holds = subst (λ (fs : List ℕ). Relocates s (slice_index fs) new.moves.items new.next) (sym forward)
-      (subst (λ (ms : List Relocation). Relocates s (slice_index (slice_set forwarding.addresses.items address forwarding.next)) ms new.next) (sym moves)
-      (subst (Relocates s (slice_index (slice_set forwarding.addresses.items address forwarding.next)) (forwarding.moves.items ++ (record { from = address; to = forwarding.next; shape = shape }) ∷ [])) (sym next)
+      (subst (λ (ms : List Relocation).
+      Relocates s (slice_index (slice_set forwarding.addresses.items address forwarding.next)) ms new.next) (sym moves)
+      (subst (Relocates s (slice_index (slice_set forwarding.addresses.items address forwarding.next))
+      (forwarding.moves.items ++ (record { from = address; to = forwarding.next; shape = shape }) ∷ [])) (sym next)
       (relocates_found space s forwarding address shape at unknown told)));
   table = ap length forward ∙ (length-set forwarding.addresses.items address forwarding.next ∙ at.tracks.table);
 }
 
-pub find_only : (old new : List Relocation) (address to : ℕ) (shape : Shape) → new ≡ old ++ (record { from = address; to = to; shape = shape }) ∷ [] → (k : ℕ) (m : Relocation) → slice_get new k ≡ Some m → (slice_get old k ≡ Some m) ⊎ (m.from ≡ address)
+pub find_only : (old new : List Relocation) (address to : ℕ) (shape : Shape)
+    → new ≡ old ++ (record { from = address; to = to; shape = shape }) ∷ [] → (k : ℕ) (m : Relocation)
+    → slice_get new k ≡ Some m → (slice_get old k ≡ Some m) ⊎ (m.from ≡ address)
 find_only old new address to shape is k m at =
-    elim (last_place old (record { from = address; to = to; shape = shape }) k m (ap (λ (ms : List Relocation). slice_get ms k) (sym is) ∙ at)) [
+    elim (last_place old (record { from = address; to = to; shape = shape }) k m
+    (ap (λ (ms : List Relocation). slice_get ms k) (sym is) ∙ at)) [
       | inl before ↦ inl before.1
       | inr last ↦ inr (ap (λ (x : Relocation). x.from) (sym last.1))
     ]
 
-pub not_known : (forward : List ℕ) (address known : ℕ) → known ≡ get_or forward address known → known ≡ 0 → slice_index forward address ≡ 0
+pub not_known : (forward : List ℕ) (address known : ℕ) → known ≡ get_or forward address known → known ≡ 0
+    → slice_index forward address ≡ 0
 not_known forward address known is nought = sym (subst (λ (k : ℕ). k ≡ get_or forward address k) nought is)
 
-pub is_known : (forward : List ℕ) (address known : ℕ) → address < length forward → known ≡ get_or forward address known → known ≡ slice_index forward address
+pub is_known : (forward : List ℕ) (address known : ℕ) → address < length forward → known ≡ get_or forward address known
+    → known ≡ slice_index forward address
 is_known forward address known within is = is ∙ get_or_default forward address known 0 within
 
 -- the place of an object that was found is an address
-pub known_small : (space : SpaceWords) (s : State) (forwarding : Forwarding) (address : ℕ) → Tracks space s forwarding → goes forwarding address ≢ 0 → goes forwarding address < 2 ^ 30
+pub known_small : (space : SpaceWords) (s : State) (forwarding : Forwarding) (address : ℕ) → Tracks space s forwarding
+    → goes forwarding address ≢ 0 → goes forwarding address < 2 ^ 30
 known_small space s forwarding address tracks known =
     let move = tracks.holds.only address known in
-    let to : goes forwarding address ≡ move.1.to = sym (ap (goes forwarding) move.3) ∙ tracks.holds.found move.0 move.1 move.2 in
-    let place = place_below s (goes forwarding) forwarding.moves.items forwarding.next move.0 move.1 tracks.holds move.2 in
+    let to : goes forwarding address ≡ move.1.to =
+    sym (ap (goes forwarding) move.3) ∙ tracks.holds.found move.0 move.1 move.2 in
+    let place = place_below s (goes forwarding) forwarding.moves.items forwarding.next move.0 move.1 tracks.holds
+    move.2 in
     let fits = next_fits space s forwarding tracks in
     let small = used_small space s forwarding tracks in
     let cost : 2 ≤ cost_of move.1.shape = omega arith in
     omega (arith, to, place.1, fits, small, cost)
 
 -- the object to which a word refers
-pub tracks_at : (space : SpaceWords) (s : State) (forwarding : Forwarding) (word address : ℕ) (r : Ref) → IsRef r × (word ≡ ref_word r) → address_in r ≡ Some address → TracksFor space s forwarding word → TracksAt space s forwarding address
-tracks_at space s forwarding word address r is at for = record { tracks = for.tracks; reached = for.reached address (record { reference = r; in_range = is.0; is = is.1; at = at }) }
+pub tracks_at : (space : SpaceWords) (s : State) (forwarding : Forwarding) (word address : ℕ) (r : Ref)
+    → IsRef r × (word ≡ ref_word r) → address_in r ≡ Some address → TracksFor space s forwarding word
+    → TracksAt space s forwarding address
+tracks_at space s forwarding word address r is at for =
+    record {
+      tracks = for.tracks;
+      reached = for.reached address (record { reference = r; in_range = is.0; is = is.1; at = at });
+    }

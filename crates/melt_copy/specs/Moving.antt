@@ -1,5 +1,6 @@
 -- How a copying collection moves objects: which objects go where, and what their words become.
-use Rattle.std.specs.Prelude.{◌≡◌, ◌≢◌, ℕ, ◌+◌, ◌^◌, ◌<◌, ◌≤◌, ◌==◌, nat_lt, Bool, true, if◌then◌else◌, List, [], ◌∷◌, map, sum, take, slice_get, Option, None, Some}
+use Rattle.std.specs.Prelude.{◌≡◌, ◌≢◌, ℕ, ◌+◌, ◌^◌, ◌<◌, ◌≤◌, ◌==◌, nat_lt, Bool, true, if◌then◌else◌, List, [], ◌∷◌}
+use Rattle.std.specs.Prelude.{map, sum, take, slice_get, Option, None, Some}
 use Rattle.melt_model.specs.declared.reports.Phase.{Phase}
 use Rattle.melt_model.specs.declared.reports.Phase.TheVariants.{Inactive, Mark, Move}
 use Rattle.melt_word.specs.Words.{IsRef, ref_word, header_word, cost_of}
@@ -25,8 +26,10 @@ pub record IsWhole (s : State) : Type 0 where
   pub small : s.base.size < 2 ^ 30
   pub inside : s.free ≤ s.base.size + 1
   pub objects : (address : ℕ) → Reached s address → (header : Header) × ObjectAt s address header
-  pub apart : (a b : ℕ) (header : Header) → Reached s a → Reached s b → HeaderAt s a header → a < b → a + cost_of header.shape ≤ b
-  pub slots : (address i : ℕ) (header : Header) → Reached s address → HeaderAt s address header → i < header.shape.refs → IsRefWord (s.word (address + 2 + i))
+  pub apart : (a b : ℕ) (header : Header) → Reached s a → Reached s b → HeaderAt s a header → a < b
+      → a + cost_of header.shape ≤ b
+  pub slots : (address i : ℕ) (header : Header) → Reached s address → HeaderAt s address header → i < header.shape.refs
+      → IsRefWord (s.word (address + 2 + i))
   pub globals : (g : ℕ) → g < s.base.globals → IsRefWord (s.global g)
 
 -- how many words these objects take
@@ -45,7 +48,8 @@ pub record IsRelocation (s : State) (m : Relocation) : Type 0 where
 pub record Relocates (s : State) (f : ℕ → ℕ) (moves : List Relocation) (free : ℕ) : Type 0 where
   pub whole : (k : ℕ) (m : Relocation) → slice_get moves k ≡ Some m → IsRelocation s m
   pub found : (k : ℕ) (m : Relocation) → slice_get moves k ≡ Some m → f m.from ≡ m.to
-  pub only : (address : ℕ) → f address ≢ 0 → (k : ℕ) × (m : Relocation) × (slice_get moves k ≡ Some m) × (m.from ≡ address)
+  pub only : (address : ℕ) → f address ≢ 0 → (k : ℕ) × (m : Relocation) × (slice_get moves k ≡ Some m)
+      × (m.from ≡ address)
   pub places : (k : ℕ) (m : Relocation) → slice_get moves k ≡ Some m → m.to ≡ 1 + words_in (take k moves)
   pub behind : free ≡ 1 + words_in moves
 
@@ -83,7 +87,8 @@ header_after phase held header = record { shape = header.shape; stale = stale_af
 
 -- An object stands at its place in these words, with its references moved, its stale bit as the phase leaves it, and
 -- all other words as they were.
-pub record ObjectMoves (phase : Phase) (held : Bool) (f : ℕ → ℕ) (s : State) (word : ℕ → ℕ) (m : Relocation) : Type 0 where
+pub record ObjectMoves (phase : Phase) (held : Bool) (f : ℕ → ℕ) (s : State) (word : ℕ → ℕ)
+    (m : Relocation) : Type 0 where
   pub header : (header : Header) → HeaderAt s m.from header → word m.to ≡ header_word (header_after phase held header)
   pub home : word (m.to + 1) ≡ s.word (m.from + 1)
   pub slots : (i : ℕ) → i < m.shape.refs → WordMoves phase f (s.word (m.from + 2 + i)) (word (m.to + 2 + i))
@@ -91,8 +96,10 @@ pub record ObjectMoves (phase : Phase) (held : Bool) (f : ℕ → ℕ) (s : Stat
 
 -- The first moves, as many as `front`, are those of the objects in registers.
 pub record AreHeld (s : State) (moves : List Relocation) (front : ℕ) : Type 0 where
-  pub each : (k : ℕ) (m : Relocation) → slice_get moves k ≡ Some m → k < front → (t : ℕ) × (r : ℕ) × (s.register t r ≡ m.from)
-  pub all : (t r : ℕ) → s.register t r ≢ 0 → (k : ℕ) × (m : Relocation) × (slice_get moves k ≡ Some m) × (k < front) × (m.from ≡ s.register t r)
+  pub each : (k : ℕ) (m : Relocation) → slice_get moves k ≡ Some m → k < front
+      → (t : ℕ) × (r : ℕ) × (s.register t r ≡ m.from)
+  pub all : (t r : ℕ) → s.register t r ≢ 0 → (k : ℕ) × (m : Relocation) × (slice_get moves k ≡ Some m) × (k < front)
+      × (m.from ≡ s.register t r)
 
 -- a scion whose object moved
 abbrev pub moved_scion : (ℕ → ℕ) → Scion → Scion

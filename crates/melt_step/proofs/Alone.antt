@@ -27,10 +27,10 @@ use Rattle.std.proofs.lemmas.Bool.{cases_lt}
 use Rattle.melt_core.specs.Views.{View, values_of, call_of, maps, state, Standing}
 use Rattle.melt_core.specs.Advances.{Advances, Continues, KeepsOthers, IsAnswered, IsRefused, Goes}
 use Rattle.melt_core.specs.Views.{stage_in}
-use Rattle.melt_step.specs.declared.seat.Seat.{Seat}
-use Rattle.melt_step.specs.declared.seat.Mode.TheVariants.{Lacking}
-use Rattle.melt_step.specs.Seats.{owes_silent, TakesReply, DropsIfEnded, LacksAlone, CalledAlone}
-use Rattle.melt_step.proofs.Calling.{KeepsOthers_both, told_seat, told_stands}
+use Rattle.melt_step.specs.declared.thread.ThreadState.{ThreadState}
+use Rattle.melt_step.specs.declared.thread.Mode.TheVariants.{Lacking}
+use Rattle.melt_step.specs.Threads.{owes_silent, TakesReply, DropsIfEnded, LacksAlone, CalledAlone}
+use Rattle.melt_step.proofs.Calling.{KeepsOthers_both, told_state, told_stands}
 
 -- a call that has claimed nothing yet
 abbrev pub IsEarly : Option Stage → Type 0
@@ -50,26 +50,16 @@ pub record OnCall (v w : View) (t : ℕ) (o : Op) : Type 0 where
   pub free : IsEarly (stage_in (call_of w t)) → w.free ≡ v.free
   pub lacks : (need : ℕ) → stage_in (call_of w t) ≡ Some (stage.Lacking need) → length v.space.list + 1 < v.free + need
 
--- the call is to begin
-pub call_begins : (v : View) (t : ℕ) (o : Op) → Standing true v → call_of v t ≡ None → v.stop ≡ false → OnCall v v t o
-call_begins v t o stands none stop = record {
-  stands = stands;
-  others = record { globals = refl; words = refl; threads = refl; capacity = refl; calls = λ u other. refl; registers = λ u other. refl; values = λ u other. refl };
-  continued = subst (λ (c : Option Call). Continues c o) (sym none) tt;
-  history = refl;
-  values = refl;
-  stop = stop;
-  free = λ early. refl;
-  lacks = λ need is. absurd (let no : None ≡ Some (stage.Lacking need) = ap stage_in (sym none) ∙ is in cc);
-}
-
 -- an event behind which nothing was claimed yet leaves the first free place
-goes_free : (m n : Maps) (s x : State) (register : ℕ → ℕ) (stop : Bool) (o : Op) (from : Option Stage) (next : Stage) → Next m s register stop o from next → Applies m n s x (change_of s register from) → IsEarly (Some next) → x.free ≡ s.free
+goes_free : (m n : Maps) (s x : State) (register : ℕ → ℕ) (stop : Bool) (o : Op) (from : Option Stage) (next : Stage)
+    → Next m s register stop o from next → Applies m n s x (change_of s register from) → IsEarly (Some next)
+    → x.free ≡ s.free
 goes_free m n s x register stop o None next is applies early = applies.1.free
-goes_free m n s x register stop o (Some (Polled (Make dst shape))) next is applies early = absurd (elim (cases_lt (s.base.size + 1) (s.free + cost_of shape)) [
-  | inl above ↦ subst (λ (g : Stage). IsEarly (Some g)) (is.1 above) early
-  | inr below ↦ subst (λ (g : Stage). IsEarly (Some g)) (is.0 below) early
-])
+goes_free m n s x register stop o (Some (Polled (Make dst shape))) next is applies early =
+    absurd (elim (cases_lt (s.base.size + 1) (s.free + cost_of shape)) [
+      | inl above ↦ subst (λ (g : Stage). IsEarly (Some g)) (is.1 above) early
+      | inr below ↦ subst (λ (g : Stage). IsEarly (Some g)) (is.0 below) early
+    ])
 goes_free m n s x register stop o (Some (Polled (Use r access))) next is applies early = applies.1.free
 goes_free m n s x register stop o (Some (Polled (LoadGlobal dst g))) next is applies early = applies.1.free
 goes_free m n s x register stop o (Some (Polled (StoreGlobal g src))) next is applies early = absurd is
@@ -77,41 +67,60 @@ goes_free m n s x register stop o (Some (Headed address shape (Load dst i))) nex
 goes_free m n s x register stop o (Some (Headed address shape (Store i src))) next is applies early = absurd is
 goes_free m n s x register stop o (Some (Headed address shape (Get j))) next is applies early = absurd is
 goes_free m n s x register stop o (Some (Headed address shape (Put j v))) next is applies early = absurd is
-goes_free m n s x register stop o (Some (Looked place target dst)) next is applies early = absurd (subst (λ (g : Stage). IsEarly (Some g)) is early)
+goes_free m n s x register stop o (Some (Looked place target dst)) next is applies early =
+    absurd (subst (λ (g : Stage). IsEarly (Some g)) is early)
 goes_free m n s x register stop o (Some (Cleared place target dst)) next is applies early = absurd is
-goes_free m n s x register stop o (Some (Claimed address shape stored dst)) next is applies early = absurd (subst (λ (g : Stage). IsEarly (Some g)) is.1 early)
+goes_free m n s x register stop o (Some (Claimed address shape stored dst)) next is applies early =
+    absurd (subst (λ (g : Stage). IsEarly (Some g)) is.1 early)
 goes_free m n s x register stop o (Some (stage.Lacking need)) next is applies early = absurd is
 
 -- a claim that ended past the last word did so from the first free place, and is the first of its call
-goes_lacks : (m : Maps) (s : State) (register : ℕ → ℕ) (stop : Bool) (o : Op) (from : Option Stage) (next : Stage) (need : ℕ) → Next m s register stop o from next → next ≡ stage.Lacking need → IsEarly from × (s.base.size + 1 < s.free + need)
-goes_lacks m s register stop o None next need is lacks = absurd (let e : Polled is.0 ≡ stage.Lacking need = sym is.3 ∙ lacks in cc)
-goes_lacks m s register stop o (Some (Polled (Make dst shape))) next need is lacks = elim (cases_lt (s.base.size + 1) (s.free + cost_of shape)) [
-  | inl above ↦ (tt, (let e : stage.Lacking (cost_of shape) ≡ stage.Lacking need = sym (is.1 above) ∙ lacks in let same : cost_of shape ≡ need = cc in omega arith))
-  | inr below ↦ absurd (let e : Claimed s.free shape 0 dst ≡ stage.Lacking need = sym (is.0 below) ∙ lacks in cc)
-]
-goes_lacks m s register stop o (Some (Polled (Use r access))) next need is lacks = absurd (let e : Headed (register r) is.0 access ≡ stage.Lacking need = sym is.3 ∙ lacks in cc)
-goes_lacks m s register stop o (Some (Polled (LoadGlobal dst g))) next need is lacks = absurd (let e = sym is.2 ∙ lacks in cc)
+goes_lacks : (m : Maps) (s : State) (register : ℕ → ℕ) (stop : Bool) (o : Op) (from : Option Stage) (next : Stage)
+    (need : ℕ) → Next m s register stop o from next → next ≡ stage.Lacking need
+    → IsEarly from × (s.base.size + 1 < s.free + need)
+goes_lacks m s register stop o None next need is lacks =
+    absurd (let e : Polled is.0 ≡ stage.Lacking need = sym is.3 ∙ lacks in cc)
+goes_lacks m s register stop o (Some (Polled (Make dst shape))) next need is lacks =
+    elim (cases_lt (s.base.size + 1) (s.free + cost_of shape)) [
+      | inl above ↦ (
+        tt,
+        (let e : stage.Lacking (cost_of shape) ≡ stage.Lacking need = sym (is.1 above) ∙ lacks in
+            let same : cost_of shape ≡ need = cc in omega arith),
+      )
+      | inr below ↦ absurd (let e : Claimed s.free shape 0 dst ≡ stage.Lacking need = sym (is.0 below) ∙ lacks in cc)
+    ]
+goes_lacks m s register stop o (Some (Polled (Use r access))) next need is lacks =
+    absurd (let e : Headed (register r) is.0 access ≡ stage.Lacking need = sym is.3 ∙ lacks in cc)
+goes_lacks m s register stop o (Some (Polled (LoadGlobal dst g))) next need is lacks =
+    absurd (let e = sym is.2 ∙ lacks in cc)
 goes_lacks m s register stop o (Some (Polled (StoreGlobal g src))) next need is lacks = absurd is
-goes_lacks m s register stop o (Some (Headed address shape (Load dst i))) next need is lacks = absurd (let e = sym is.2 ∙ lacks in cc)
+goes_lacks m s register stop o (Some (Headed address shape (Load dst i))) next need is lacks =
+    absurd (let e = sym is.2 ∙ lacks in cc)
 goes_lacks m s register stop o (Some (Headed address shape (Store i src))) next need is lacks = absurd is
 goes_lacks m s register stop o (Some (Headed address shape (Get j))) next need is lacks = absurd is
 goes_lacks m s register stop o (Some (Headed address shape (Put j v))) next need is lacks = absurd is
-goes_lacks m s register stop o (Some (Looked place target dst)) next need is lacks = absurd (let e : Cleared place target dst ≡ stage.Lacking need = sym is ∙ lacks in cc)
+goes_lacks m s register stop o (Some (Looked place target dst)) next need is lacks =
+    absurd (let e : Cleared place target dst ≡ stage.Lacking need = sym is ∙ lacks in cc)
 goes_lacks m s register stop o (Some (Cleared place target dst)) next need is lacks = absurd is
-goes_lacks m s register stop o (Some (Claimed address shape stored dst)) next need is lacks = absurd (let e : Claimed address shape (stored + 1) dst ≡ stage.Lacking need = sym is.1 ∙ lacks in cc)
+goes_lacks m s register stop o (Some (Claimed address shape stored dst)) next need is lacks =
+    absurd (let e : Claimed address shape (stored + 1) dst ≡ stage.Lacking need = sym is.1 ∙ lacks in cc)
 goes_lacks m s register stop o (Some (stage.Lacking n)) next need is lacks = absurd is
 
 -- where nothing was claimed behind an event, nothing was before it
-goes_early : (m : Maps) (s : State) (register : ℕ → ℕ) (stop : Bool) (o : Op) (from : Option Stage) (next : Stage) → Next m s register stop o from next → IsEarly (Some next) → IsEarly from
+goes_early : (m : Maps) (s : State) (register : ℕ → ℕ) (stop : Bool) (o : Op) (from : Option Stage) (next : Stage)
+    → Next m s register stop o from next → IsEarly (Some next) → IsEarly from
 goes_early m s register stop o None next is early = tt
 goes_early m s register stop o (Some (Polled task)) next is early = tt
-goes_early m s register stop o (Some (Headed address shape (Load dst i))) next is early = subst (λ (g : Stage). IsEarly (Some g)) is.2 early
+goes_early m s register stop o (Some (Headed address shape (Load dst i))) next is early =
+    subst (λ (g : Stage). IsEarly (Some g)) is.2 early
 goes_early m s register stop o (Some (Headed address shape (Store i src))) next is early = absurd is
 goes_early m s register stop o (Some (Headed address shape (Get j))) next is early = absurd is
 goes_early m s register stop o (Some (Headed address shape (Put j v))) next is early = absurd is
-goes_early m s register stop o (Some (Looked place target dst)) next is early = subst (λ (g : Stage). IsEarly (Some g)) is early
+goes_early m s register stop o (Some (Looked place target dst)) next is early =
+    subst (λ (g : Stage). IsEarly (Some g)) is early
 goes_early m s register stop o (Some (Cleared place target dst)) next is early = absurd is
-goes_early m s register stop o (Some (Claimed address shape stored dst)) next is early = subst (λ (g : Stage). IsEarly (Some g)) is.1 early
+goes_early m s register stop o (Some (Claimed address shape stored dst)) next is early =
+    subst (λ (g : Stage). IsEarly (Some g)) is.1 early
 goes_early m s register stop o (Some (stage.Lacking need)) next is early = absurd is
 
 -- the call goes on
@@ -128,17 +137,22 @@ call_goes v w x t o on advances =
       stop = goes.stop ∙ on.stop;
       free = λ early.
           let behind : IsEarly (Some goes.stage) = subst IsEarly after early in
-          goes_free (maps w) (maps x) (state w) (state x) (register_in w.held t) w.stop o (stage_in (call_of w t)) goes.stage goes.next advances.changes behind
-          ∙ on.free (goes_early (maps w) (state w) (register_in w.held t) w.stop o (stage_in (call_of w t)) goes.stage goes.next behind);
+          goes_free (maps w) (maps x) (state w) (state x) (register_in w.held t) w.stop o
+          (stage_in (call_of w t)) goes.stage goes.next advances.changes behind
+          ∙ on.free (goes_early (maps w) (state w) (register_in w.held t) w.stop o
+          (stage_in (call_of w t)) goes.stage goes.next behind);
       lacks = λ need is.
           let lacking : goes.stage ≡ stage.Lacking need = same_Some goes.stage (stage.Lacking need) (sym after ∙ is) in
-          let first = goes_lacks (maps w) (state w) (register_in w.held t) w.stop o (stage_in (call_of w t)) goes.stage need goes.next lacking in
+          let first = goes_lacks (maps w) (state w) (register_in w.held t) w.stop o
+          (stage_in (call_of w t)) goes.stage need goes.next lacking in
           let free : w.free ≡ v.free = on.free first.0 in
           omega (arith, first.1, free, on.others.words);
     }
 
 -- the call was answered
-pub call_told : (v w x y : View) (t : ℕ) (o : Op) (reply : Reply) (s after : Seat) → s.mode ≡ Lacking → s.op ≡ Some o → o ≢ Collect → OnCall v w t o → Standing true x → KeepsOthers w x t → IsAnswered w x t o reply → TakesReply s after reply → DropsIfEnded x y t after.mode → CalledAlone v y t s after None
+pub call_told : (v w x y : View) (t : ℕ) (o : Op) (reply : Reply) (s after : ThreadState) → s.mode ≡ Lacking
+    → s.op ≡ Some o → o ≢ Collect → OnCall v w t o → Standing true x → KeepsOthers w x t → IsAnswered w x t o reply
+    → TakesReply s after reply → DropsIfEnded x y t after.mode → CalledAlone v y t s after None
 call_told v w x y t o reply s after lacking next no_collect on stands others answered takes drops =
     let behind = told_stands x y t after.mode stands drops in
     let values : (u : ℕ) → values_of w u ≡ values_of v u = λ u. elim (cases_eq u t) [
@@ -148,11 +162,17 @@ call_told v w x y t o reply s after lacking next no_collect on stands others ans
     record {
       stands = behind.0;
       others = KeepsOthers_both v w y t on.others (KeepsOthers_both w x y t others behind.1);
-      what = inl (refl, told_seat v w x y t o reply s after next no_collect on.history values on.others.words on.stands answered (ap owes_silent lacking) takes drops);
+      what =
+          inl (
+            refl,
+            told_state v w x y t o reply s after next no_collect on.history values on.others.words on.stands
+                answered (ap owes_silent lacking) takes drops,
+          );
     }
 
 -- a stage is that of a call, which is the one of the operation
-lacking_fits : (v : View) (t : ℕ) (o : Op) (need : ℕ) (now : Option Call) → call_of v t ≡ now → Standing true v → Continues now o → stage_in now ≡ Some (stage.Lacking need) → Fits (register_in v.held t) o (stage.Lacking need)
+lacking_fits : (v : View) (t : ℕ) (o : Op) (need : ℕ) (now : Option Call) → call_of v t ≡ now → Standing true v
+    → Continues now o → stage_in now ≡ Some (stage.Lacking need) → Fits (register_in v.held t) o (stage.Lacking need)
 lacking_fits v t o need None is stands continued lacking = absurd (cc)
 lacking_fits v t o need (Some c) is stands continued lacking =
     let fits : Fits (register_in v.held t) c.op c.stage = stands.fits t c is in
@@ -160,10 +180,12 @@ lacking_fits v t o need (Some c) is stands continued lacking =
     (subst (Fits (register_in v.held t) c.op) (same_Some c.stage (stage.Lacking need) lacking) fits)
 
 -- the call was refused: its claim ended past the last word of the heap
-pub call_lacks : (v w x : View) (t : ℕ) (o : Op) (need : ℕ) (s : Seat) → s.op ≡ Some o → OnCall v w t o → Advances w x t o (Refused (Pause (Space need))) → CalledAlone v x t s s (Some need)
+pub call_lacks : (v w x : View) (t : ℕ) (o : Op) (need : ℕ) (s : ThreadState) → s.op ≡ Some o → OnCall v w t o
+    → Advances w x t o (Refused (Pause (Space need))) → CalledAlone v x t s s (Some need)
 call_lacks v w x t o need s next on advances =
     let refused : IsRefused w x t o need = advances.outcome in
-    let fits : Fits (register_in w.held t) o (stage.Lacking need) = lacking_fits w t o need (call_of w t) refl on.stands on.continued refused.stage in
+    let fits : Fits (register_in w.held t) o (stage.Lacking need) =
+    lacking_fits w t o need (call_of w t) refl on.stands on.continued refused.stage in
     let shape : Shape = fits.1 in
     let made : o ≡ op.New fits.0 shape.refs shape.nums = new_is o fits.0 shape fits.2 in
     let lacks : LacksAlone v x t s s need = record {

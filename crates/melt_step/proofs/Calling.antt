@@ -1,5 +1,6 @@
 -- What an event or a reply makes of a thread.
-use Rattle.std.proofs.Common.{true, ◌≡◌, ◌≢◌, ℕ, ◌+◌, ◌≤◌, false, List, length, refl, sym, ◌∙◌, ap, subst, arith, inl, inr}
+use Rattle.std.proofs.Common.{true, ◌≡◌, ◌≢◌, ℕ, ◌+◌, ◌≤◌, false, List, length, refl, sym, ◌∙◌, ap, subst, arith, inl}
+use Rattle.std.proofs.Common.{inr}
 use Rattle.std.specs.Prelude.{◌<◌, Option, Some, ◌⊎◌}
 use Rattle.melt_model.specs.Alive.{Alive, words_of, CostsSum}
 use Rattle.melt_model.specs.declared.history.Entry.{Entry}
@@ -23,39 +24,48 @@ use Rattle.melt_core.specs.declared.answer.StepResult.TheVariants.{Going, Answer
 use Rattle.melt_core.specs.Changed.{stopped}
 use Rattle.melt_core.specs.Epochs.{HasDropped}
 use Rattle.melt_core.proofs.Resting.{stands_stopped}
-use Rattle.melt_step.specs.declared.seat.Seat.{Seat}
-use Rattle.melt_step.specs.declared.seat.Mode.{Mode}
-use Rattle.melt_step.specs.declared.seat.Mode.TheVariants.{Running, Due, Silent, Collecting, Asked, Lacking, Ended}
-use Rattle.melt_step.specs.Seats.{owes_silent, Waits, IsEnded, TakesReply, DropsIfEnded, SeatTold, SeatStep, SetsStop}
+use Rattle.melt_step.specs.declared.thread.ThreadState.{ThreadState}
+use Rattle.melt_step.specs.declared.thread.Mode.{Mode}
+use Rattle.melt_step.specs.declared.thread.Mode.TheVariants.{Running, Due, Silent, Collecting, Asked, Lacking, Ended}
+use Rattle.melt_step.specs.Threads.{owes_silent, Waits, IsEnded, TakesReply, DropsIfEnded, ThreadTold, ThreadStep}
+use Rattle.melt_step.specs.Threads.{SetsStop}
 use Rattle.melt_step.proofs.Cuts.{alive_same}
-use Rattle.melt_step.proofs.Modes.{dropped_keeps}
+use Rattle.melt_step.proofs.Modes.{dropped_keeps, nothing_keeps, stop_keeps}
 
 -- a thread waits for a collection
-pub waits_step : (v w : View) (t : ℕ) (s : Seat) (mode : Mode) → Standing true v → w ≡ stopped v → ((s.mode ≡ Running) × (s.op ≡ Some Collect) × (mode ≡ Collecting)) ⊎ ((s.mode ≡ Due) × (mode ≡ Silent)) → SeatStep v w t s (record s { mode = mode })
+pub waits_step : (v w : View) (t : ℕ) (s : ThreadState) (mode : Mode) → Standing true v → w ≡ stopped v
+    → ((s.mode ≡ Running) × (s.op ≡ Some Collect) × (mode ≡ Collecting)) ⊎ ((s.mode ≡ Due) × (mode ≡ Silent))
+    → ThreadStep v w t s (record s { mode = mode })
 waits_step v w t s mode stands is before =
-    let others : KeepsOthers v (stopped v) t = record { globals = refl; words = refl; threads = refl; capacity = refl; calls = λ u other. refl; registers = λ u other. refl; values = λ u other. refl } in
     record {
       stands = subst (Standing true) (sym is) (stands_stopped true v stands);
-      others = subst (λ (x : View). KeepsOthers v x t) (sym is) others;
+      others = subst (λ (x : View). KeepsOthers v x t) (sym is) (stop_keeps v true t);
       what = inl (mode, record { only = refl; stop = is; before = before });
     }
 
 -- the same words have room, where history and registers are the same
-room_same : (v u : View) (need : ℕ) → u.log ≡ v.log → ((x : ℕ) → values_of u x ≡ values_of v x) → length u.space.list ≡ length v.space.list → HasRoom u need → HasRoom v need
+room_same : (v u : View) (need : ℕ) → u.log ≡ v.log → ((x : ℕ) → values_of u x ≡ values_of v x)
+    → length u.space.list ≡ length v.space.list → HasRoom u need → HasRoom v need
 room_same v u need log values words room =
-    let same : (t r : ℕ) → value v t r ≡ value u t r = λ t r. ap (λ (vs : List Value). value_in vs r) (sym (values t)) in
-    let there : CostsSum (words_of v.log) (Alive v.log (value u)) room.alive = subst (λ (h : List Entry). CostsSum (words_of h) (Alive h (value u)) room.alive) log room.adds_up in
+    let same : (t r : ℕ) → value v t r ≡ value u t r =
+    λ t r. ap (λ (vs : List Value). value_in vs r) (sym (values t)) in
+    let there : CostsSum (words_of v.log) (Alive v.log (value u)) room.alive =
+    subst (λ (h : List Entry). CostsSum (words_of h) (Alive h (value u)) room.alive) log room.adds_up in
     let fits : room.alive + need ≤ length u.space.list = room.fits in
     record {
       alive = room.alive;
       adds_up =
           CostsSum-same (words_of v.log) (Alive v.log (value u)) (Alive v.log (value v)) room.alive
-          (λ n. (alive_same v.log (value u) (value v) n (λ t r. sym (same t r)), alive_same v.log (value v) (value u) n same)) there;
+          (λ n. (
+            alive_same v.log (value u) (value v) n (λ t r. sym (same t r)),
+            alive_same v.log (value v) (value u) n same,
+          )) there;
       fits = omega (arith, fits, words);
     }
 
 -- so has the object that an operation makes
-pub room_for_same : (v u : View) (o : Op) → u.log ≡ v.log → ((x : ℕ) → values_of u x ≡ values_of v x) → length u.space.list ≡ length v.space.list → HasRoomFor u o → HasRoomFor v o
+pub room_for_same : (v u : View) (o : Op) → u.log ≡ v.log → ((x : ℕ) → values_of u x ≡ values_of v x)
+    → length u.space.list ≡ length v.space.list → HasRoomFor u o → HasRoomFor v o
 room_for_same v u (op.New dst refs nums) log values words room = room_same v u (2 + refs + nums) log values words room
 room_for_same v u o log values words room = tt
 
@@ -85,8 +95,11 @@ KeepsOthers_both v u w t first then = record {
 }
 
 -- a thread got its reply, by the last event of a call that the others saw nothing of
-pub told_seat : (v u w x : View) (t : ℕ) (o : Op) (reply : Reply) (s after : Seat) → s.op ≡ Some o → o ≢ Collect → u.log ≡ v.log → ((y : ℕ) → values_of u y ≡ values_of v y) → length u.space.list ≡ length v.space.list → Standing true u → IsAnswered u w t o reply → owes_silent s.mode ≡ false → TakesReply s after reply → DropsIfEnded w x t after.mode → SeatTold v x t s after
-told_seat v u w x t o reply s after next no_collect log values words stood answered open_ takes drops =
+pub told_state : (v u w x : View) (t : ℕ) (o : Op) (reply : Reply) (s after : ThreadState) → s.op ≡ Some o → o ≢ Collect
+    → u.log ≡ v.log → ((y : ℕ) → values_of u y ≡ values_of v y) → length u.space.list ≡ length v.space.list
+    → Standing true u → IsAnswered u w t o reply → owes_silent s.mode ≡ false → TakesReply s after reply
+    → DropsIfEnded w x t after.mode → ThreadTold v x t s after
+told_state v u w x t o reply s after next no_collect log values words stood answered open_ takes drops =
     let here : Answers t u.log (values_of u t) o reply w.log (values_of w t) = answered.answers stood in
     let answers : Answers t v.log (values_of v t) o reply w.log (values_of w t) =
     subst (λ (h : List Entry). Answers t h (values_of v t) o reply w.log (values_of w t)) log
@@ -102,8 +115,9 @@ told_seat v u w x t o reply s after next no_collect log values words stood answe
             next = next;
             takes = takes;
             registers = values_of w t;
-            answers = subst (λ (h : List Entry). Answers t v.log (values_of v t) o reply h (values_of w t)) (sym history) answers;
-            held = inl ended.0;
+            answers = subst (λ (h : List Entry). Answers t v.log (values_of v t) o reply h (values_of w t))
+                (sym history) answers;
+            in_registers = inl ended.0;
             dropped = λ over. dropped.here;
             call = ap (λ (y : View). call_of y t) dropped.only ∙ answered.call;
             room = room;
@@ -116,8 +130,9 @@ told_seat v u w x t o reply s after next no_collect log values words stood answe
         next = next;
         takes = takes;
         registers = values_of w t;
-        answers = subst (λ (y : View). Answers t v.log (values_of v t) o reply y.log (values_of w t)) (sym goes.1) answers;
-        held = inr (ap (λ (y : View). values_of y t) (sym goes.1));
+        answers = subst (λ (y : View). Answers t v.log (values_of v t) o reply y.log (values_of w t))
+            (sym goes.1) answers;
+        in_registers = inr (ap (λ (y : View). values_of y t) (sym goes.1));
         dropped = λ over. absurd (goes.0 over);
         call = ap (λ (y : View). call_of y t) goes.1 ∙ answered.call;
         room = room;
@@ -127,17 +142,20 @@ told_seat v u w x t o reply s after next no_collect log values words stood answe
     ]
 
 -- all is well behind the reply, and the others saw nothing of it
-pub told_stands : (w x : View) (t : ℕ) (mode : Mode) → Standing true w → DropsIfEnded w x t mode → Standing true x × KeepsOthers w x t × (x.stop ≡ w.stop)
+pub told_stands : (w x : View) (t : ℕ) (mode : Mode) → Standing true w → DropsIfEnded w x t mode
+    → Standing true x × KeepsOthers w x t × (x.stop ≡ w.stop)
 told_stands w x t mode stands drops =
     elim (drop_cases w x t mode drops) [
       | inl ended ↦ (ended.1.keeps true stands, dropped_keeps w x t ended.1, ap (λ (y : View). y.stop) ended.1.only)
-      | inr goes ↦
-          let others : KeepsOthers w w t = record { globals = refl; words = refl; threads = refl; capacity = refl; calls = λ u other. refl; registers = λ u other. refl; values = λ u other. refl } in
-          (subst (Standing true) (sym goes.1) stands, subst (λ (y : View). KeepsOthers w y t) (sym goes.1) others, ap (λ (y : View). y.stop) goes.1)
+      | inr goes ↦ (
+        subst (Standing true) (sym goes.1) stands,
+        subst (λ (y : View). KeepsOthers w y t) (sym goes.1) (nothing_keeps w t),
+        ap (λ (y : View). y.stop) goes.1,
+      )
     ]
 
 -- a thread that got a reply does not wait for the stop word
-told_runs : (s after : Seat) (reply : Reply) → TakesReply s after reply → after.mode ≡ Asked → ⊥
+told_runs : (s after : ThreadState) (reply : Reply) → TakesReply s after reply → after.mode ≡ Asked → ⊥
 told_runs s after reply takes asked = elim takes.fits [
   | inl runs ↦ let is : after.mode ≡ Running = runs.0 in cc
   | inr rest ↦ elim rest [
@@ -147,21 +165,25 @@ told_runs s after reply takes asked = elim takes.fits [
 ]
 
 -- nor for anything else
-told_goes : (s after : Seat) (reply : Reply) → TakesReply s after reply → Waits after.mode → ⊥
+told_goes : (s after : ThreadState) (reply : Reply) → TakesReply s after reply → Waits after.mode → ⊥
 told_goes s after reply takes waits = elim takes.fits [
   | inl runs ↦ subst Waits runs.0 waits
   | inr rest ↦ elim rest [ inl due ↦ subst Waits due waits | inr ended ↦ subst Waits ended.0 waits ]
 ]
 
 -- an event by which a thread got its reply
-pub told_step : (v w x : View) (t : ℕ) (o : Op) (reply : Reply) (s after : Seat) → s.mode ≡ Running → s.op ≡ Some o → o ≢ Collect → Standing true v → Standing true w → KeepsOthers v w t → IsAnswered v w t o reply → TakesReply s after reply → DropsIfEnded w x t after.mode → SeatStep v x t s after × SetsStop v x after
+pub told_step : (v w x : View) (t : ℕ) (o : Op) (reply : Reply) (s after : ThreadState) → s.mode ≡ Running
+    → s.op ≡ Some o → o ≢ Collect → Standing true v → Standing true w → KeepsOthers v w t → IsAnswered v w t o reply
+    → TakesReply s after reply → DropsIfEnded w x t after.mode → ThreadStep v x t s after × SetsStop v x after
 told_step v w x t o reply s after running next no_collect stood stands others answered takes drops =
     let behind = told_stands w x t after.mode stands drops in
     let stop : x.stop ≡ v.stop = behind.2 ∙ answered.stop in
-    let step : SeatStep v x t s after = record {
+    let step : ThreadStep v x t s after = record {
       stands = behind.0;
       others = KeepsOthers_both v w x t others behind.1;
-      what = inr (inr (inr (told_seat v v w x t o reply s after next no_collect refl (λ y. refl) refl stood answered (ap owes_silent running) takes drops)));
+      what =
+          inr (inr (inr (told_state v v w x t o reply s after next no_collect refl (λ y. refl) refl stood answered
+          (ap owes_silent running) takes drops)));
     } in
     let sets : SetsStop v x after = record {
       waits = λ waits. absurd (told_goes s after reply takes waits);
@@ -172,13 +194,15 @@ told_step v w x t o reply s after running next no_collect stood stands others an
     (step, sets)
 
 -- an event behind which the call goes on
-pub goes_step : (v w : View) (t : ℕ) (o : Op) (s : Seat) → s.mode ≡ Running → s.op ≡ Some o → o ≢ Collect → Standing true v → Advances v w t o Going → SeatStep v w t s s × SetsStop v w s
+pub goes_step : (v w : View) (t : ℕ) (o : Op) (s : ThreadState) → s.mode ≡ Running → s.op ≡ Some o → o ≢ Collect
+    → Standing true v → Advances v w t o Going → ThreadStep v w t s s × SetsStop v w s
 goes_step v w t o s running next no_collect stands advances =
     let goes : Goes v w t o = advances.outcome in
     let call : Call = record { op = o; stage = goes.stage } in
     let nearer : events_left (stage_in (call_of w t)) < events_left (stage_in (call_of v t)) =
-    subst (λ (now : Option Call). events_left (stage_in now) < events_left (stage_in (call_of v t))) (sym goes.call) goes.nearer in
-    let step : SeatStep v w t s s = record {
+    subst (λ (now : Option Call). events_left (stage_in now) < events_left (stage_in (call_of v t)))
+    (sym goes.call) goes.nearer in
+    let step : ThreadStep v w t s s = record {
       stands = advances.keeps true stands;
       others = advances.others;
       what = inr (inl (record {
@@ -207,16 +231,19 @@ WantsRoom (Refused (refusal.Pause (pause.Space need))) = Unit {0}
 WantsRoom result = ⊥
 
 -- an event by which it is
-pub lacks_step : (v w : View) (t : ℕ) (o : Op) (result : StepResult) (s : Seat) → s.mode ≡ Running → s.op ≡ Some o → o ≢ Collect → Standing true v → Advances v w t o result → WantsRoom result → SeatStep v w t s (record s { mode = Lacking }) × SetsStop v w (record s { mode = Lacking })
+pub lacks_step : (v w : View) (t : ℕ) (o : Op) (result : StepResult) (s : ThreadState) → s.mode ≡ Running
+    → s.op ≡ Some o → o ≢ Collect → Standing true v → Advances v w t o result → WantsRoom result
+    → ThreadStep v w t s (record s { mode = Lacking }) × SetsStop v w (record s { mode = Lacking })
 lacks_step v w t o Going s running next no_collect stands advances wants = absurd wants
 lacks_step v w t o (Answered reply) s running next no_collect stands advances wants = absurd wants
 lacks_step v w t o (Refused refusal.DiskFault) s running next no_collect stands advances wants = absurd wants
 lacks_step v w t o (Refused (refusal.Damaged damaged)) s running next no_collect stands advances wants = absurd wants
 lacks_step v w t o (Refused (refusal.Pause pause.Asked)) s running next no_collect stands advances wants = absurd wants
-lacks_step v w t o (Refused (refusal.Pause pause.Forward)) s running next no_collect stands advances wants = absurd wants
+lacks_step v w t o (Refused (refusal.Pause pause.Forward)) s running next no_collect stands advances wants =
+    absurd wants
 lacks_step v w t o (Refused (refusal.Pause (pause.Space need))) s running next no_collect stands advances wants =
     let refused : IsRefused v w t o need = advances.outcome in
-    let step : SeatStep v w t s (record s { mode = Lacking }) = record {
+    let step : ThreadStep v w t s (record s { mode = Lacking }) = record {
       stands = advances.keeps true stands;
       others = advances.others;
       what = inr (inr (inl (record {

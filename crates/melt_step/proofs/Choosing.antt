@@ -1,9 +1,10 @@
 -- All threads stand in one history, by whatever choices.
-use Rattle.std.proofs.Common.{◌≡◌, ◌≢◌, ℕ, ◌<◌, true, false, List, [], ◌∷◌, ◌++◌, length, refl, sym, ◌∙◌, ap, subst, inl, inr}
+use Rattle.std.proofs.Common.{◌≡◌, ◌≢◌, ℕ, ◌<◌, true, false, List, [], ◌∷◌, ◌++◌, length, refl, sym, ◌∙◌, ap, subst}
+use Rattle.std.proofs.Common.{inl, inr}
 use Rattle.std.proofs.lemmas.Bool.{cases_eq}
 use Rattle.std.proofs.lemmas.List.{length-replicate}
 use Rattle.std.proofs.lemmas.List.Elements.{All-nil}
-use Rattle.std.specs.Prelude.{All, Option, None, replicate}
+use Rattle.std.specs.Prelude.{All, Option, replicate}
 use Rattle.melt_model.specs.History.{Legal}
 use Rattle.melt_model.specs.Standing.{Stands}
 use Rattle.melt_model.specs.Thread.{does}
@@ -21,10 +22,10 @@ use Rattle.melt_scion.specs.declared.heap.Heap.{Heap}
 use Rattle.melt_scion.specs.declared.heap.Names as name_table
 use Rattle.melt_scion.specs.declared.registers.Registers.{Registers}
 use Rattle.melt_core.specs.Answering.{with_entry}
-use Rattle.melt_core.specs.Views.{View, view, values_of, registers_in, held_values, call_of, IsQuiet, Standing}
+use Rattle.melt_core.specs.Views.{View, view, values_of, registers_in, held_values, IsQuiet, Standing}
 use Rattle.melt_core.specs.Changed.{stopped}
 use Rattle.melt_core.specs.Epochs.{no_registers, IsNewRest, AtRest, core_of, HasFinished, HasDropped}
-use Rattle.melt_core.specs.Advances.{MayAdvance, Advances, KeepsOthers, IsAnswered, Goes, Refuses, Pauses}
+use Rattle.melt_core.specs.Advances.{MayAdvance, Advances, KeepsOthers, IsAnswered, Goes, Refuses}
 use Rattle.melt_core.specs.declared.machine.Rest.{Rest}
 use Rattle.melt_core.specs.declared.answer.Pause.TheVariants as pause
 use Rattle.melt_core.specs.declared.answer.Refusal.{Refusal}
@@ -32,197 +33,246 @@ use Rattle.melt_core.specs.declared.answer.Refusal.TheVariants as refusal
 use Rattle.melt_core.specs.declared.answer.StepResult.{StepResult}
 use Rattle.melt_core.specs.declared.answer.StepResult.TheVariants.{Going, Answered, Refused}
 use Rattle.melt_core.proofs.Resting.{start_at_rest, stands_stopped}
-use Rattle.melt_step.specs.Choices.{SoFar, nothing_yet, and_then, Sets, SetsBy, CollectsRest, Chosen, AreTold}
-use Rattle.melt_step.specs.Seats.{Collected}
+use Rattle.melt_step.specs.Choices.{SoFar, nothing_yet, with_reply, SetsSoFar, SetsBy, CollectsRest, Chosen, AreTold}
+use Rattle.melt_step.specs.Threads.{CoreCollected}
 use Rattle.melt_step.proofs.Collecting.{rest_collected, same_sizes}
 use Rattle.melt_step.proofs.Modes.{dropped_keeps}
 use Rattle.melt_step.proofs.Starting.{registers_new}
-use Rattle.melt_step.proofs.Tables.{told_with, with_own, Stands_answers}
+use Rattle.melt_step.proofs.Telling.{told_with, with_own, Stands_answers}
 
 -- a thread stands in the history, and until it drops its registers these hold what it was told
 record StandsSoFar (v : View) (t : ℕ) (s : SoFar) : Type 0 where
   pub registers : List Value
   pub told : Stands v.log t s.ops s.replies registers
-  pub held : t < length v.held → s.over ≡ false → registers ≡ values_of v t
+  pub in_registers : t < length v.held → s.over ≡ false → registers ≡ values_of v t
 
 -- all threads do
 record AllStand (threads globals : ℕ) (v : View) (all : ℕ → SoFar) : Type 0 where
   pub stands : Standing true v
-  pub held : length v.held ≡ threads
+  pub has_threads : length v.held ≡ threads
   pub words : length v.globals ≡ globals
   pub each : (t : ℕ) → StandsSoFar v t (all t)
   pub own : All (λ (e : Entry). e.thread < threads) v.log
 
 -- a thread stands as before, where the history does and its registers do
-stands_as : (v w : View) (t : ℕ) (s : SoFar) → w.log ≡ v.log → length w.held ≡ length v.held → values_of w t ≡ values_of v t → StandsSoFar v t s → StandsSoFar w t s
+stands_as : (v w : View) (t : ℕ) (s : SoFar) → w.log ≡ v.log → length w.held ≡ length v.held
+    → values_of w t ≡ values_of v t → StandsSoFar v t s → StandsSoFar w t s
 stands_as v w t s log threads values st = record {
   registers = st.registers;
   told = subst (λ (h : List Entry). Stands h t s.ops s.replies st.registers) (sym log) st.told;
-  held = λ within open_. st.held (subst (λ (n : ℕ). t < n) threads within) open_ ∙ sym values;
+  in_registers = λ within open_. st.in_registers (subst (λ (n : ℕ). t < n) threads within) open_ ∙ sym values;
 }
 
 -- all threads stand as before, in a view with the same history and registers
-all_as : (threads globals : ℕ) (v w : View) (all : ℕ → SoFar) → AllStand threads globals v all → Standing true w → w.log ≡ v.log → length w.held ≡ length v.held → length w.globals ≡ length v.globals → ((t : ℕ) → values_of w t ≡ values_of v t) → AllStand threads globals w all
-all_as threads globals v w all a stands log held words values = record {
+all_as : (threads globals : ℕ) (v w : View) (all : ℕ → SoFar) → AllStand threads globals v all → Standing true w
+    → w.log ≡ v.log → length w.held ≡ length v.held → length w.globals ≡ length v.globals
+    → ((t : ℕ) → values_of w t ≡ values_of v t) → AllStand threads globals w all
+all_as threads globals v w all a stands log threads_stay words values = record {
   stands = stands;
-  held = held ∙ a.held;
+  has_threads = threads_stay ∙ a.has_threads;
   words = words ∙ a.words;
-  each = λ t. stands_as v w t (all t) log held (values t) (a.each t);
+  each = λ t. stands_as v w t (all t) log threads_stay (values t) (a.each t);
   own = subst (All (λ (e : Entry). e.thread < threads)) (sym log) a.own;
 }
 
 -- and in the same view, where what threads have behind them is the same
-all_same : (threads globals : ℕ) (v : View) (all after : ℕ → SoFar) → AllStand threads globals v all → ((u : ℕ) → after u ≡ all u) → AllStand threads globals v after
+all_same : (threads globals : ℕ) (v : View) (all after : ℕ → SoFar) → AllStand threads globals v all
+    → ((u : ℕ) → after u ≡ all u) → AllStand threads globals v after
 all_same threads globals v all after a same = record {
   stands = a.stands;
-  held = a.held;
+  has_threads = a.has_threads;
   words = a.words;
   each = λ t. subst (StandsSoFar v t) (sym (same t)) (a.each t);
   own = a.own;
 }
 
 -- values of all threads stay, where an event leaves those of its own thread
-all_values : (v w : View) (t : ℕ) → KeepsOthers v w t → values_of w t ≡ values_of v t → (u : ℕ) → values_of w u ≡ values_of v u
+all_values : (v w : View) (t : ℕ) → KeepsOthers v w t → values_of w t ≡ values_of v t → (u : ℕ)
+    → values_of w u ≡ values_of v u
 all_values v w t others own u = elim (cases_eq u t) [
   | inl same ↦ subst (λ (k : ℕ). values_of w k ≡ values_of v k) (sym same) own
   | inr differ ↦ others.values u differ
 ]
 
 -- an event that leaves the history
-event_stays : (threads globals : ℕ) (v w : View) (all after : ℕ → SoFar) (t : ℕ) → AllStand threads globals v all → Standing true w → KeepsOthers v w t → w.log ≡ v.log → values_of w t ≡ values_of v t → ((u : ℕ) → after u ≡ all u) → AllStand threads globals w after
+event_stays : (threads globals : ℕ) (v w : View) (all after : ℕ → SoFar) (t : ℕ) → AllStand threads globals v all
+    → Standing true w → KeepsOthers v w t → w.log ≡ v.log → values_of w t ≡ values_of v t → ((u : ℕ) → after u ≡ all u)
+    → AllStand threads globals w after
 event_stays threads globals v w all after t a stands others log values same =
-    all_same threads globals w all after (all_as threads globals v w all a stands log others.threads others.globals (all_values v w t others values)) same
+    all_same threads globals w all after
+    (all_as threads globals v w all a stands log others.threads others.globals (all_values v w t others values)) same
 
 -- what is left of history and registers by a call that paused
-paused_stays : (threads globals : ℕ) (v w : View) (all after : ℕ → SoFar) (t : ℕ) (o : Op) (cause : Refusal) → AllStand threads globals v all → Standing true w → KeepsOthers v w t → Refuses v w t o cause → ((u : ℕ) → after u ≡ all u) → AllStand threads globals w after
+paused_stays : (threads globals : ℕ) (v w : View) (all after : ℕ → SoFar) (t : ℕ) (o : Op) (cause : Refusal)
+    → AllStand threads globals v all → Standing true w → KeepsOthers v w t → Refuses v w t o cause
+    → ((u : ℕ) → after u ≡ all u) → AllStand threads globals w after
 paused_stays threads globals v w all after t o (refusal.Pause pause.Asked) a stands others refused same =
-    event_stays threads globals v w all after t a stands others (ap (λ (x : View). x.log) refused.same) (ap (λ (x : View). values_of x t) refused.same) same
+    event_stays threads globals v w all after t a stands others (ap (λ (x : View). x.log) refused.same)
+    (ap (λ (x : View). values_of x t) refused.same) same
 paused_stays threads globals v w all after t o (refusal.Pause (pause.Space need)) a stands others refused same =
     event_stays threads globals v w all after t a stands others refused.own.history refused.own.values same
-paused_stays threads globals v w all after t o (refusal.Pause pause.Forward) a stands others refused same = absurd refused
+paused_stays threads globals v w all after t o (refusal.Pause pause.Forward) a stands others refused same =
+    absurd refused
 paused_stays threads globals v w all after t o refusal.DiskFault a stands others refused same = absurd refused
 paused_stays threads globals v w all after t o (refusal.Damaged damaged) a stands others refused same = absurd refused
 
 -- a thread that was answered, and the others
-answered_stands : (threads globals : ℕ) (v w : View) (all after : ℕ → SoFar) (t : ℕ) (o : Op) (reply : Reply) → AllStand threads globals v all → (all t).over ≡ false → t < length v.held → Standing true w → KeepsOthers v w t → IsAnswered v w t o reply → Sets all after t (and_then (all t) o reply) → AllStand threads globals w after
+answered_stands : (threads globals : ℕ) (v w : View) (all after : ℕ → SoFar) (t : ℕ) (o : Op) (reply : Reply)
+    → AllStand threads globals v all → (all t).over ≡ false → t < length v.held → Standing true w → KeepsOthers v w t
+    → IsAnswered v w t o reply → SetsSoFar all after t (with_reply (all t) o reply) → AllStand threads globals w after
 answered_stands threads globals v w all after t o reply a open_ within stands others answered sets =
     let st : StandsSoFar v t (all t) = a.each t in
     let answers = answered.answers a.stands in
     let legal : Legal w.log (length v.globals) = subst (Legal w.log) others.globals (stands.legal refl) in
     let now : Stands v.log t (all t).ops (all t).replies (values_of v t) =
-    subst (Stands v.log t (all t).ops (all t).replies) (st.held within open_) st.told in
+    subst (Stands v.log t (all t).ops (all t).replies) (st.in_registers within open_) st.told in
     let told : Stands w.log t ((all t).ops ++ o ∷ []) ((all t).replies ++ reply ∷ []) (values_of w t) =
-    Stands_answers v.log w.log t (length v.globals) (all t).ops (all t).replies (values_of v t) (values_of w t) o reply (a.stands.legal refl) legal now answers in
+    Stands_answers v.log w.log t (length v.globals) (all t).ops (all t).replies (values_of v t) (values_of w t) o reply
+    (a.stands.legal refl) legal now answers in
     let act : Option Act = (does v.log (values_of v t) o answers.value).act in
     let grown : w.log ≡ with_entry t v.log act = answers.history in
-    let here : StandsSoFar w t (and_then (all t) o reply) = record { registers = values_of w t; told = told; held = λ there stays. refl } in
-    let elsewhere : (u : ℕ) → u ≢ t → StandsSoFar w u (all u) = λ u differ. let su : StandsSoFar v u (all u) = a.each u in record {
+    let here : StandsSoFar w t (with_reply (all t) o reply) =
+    record { registers = values_of w t; told = told; in_registers = λ there stays. refl } in
+    let elsewhere : (u : ℕ) → u ≢ t → StandsSoFar w u (all u) = λ u differ. let su : StandsSoFar v u (all u) =
+    a.each u in record {
       registers = su.registers;
-      told = subst (λ (h : List Entry). Stands h u (all u).ops (all u).replies su.registers) (sym grown) (told_with v.log t u (all u).ops (all u).replies su.registers act differ su.told);
-      held = λ there stays. su.held (subst (λ (n : ℕ). u < n) others.threads there) stays ∙ sym (others.values u differ);
+      told = subst (λ (h : List Entry). Stands h u (all u).ops (all u).replies su.registers) (sym grown)
+          (told_with v.log t u (all u).ops (all u).replies su.registers act differ su.told);
+      in_registers = λ there stays. su.in_registers (subst (λ (n : ℕ). u < n) others.threads there) stays
+          ∙ sym (others.values u differ);
     } in
     record {
       stands = stands;
-      held = others.threads ∙ a.held;
+      has_threads = others.threads ∙ a.has_threads;
       words = others.globals ∙ a.words;
       each = λ u. elim (cases_eq u t) [
-        | inl same ↦ subst (λ (k : ℕ). StandsSoFar w k (after k)) (sym same) (subst (StandsSoFar w t) (sym sets.here) here)
+        | inl same ↦ subst (λ (k : ℕ). StandsSoFar w k (after k)) (sym same)
+            (subst (StandsSoFar w t) (sym sets.here) here)
         | inr differ ↦ subst (StandsSoFar w u) (sym (sets.others u differ)) (elsewhere u differ)
       ];
-      own = subst (All (λ (e : Entry). e.thread < threads)) (sym grown) (with_own v.log t threads act (subst (λ (n : ℕ). t < n) a.held within) a.own);
+      own = subst (All (λ (e : Entry). e.thread < threads)) (sym grown)
+          (with_own v.log t threads act (subst (λ (n : ℕ). t < n) a.has_threads within) a.own);
     }
 
 -- an event
-event_stands : (threads globals : ℕ) (v w : View) (all after : ℕ → SoFar) (t : ℕ) (o : Op) (result : StepResult) → AllStand threads globals v all → (all t).over ≡ false → MayAdvance v t o → Advances v w t o result → SetsBy all after t o result → AllStand threads globals w after
+event_stands : (threads globals : ℕ) (v w : View) (all after : ℕ → SoFar) (t : ℕ) (o : Op) (result : StepResult)
+    → AllStand threads globals v all → (all t).over ≡ false → MayAdvance v t o → Advances v w t o result
+    → SetsBy all after t o result → AllStand threads globals w after
 event_stands threads globals v w all after t o Going a open_ may advances sets =
     let goes : Goes v w t o = advances.outcome in
-    event_stays threads globals v w all after t a (advances.keeps true a.stands) advances.others goes.own.history goes.own.values sets
+    event_stays threads globals v w all after t a
+    (advances.keeps true a.stands) advances.others goes.own.history goes.own.values sets
 event_stands threads globals v w all after t o (Answered reply) a open_ may advances sets =
-    answered_stands threads globals v w all after t o reply a open_ may.thread (advances.keeps true a.stands) advances.others advances.outcome sets
+    answered_stands threads globals v w all after t o reply a open_ may.thread
+    (advances.keeps true a.stands) advances.others advances.outcome sets
 event_stands threads globals v w all after t o (Refused cause) a open_ may advances sets =
-    paused_stays threads globals v w all after t o cause a (advances.keeps true a.stands) advances.others advances.outcome sets
+    paused_stays threads globals v w all after t o cause a
+    (advances.keeps true a.stands) advances.others advances.outcome sets
 
 -- a `collect` was answered
-collect_stands : (threads globals : ℕ) (v : View) (all after : ℕ → SoFar) (t : ℕ) → AllStand threads globals v all → Sets all after t (and_then (all t) Collect Done) → AllStand threads globals v after
+collect_stands : (threads globals : ℕ) (v : View) (all after : ℕ → SoFar) (t : ℕ) → AllStand threads globals v all
+    → SetsSoFar all after t (with_reply (all t) Collect Done) → AllStand threads globals v after
 collect_stands threads globals v all after t a sets =
     let st : StandsSoFar v t (all t) = a.each t in
-    let here : StandsSoFar v t (and_then (all t) Collect Done) = record {
+    let here : StandsSoFar v t (with_reply (all t) Collect Done) = record {
       registers = st.registers;
       told = Stands_local v.log t (all t).ops (all t).replies st.registers Collect st.told refl st.told.references;
-      held = st.held;
+      in_registers = st.in_registers;
     } in
     record {
       stands = a.stands;
-      held = a.held;
+      has_threads = a.has_threads;
       words = a.words;
       each = λ u. elim (cases_eq u t) [
-        | inl same ↦ subst (λ (k : ℕ). StandsSoFar v k (after k)) (sym same) (subst (StandsSoFar v t) (sym sets.here) here)
+        | inl same ↦ subst (λ (k : ℕ). StandsSoFar v k (after k)) (sym same)
+            (subst (StandsSoFar v t) (sym sets.here) here)
         | inr differ ↦ subst (StandsSoFar v u) (sym (sets.others u differ)) (a.each u)
       ];
       own = a.own;
     }
 
 -- a thread dropped its registers
-dropped_stands : (threads globals : ℕ) (v w : View) (all after : ℕ → SoFar) (t : ℕ) → AllStand threads globals v all → HasDropped v w t → KeepsOthers v w t → Sets all after t (record (all t) { over = true }) → AllStand threads globals w after
+dropped_stands : (threads globals : ℕ) (v w : View) (all after : ℕ → SoFar) (t : ℕ) → AllStand threads globals v all
+    → HasDropped v w t → KeepsOthers v w t → SetsSoFar all after t (record (all t) { over = true })
+    → AllStand threads globals w after
 dropped_stands threads globals v w all after t a dropped others sets =
     let log : w.log ≡ v.log = ap (λ (x : View). x.log) dropped.only in
     let st : StandsSoFar v t (all t) = a.each t in
     let here : StandsSoFar w t (record (all t) { over = true }) = record {
       registers = st.registers;
       told = subst (λ (h : List Entry). Stands h t (all t).ops (all t).replies st.registers) (sym log) st.told;
-      held = λ within open_. absurd (cc);
+      in_registers = λ within open_. absurd (cc);
     } in
     record {
       stands = dropped.keeps true a.stands;
-      held = others.threads ∙ a.held;
+      has_threads = others.threads ∙ a.has_threads;
       words = others.globals ∙ a.words;
       each = λ u. elim (cases_eq u t) [
-        | inl same ↦ subst (λ (k : ℕ). StandsSoFar w k (after k)) (sym same) (subst (StandsSoFar w t) (sym sets.here) here)
-        | inr differ ↦ subst (StandsSoFar w u) (sym (sets.others u differ)) (stands_as v w u (all u) log others.threads (others.values u differ) (a.each u))
+        | inl same ↦ subst (λ (k : ℕ). StandsSoFar w k (after k)) (sym same)
+            (subst (StandsSoFar w t) (sym sets.here) here)
+        | inr differ ↦ subst (StandsSoFar w u) (sym (sets.others u differ))
+            (stands_as v w u (all u) log others.threads (others.values u differ) (a.each u))
       ];
       own = subst (All (λ (e : Entry). e.thread < threads)) (sym log) a.own;
     }
 
 -- a run begins
-start_stands : (threads globals words entries : ℕ) (heap : Heap) (rest : Rest) (all : ℕ → SoFar) → AtRest true heap rest → IsNewHeap words globals true heap → IsNewRest threads entries rest → ((t : ℕ) → all t ≡ nothing_yet) → AllStand threads globals (view (core_of heap rest)) all
+start_stands : (threads globals words entries : ℕ) (heap : Heap) (rest : Rest) (all : ℕ → SoFar) → AtRest true heap rest
+    → IsNewHeap words globals true heap → IsNewRest threads entries rest → ((t : ℕ) → all t ≡ nothing_yet)
+    → AllStand threads globals (view (core_of heap rest)) all
 start_stands threads globals words entries heap rest all at_rest new_heap new_rest none =
     let v : View = view (core_of heap rest) in
     let count : length rest.held.items ≡ threads = ap length new_rest.held ∙ length-replicate threads no_registers in
     let each : (t : ℕ) → StandsSoFar v t nothing_yet = λ t. record {
       registers = replicate 16 Nil;
       told = subst (λ (h : List Entry). Stands h t [] [] (replicate 16 Nil)) (sym new_rest.history) (Stands_start t);
-      held = λ within open_. sym (ap (held_values heap.names) (ap (λ (held : List Registers). registers_in held t) new_rest.held ∙ registers_new threads t (subst (λ (n : ℕ). t < n) count within)));
+      in_registers = λ within open_.
+          sym (ap (held_values heap.names)
+          (ap (λ (held : List Registers). registers_in held t) new_rest.held
+          ∙ registers_new threads t (subst (λ (n : ℕ). t < n) count within)));
     } in
     record {
       stands = at_rest.stands;
-      held = count;
+      has_threads = count;
       words = ap length new_heap.globals_hold_nothing ∙ length-replicate globals 0;
       each = λ t. subst (StandsSoFar v t) (sym (none t)) (each t);
-      own = subst (All (λ (e : Entry). e.thread < threads)) (sym new_rest.history) (All-nil (λ (e : Entry). e.thread < threads));
+      own = subst (All (λ (e : Entry). e.thread < threads)) (sym new_rest.history)
+          (All-nil (λ (e : Entry). e.thread < threads));
     }
 
 -- a new epoch
-epoch_stands : (threads globals : ℕ) (v : View) (all : ℕ → SoFar) (heap : Heap) (rest : Rest) → AllStand threads globals v all → AtRest true heap rest → HasFinished v (view (core_of heap rest)) → AllStand threads globals (view (core_of heap rest)) all
+epoch_stands : (threads globals : ℕ) (v : View) (all : ℕ → SoFar) (heap : Heap) (rest : Rest)
+    → AllStand threads globals v all → AtRest true heap rest → HasFinished v (view (core_of heap rest))
+    → AllStand threads globals (view (core_of heap rest)) all
 epoch_stands threads globals v all heap rest a at_rest finished =
-    all_as threads globals v (view (core_of heap rest)) all a at_rest.stands finished.log (ap length finished.held) (ap length finished.globals) (λ t.
+    all_as threads globals v (view (core_of heap rest)) all a at_rest.stands finished.log (ap length finished.held)
+    (ap length finished.globals) (λ t.
     ap (λ (names : Option name_table.Names). held_values names (registers_in rest.held.items t)) finished.names
     ∙ ap (λ (held : List Registers). held_values v.names (registers_in held t)) finished.held)
 
 -- a collection
-collection_stands : (threads globals : ℕ) (all : ℕ → SoFar) (heap new : Heap) (rest after : Rest) → AllStand threads globals (view (core_of heap rest)) all → IsQuiet (view (core_of heap rest)) → CollectsRest heap rest new after → AllStand threads globals (view (core_of new after)) all
+collection_stands : (threads globals : ℕ) (all : ℕ → SoFar) (heap new : Heap) (rest after : Rest)
+    → AllStand threads globals (view (core_of heap rest)) all → IsQuiet (view (core_of heap rest))
+    → CollectsRest heap rest new after → AllStand threads globals (view (core_of new after)) all
 collection_stands threads globals all heap new rest after a quiet c =
     let at_rest : AtRest true heap rest = record { stands = a.stands; quiet = quiet } in
-    let collected : Collected (view (core_of heap rest)) (view (core_of new after)) =
-    rest_collected heap new rest after c.phase c.journal at_rest c.copying c.collects c.threads (same_sizes rest.held.items after.held.items c.threads c.before c.behind) c.calls c.log c.made in
-    all_as threads globals (view (core_of heap rest)) (view (core_of new after)) all a collected.stands collected.history collected.threads collected.globals collected.values
+    let collected : CoreCollected (view (core_of heap rest)) (view (core_of new after)) =
+    rest_collected heap new rest after c.phase c.journal at_rest c.copying c.collects c.threads
+    (same_sizes rest.held.items after.held.items c.threads c.before c.behind) c.calls c.log c.made in
+    all_as threads globals (view (core_of heap rest))
+    (view (core_of new after)) all a collected.stays.stands collected.stays.history collected.stays.threads
+    collected.stays.globals collected.stays.values
 
 -- they stand after each choice
-chosen_stands : (threads globals : ℕ) (v : View) (all : ℕ → SoFar) → Chosen threads globals v all → AllStand threads globals v all
+chosen_stands : (threads globals : ℕ) (v : View) (all : ℕ → SoFar) → Chosen threads globals v all
+    → AllStand threads globals v all
 chosen_stands threads globals v all (Chosen.starts _ _ words entries heap rest small few new_heap new_rest is none) =
     subst (λ (x : View). AllStand threads globals x all) (sym is)
-    (start_stands threads globals words entries heap rest all (start_at_rest true words globals threads entries heap rest small few new_heap new_rest) new_heap new_rest none)
+    (start_stands threads globals words entries heap rest all
+    (start_at_rest true words globals threads entries heap rest small few new_heap new_rest) new_heap new_rest none)
 chosen_stands threads globals w after (Chosen.event v _ all _ t o result chosen open_ may advances sets) =
-    event_stands threads globals v w all after t o result (chosen_stands threads globals v all chosen) open_ may advances sets
+    event_stands threads globals v w all after t o result
+    (chosen_stands threads globals v all chosen) open_ may advances sets
 chosen_stands threads globals w all (Chosen.asks v _ _ chosen is) =
     let a : AllStand threads globals v all = chosen_stands threads globals v all chosen in
     subst (λ (x : View). AllStand threads globals x all) (sym is)
@@ -230,7 +280,8 @@ chosen_stands threads globals w all (Chosen.asks v _ _ chosen is) =
 chosen_stands threads globals v after (Chosen.collect _ all _ t chosen sets) =
     collect_stands threads globals v all after t (chosen_stands threads globals v all chosen) sets
 chosen_stands threads globals w after (Chosen.drops v _ all _ t chosen none dropped sets) =
-    dropped_stands threads globals v w all after t (chosen_stands threads globals v all chosen) dropped (dropped_keeps v w t dropped) sets
+    dropped_stands threads globals v w all after t (chosen_stands threads globals v all chosen) dropped
+    (dropped_keeps v w t dropped) sets
 chosen_stands threads globals w all (Chosen.epoch v _ _ heap rest chosen quiet rests finished is) =
     let a : AllStand threads globals v all = chosen_stands threads globals v all chosen in
     subst (λ (x : View). AllStand threads globals x all) (sym is)
@@ -238,15 +289,18 @@ chosen_stands threads globals w all (Chosen.epoch v _ _ heap rest chosen quiet r
 chosen_stands threads globals w all (Chosen.collection v _ _ heap new rest after chosen was quiet collects is) =
     let a : AllStand threads globals v all = chosen_stands threads globals v all chosen in
     subst (λ (x : View). AllStand threads globals x all) (sym is)
-    (collection_stands threads globals all heap new rest after (subst (λ (x : View). AllStand threads globals x all) was a) (subst IsQuiet was quiet) collects)
+    (collection_stands threads globals all heap new rest after
+    (subst (λ (x : View). AllStand threads globals x all) was a) (subst IsQuiet was quiet) collects)
 
 -- threads that stand in a history were told what it gives them
-pub chosen_told : (threads globals : ℕ) (v : View) (all : ℕ → SoFar) → Chosen threads globals v all → AreTold threads globals v all
+pub chosen_told : (threads globals : ℕ) (v : View) (all : ℕ → SoFar) → Chosen threads globals v all
+    → AreTold threads globals v all
 chosen_told threads globals v all chosen =
     let a : AllStand threads globals v all = chosen_stands threads globals v all chosen in
     record {
       stands = a.stands;
       legal = subst (Legal v.log) a.words (a.stands.legal refl);
-      transcripts = λ t more. let st : StandsSoFar v t (all t) = a.each t in Transcript_so_far v.log t (all t).ops more (all t).replies st.registers st.told;
+      transcripts = λ t more. let st : StandsSoFar v t (all t) =
+          a.each t in Transcript_so_far v.log t (all t).ops more (all t).replies st.registers st.told;
       own_threads = a.own;
     }

@@ -1,5 +1,6 @@
 -- A collection between two epochs.
-use Rattle.std.proofs.Common.{◌≡◌, ℕ, ◌+◌, ◌<◌, ◌≤◌, suc, List, [], ◌∷◌, ◌++◌, length, get_or, ◌⊎◌, inl, inr, refl, sym, ◌∙◌, ap, subst, arith, true}
+use Rattle.std.proofs.Common.{◌≡◌, ℕ, ◌+◌, ◌<◌, ◌≤◌, suc, List, [], ◌∷◌, ◌++◌, length, get_or, ◌⊎◌, inl, inr, refl, sym}
+use Rattle.std.proofs.Common.{◌∙◌, ap, subst, arith, true}
 use Rattle.std.proofs.Math.Path.{fun_ext}
 use Rattle.std.proofs.Math.ListN.{get_or-map}
 use Rattle.std.proofs.lemmas.Bool.{cases_lt}
@@ -31,12 +32,13 @@ use Rattle.melt_core.proofs.Alive.{placed as placed_now}
 use Rattle.melt_copy.specs.Copying.{IsCopying, Collects, HasCollected, no_home}
 use Rattle.melt_core.specs.declared.call.Call.{Call}
 use Rattle.melt_core.specs.declared.machine.Rest.{Rest}
-use Rattle.melt_core.specs.Views.{View, view, maps, maps_of, state, value, values_of, numbers_of, registers_in, held_values, call_of, claimed, claimed_in, InUse, Counts, Standing}
+use Rattle.melt_core.specs.Views.{View, view, maps, maps_of, state, value, values_of, numbers_of, registers_in}
+use Rattle.melt_core.specs.Views.{held_values, call_of, claimed, claimed_in, InUse, Counts, Standing}
 use Rattle.melt_core.specs.Epochs.{AtRest, core_of, HasFinished}
 use Rattle.melt_core.proofs.Values.{same_values}
 use Rattle.melt_policy.specs.Policy.{planned}
 use Rattle.melt_step.specs.Journals.{made_as}
-use Rattle.melt_step.specs.Seats.{Collected, IsPlanning, PlansBy}
+use Rattle.melt_step.specs.Threads.{CoreCollected, IsPlanning, PlansBy}
 use Rattle.melt_step.specs.declared.collector.Collector.{Collector}
 
 -- the names of a heap are those of its map
@@ -65,12 +67,14 @@ no_object None none = refl
 no_object (Some n) none = absurd (none n refl)
 
 -- maps that agree with the names, and have no homes
-same_maps : (old new : Option heap.Names) (after : Maps) → IsSome old → KeepsNames old new → HasNames new after → ((home n : ℕ) → after.home home ≡ Some n → ⊥) → after ≡ maps_of new
+same_maps : (old new : Option heap.Names) (after : Maps) → IsSome old → KeepsNames old new → HasNames new after
+    → ((home n : ℕ) → after.home home ≡ Some n → ⊥) → after ≡ maps_of new
 same_maps None new after is_some keeps has none = absurd (cc)
 same_maps (Some old) None after is_some keeps has none = absurd keeps
 same_maps (Some old) (Some new) after is_some keeps has none =
     ap (λ (f : ℕ → Option ℕ). let m : Maps = record { address = f; home = after.home } in m) (fun_ext has)
-    ∙ ap (λ (g : ℕ → Option ℕ). let m : Maps = record { address = name_at new.addresses; home = g } in m) (fun_ext (λ home. no_object (after.home home) (none home)))
+    ∙ ap (λ (g : ℕ → Option ℕ). let m : Maps = record { address = name_at new.addresses; home = g } in m)
+    (fun_ext (λ home. no_object (after.home home) (none home)))
 
 -- names stay where they are
 keeps_some : (old new : Option heap.Names) → IsSome old → KeepsNames old new → IsSome new
@@ -92,15 +96,18 @@ none_leave Mark s copying a leaves = leaves
 none_leave Move s copying a leaves = copying
 
 -- what is in use after a collection was in use before it
-was_in_use : (phase : Phase) (old new : Maps) (s t : State) (to home : ℕ → ℕ) (n : ℕ) → Gone phase old new s t to home → InUse new n → InUse old n
+was_in_use : (phase : Phase) (old new : Maps) (s t : State) (to home : ℕ → ℕ) (n : ℕ) → Gone phase old new s t to home
+    → InUse new n → InUse old n
 was_in_use phase old new s t to home n collected is =
     let from = collected.goes.only is.0 (n, is.1) in
     (from.0, sym (collected.goes.named from.0 (λ none. from.2 (sym from.1 ∙ none))) ∙ (ap new.address from.1 ∙ is.1))
 
 -- the words of what is in use, counted by headers, are those of the objects of the history
-in_use_costs : (h : List Entry) (value : ℕ → ℕ → Value) (m : Maps) (s : State) (total : ℕ) → Placed h value m s → CountsWords s (IsNamed m) total → CostsSum (words_of h) (InUse m) total
+in_use_costs : (h : List Entry) (value : ℕ → ℕ → Value) (m : Maps) (s : State) (total : ℕ) → Placed h value m s
+    → CountsWords s (IsNamed m) total → CostsSum (words_of h) (InUse m) total
 in_use_costs h value m s total placed counts =
-    counts_numbers h m s placed.formed.words placed.tells (IsNamed m) (InUse m) total (λ a is. is) (λ n. (λ is. (is.0, (n, is.1), is.1), λ is. (is.0, is.2))) counts
+    counts_numbers h m s placed.formed.words placed.tells (IsNamed m) (InUse m) total (λ a is. is)
+    (λ n. (λ is. (is.0, (n, is.1), is.1), λ is. (is.0, is.2))) counts
 
 -- where no call is in flight, no region is owned
 unclaimed : (calls : List (Option Call)) → ((t : ℕ) → get_or calls t None ≡ None) → claimed calls ≡ 0
@@ -112,122 +119,157 @@ unclaimed (c ∷ calls) quiet =
 
 -- the view of a rest behind a collection, with the calls and the history from before
 collected_view : Heap → Rest → List Registers → View
-collected_view new rest held = record (view (core_of new rest)) { held = held }
+collected_view new rest registers = record (view (core_of new rest)) { held = registers }
 
 -- the collected heap and registers stand for the history of the rest
-collected_stands : (heap new : Heap) (rest : Rest) (held : List Registers) (phase : Phase) (journal : Journal) → AtRest true heap rest → IsCopying phase → Collects heap rest.held.items new held phase journal → length held ≡ length rest.held.items → ((t : ℕ) → length (registers_in held t) ≡ length (registers_in rest.held.items t)) → Collected (view (core_of heap rest)) (collected_view new rest held)
+collected_stands : (heap new : Heap) (rest : Rest) (registers : List Registers) (phase : Phase) (journal : Journal)
+    → AtRest true heap rest → IsCopying phase → Collects heap rest.held.items new registers phase journal
+    → length registers ≡ length rest.held.items
+    → ((t : ℕ) → length (registers_in registers t) ≡ length (registers_in rest.held.items t))
+    → CoreCollected (view (core_of heap rest)) (collected_view new rest registers)
 unfolding collected_view
-collected_stands heap new rest held phase journal at_rest copying collects threads sizes =
+collected_stands heap new rest registers phase journal at_rest copying collects threads sizes =
     let v : View = view (core_of heap rest) in
-    let w : View = collected_view new rest held in
+    let w : View = collected_view new rest registers in
     let s : Standing true v = at_rest.stands in
     let before : Placed v.log (value v) (maps v) (state v) = placed_now v s in
-    let has : HasCollected (maps v) 1 heap new rest.held.items held phase journal = collects (maps v) 1 (names_are heap.names) before.formed in
+    let has : HasCollected (maps v) 1 heap new rest.held.items registers phase journal =
+    collects (maps v) 1 (names_are heap.names) before.formed in
     let placed_at : Placed v.log (value v) has.after (state w) = has.collected.placed v.log (value v) before in
-    let same : has.after ≡ maps w = same_maps heap.names new.names has.after s.named has.names_stay has.names (λ home n. no_homes v.log has.after (state w) home n placed_at.tells refl) in
-    let placed : Placed v.log (value v) (maps w) (state w) = subst (λ (m : Maps). Placed v.log (value v) m (state w)) same placed_at in
+    let same : has.after ≡ maps w = same_maps heap.names new.names has.after s.named has.names_stay has.names
+    (λ home n. no_homes v.log has.after (state w) home n placed_at.tells refl) in
+    let placed : Placed v.log (value v) (maps w) (state w) =
+    subst (λ (m : Maps). Placed v.log (value v) m (state w)) same placed_at in
     let values : (t : ℕ) → values_of w t ≡ values_of v t = λ t.
-    same_values heap.names new.names (registers_in rest.held.items t) (registers_in held t) (sizes t) (placed.registers t) in
-    let value_is : value v ≡ value w = fun_ext (λ t. fun_ext (λ r. ap (λ (vs : List Value). value_in vs r) (sym (values t)))) in
+    same_values heap.names new.names (registers_in rest.held.items t) (registers_in registers t) (sizes t)
+    (placed.registers t) in
+    let value_is : value v ≡ value w =
+    fun_ext (λ t. fun_ext (λ r. ap (λ (vs : List Value). value_in vs r) (sym (values t)))) in
     let size : length new.space.list ≡ length heap.space.list = has.collected.size in
     let globals : length new.globals ≡ length heap.globals = has.collected.globals in
     let none : claimed v.calls ≡ 0 = unclaimed v.calls at_rest.quiet in
     let used : journal.live ≡ new.space.used = has.told.live_words in
-    let counted : CountsWords (state w) (IsNamed has.after) new.space.used = subst (CountsWords (state w) (IsNamed has.after)) used has.live in
-    let live : CostsSum (words_of v.log) (InUse has.after) new.space.used = in_use_costs v.log (value v) has.after (state w) new.space.used placed_at counted in
+    let counted : CountsWords (state w) (IsNamed has.after) new.space.used =
+    subst (CountsWords (state w) (IsNamed has.after)) used has.live in
+    let live : CostsSum (words_of v.log) (InUse has.after) new.space.used =
+    in_use_costs v.log (value v) has.after (state w) new.space.used placed_at counted in
     let told : Counts v = s.counts refl in
     let fewer : new.space.used ≤ told.in_use =
-    CostsSum-part (words_of v.log) (InUse has.after) (InUse (maps v)) new.space.used told.in_use (λ n is. was_in_use phase (maps v) has.after (state v) (state w) has.to no_home n has.collected is) live told.adds_up in
+    CostsSum-part (words_of v.log) (InUse has.after) (InUse (maps v)) new.space.used told.in_use
+    (λ n is. was_in_use phase (maps v) has.after (state v) (state w) has.to no_home n has.collected is) live
+    told.adds_up in
     let alive : CostsSum (words_of v.log) (Alive v.log (value w)) new.space.used =
     subst (λ (f : ℕ → ℕ → Value). CostsSum (words_of v.log) (Alive v.log f) new.space.used) value_is
-    (live_costs v.log (value v) (maps v) (state v) before phase has.after (state w) has.to no_home new.space.used (s.legal refl) (heap_has_no_scions heap rest.held.items 1) refl (none_leave phase (state v) copying) has.collected counted) in
+    (live_costs v.log (value v) (maps v) (state v) before phase has.after (state w) has.to no_home new.space.used
+    (s.legal refl) (heap_has_no_scions heap rest.held.items 1) refl
+    (none_leave phase (state v) copying) has.collected counted) in
     let within : new.space.used ≤ length new.space.list = omega (arith, none, size, fewer, told.within) in
     record {
-      stands = record {
-        named = keeps_some heap.names new.names s.named has.names_stay;
-        room = keeps_room heap.names new.names has.names_stay ∙ (s.room ∙ sym size);
-        few = subst (λ (n : ℕ). n ≤ 8) (sym threads) s.few;
-        each = s.each ∙ sym threads;
-        counted = s.counted;
-        first = omega arith;
-        bounded = inl (omega (arith, within));
-        holds = record {
-          formed = placed.formed.words;
-          no_gaps = record { filled = λ home address k i below sends less. absurd (omega arith) };
-          tells = λ is. placed.tells;
+      stays = record {
+        stands = record {
+          named = keeps_some heap.names new.names s.named has.names_stay;
+          room = keeps_room heap.names new.names has.names_stay ∙ (s.room ∙ sym size);
+          few = subst (λ (n : ℕ). n ≤ 8) (sym threads) s.few;
+          each = s.each ∙ sym threads;
+          counted = s.counted;
+          first = omega arith;
+          bounded = inl (omega (arith, within));
+          holds = record {
+            formed = placed.formed.words;
+            no_gaps = record { filled = λ home address k i below sends less. absurd (omega arith) };
+            tells = λ is. placed.tells;
+          };
+          legal = λ is. subst (Legal v.log) (sym globals) (s.legal refl);
+          registers = placed.formed.registers;
+          known = λ t c is. let quiet : call_of v t ≡ None = at_rest.quiet t in absurd (cc);
+          fits = λ t c is. let quiet : call_of v t ≡ None = at_rest.quiet t in absurd (cc);
+          apart = λ t u c d other is at. let quiet : call_of v t ≡ None = at_rest.quiet t in absurd (cc);
+          counts = λ is. record {
+            in_use = new.space.used;
+            adds_up = subst (λ (m : Maps). CostsSum (words_of v.log) (InUse m) new.space.used) same live;
+            below = omega (arith, none);
+            within = omega (arith, none, within);
+          };
         };
-        legal = λ is. subst (Legal v.log) (sym globals) (s.legal refl);
-        registers = placed.formed.registers;
-        known = λ t c is. let quiet : call_of v t ≡ None = at_rest.quiet t in absurd (cc);
-        fits = λ t c is. let quiet : call_of v t ≡ None = at_rest.quiet t in absurd (cc);
-        apart = λ t u c d other is at. let quiet : call_of v t ≡ None = at_rest.quiet t in absurd (cc);
-        counts = λ is. record {
-          in_use = new.space.used;
-          adds_up = subst (λ (m : Maps). CostsSum (words_of v.log) (InUse m) new.space.used) same live;
-          below = omega (arith, none);
-          within = omega (arith, none, within);
-        };
+        quiet = at_rest.quiet;
+        globals = globals;
+        words = size;
+        threads = threads;
+        capacity = refl;
+        history = refl;
+        values = values;
       };
-      quiet = at_rest.quiet;
-      globals = globals;
-      words = size;
-      threads = threads;
-      capacity = refl;
-      history = refl;
-      values = values;
       stop = refl;
       alive = λ used is. subst (CostsSum (words_of v.log) (Alive v.log (value w))) (omega (arith, is)) alive;
     }
 
 -- a thread that is there has its registers in the list, and one that is not has none
-registers_at : (held : List Registers) (t : ℕ) → registers_in held t ≡ (get_or held t (record { regs = [] })).regs
-registers_at held t = get_or-map (λ (x : Registers). x.regs) held t (record { regs = [] })
+registers_at : (registers : List Registers) (t : ℕ)
+    → registers_in registers t ≡ (get_or registers t (record { regs = [] })).regs
+registers_at registers t = get_or-map (λ (x : Registers). x.regs) registers t (record { regs = [] })
 
 -- a thread has as many registers as before, whether it is there or not
-sizes_at : (old new : List Registers) (t : ℕ) → length new ≡ length old → All (λ (x : Registers). length x.regs ≡ 16) old → All (λ (x : Registers). length x.regs ≡ 16) new → (t < length old) ⊎ (length old ≤ t) → length (registers_in new t) ≡ length (registers_in old t)
+sizes_at : (old new : List Registers) (t : ℕ) → length new ≡ length old
+    → All (λ (x : Registers). length x.regs ≡ 16) old → All (λ (x : Registers). length x.regs ≡ 16) new
+    → (t < length old) ⊎ (length old ≤ t) → length (registers_in new t) ≡ length (registers_in old t)
 sizes_at old new t threads before after (inl below) =
     let none : Registers = record { regs = [] } in
     let was : length (registers_in old t) ≡ 16 = ap length (registers_at old t) ∙ before t none below in
-    let is : length (registers_in new t) ≡ 16 = ap length (registers_at new t) ∙ after t none (omega (arith, threads, below)) in
+    let is : length (registers_in new t) ≡ 16 =
+    ap length (registers_at new t) ∙ after t none (omega (arith, threads, below)) in
     is ∙ sym was
 sizes_at old new t threads before after (inr past) =
     let none : Registers = record { regs = [] } in
-    let was : registers_in old t ≡ [] = registers_at old t ∙ ap (λ (x : Registers). x.regs) (get_or_past old t none past) in
-    let is : registers_in new t ≡ [] = registers_at new t ∙ ap (λ (x : Registers). x.regs) (get_or_past new t none (omega (arith, threads, past))) in
+    let was : registers_in old t ≡ [] =
+    registers_at old t ∙ ap (λ (x : Registers). x.regs) (get_or_past old t none past) in
+    let is : registers_in new t ≡ [] = registers_at new t
+    ∙ ap (λ (x : Registers). x.regs) (get_or_past new t none (omega (arith, threads, past))) in
     ap length (is ∙ sym was)
 
 -- each thread has as many registers as before, if each of as many threads has 16
-pub same_sizes : (old new : List Registers) → length new ≡ length old → All (λ (x : Registers). length x.regs ≡ 16) old → All (λ (x : Registers). length x.regs ≡ 16) new → (t : ℕ) → length (registers_in new t) ≡ length (registers_in old t)
+pub same_sizes : (old new : List Registers) → length new ≡ length old → All (λ (x : Registers). length x.regs ≡ 16) old
+    → All (λ (x : Registers). length x.regs ≡ 16) new → (t : ℕ)
+    → length (registers_in new t) ≡ length (registers_in old t)
 same_sizes old new threads before after t = sizes_at old new t threads before after (cases_lt t (length old))
 
 -- they were collected, and nothing else of the rest changed
-pub rest_collected : (heap new : Heap) (rest after : Rest) (phase : Phase) (journal : Journal) → AtRest true heap rest → IsCopying phase → Collects heap rest.held.items new after.held.items phase journal → length after.held.items ≡ length rest.held.items → ((t : ℕ) → length (registers_in after.held.items t) ≡ length (registers_in rest.held.items t)) → after.calls.items ≡ rest.calls.items → after.log ≡ rest.log → after.made ≡ rest.made → Collected (view (core_of heap rest)) (view (core_of new after))
+pub rest_collected : (heap new : Heap) (rest after : Rest) (phase : Phase) (journal : Journal) → AtRest true heap rest
+    → IsCopying phase → Collects heap rest.held.items new after.held.items phase journal
+    → length after.held.items ≡ length rest.held.items
+    → ((t : ℕ) → length (registers_in after.held.items t) ≡ length (registers_in rest.held.items t))
+    → after.calls.items ≡ rest.calls.items → after.log ≡ rest.log → after.made ≡ rest.made
+    → CoreCollected (view (core_of heap rest)) (view (core_of new after))
 unfolding collected_view
 rest_collected heap new rest after phase journal at_rest copying collects threads sizes calls log made =
     let same : collected_view new rest after.held.items ≡ view (core_of new after) = cc in
-    subst (Collected (view (core_of heap rest))) same (collected_stands heap new rest after.held.items phase journal at_rest copying collects threads sizes)
+    subst (CoreCollected (view (core_of heap rest))) same
+    (collected_stands heap new rest after.held.items phase journal at_rest copying collects threads sizes)
 
 -- the collected heap has names
-pub collected_named : (heap new : Heap) (rest : Rest) (held : List Registers) (phase : Phase) (journal : Journal) → AtRest true heap rest → Collects heap rest.held.items new held phase journal → IsSome new.names
-collected_named heap new rest held phase journal at_rest collects =
-    let has : HasCollected (maps_of heap.names) 1 heap new rest.held.items held phase journal =
-    collects (maps_of heap.names) 1 (names_are heap.names) (record { words = at_rest.stands.holds.formed; registers = at_rest.stands.registers }) in
+pub collected_named : (heap new : Heap) (rest : Rest) (registers : List Registers) (phase : Phase) (journal : Journal)
+    → AtRest true heap rest → Collects heap rest.held.items new registers phase journal → IsSome new.names
+collected_named heap new rest registers phase journal at_rest collects =
+    let has : HasCollected (maps_of heap.names) 1 heap new rest.held.items registers phase journal =
+    collects (maps_of heap.names) 1 (names_are heap.names)
+    (record { words = at_rest.stands.holds.formed; registers = at_rest.stands.registers }) in
     keeps_some heap.names new.names at_rest.stands.named has.names_stay
 
 -- a collection of what an epoch left is one of the epoch's core
-pub finished_collected : (v x w : View) → HasFinished v x → Collected x w → Collected v w
+pub finished_collected : (v x w : View) → HasFinished v x → CoreCollected x w → CoreCollected v w
 finished_collected v x w finished collected = record {
-  stands = collected.stands;
-  quiet = collected.quiet;
-  globals = collected.globals ∙ ap length finished.globals;
-  words = collected.words ∙ ap length finished.words;
-  threads = collected.threads ∙ ap length finished.held;
-  capacity = collected.capacity ∙ finished.capacity;
-  history = collected.history ∙ finished.log;
-  values = λ t.
-      collected.values t
-      ∙ (ap (λ (names : Option heap.Names). held_values names (registers_in x.held t)) finished.names
-      ∙ ap (λ (held : List Registers). held_values v.names (registers_in held t)) finished.held);
+  stays = record {
+    stands = collected.stays.stands;
+    quiet = collected.stays.quiet;
+    globals = collected.stays.globals ∙ ap length finished.globals;
+    words = collected.stays.words ∙ ap length finished.words;
+    threads = collected.stays.threads ∙ ap length finished.held;
+    capacity = collected.stays.capacity ∙ finished.capacity;
+    history = collected.stays.history ∙ finished.log;
+    values = λ t.
+        collected.stays.values t
+        ∙ (ap (λ (names : Option heap.Names). held_values names (registers_in x.held t)) finished.names
+        ∙ ap (λ (registers : List Registers). held_values v.names (registers_in registers t)) finished.held);
+  };
   stop = collected.stop;
   alive = collected.alive;
 }
@@ -240,50 +282,65 @@ no_move Move copying is = absurd copying
 
 -- the words that a collection left, as its entry has them
 pub record LeavesWords (w : View) (journal : Journal) : Type 0 where
-  pub held : journal.held ≤ journal.live
+  pub held_within : journal.held ≤ journal.live
   pub live : w.free ≡ journal.live + 1
   pub within : journal.live ≤ length w.space.list
 
 -- they are those of what is in use, and what registers hold is a part of that
-pub left_words : (heap new : Heap) (rest after : Rest) (phase : Phase) (journal : Journal) → AtRest true heap rest → IsCopying phase → Collects heap rest.held.items new after.held.items phase journal → LeavesWords (view (core_of new after)) journal
+pub left_words : (heap new : Heap) (rest after : Rest) (phase : Phase) (journal : Journal) → AtRest true heap rest
+    → IsCopying phase → Collects heap rest.held.items new after.held.items phase journal
+    → LeavesWords (view (core_of new after)) journal
 left_words heap new rest after phase journal at_rest copying collects =
     let v : View = view (core_of heap rest) in
     let s : Standing true v = at_rest.stands in
     let t : State = state_of new after.held.items 1 in
     let before : Placed v.log (value v) (maps v) (state v) = placed_now v s in
-    let has : HasCollected (maps v) 1 heap new rest.held.items after.held.items phase journal = collects (maps v) 1 (names_are heap.names) before.formed in
+    let has : HasCollected (maps v) 1 heap new rest.held.items after.held.items phase journal =
+    collects (maps v) 1 (names_are heap.names) before.formed in
     let placed_at : Placed v.log (value v) has.after t = has.collected.placed v.log (value v) before in
     let told : Counts v = s.counts refl in
-    let live : CostsSum (words_of v.log) (InUse has.after) journal.live = in_use_costs v.log (value v) has.after t journal.live placed_at has.live in
+    let live : CostsSum (words_of v.log) (InUse has.after) journal.live =
+    in_use_costs v.log (value v) has.after t journal.live placed_at has.live in
     let alive : CostsSum (words_of v.log) (Alive v.log (value v)) journal.live =
-    live_costs v.log (value v) (maps v) (state v) before phase has.after t has.to no_home journal.live (s.legal refl) (heap_has_no_scions heap rest.held.items 1) refl (none_leave phase (state v) copying) has.collected has.live in
-    let held : CostsSum (words_of v.log) (Held (value v)) journal.held = held_costs v.log (value v) (maps v) (state v) before journal.held has.held_words in
+    live_costs v.log (value v) (maps v) (state v) before phase has.after t has.to no_home journal.live (s.legal refl)
+    (heap_has_no_scions heap rest.held.items 1) refl (none_leave phase (state v) copying) has.collected has.live in
+    let by_registers : CostsSum (words_of v.log) (Held (value v)) journal.held =
+    held_costs v.log (value v) (maps v) (state v) before journal.held has.held_words in
     let fewer : journal.live ≤ told.in_use =
-    CostsSum-part (words_of v.log) (InUse has.after) (InUse (maps v)) journal.live told.in_use (λ n is. was_in_use phase (maps v) has.after (state v) t has.to no_home n has.collected is) live told.adds_up in
+    CostsSum-part (words_of v.log) (InUse has.after) (InUse (maps v)) journal.live told.in_use
+    (λ n is. was_in_use phase (maps v) has.after (state v) t has.to no_home n has.collected is) live told.adds_up in
     let size : length new.space.list ≡ length heap.space.list = has.collected.size in
     record {
-      held = CostsSum-part (words_of v.log) (Held (value v)) (Alive v.log (value v)) journal.held journal.live (λ n is. Alive.in_register n is) held alive;
+      held_within = CostsSum-part (words_of v.log) (Held (value v)) (Alive v.log (value v)) journal.held journal.live
+          (λ n is. Alive.in_register n is) by_registers alive;
       live = omega (arith, has.told.live_words);
       within = omega (arith, fewer, size, told.within);
     }
 
 -- a collection of the phase was written down, and what it left is what the next one is planned by
-pub planned_by : (old plans new : Collector) (w : View) (phase : Phase) (journal : Journal) → IsPlanning old → IsPlanning plans → plans.journal ≡ old.journal → IsCopying phase → journal.phase ≡ phase → new.journal.items ≡ plans.journal.items ++ journal ∷ [] → new.planned ≡ plans.planned → plans.planned ≡ made_as (planned journal.live old.config.heap phase old.config.mark old.config.move_) → new.config ≡ plans.config → plans.config ≡ old.config → LeavesWords w journal → PlansBy old new w phase
+pub planned_by : (old plans new : Collector) (w : View) (phase : Phase) (journal : Journal) → IsPlanning old
+    → IsPlanning plans → plans.journal ≡ old.journal → IsCopying phase → journal.phase ≡ phase
+    → new.journal.items ≡ plans.journal.items ++ journal ∷ [] → new.planned ≡ plans.planned
+    → plans.planned ≡ made_as (planned journal.live old.config.heap phase old.config.mark old.config.move_)
+    → new.config ≡ plans.config → plans.config ≡ old.config → LeavesWords w journal → PlansBy old new w phase
 planned_by old plans new w phase journal before planning same copying of_phase pushed keeps next config kept left =
     let stays : journal.phase ≢ Move = λ is. no_move phase copying (sym of_phase ∙ is) in
     let items : new.journal.items ≡ old.journal.items ++ journal ∷ [] = cc in
     record {
       planning = record {
         moves = subst (All (λ (j : Journal). j.phase ≢ Move)) (sym items)
-            (All-append (λ (j : Journal). j.phase ≢ Move) old.journal.items (journal ∷ []) before.moves (All-from_recursion (λ (j : Journal). j.phase ≢ Move) (journal ∷ []) (stays, tt)));
+            (All-append (λ (j : Journal). j.phase ≢ Move) old.journal.items (journal ∷ []) before.moves
+            (All-from_recursion (λ (j : Journal). j.phase ≢ Move) (journal ∷ []) (stays, tt)));
         planned = subst IsCopying (sym keeps) planning.planned;
       };
       config = config ∙ kept;
       entry = journal;
       journal = items;
       of_phase = of_phase;
-      held = left.held;
+      held_within = left.held_within;
       live = left.live;
       within = left.within;
-      next = keeps ∙ (next ∙ ap (λ (p : Phase). made_as (planned journal.live old.config.heap p old.config.mark old.config.move_)) (sym of_phase));
+      next =
+          keeps ∙ (next ∙ ap (λ (p : Phase).
+          made_as (planned journal.live old.config.heap p old.config.mark old.config.move_)) (sym of_phase));
     }

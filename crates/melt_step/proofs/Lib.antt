@@ -1,6 +1,8 @@
 pub mod Journals
 pub mod Cuts
+pub mod Telling
 pub mod Tables
+pub mod Counting
 pub mod Modes
 pub mod Choosing
 pub mod Potentials

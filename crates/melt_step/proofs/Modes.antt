@@ -1,10 +1,11 @@
 -- What a run keeps where the mode of a thread changes, and what it knows of the stop word.
-use Rattle.std.proofs.Common.{◌≡◌, ◌≢◌, ℕ, true, false, List, [], length, take, refl, sym, ◌∙◌, ap, subst, arith, inl, inr}
+use Rattle.std.proofs.Common.{◌≡◌, ◌≢◌, ℕ, true, false, List, [], length, take, refl, sym, ◌∙◌, ap, subst, arith, inl}
+use Rattle.std.proofs.Common.{inr}
 use Rattle.std.proofs.Math.ListN.{set, length-set}
 use Rattle.std.proofs.lemmas.Bool.{cases_eq}
 use Rattle.std.proofs.lemmas.List.{append-nil}
 use Rattle.std.proofs.lemmas.Option.{same_Some}
-use Rattle.std.specs.Prelude.{replicate, Option, None, Some, IsSome, slice_get}
+use Rattle.std.specs.Prelude.{Bool, replicate, Option, None, Some, IsSome, slice_get}
 use Rattle.melt_model.specs.Standing.{Stands}
 use Rattle.melt_model.specs.declared.config.Config.{Config}
 use Rattle.melt_model.specs.declared.history.Entry.{Entry}
@@ -16,30 +17,50 @@ use Rattle.melt_core.specs.Views.{View, call_of, registers_in}
 use Rattle.melt_core.proofs.Registers.{registers_other}
 use Rattle.melt_core.specs.Advances.{KeepsOthers}
 use Rattle.melt_core.specs.Epochs.{HasDropped, no_registers}
-use Rattle.melt_step.specs.declared.seat.Seat.{Seat}
-use Rattle.melt_step.specs.declared.seat.Mode.{Mode}
-use Rattle.melt_step.specs.declared.seat.Mode.TheVariants.{Running, Due, Silent, Collecting, Asked, Lacking, Ended}
-use Rattle.melt_step.specs.Seats.{with_first, left, MayGo, IsEnded, SeatStands, EndsSo, LacksNow, Later, TableStands, AllWait, Waits, KnowsStop, SetsStop, SomeGoesOn}
+use Rattle.melt_step.specs.declared.thread.ThreadState.{ThreadState}
+use Rattle.melt_step.specs.declared.thread.Mode.{Mode}
+use Rattle.melt_step.specs.declared.thread.Mode.TheVariants.{Running, Due, Silent, Collecting, Asked, Lacking, Ended}
+use Rattle.melt_step.specs.Threads.{with_first, left, MayGo, IsEnded, ThreadStands, EndsSo, LacksNow, Later}
+use Rattle.melt_step.specs.Threads.{TableStands, AllWait, Waits, KnowsStop, SetsStop, SomeGoesOn}
 use Rattle.melt_step.proofs.Cuts.{replies_here, LacksNow_same}
-use Rattle.melt_step.proofs.Tables.{get_set_same, get_set_other, replies_same, later_set, Moves, Table_moves, mode_stands, same_moves}
+use Rattle.melt_step.proofs.Telling.{get_set_same, get_set_other, replies_same, later_set}
+use Rattle.melt_step.proofs.Tables.{Moves, Table_moves, mode_stands, same_moves, stands_so}
+
+-- the stop word is of no thread
+pub stop_keeps : (v : View) (stop : Bool) (t : ℕ) → KeepsOthers v (record v { stop = stop }) t
+stop_keeps v stop t = record {
+  globals = refl;
+  words = refl;
+  threads = refl;
+  capacity = refl;
+  calls = λ u differ. refl;
+  registers = λ u differ. refl;
+  values = λ u differ. refl;
+}
 
 -- where nothing changes, the others are as they were
 pub nothing_keeps : (v : View) (t : ℕ) → KeepsOthers v v t
-nothing_keeps v t = record { globals = refl; words = refl; threads = refl; capacity = refl; calls = λ u differ. refl; registers = λ u differ. refl; values = λ u differ. refl }
+nothing_keeps v t = stop_keeps v v.stop t
 
 -- a thread without a call in flight runs on with its next operation
-pub Table_runs : (script : Script) (config : Config) (v : View) (seats : List Seat) (t : ℕ) (s : Seat) → TableStands script config v seats → slice_get seats t ≡ Some s → (IsEnded s.mode → ⊥) → IsSome s.op → call_of v t ≡ None → TableStands script config v (set seats t (record s { mode = Running }))
-Table_runs script config v seats t s table at goes op no_call =
-    let runs : SeatStands script v t (record s { mode = Running }) =
+pub Table_runs : (script : Script) (config : Config) (v : View) (states : List ThreadState) (t : ℕ) (s : ThreadState)
+    → TableStands script config v states → slice_get states t ≡ Some s → (IsEnded s.mode → ⊥) → IsSome s.op
+    → call_of v t ≡ None → TableStands script config v (set states t (record s { mode = Running }))
+Table_runs script config v states t s table at goes op no_call =
+    let runs : ThreadStands script v t (record s { mode = Running }) =
     mode_stands script v v t s Running (table.each t s at) goes (λ over. over) refl refl op (λ c is. absurd (cc)) in
-    Table_moves script config v v seats t s (record s { mode = Running }) table at goes table.stands (nothing_keeps v t) (same_moves script config v v seats t s Running (λ owes. absurd (let wrong : false ≡ true = owes in cc)) (λ over. over) refl runs)
+    Table_moves script config v v states t s (record s { mode = Running }) table at goes table.stands
+    (nothing_keeps v t) (same_moves script config v v states t s Running
+    (λ owes. absurd (let wrong : false ≡ true = owes in cc)) (λ over. over) refl runs)
 
 -- a thread that has no operation left has its replies
-pub ends_done : (script : Script) (config : Config) (v : View) (seats : List Seat) (t : ℕ) (s : Seat) → TableStands script config v seats → slice_get seats t ≡ Some s → s.op ≡ None → EndsSo script v.log seats config t (Ended end.Done)
-ends_done script config v seats t s table at none =
-    let st : SeatStands script v t s = table.each t s at in
-    let nothing : left s ≡ [] = ap (λ (o : Option Op). with_first o s.rest.operations) none ∙ st.none_left none in
-    omega (arith, ap length (replies_here seats t s at), st.within, ap length nothing)
+pub ends_done : (script : Script) (config : Config) (v : View) (states : List ThreadState) (t : ℕ) (s : ThreadState)
+    → TableStands script config v states → slice_get states t ≡ Some s → s.op ≡ None
+    → EndsSo script v.log states config t (Ended end.Done)
+ends_done script config v states t s table at none =
+    let st : ThreadStands script v t s = table.each t s at in
+    let nothing : left s ≡ [] = ap (λ (o : Option Op). with_first o s.cursor.operations) none ∙ st.none_left none in
+    omega (arith, ap length (replies_here states t s at), st.within, ap length nothing)
 
 -- a thread that drops its registers leaves the others as they were
 pub dropped_keeps : (v w : View) (t : ℕ) → HasDropped v w t → KeepsOthers v w t
@@ -49,56 +70,57 @@ dropped_keeps v w t dropped = record {
   threads = ap (λ (x : View). length x.held) dropped.only ∙ length-set v.held t no_registers;
   capacity = ap (λ (x : View). x.capacity) dropped.only;
   calls = λ u differ. ap (λ (x : View). call_of x u) dropped.only;
-  registers = λ u differ. ap (λ (x : View). registers_in x.held u) dropped.only ∙ registers_other v.held t u (replicate 16 0) differ;
+  registers = λ u differ. ap (λ (x : View). registers_in x.held u) dropped.only
+      ∙ registers_other v.held t u (replicate 16 0) differ;
   values = dropped.others;
 }
 
 -- why a thread ends is so when it has ended
-ends_gone : (script : Script) (log : List Entry) (seats : List Seat) (config : Config) (t : ℕ) (s : Seat) (e : ThreadEnd) → slice_get seats t ≡ Some s → (IsEnded s.mode → ⊥) → EndsSo script log seats config t (Ended e) → EndsSo script log (set seats t (record s { mode = Ended e })) config t (Ended e)
-ends_gone script log seats config t s end.Done at goes ends =
-    let after : Seat = record s { mode = Ended end.Done } in
-    ap length (replies_same seats t s after at ∙ sym (replies_here seats t s at)) ∙ ends
-ends_gone script log seats config t s (end.OutOfHeap held need) at goes ends =
-    let after : Seat = record s { mode = Ended (end.OutOfHeap held need) } in
-    let later : Later seats (set seats t after) = later_set seats t s after [] at goes (sym (append-nil s.replies.items)) in
-    subst (λ (h : List Entry). LacksNow script h (set seats t after) config t held need) (append-nil log)
-    (LacksNow_same script log [] seats (set seats t after) config t held need later (replies_same seats t s after at ∙ sym (replies_here seats t s at)) ends)
-ends_gone script log seats config t s end.DiskFault at goes ends = absurd ends
-ends_gone script log seats config t s (end.Damaged home place word) at goes ends = absurd ends
-ends_gone script log seats config t s end.Halted at goes ends = absurd ends
+ends_gone : (script : Script) (log : List Entry) (states : List ThreadState) (config : Config) (t : ℕ) (s : ThreadState)
+    (e : ThreadEnd) → slice_get states t ≡ Some s → (IsEnded s.mode → ⊥) → EndsSo script log states config t (Ended e)
+    → EndsSo script log (set states t (record s { mode = Ended e })) config t (Ended e)
+ends_gone script log states config t s end.Done at goes ends =
+    let after : ThreadState = record s { mode = Ended end.Done } in
+    ap length (replies_same states t s after at ∙ sym (replies_here states t s at)) ∙ ends
+ends_gone script log states config t s (end.OutOfHeap held_words need) at goes ends =
+    let after : ThreadState = record s { mode = Ended (end.OutOfHeap held_words need) } in
+    let later : Later states (set states t after) =
+    later_set states t s after [] at goes (sym (append-nil s.replies.items)) in
+    subst (λ (h : List Entry). LacksNow script h (set states t after) config t held_words need) (append-nil log)
+    (LacksNow_same script log [] states (set states t after) config t held_words need later
+    (replies_same states t s after at ∙ sym (replies_here states t s at)) ends)
+ends_gone script log states config t s end.DiskFault at goes ends = absurd ends
+ends_gone script log states config t s (end.Damaged home place word) at goes ends = absurd ends
+ends_gone script log states config t s end.Halted at goes ends = absurd ends
 
 -- a thread ends, and its registers are dropped
-pub Table_gone : (script : Script) (config : Config) (v w : View) (seats : List Seat) (t : ℕ) (s : Seat) (e : ThreadEnd) → TableStands script config v seats → slice_get seats t ≡ Some s → (IsEnded s.mode → ⊥) → HasDropped v w t → call_of v t ≡ None → EndsSo script v.log seats config t (Ended e) → TableStands script config w (set seats t (record s { mode = Ended e }))
-Table_gone script config v w seats t s e table at goes dropped no_call ends =
-    let st : SeatStands script v t s = table.each t s at in
-    let after : Seat = record s { mode = Ended e } in
+pub Table_gone : (script : Script) (config : Config) (v w : View) (states : List ThreadState) (t : ℕ) (s : ThreadState)
+    (e : ThreadEnd) → TableStands script config v states → slice_get states t ≡ Some s → (IsEnded s.mode → ⊥)
+    → HasDropped v w t → call_of v t ≡ None → EndsSo script v.log states config t (Ended e)
+    → TableStands script config w (set states t (record s { mode = Ended e }))
+Table_gone script config v w states t s e table at goes dropped no_call ends =
+    let st : ThreadStands script v t s = table.each t s at in
+    let after : ThreadState = record s { mode = Ended e } in
     let history : w.log ≡ v.log = ap (λ (x : View). x.log) dropped.only in
-    let gone : SeatStands script w t after = record {
-      to_come = st.to_come;
-      within = st.within;
-      none_left = st.none_left;
-      registers = st.registers;
-      told = subst (λ (h : List Entry). Stands h t (take (length s.replies.items) (operations script t)) s.replies.items st.registers) (sym history) st.told;
-      held = inl tt;
-      dropped = λ over. dropped.here;
-      call = λ c is. absurd (let none : call_of w t ≡ None = ap (λ (x : View). call_of x t) dropped.only ∙ no_call in cc);
-      fits = tt;
-      in_range = st.in_range;
-      globals = st.globals;
-      room = st.room;
-    } in
-    let moves : Moves script config v w seats t s after = record {
+    let gone : ThreadStands script w t after =
+    stands_so script v w t s (Ended e) st
+    (subst (λ (h : List Entry). Stands h t (take (length s.replies.items) (operations script t)) s.replies.items
+    st.registers) (sym history) st.told) (inl tt) (λ over. dropped.here)
+    (λ c is. absurd (let none : call_of w t ≡ None = ap (λ (x : View). call_of x t) dropped.only ∙ no_call in cc)) tt in
+    let moves : Moves script config v w states t s after = record {
       act = None;
       extra = [];
       grown = history;
       replies = sym (append-nil s.replies.items);
       stands = gone;
       due = λ owes. absurd (let wrong : false ≡ true = owes in cc);
-      ends = subst (λ (h : List Entry). EndsSo script h (set seats t after) config t (Ended e)) (sym history) (ends_gone script v.log seats config t s e at goes ends);
+      ends = subst (λ (h : List Entry). EndsSo script h (set states t after) config t (Ended e)) (sym history)
+          (ends_gone script v.log states config t s e at goes ends);
       made_last = λ k below last. absurd (omega arith);
       entries = let same : length w.log ≡ length v.log = ap length history in omega arith;
     } in
-    Table_moves script config v w seats t s after table at goes (dropped.keeps true table.stands) (dropped_keeps v w t dropped) moves
+    Table_moves script config v w states t s after table at goes (dropped.keeps true table.stands)
+    (dropped_keeps v w t dropped) moves
 
 -- a thread that can go on does not wait
 goes_waits : (mode : Mode) → MayGo mode → Waits mode → ⊥
@@ -111,48 +133,55 @@ goes_waits Lacking goes waits = goes
 goes_waits (Ended e) goes waits = goes
 
 -- some thread of the run waits
-abbrev SomeWaits : List Seat → Type 0
-SomeWaits seats = (t : ℕ) × ((s : Seat) × (slice_get seats t ≡ Some s) × Waits s.mode)
+abbrev SomeWaits : List ThreadState → Type 0
+SomeWaits states = (t : ℕ) × ((s : ThreadState) × (slice_get states t ≡ Some s) × Waits s.mode)
 
 -- what is known of the stop word stays known
-pub stop_known : (v w : View) (seats : List Seat) (t : ℕ) (s after : Seat) → KnowsStop v seats → slice_get seats t ≡ Some s → MayGo s.mode → SetsStop v w after → KnowsStop w (set seats t after)
-stop_known v w seats t s after known at goes sets = record {
+pub stop_known : (v w : View) (states : List ThreadState) (t : ℕ) (s after : ThreadState) → KnowsStop v states
+    → slice_get states t ≡ Some s → MayGo s.mode → SetsStop v w after → KnowsStop w (set states t after)
+stop_known v w states t s after known at goes sets = record {
   waits = λ u x is waits. elim (cases_eq u t) [
     | inl same ↦
-        let is_after : after ≡ x = same_Some after x (sym (get_set_same seats t s after at) ∙ (ap (λ (k : ℕ). slice_get (set seats t after) k) (sym same) ∙ is)) in
-        sets.waits (subst (λ (y : Seat). Waits y.mode) (sym is_after) waits)
-    | inr differ ↦ sets.stays (known.waits u x (sym (get_set_other seats t u after differ) ∙ is) waits)
+        let is_after : after ≡ x =
+        same_Some after x (sym (get_set_same states t s after at)
+        ∙ (ap (λ (k : ℕ). slice_get (set states t after) k) (sym same) ∙ is)) in
+        sets.waits (subst (λ (y : ThreadState). Waits y.mode) (sym is_after) waits)
+    | inr differ ↦ sets.stays (known.waits u x (sym (get_set_other states t u after differ) ∙ is) waits)
   ];
   stop = λ is. elim (sets.stop is) [
     | inl was ↦
-        let waits : SomeWaits seats = known.stop was in
+        let waits : SomeWaits states = known.stop was in
         let u : ℕ = waits.0 in
-        let x : Seat = waits.1.0 in
+        let x : ThreadState = waits.1.0 in
         let differ : u ≢ t = λ same.
-        let is_s : x ≡ s = same_Some x s (sym waits.1.1 ∙ (ap (λ (k : ℕ). slice_get seats k) same ∙ at)) in
-        goes_waits s.mode goes (subst (λ (y : Seat). Waits y.mode) is_s waits.1.2) in
-        (u, (x, get_set_other seats t u after differ ∙ waits.1.1, waits.1.2))
-    | inr waits ↦ (t, (after, get_set_same seats t s after at, waits))
+        let is_s : x ≡ s = same_Some x s (sym waits.1.1 ∙ (ap (λ (k : ℕ). slice_get states k) same ∙ at)) in
+        goes_waits s.mode goes (subst (λ (y : ThreadState). Waits y.mode) is_s waits.1.2) in
+        (u, (x, get_set_other states t u after differ ∙ waits.1.1, waits.1.2))
+    | inr waits ↦ (t, (after, get_set_same states t s after at, waits))
   ];
   asked = λ u x is mode. elim (cases_eq u t) [
     | inl same ↦
-        let is_after : after ≡ x = same_Some after x (sym (get_set_same seats t s after at) ∙ (ap (λ (k : ℕ). slice_get (set seats t after) k) (sym same) ∙ is)) in
-        sets.asked (ap (λ (y : Seat). y.mode) is_after ∙ mode)
-    | inr differ ↦ sets.stays (known.asked u x (sym (get_set_other seats t u after differ) ∙ is) mode)
+        let is_after : after ≡ x =
+        same_Some after x (sym (get_set_same states t s after at)
+        ∙ (ap (λ (k : ℕ). slice_get (set states t after) k) (sym same) ∙ is)) in
+        sets.asked (ap (λ (y : ThreadState). y.mode) is_after ∙ mode)
+    | inr differ ↦ sets.stays (known.asked u x (sym (get_set_other states t u after differ) ∙ is) mode)
   ];
 }
 
 -- a thread that can not go on waits, or was refused as another does
-waits_by : (v : View) (seats : List Seat) → KnowsStop v seats → (t : ℕ) (s : Seat) (mode : Mode) → slice_get seats t ≡ Some s → s.mode ≡ mode → (MayGo mode → ⊥) → (IsEnded mode → ⊥) → SomeWaits seats
-waits_by v seats known t s Running at is stays goes = absurd (stays tt)
-waits_by v seats known t s Due at is stays goes = absurd (stays tt)
-waits_by v seats known t s Silent at is stays goes = (t, (s, at, subst Waits (sym is) tt))
-waits_by v seats known t s Collecting at is stays goes = (t, (s, at, subst Waits (sym is) tt))
-waits_by v seats known t s Asked at is stays goes = known.stop (known.asked t s at is)
-waits_by v seats known t s Lacking at is stays goes = (t, (s, at, subst Waits (sym is) tt))
-waits_by v seats known t s (Ended e) at is stays goes = absurd (goes tt)
+waits_by : (v : View) (states : List ThreadState) → KnowsStop v states → (t : ℕ) (s : ThreadState) (mode : Mode)
+    → slice_get states t ≡ Some s → s.mode ≡ mode → (MayGo mode → ⊥) → (IsEnded mode → ⊥) → SomeWaits states
+waits_by v states known t s Running at is stays goes = absurd (stays tt)
+waits_by v states known t s Due at is stays goes = absurd (stays tt)
+waits_by v states known t s Silent at is stays goes = (t, (s, at, subst Waits (sym is) tt))
+waits_by v states known t s Collecting at is stays goes = (t, (s, at, subst Waits (sym is) tt))
+waits_by v states known t s Asked at is stays goes = known.stop (known.asked t s at is)
+waits_by v states known t s Lacking at is stays goes = (t, (s, at, subst Waits (sym is) tt))
+waits_by v states known t s (Ended e) at is stays goes = absurd (goes tt)
 
 -- where no thread can go on, one waits
-pub someone_waits : (v : View) (seats : List Seat) → KnowsStop v seats → AllWait seats → SomeGoesOn seats → (t : ℕ) × ((s : Seat) × (slice_get seats t ≡ Some s) × Waits s.mode)
-someone_waits v seats known waits some =
-    waits_by v seats known some.0 some.1.0 some.1.0.mode some.1.1 refl (waits some.0 some.1.0 some.1.1) some.1.2
+pub someone_waits : (v : View) (states : List ThreadState) → KnowsStop v states → AllWait states → SomeGoesOn states
+    → (t : ℕ) × ((s : ThreadState) × (slice_get states t ≡ Some s) × Waits s.mode)
+someone_waits v states known waits some =
+    waits_by v states known some.0 some.1.0 some.1.0.mode some.1.1 refl (waits some.0 some.1.0 some.1.1) some.1.2

@@ -1,9 +1,12 @@
 -- What a safepoint does to all threads.
-use Rattle.std.proofs.Common.{◌≡◌, ℕ, ◌+◌, ◌<◌, ◌≤◌, true, false, List, ◌∷◌, length, drop, refl, sym, ◌∙◌, ap, subst, arith, inl, inr}
+use Rattle.std.proofs.Common.{◌≡◌, ℕ, ◌+◌, ◌<◌, ◌≤◌, true, false, List, ◌∷◌, Vec, Global, length, drop, refl, sym, ◌∙◌}
+use Rattle.std.proofs.Common.{ap, subst, arith, inl, inr}
 use Rattle.std.proofs.Math.ListN.{set, length-set}
 use Rattle.std.proofs.lemmas.Bool.{cases_eq}
+use Rattle.std.proofs.lemmas.List.{with_items_is}
 use Rattle.std.proofs.lemmas.Option.{same_Some, slice_get_within, slice_get_cases}
 use Rattle.std.specs.Prelude.{Option, Some, IsSome, slice_get, slice_set, ◌⊎◌}
+use Rattle.std.specs.Vec.{with_items}
 use Rattle.melt_model.specs.declared.config.Config.{Config}
 use Rattle.melt_model.specs.declared.operations.Op.{Op}
 use Rattle.melt_model.specs.declared.operations.Op.TheVariants.{Collect}
@@ -16,14 +19,19 @@ use Rattle.melt_core.specs.Views.{View, view, IsQuiet, registers_in, held_values
 use Rattle.melt_core.specs.Epochs.{AtRest, HasFinished, core_of}
 use Rattle.melt_step.specs.declared.collector.Collector.{Collector}
 use Rattle.melt_step.specs.declared.run.Run.{Run}
-use Rattle.melt_step.specs.declared.seat.Seat.{Seat}
-use Rattle.melt_step.specs.declared.seat.Mode.{Mode}
-use Rattle.melt_step.specs.declared.seat.Mode.TheVariants.{Running, Due, Silent, Collecting, Asked, Lacking, Ended}
-use Rattle.melt_step.specs.Seats.{CollectorStands, KeepsRun, owes, IsPaused, NoneWaits, AllWait, MayGo, OweBehindCollects, SeatStands, owes_silent, with_first, IsEnded, FitsMode, TableStands, CallsAgain, ForCollection, Waits, KnowsStop, jobs, jobs_of, left, CollectedFor, CollectedAt, CollectedAll, CalledAt, Resumed, Passed, Renewed}
+use Rattle.melt_step.specs.declared.thread.ThreadState.{ThreadState}
+use Rattle.melt_step.specs.declared.thread.Mode.{Mode}
+use Rattle.melt_step.specs.declared.thread.Mode.TheVariants.{Running, Due, Silent, Collecting, Asked, Lacking, Ended}
+use Rattle.melt_step.specs.Threads.{CollectorStands, KeepsRun, owes, IsPaused, NoneWaits, AllWait, MayGo}
+use Rattle.melt_step.specs.Threads.{OweBehindCollects, ThreadStands, owes_silent, with_first, IsEnded, FitsMode}
+use Rattle.melt_step.specs.Threads.{TableStands, CallsAgain, ForCollection, Waits, KnowsStop, jobs, jobs_of, left}
+use Rattle.melt_step.specs.Threads.{CollectedFor, CollectedAt, CollectedAll, CalledAt, Resumed, Passed, Renewed}
 use Rattle.melt_step.proofs.Cuts.{first_left}
 use Rattle.melt_step.proofs.Modes.{Table_runs}
-use Rattle.melt_step.proofs.Tables.{Adds, adds_mode, set_got, Table_renewed}
-use Rattle.melt_step.proofs.Tables.{get_set_same, get_set_other}
+use Rattle.melt_step.proofs.Telling.{set_got}
+use Rattle.melt_step.proofs.Tables.{Table_renewed}
+use Rattle.melt_step.proofs.Counting.{Adds, adds_mode}
+use Rattle.melt_step.proofs.Telling.{get_set_same, get_set_other}
 
 -- a call was refused or was not
 calls_again : (mode : Mode) → CallsAgain mode ⊎ (CallsAgain mode → ⊥)
@@ -76,61 +84,73 @@ again_owes Lacking again = refl
 again_owes (Ended e) again = absurd again
 
 -- the call of a thread is made again, if it was refused
-pub record MadeAgain (s after : Seat) : Type 0 where
+pub record MadeAgain (s after : ThreadState) : Type 0 where
   pub again : CallsAgain s.mode → after ≡ record s { mode = Running }
   pub same : (CallsAgain s.mode → ⊥) → after ≡ s
 
 -- So many threads make their calls again, and the others are as they were.
-pub record AgainBelow (seats after : List Seat) (n : ℕ) : Type 0 where
-  pub count : length after ≡ length seats
-  pub done : (t : ℕ) (s : Seat) → t < n → slice_get seats t ≡ Some s → (x : Seat) × (slice_get after t ≡ Some x) × MadeAgain s x
-  pub rest : (t : ℕ) → n ≤ t → slice_get after t ≡ slice_get seats t
-  pub table : (script : Script) (config : Config) (v : View) → TableStands script config v seats → IsQuiet v → TableStands script config v after
-  pub collected : (script : Script) (config : Config) (v : View) → TableStands script config v seats → IsQuiet v → Adds script config seats after 0
-
--- none of them does so yet
-pub again_none : (seats : List Seat) → AgainBelow seats seats 0
-again_none seats = record {
-  count = refl;
-  done = λ t s below at. absurd (omega (arith, below));
-  rest = λ t above. refl;
-  table = λ script config v table quiet. table;
-  collected = λ script config v table quiet. omega arith;
-}
+pub record AgainBelow (states after : List ThreadState) (n : ℕ) : Type 0 where
+  pub count : length after ≡ length states
+  pub done : (t : ℕ) (s : ThreadState) → t < n → slice_get states t ≡ Some s
+      → (x : ThreadState) × (slice_get after t ≡ Some x) × MadeAgain s x
+  pub rest : (t : ℕ) → n ≤ t → slice_get after t ≡ slice_get states t
+  pub table : (script : Script) (config : Config) (v : View) → TableStands script config v states → IsQuiet v
+      → TableStands script config v after
+  pub collected : (script : Script) (config : Config) (v : View) → TableStands script config v states → IsQuiet v
+      → Adds script config states after 0
 
 -- one thread more makes its call again
-pub again_more : (seats after : List Seat) (n : ℕ) (s x : Seat) → AgainBelow seats after n → slice_get after n ≡ Some s → MadeAgain s x → AgainBelow seats (set after n x) (n + 1)
-again_more seats after n s x so_far at made = record {
+pub again_more : (states after : List ThreadState) (n : ℕ) (s x : ThreadState) → AgainBelow states after n
+    → slice_get after n ≡ Some s → MadeAgain s x → AgainBelow states (set after n x) (n + 1)
+again_more states after n s x so_far at made = record {
   count = length-set after n x ∙ so_far.count;
   done = λ t y below there. elim (cases_eq t n) [
     | inl same ↦
-        let here : slice_get seats t ≡ Some s = ap (slice_get seats) same ∙ (sym (so_far.rest n (omega arith)) ∙ at) in
-        (x, ap (slice_get (set after n x)) same ∙ get_set_same after n s x at, subst (λ (z : Seat). MadeAgain z x) (same_Some s y (sym here ∙ there)) made)
+        let here : slice_get states t ≡ Some s =
+        ap (slice_get states) same ∙ (sym (so_far.rest n (omega arith)) ∙ at) in (
+          x,
+          ap (slice_get (set after n x)) same
+              ∙ get_set_same after n s x at,
+          subst (λ (z : ThreadState). MadeAgain z x) (same_Some s y (sym here ∙ there)) made,
+        )
     | inr other ↦
-        let w : (z : Seat) × (slice_get after t ≡ Some z) × MadeAgain y z = so_far.done t y (omega (arith, other, below)) there in
+        let w : (z : ThreadState) × (slice_get after t ≡ Some z) × MadeAgain y z =
+        so_far.done t y (omega (arith, other, below)) there in
         (w.0, get_set_other after n t x other ∙ w.1, w.2)
   ];
-  rest = λ t above. get_set_other after n t x (λ same. omega (arith, same, above)) ∙ so_far.rest t (omega (arith, above));
+  rest = λ t above. get_set_other after n t x (λ same. omega (arith, same, above))
+      ∙ so_far.rest t (omega (arith, above));
   table = λ script config v table quiet.
       let before : TableStands script config v after = so_far.table script config v table quiet in
       elim (calls_again s.mode) [
         | inl again ↦
-            subst (λ (z : Seat). TableStands script config v (set after n z)) (sym (made.again again))
-            (Table_runs script config v after n s before at (again_open s.mode again) (again_some s.mode s.op again (before.each n s at).fits) (quiet n))
-        | inr not ↦ subst (TableStands script config v) (sym (ap (set after n) (made.same not) ∙ set_got after n s at)) before
+            subst (λ (z : ThreadState). TableStands script config v (set after n z)) (sym (made.again again))
+            (Table_runs script config v after n s before at (again_open s.mode again)
+            (again_some s.mode s.op again (before.each n s at).fits) (quiet n))
+        | inr not ↦ subst (TableStands script config v)
+            (sym (ap (set after n) (made.same not) ∙ set_got after n s at)) before
       ];
   collected = λ script config v table quiet.
-      let before : Adds script config seats after 0 = so_far.collected script config v table quiet in
+      let before : Adds script config states after 0 = so_far.collected script config v table quiet in
       let stands : TableStands script config v after = so_far.table script config v table quiet in
       let one : Adds script config after (set after n x) 0 = elim (calls_again s.mode) [
-        | inl again ↦ subst (λ (z : Seat). Adds script config after (set after n z) 0) (sym (made.again again)) (adds_mode script config after n s Running at stands.count (again_owes s.mode again))
-        | inr not ↦ subst (λ (xs : List Seat). Adds script config after xs 0) (sym (ap (set after n) (made.same not) ∙ set_got after n s at)) (omega arith)
+        | inl again ↦ subst (λ (z : ThreadState). Adds script config after (set after n z) 0) (sym (made.again again))
+            (adds_mode script config after n s Running at stands.count (again_owes s.mode again))
+        | inr not ↦ subst (λ (xs : List ThreadState). Adds script config after xs 0)
+            (sym (ap (set after n) (made.same not) ∙ set_got after n s at)) (omega arith)
       ] in
       omega (arith, before, one);
 }
 
+-- all of them do so, once none is left, in the list that a loop over them wrote
+pub again_done : (states : Vec ThreadState Global) (after : List ThreadState) (n : ℕ) → AgainBelow states.items after n
+    → AgainBelow states.items (with_items states after).items n
+again_done states after n again =
+    subst (λ (xs : List ThreadState). AgainBelow states.items xs n)
+    (sym (with_items_is states after (again.count ∙ sym states.ok.0))) again
+
 -- a thread whose call is made again has as much to do as before
-made_again_jobs : (s x : Seat) → MadeAgain s x → jobs_of x ≡ jobs_of s
+made_again_jobs : (s x : ThreadState) → MadeAgain s x → jobs_of x ≡ jobs_of s
 made_again_jobs s x made = elim (calls_again s.mode) [
   | inl again ↦ ap jobs_of (made.again again) ∙ again_jobs s.mode (length (left s)) again
   | inr not ↦ ap jobs_of (made.same not)
@@ -147,35 +167,40 @@ paused_for Lacking paused = inr tt
 paused_for (Ended e) paused = absurd paused
 
 -- one that makes its call again does not wait
-made_again_goes : (s x : Seat) → (ForCollection s.mode → ⊥) → MadeAgain s x → IsPaused x.mode → ⊥
+made_again_goes : (s x : ThreadState) → (ForCollection s.mode → ⊥) → MadeAgain s x → IsPaused x.mode → ⊥
 made_again_goes s x own made paused = elim (calls_again s.mode) [
-  | inl again ↦ subst (λ (z : Seat). IsPaused z.mode) (made.again again) paused
-  | inr not ↦ elim (paused_for s.mode (subst (λ (z : Seat). IsPaused z.mode) (made.same not) paused)) [ inl for ↦ own for | inr again ↦ not again ]
+  | inl again ↦ subst (λ (z : ThreadState). IsPaused z.mode) (made.again again) paused
+  | inr not ↦ elim (paused_for s.mode (subst (λ (z : ThreadState). IsPaused z.mode) (made.same not) paused))
+      [ inl for ↦ own for | inr again ↦ not again ]
 ]
 
 -- no thread waits for a collection of its own
-abbrev pub NoneOwn : List Seat → Type 0
-NoneOwn seats = (t : ℕ) (s : Seat) → slice_get seats t ≡ Some s → ForCollection s.mode → ⊥
+abbrev pub NoneOwn : List ThreadState → Type 0
+NoneOwn states = (t : ℕ) (s : ThreadState) → slice_get states t ≡ Some s → ForCollection s.mode → ⊥
 
 -- so no thread waits any more
-pub again_goes : (seats after : List Seat) (n : ℕ) → AgainBelow seats after n → length seats ≤ n → NoneOwn seats → NoneWaits after
-again_goes seats after n again all own = λ t x at paused.
+pub again_goes : (states after : List ThreadState) (n : ℕ) → AgainBelow states after n → length states ≤ n
+    → NoneOwn states → NoneWaits after
+again_goes states after n again all own = λ t x at paused.
     let below : t < length after = slice_get_within after t x at in
-    elim (slice_get_cases seats t).1 [
+    elim (slice_get_cases states t).1 [
       | inl w ↦
-          let z : (z : Seat) × (slice_get after t ≡ Some z) × MadeAgain w.0 z = again.done t w.0 (omega (arith, all, w.1)) w.2 in
+          let z : (z : ThreadState) × (slice_get after t ≡ Some z) × MadeAgain w.0 z =
+          again.done t w.0 (omega (arith, all, w.1)) w.2 in
           made_again_goes w.0 x (own t w.0 w.2) (subst (MadeAgain w.0) (same_Some z.0 x (sym z.1 ∙ at)) z.2) paused
       | inr w ↦ absurd (omega (arith, below, again.count, w.0))
     ]
 
 -- and all threads have as much to do as before
-pub again_resumed : (seats after : List Seat) (n : ℕ) → AgainBelow seats after n → length seats ≤ n → NoneOwn seats → Resumed seats after
-again_resumed seats after n again all own = record {
-  goes = again_goes seats after n again all own;
+pub again_resumed : (states after : List ThreadState) (n : ℕ) → AgainBelow states after n → length states ≤ n
+    → NoneOwn states → Resumed states after
+again_resumed states after n again all own = record {
+  goes = again_goes states after n again all own;
   count = again.count;
   each = λ t s at.
-      let below : t < length seats = slice_get_within seats t s at in
-      let w : (x : Seat) × (slice_get after t ≡ Some x) × MadeAgain s x = again.done t s (omega (arith, all, below)) at in
+      let below : t < length states = slice_get_within states t s at in
+      let w : (x : ThreadState) × (slice_get after t ≡ Some x) × MadeAgain s x =
+      again.done t s (omega (arith, all, below)) at in
       (w.0, w.1, made_again_jobs s w.0 w.2);
 }
 
@@ -190,30 +215,33 @@ waits_paused Lacking waits = waits
 waits_paused (Ended e) waits = waits
 
 -- its call is not refused any more
-made_again_asked : (s x : Seat) → MadeAgain s x → x.mode ≡ Asked → ⊥
+made_again_asked : (s x : ThreadState) → MadeAgain s x → x.mode ≡ Asked → ⊥
 made_again_asked s x made asked = elim (calls_again s.mode) [
   | inl again ↦
-      let runs : Running ≡ Asked = sym (ap (λ (z : Seat). z.mode) (made.again again)) ∙ asked in cc
-  | inr not ↦ not (subst CallsAgain (sym asked ∙ ap (λ (z : Seat). z.mode) (made.same not)) tt)
+      let runs : Running ≡ Asked = sym (ap (λ (z : ThreadState). z.mode) (made.again again)) ∙ asked in cc
+  | inr not ↦ not (subst CallsAgain (sym asked ∙ ap (λ (z : ThreadState). z.mode) (made.same not)) tt)
 ]
 
 -- what is known of a stop word that is not set, once all threads made their calls again
-pub again_knows : (seats after : List Seat) (n : ℕ) (v : View) → AgainBelow seats after n → length seats ≤ n → NoneOwn seats → v.stop ≡ false → KnowsStop v after
-again_knows seats after n v again all own none = record {
-  waits = λ t x at waits. absurd (again_goes seats after n again all own t x at (waits_paused x.mode waits));
+pub again_knows : (states after : List ThreadState) (n : ℕ) (v : View) → AgainBelow states after n → length states ≤ n
+    → NoneOwn states → v.stop ≡ false → KnowsStop v after
+again_knows states after n v again all own none = record {
+  waits = λ t x at waits. absurd (again_goes states after n again all own t x at (waits_paused x.mode waits));
   stop = λ is. absurd (let wrong : true ≡ false = sym is ∙ none in cc);
   asked = λ t x at is.
       let below : t < length after = slice_get_within after t x at in
-      elim (slice_get_cases seats t).1 [
+      elim (slice_get_cases states t).1 [
         | inl w ↦
-            let z : (z : Seat) × (slice_get after t ≡ Some z) × MadeAgain w.0 z = again.done t w.0 (omega (arith, all, w.1)) w.2 in
+            let z : (z : ThreadState) × (slice_get after t ≡ Some z) × MadeAgain w.0 z =
+            again.done t w.0 (omega (arith, all, w.1)) w.2 in
             absurd (made_again_asked w.0 x (subst (MadeAgain w.0) (same_Some z.0 x (sym z.1 ∙ at)) z.2) is)
         | inr w ↦ absurd (omega (arith, below, again.count, w.0))
       ];
 }
 
 -- what an epoch left begins a new one, in which all stands as before
-pub finished_renewed : (v : View) (heap : Heap) (rest : Rest) → AtRest true heap rest → HasFinished v (view (core_of heap rest)) → Renewed v (view (core_of heap rest))
+pub finished_renewed : (v : View) (heap : Heap) (rest : Rest) → AtRest true heap rest
+    → HasFinished v (view (core_of heap rest)) → Renewed v (view (core_of heap rest))
 finished_renewed v heap rest at_rest finished = record {
   stands = at_rest.stands;
   quiet = at_rest.quiet;
@@ -228,48 +256,60 @@ finished_renewed v heap rest at_rest finished = record {
 }
 
 -- So many threads have their collections, and the others are as they were.
-pub record CollectedBelow (seats after : List Seat) (n : ℕ) : Type 0 where
-  pub count : length after ≡ length seats
-  pub done : (t : ℕ) (s : Seat) → t < n → slice_get seats t ≡ Some s → (x : Seat) × (slice_get after t ≡ Some x) × CollectedFor s x
-  pub rest : (t : ℕ) → n ≤ t → slice_get after t ≡ slice_get seats t
+pub record CollectedBelow (states after : List ThreadState) (n : ℕ) : Type 0 where
+  pub count : length after ≡ length states
+  pub done : (t : ℕ) (s : ThreadState) → t < n → slice_get states t ≡ Some s
+      → (x : ThreadState) × (slice_get after t ≡ Some x) × CollectedFor s x
+  pub rest : (t : ℕ) → n ≤ t → slice_get after t ≡ slice_get states t
 
 -- none of them has it yet
-pub collected_none : (seats : List Seat) → CollectedBelow seats seats 0
-collected_none seats = record {
+pub collected_none : (states : List ThreadState) → CollectedBelow states states 0
+collected_none states = record {
   count = refl;
   done = λ t s below at. absurd (omega (arith, below));
   rest = λ t above. refl;
 }
 
 -- one thread more has its collection
-pub collected_more : (seats after next : List Seat) (n : ℕ) → CollectedBelow seats after n → n < length after → CollectedAt after next n → CollectedBelow seats next (n + 1)
-collected_more seats after next n so_far within at_n =
+pub collected_more : (states after next : List ThreadState) (n : ℕ) → CollectedBelow states after n → n < length after
+    → CollectedAt after next n → CollectedBelow states next (n + 1)
+collected_more states after next n so_far within at_n =
     elim (slice_get_cases after n).1 [
       | inl w ↦
-          let s : Seat = w.0 in
-          let one : (x : Seat) × (next ≡ slice_set after n x) × CollectedFor s x = at_n s w.2 in
-          let x : Seat = one.0 in
-          subst (λ (ss : List Seat). CollectedBelow seats ss (n + 1)) (sym one.1)
+          let s : ThreadState = w.0 in
+          let one : (x : ThreadState) × (next ≡ slice_set after n x) × CollectedFor s x = at_n s w.2 in
+          let x : ThreadState = one.0 in
+          subst (λ (ss : List ThreadState). CollectedBelow states ss (n + 1)) (sym one.1)
           (record {
             count = length-set after n x ∙ so_far.count;
             done = λ t y below there. elim (cases_eq t n) [
               | inl same ↦
-                  let here : slice_get seats t ≡ Some s = ap (slice_get seats) same ∙ (sym (so_far.rest n (omega arith)) ∙ w.2) in
-                  (x, ap (slice_get (set after n x)) same ∙ get_set_same after n s x w.2, subst (λ (z : Seat). CollectedFor z x) (same_Some s y (sym here ∙ there)) one.2)
+                  let here : slice_get states t ≡ Some s =
+                  ap (slice_get states) same ∙ (sym (so_far.rest n (omega arith)) ∙ w.2) in (
+                    x,
+                    ap (slice_get (set after n x)) same
+                        ∙ get_set_same after n s x w.2,
+                    subst (λ (z : ThreadState). CollectedFor z x)
+                        (same_Some s y (sym here ∙ there)) one.2,
+                  )
               | inr other ↦
-                  let z : (z : Seat) × (slice_get after t ≡ Some z) × CollectedFor y z = so_far.done t y (omega (arith, other, below)) there in
+                  let z : (z : ThreadState) × (slice_get after t ≡ Some z) × CollectedFor y z =
+                  so_far.done t y (omega (arith, other, below)) there in
                   (z.0, get_set_other after n t x other ∙ z.1, z.2)
             ];
-            rest = λ t above. get_set_other after n t x (λ same. omega (arith, same, above)) ∙ so_far.rest t (omega (arith, above));
+            rest = λ t above. get_set_other after n t x (λ same. omega (arith, same, above))
+                ∙ so_far.rest t (omega (arith, above));
           })
       | inr w ↦ absurd (omega (arith, within, w.0))
     ]
 
 -- all of them have it
-pub collected_all : (seats after : List Seat) (n : ℕ) → CollectedBelow seats after n → length seats ≤ n → CollectedAll seats after
-collected_all seats after n below all = record {
+pub collected_all : (states after : List ThreadState) (n : ℕ) → CollectedBelow states after n → length states ≤ n
+    → CollectedAll states after
+collected_all states after n below all = record {
   count = below.count;
-  each = λ t s at. let within : t < length seats = slice_get_within seats t s at in below.done t s (omega (arith, all, within)) at;
+  each = λ t s at. let within : t < length states =
+      slice_get_within states t s at in below.done t s (omega (arith, all, within)) at;
 }
 
 -- a thread waits for a collection or does not
@@ -303,79 +343,91 @@ waits_for Lacking waits = inr (refl, λ is. is)
 waits_for (Ended e) waits = absurd waits
 
 -- collections give no thread more to do
-collected_jobs : (s x : Seat) → CollectedFor s x → jobs_of x ≤ jobs_of s
+collected_jobs : (s x : ThreadState) → CollectedFor s x → jobs_of x ≤ jobs_of s
 collected_jobs s x collected = elim (for_collection s.mode) [
   | inl for ↦ omega (arith, collected.fewer for)
   | inr not ↦ omega (arith, ap jobs_of (collected.same not))
 ]
 
 -- behind the collections, silent ones are still to come only where a `collect` was answered just now
-pub owe_behind : (script : Script) (config : Config) (v : View) (seats mid : List Seat) → TableStands script config v seats → AllWait seats → CollectedAll seats mid → OweBehindCollects script mid
-owe_behind script config v seats mid table waits all = λ t x at owes. elim (slice_get_cases seats t).1 [
+pub owe_behind : (script : Script) (config : Config) (v : View) (states mid : List ThreadState)
+    → TableStands script config v states → AllWait states → CollectedAll states mid → OweBehindCollects script mid
+owe_behind script config v states mid table waits all = λ t x at owes. elim (slice_get_cases states t).1 [
   | inl w ↦
-      let s : Seat = w.0 in
-      let st : SeatStands script v t s = table.each t s w.2 in
-      let y : (y : Seat) × (slice_get mid t ≡ Some y) × CollectedFor s y = all.each t s w.2 in
+      let s : ThreadState = w.0 in
+      let st : ThreadStands script v t s = table.each t s w.2 in
+      let y : (y : ThreadState) × (slice_get mid t ≡ Some y) × CollectedFor s y = all.each t s w.2 in
       let is : y.0 ≡ x = same_Some y.0 x (sym y.1 ∙ at) in
       let made : CollectedFor s x = subst (CollectedFor s) is y.2 in
       elim (for_collection s.mode) [
         | inl for ↦
             let by = made.owes for owes in
-            let first : Collect ∷ s.rest.operations ≡ drop (length s.replies.items) (operations script t) =
-            ap (λ (o : Option Op). with_first o s.rest.operations) (sym by.0) ∙ st.to_come in
-            (length s.replies.items, by.1, first_left (operations script t) (length s.replies.items) Collect s.rest.operations first)
-        | inr not ↦ absurd (no_due s.mode (waits t s w.2) not (ap (λ (z : Seat). owes_silent z.mode) (sym (made.same not)) ∙ owes))
+            let first : Collect ∷ s.cursor.operations ≡ drop (length s.replies.items) (operations script t) =
+            ap (λ (o : Option Op). with_first o s.cursor.operations) (sym by.0) ∙ st.to_come in (
+              length s.replies.items,
+              by.1,
+              first_left (operations script t) (length s.replies.items) Collect s.cursor.operations first,
+            )
+        | inr not ↦ absurd (no_due s.mode (waits t s w.2) not
+            (ap (λ (z : ThreadState). owes_silent z.mode) (sym (made.same not)) ∙ owes))
       ]
   | inr w ↦ absurd (let within : t < length mid = slice_get_within mid t x at in omega (arith, within, all.count, w.0))
 ]
 
 -- a safepoint at which no thread lacks room behind the collections
-pub passed_collected : (seats mid after : List Seat) → CollectedAll seats mid → ((t : ℕ) (s : Seat) → slice_get mid t ≡ Some s → s.mode ≡ Lacking → ⊥) → Resumed mid after
-    → ((t : ℕ) × ((s : Seat) × (slice_get seats t ≡ Some s) × Waits s.mode)) → Passed seats after
-passed_collected seats mid after all none resumed waits = record {
+pub passed_collected : (states mid after : List ThreadState) → CollectedAll states mid
+    → ((t : ℕ) (s : ThreadState) → slice_get mid t ≡ Some s → s.mode ≡ Lacking → ⊥) → Resumed mid after
+    → ((t : ℕ) × ((s : ThreadState) × (slice_get states t ≡ Some s) × Waits s.mode)) → Passed states after
+passed_collected states mid after all none resumed waits = record {
   goes = resumed.goes;
   count = resumed.count ∙ all.count;
   each = λ t s at.
-      let x : (x : Seat) × (slice_get mid t ≡ Some x) × CollectedFor s x = all.each t s at in
-      let y : (y : Seat) × (slice_get after t ≡ Some y) × (jobs_of y ≡ jobs_of x.0) = resumed.each t x.0 x.1 in
+      let x : (x : ThreadState) × (slice_get mid t ≡ Some x) × CollectedFor s x = all.each t s at in
+      let y : (y : ThreadState) × (slice_get after t ≡ Some y) × (jobs_of y ≡ jobs_of x.0) = resumed.each t x.0 x.1 in
       (y.0, y.1, omega (arith, y.2, collected_jobs s x.0 x.2));
   one =
       let t : ℕ = waits.0 in
-      let s : Seat = waits.1.0 in
-      let at : slice_get seats t ≡ Some s = waits.1.1 in
-      let x : (x : Seat) × (slice_get mid t ≡ Some x) × CollectedFor s x = all.each t s at in
-      let y : (y : Seat) × (slice_get after t ≡ Some y) × (jobs_of y ≡ jobs_of x.0) = resumed.each t x.0 x.1 in
+      let s : ThreadState = waits.1.0 in
+      let at : slice_get states t ≡ Some s = waits.1.1 in
+      let x : (x : ThreadState) × (slice_get mid t ≡ Some x) × CollectedFor s x = all.each t s at in
+      let y : (y : ThreadState) × (slice_get after t ≡ Some y) × (jobs_of y ≡ jobs_of x.0) = resumed.each t x.0 x.1 in
       elim (waits_for s.mode waits.1.2) [
         | inl for ↦ (t, (s, (y.0, at, y.1, omega (arith, y.2, x.2.fewer for))))
-        | inr lacks ↦ absurd (none t x.0 x.1 (ap (λ (z : Seat). z.mode) (x.2.same lacks.1) ∙ lacks.0))
+        | inr lacks ↦ absurd (none t x.0 x.1 (ap (λ (z : ThreadState). z.mode) (x.2.same lacks.1) ∙ lacks.0))
       ];
 }
 
 -- a safepoint at which the call of a thread was made behind the collections
-pub passed_called : (seats mid called after : List Seat) (t : ℕ) (s : Seat) → CollectedAll seats mid → slice_get mid t ≡ Some s → CalledAt mid called t → Resumed called after → Passed seats after
-passed_called seats mid called after t s all at calls resumed =
-    let one : (x : Seat) × (called ≡ slice_set mid t x) × (jobs_of x < jobs_of s) × (IsPaused x.mode → ⊥) = calls s at in
-    let here : slice_get called t ≡ Some one.0 = ap (λ (ss : List Seat). slice_get ss t) one.1 ∙ get_set_same mid t s one.0 at in
-    let last : (y : Seat) × (slice_get after t ≡ Some y) × (jobs_of y ≡ jobs_of one.0) = resumed.each t one.0 here in
+pub passed_called : (states mid called after : List ThreadState) (t : ℕ) (s : ThreadState) → CollectedAll states mid
+    → slice_get mid t ≡ Some s → CalledAt mid called t → Resumed called after → Passed states after
+passed_called states mid called after t s all at calls resumed =
+    let one : (x : ThreadState) × (called ≡ slice_set mid t x) × (jobs_of x < jobs_of s) × (IsPaused x.mode → ⊥) =
+    calls s at in
+    let here : slice_get called t ≡ Some one.0 =
+    ap (λ (ss : List ThreadState). slice_get ss t) one.1 ∙ get_set_same mid t s one.0 at in
+    let last : (y : ThreadState) × (slice_get after t ≡ Some y) × (jobs_of y ≡ jobs_of one.0) =
+    resumed.each t one.0 here in
     let below : t < length mid = slice_get_within mid t s at in
     record {
       goes = resumed.goes;
       count = resumed.count ∙ (ap length one.1 ∙ (length-set mid t one.0 ∙ all.count));
       each = λ u r there.
-          let x : (x : Seat) × (slice_get mid u ≡ Some x) × CollectedFor r x = all.each u r there in
+          let x : (x : ThreadState) × (slice_get mid u ≡ Some x) × CollectedFor r x = all.each u r there in
           let fewer : jobs_of x.0 ≤ jobs_of r = collected_jobs r x.0 x.2 in
           elim (cases_eq u t) [
             | inl same ↦
                 let is : s ≡ x.0 = same_Some s x.0 (sym at ∙ (ap (slice_get mid) (sym same) ∙ x.1)) in
                 (last.0, ap (slice_get after) same ∙ last.1, omega (arith, last.2, one.2, ap jobs_of is, fewer))
             | inr other ↦
-                let still : slice_get called u ≡ Some x.0 = ap (λ (ss : List Seat). slice_get ss u) one.1 ∙ (get_set_other mid t u one.0 other ∙ x.1) in
-                let y : (y : Seat) × (slice_get after u ≡ Some y) × (jobs_of y ≡ jobs_of x.0) = resumed.each u x.0 still in
+                let still : slice_get called u ≡ Some x.0 =
+                ap (λ (ss : List ThreadState). slice_get ss u) one.1 ∙ (get_set_other mid t u one.0 other ∙ x.1) in
+                let y : (y : ThreadState) × (slice_get after u ≡ Some y) × (jobs_of y ≡ jobs_of x.0) =
+                resumed.each u x.0 still in
                 (y.0, y.1, omega (arith, y.2, fewer))
           ];
-      one = elim (slice_get_cases seats t).1 [
+      one = elim (slice_get_cases states t).1 [
         | inl w ↦
-            let x : (x : Seat) × (slice_get mid t ≡ Some x) × CollectedFor w.0 x = all.each t w.0 w.2 in
+            let x : (x : ThreadState) × (slice_get mid t ≡ Some x) × CollectedFor w.0 x = all.each t w.0 w.2 in
             let is : s ≡ x.0 = same_Some s x.0 (sym at ∙ x.1) in
             (t, (w.0, (last.0, w.2, last.1, omega (arith, last.2, one.2, ap jobs_of is, collected_jobs w.0 x.0 x.2))))
         | inr w ↦ absurd (omega (arith, below, all.count, w.0))
@@ -385,26 +437,32 @@ passed_called seats mid called after t s all at calls resumed =
 -- The run goes on with the stop word not set, in the same epoch or in a new one, and all threads stand there as before.
 pub record Begun (v w : View) : Type 0 where
   pub no_stop : w.stop ≡ false
-  pub table : (script : Script) (config : Config) (seats : List Seat) → TableStands script config v seats → TableStands script config w seats
+  pub table : (script : Script) (config : Config) (states : List ThreadState) → TableStands script config v states
+      → TableStands script config w states
 
 -- in the same epoch
 pub begun_same : (v : View) → v.stop ≡ false → Begun v v
-begun_same v none = record { no_stop = none; table = λ script config seats table. table }
+begun_same v none = record { no_stop = none; table = λ script config states table. table }
 
 -- in a new epoch
-pub begun_new : (v : View) (heap : Heap) (rest : Rest) → AtRest true heap rest → HasFinished v (view (core_of heap rest)) → Begun v (view (core_of heap rest))
+pub begun_new : (v : View) (heap : Heap) (rest : Rest) → AtRest true heap rest
+    → HasFinished v (view (core_of heap rest)) → Begun v (view (core_of heap rest))
 begun_new v heap rest at_rest finished = record {
   no_stop = refl;
-  table = λ script words seats table. Table_renewed script words v (view (core_of heap rest)) seats table (finished_renewed v heap rest at_rest finished);
+  table = λ script words states table. Table_renewed script words v (view (core_of heap rest)) states table
+      (finished_renewed v heap rest at_rest finished);
 }
 
 -- a run whose threads made their calls again, and that goes on so
-pub resumed_keeps : (old new : Run) (v : View) (n : ℕ) → AgainBelow old.seats.items new.seats.items n → IsQuiet (view old.core) → Begun (view old.core) v → view new.core ≡ v → new.collector ≡ old.collector → new.every ≡ old.every → KeepsRun old new
+pub resumed_keeps : (old new : Run) (v : View) (n : ℕ) → AgainBelow old.states.items new.states.items n
+    → IsQuiet (view old.core) → Begun (view old.core) v → view new.core ≡ v → new.collector ≡ old.collector
+    → new.every ≡ old.every → KeepsRun old new
 resumed_keeps old new v n again quiet begun core collector every = λ script config stands.
-    let adds : Adds script config old.seats.items new.seats.items 0 = again.collected script config (view old.core) stands.table quiet in
+    let adds : Adds script config old.states.items new.states.items 0 =
+    again.collected script config (view old.core) stands.table quiet in
     record {
-      table = subst (λ (w : View). TableStands script config w new.seats.items) (sym core)
-          (begun.table script config new.seats.items (again.table script config (view old.core) stands.table quiet));
+      table = subst (λ (w : View). TableStands script config w new.states.items) (sym core)
+          (begun.table script config new.states.items (again.table script config (view old.core) stands.table quiet));
       every = every ∙ stands.every;
       collector = subst (CollectorStands config) (sym collector) stands.collector;
       collected = omega (arith, adds, stands.collected, ap (λ (c : Collector). length c.journal.items) collector);

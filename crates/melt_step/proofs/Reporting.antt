@@ -1,5 +1,6 @@
 -- A run begins with the threads of its script, and reports when all of them have ended.
-use Rattle.std.proofs.Common.{◌≡◌, ℕ, ◌+◌, ◌*◌, ◌≤◌, List, [], ◌∷◌, ◌++◌, length, refl, sym, ◌∙◌, ap, subst, arith, length-append, inl, inr}
+use Rattle.std.proofs.Common.{◌≡◌, ℕ, ◌+◌, ◌*◌, ◌≤◌, List, [], ◌∷◌, ◌++◌, length, refl, sym, ◌∙◌, ap, subst, arith}
+use Rattle.std.proofs.Common.{length-append, inl, inr}
 use Rattle.std.proofs.lemmas.List.Elements.{All-nil}
 use Rattle.std.proofs.lemmas.List.Sums.{sum-map, sum_by_push}
 use Rattle.std.specs.Prelude.{true, Some, slice_get}
@@ -18,46 +19,58 @@ use Rattle.melt_core.specs.declared.machine.Rest.{Rest}
 use Rattle.melt_core.specs.Views.{view, IsQuiet}
 use Rattle.melt_core.specs.Epochs.{IsNewRest, core_of}
 use Rattle.melt_step.specs.declared.run.Run.{Run}
-use Rattle.melt_step.specs.declared.seat.Seat.{Seat}
-use Rattle.melt_step.specs.declared.seat.Mode.{Mode}
-use Rattle.melt_step.specs.declared.seat.Mode.TheVariants.{Running, Due, Silent, Collecting, Asked, Lacking, Ended}
+use Rattle.melt_step.specs.declared.thread.ThreadState.{ThreadState}
+use Rattle.melt_step.specs.declared.thread.Mode.{Mode}
+use Rattle.melt_step.specs.declared.thread.Mode.TheVariants.{Running, Due, Silent, Collecting, Asked, Lacking, Ended}
 use Rattle.melt_step.specs.Journals.{before, next_of, IsJournalOf}
-use Rattle.melt_step.specs.Seats.{left, to_reply, IsEnded, IsNewSeat, AreNewSeats, TableStands, IsPlanning, RunStands}
+use Rattle.melt_step.specs.Threads.{left, to_reply, IsEnded, IsNewThread, AreNewThreads, TableStands, IsPlanning}
+use Rattle.melt_step.specs.Threads.{RunStands}
 use Rattle.melt_step.proofs.Starting.{Table_new, collections_new}
 use Rattle.melt_step.proofs.Tables.{goes_on, waiting_quiet}
 
 -- the first k threads of a script before their first events, and how many operations they have together
-pub record NewSoFar (script : Script) (k : ℕ) (seats : List Seat) (amount : ℕ) : Type 0 where
-  pub count : length seats ≡ k
-  pub each : (t : ℕ) (s : Seat) → slice_get seats t ≡ Some s → IsNewSeat (operations script t) script.globals s
-  pub entries : amount ≡ to_reply seats
+pub record NewSoFar (script : Script) (k : ℕ) (states : List ThreadState) (amount : ℕ) : Type 0 where
+  pub count : length states ≡ k
+  pub each : (t : ℕ) (s : ThreadState) → slice_get states t ≡ Some s
+      → IsNewThread (operations script t) script.globals s
+  pub entries : amount ≡ to_reply states
   pub few : amount ≤ k * 1048576
 
 -- there are none yet
 pub new_none : (script : Script) → NewSoFar script 0 [] 0
-new_none script = record { count = refl; each = λ t s at. absurd (let none : slice_get [] t ≡ Some s = at in cc); entries = refl; few = omega arith }
+new_none script =
+    record {
+      count = refl;
+      each = λ t s at. absurd (let none : slice_get [] t ≡ Some s = at in cc);
+      entries = refl;
+      few = omega arith;
+    }
 
 -- and one more
-pub new_more : (script : Script) (k amount n : ℕ) (seats : List Seat) (s : Seat) → NewSoFar script k seats amount → IsNewSeat (operations script k) script.globals s → n ≡ length (operations script k) → n ≤ 1048576 → NewSoFar script (k + 1) (seats ++ s ∷ []) (amount + n)
-new_more script k amount n seats s so_far new is few =
-    let f : Seat → ℕ = λ (x : Seat). length (left x) in
-    let all : to_reply (seats ++ s ∷ []) ≡ to_reply seats + length (left s) = omega (arith, sum-map f seats, sum-map f (seats ++ s ∷ []), sum_by_push f seats s) in
+pub new_more : (script : Script) (k amount n : ℕ) (states : List ThreadState) (s : ThreadState)
+    → NewSoFar script k states amount → IsNewThread (operations script k) script.globals s
+    → n ≡ length (operations script k) → n ≤ 1048576 → NewSoFar script (k + 1) (states ++ s ∷ []) (amount + n)
+new_more script k amount n states s so_far new is few =
+    let f : ThreadState → ℕ = λ (x : ThreadState). length (left x) in
+    let all : to_reply (states ++ s ∷ []) ≡ to_reply states + length (left s) =
+    omega (arith, sum-map f states, sum-map f (states ++ s ∷ []), sum_by_push f states s) in
     record {
-      count = omega (arith, length-append seats (s ∷ []), so_far.count);
-      each = λ t x at. elim (last_place seats s t x at) [
+      count = omega (arith, length-append states (s ∷ []), so_far.count);
+      each = λ t x at. elim (last_place states s t x at) [
         | inl before ↦ so_far.each t x before.1
         | inr last ↦
             let place : k ≡ t = omega (arith, last.0, so_far.count) in
-            subst (λ (y : Seat). IsNewSeat (operations script t) script.globals y) last.1
-            (subst (λ (u : ℕ). IsNewSeat (operations script u) script.globals s) place new)
+            subst (λ (y : ThreadState). IsNewThread (operations script t) script.globals y) last.1
+            (subst (λ (u : ℕ). IsNewThread (operations script u) script.globals s) place new)
       ];
       entries = omega (arith, so_far.entries, all, is, ap length new.to_come);
       few = omega (arith, so_far.few, few);
     }
 
 -- those of all threads
-pub new_all : (script : Script) (k amount : ℕ) (seats : List Seat) → k ≡ length script.programs → k ≤ 8 → NewSoFar script k seats amount → AreNewSeats script seats amount
-new_all script k amount seats all eight so_far = record {
+pub new_all : (script : Script) (k amount : ℕ) (states : List ThreadState) → k ≡ length script.programs → k ≤ 8
+    → NewSoFar script k states amount → AreNewThreads script states amount
+new_all script k amount states all eight so_far = record {
   count = so_far.count ∙ all;
   each = so_far.each;
   entries = so_far.entries;
@@ -67,24 +80,35 @@ new_all script k amount seats all eight so_far = record {
 -- a run before its first event
 pub Run_new : (script : Script) (config : Config) (entries globals threads : ℕ) (heap : Heap) (rest : Rest) (run : Run)
     → InRanges config → globals ≡ script.globals → threads ≡ length script.programs → threads ≤ 8
-    → IsNewHeap config.heap globals true heap → IsNewRest threads entries rest → AreNewSeats script run.seats.items entries → run.core ≡ core_of heap rest → run.every ≡ config.every → IsPlanning run.collector → run.collector.journal.items ≡ [] → run.collector.planned ≡ Inactive → run.collector.config ≡ config
+    → IsNewHeap config.heap globals true heap → IsNewRest threads entries rest
+    → AreNewThreads script run.states.items entries → run.core ≡ core_of heap rest → run.every ≡ config.every
+    → IsPlanning run.collector → run.collector.journal.items ≡ [] → run.collector.planned ≡ Inactive
+    → run.collector.config ≡ config
     → RunStands script config run
-Run_new script config entries globals threads heap rest run ranges all_globals all_threads eight is_heap is_rest new_seats begins every planning none planned numbers =
-    let seats : List Seat = run.seats.items in
-    let new_heap : IsNewHeap config.heap script.globals true heap = subst (λ (n : ℕ). IsNewHeap config.heap n true heap) all_globals is_heap in
-    let new_rest : IsNewRest (length script.programs) entries rest = subst (λ (n : ℕ). IsNewRest n entries rest) all_threads is_rest in
-    let table : TableStands script config (view (core_of heap rest)) seats =
-    Table_new script config entries heap rest seats (omega (arith, ranges.heap_most)) (omega (arith, all_threads, eight)) new_heap new_rest new_seats in
+Run_new script config entries globals threads heap rest run ranges all_globals all_threads eight is_heap is_rest
+    new_states begins every planning none planned numbers =
+    let states : List ThreadState = run.states.items in
+    let new_heap : IsNewHeap config.heap script.globals true heap =
+    subst (λ (n : ℕ). IsNewHeap config.heap n true heap) all_globals is_heap in
+    let new_rest : IsNewRest (length script.programs) entries rest =
+    subst (λ (n : ℕ). IsNewRest n entries rest) all_threads is_rest in
+    let table : TableStands script config (view (core_of heap rest)) states =
+    Table_new script config entries heap rest states (omega (arith, ranges.heap_most))
+    (omega (arith, all_threads, eight)) new_heap new_rest new_states in
     record {
-      table = subst (λ (core : Core). TableStands script config (view core) seats) (sym begins) table;
+      table = subst (λ (core : Core). TableStands script config (view core) states) (sym begins) table;
       every = every;
       collector = record {
         planning = planning;
         numbers = numbers;
-        journal = subst (IsJournalOf config) (sym none) (record { phases = λ k j at. absurd (let wrong : slice_get [] k ≡ Some j = at in cc); words = All-nil (λ (j : Journal). (j.held ≤ j.live) × (j.live ≤ config.heap)) });
+        journal = subst (IsJournalOf config) (sym none)
+            (record {
+              phases = λ k j at. absurd (let wrong : slice_get [] k ≡ Some j = at in cc);
+              words = All-nil (λ (j : Journal). (j.held ≤ j.live) × (j.live ≤ config.heap));
+            });
         next = planned ∙ ap (λ (js : List Journal). next_of config (before js (length js))) (sym none);
       };
-      collected = omega (arith, collections_new script config entries (length script.programs) seats new_seats);
+      collected = omega (arith, collections_new script config entries (length script.programs) states new_states);
     }
 
 -- how a thread has ended
@@ -98,27 +122,36 @@ ended_so Lacking over = absurd over
 ended_so (Ended e) over = (e, refl)
 
 -- where all threads have ended, no call is in flight
-pub ended_quiet : (script : Script) (config : Config) (run : Run) → RunStands script config run → ((t : ℕ) (s : Seat) → slice_get run.seats.items t ≡ Some s → IsEnded s.mode) → IsQuiet (view run.core)
-ended_quiet script config run stands ended = waiting_quiet script config (view run.core) run.seats.items stands.table (λ t s at goes. goes_on s.mode goes (ended t s at))
+pub ended_quiet : (script : Script) (config : Config) (run : Run) → RunStands script config run
+    → ((t : ℕ) (s : ThreadState) → slice_get run.states.items t ≡ Some s → IsEnded s.mode) → IsQuiet (view run.core)
+ended_quiet script config run stands ended =
+    waiting_quiet script config (view run.core) run.states.items stands.table
+    (λ t s at goes. goes_on s.mode goes (ended t s at))
 
 -- a thread that a list has behind others has ended
-pub ended_next : (seats before behind : List Seat) (s : Seat) → before ++ s ∷ behind ≡ seats → ((t : ℕ) (x : Seat) → slice_get seats t ≡ Some x → IsEnded x.mode) → IsEnded s.mode
-ended_next seats before behind s is ended = ended (length before) s (ap (λ (xs : List Seat). slice_get xs (length before)) (sym is) ∙ slice_get-append_seam before s behind)
+pub ended_next : (states before behind : List ThreadState) (s : ThreadState) → before ++ s ∷ behind ≡ states
+    → ((t : ℕ) (x : ThreadState) → slice_get states t ≡ Some x → IsEnded x.mode) → IsEnded s.mode
+ended_next states before behind s is ended =
+    ended (length before) s (ap (λ (xs : List ThreadState). slice_get xs (length before)) (sym is)
+    ∙ slice_get-append_seam before s behind)
 
 -- the reports of threads have their replies and ends
-pub record Reported (seats : List Seat) (threads : List ThreadReport) : Type 0 where
-  pub count : length threads ≡ length seats
-  pub each : (t : ℕ) (s : Seat) (r : ThreadReport) → slice_get seats t ≡ Some s → slice_get threads t ≡ Some r → (r.replies ≡ s.replies.items) × (s.mode ≡ Ended r.end)
+pub record Reported (states : List ThreadState) (threads : List ThreadReport) : Type 0 where
+  pub count : length threads ≡ length states
+  pub each : (t : ℕ) (s : ThreadState) (r : ThreadReport) → slice_get states t ≡ Some s → slice_get threads t ≡ Some r
+      → (r.replies ≡ s.replies.items) × (s.mode ≡ Ended r.end)
 
 -- none is reported yet
 pub reported_none : Reported [] []
 reported_none = record { count = refl; each = λ t s r at is. absurd (let none : slice_get [] t ≡ Some s = at in cc) }
 
 -- and one more
-pub reported_more : (seats : List Seat) (threads : List ThreadReport) (s : Seat) (r : ThreadReport) → Reported seats threads → r.replies ≡ s.replies.items → s.mode ≡ Ended r.end → Reported (seats ++ s ∷ []) (threads ++ r ∷ [])
-reported_more seats threads s r so_far replies ended = record {
-  count = omega (arith, length-append seats (s ∷ []), length-append threads (r ∷ []), so_far.count);
-  each = λ t x y at is. elim (last_place seats s t x at) [
+pub reported_more : (states : List ThreadState) (threads : List ThreadReport) (s : ThreadState) (r : ThreadReport)
+    → Reported states threads → r.replies ≡ s.replies.items → s.mode ≡ Ended r.end
+    → Reported (states ++ s ∷ []) (threads ++ r ∷ [])
+reported_more states threads s r so_far replies ended = record {
+  count = omega (arith, length-append states (s ∷ []), length-append threads (r ∷ []), so_far.count);
+  each = λ t x y at is. elim (last_place states s t x at) [
     | inl before ↦ elim (last_place threads r t y is) [
       | inl there ↦ so_far.each t x y before.1 there.1
       | inr last ↦ absurd (omega (arith, before.0, last.0, so_far.count))
@@ -126,8 +159,8 @@ reported_more seats threads s r so_far replies ended = record {
     | inr end ↦ elim (last_place threads r t y is) [
       | inl there ↦ absurd (omega (arith, end.0, there.0, so_far.count))
       | inr last ↦ (
-        ap (λ (z : ThreadReport). z.replies) (sym last.1) ∙ (replies ∙ ap (λ (z : Seat). z.replies.items) end.1),
-        ap (λ (z : Seat). z.mode) (sym end.1) ∙ (ended ∙ ap (λ (z : ThreadReport). Ended z.end) last.1),
+        ap (λ (z : ThreadReport). z.replies) (sym last.1) ∙ (replies ∙ ap (λ (z : ThreadState). z.replies.items) end.1),
+        ap (λ (z : ThreadState). z.mode) (sym end.1) ∙ (ended ∙ ap (λ (z : ThreadReport). Ended z.end) last.1),
       )
     ]
   ];

@@ -1,5 +1,6 @@
 -- A run begins.
-use Rattle.std.proofs.Common.{◌≡◌, ℕ, ◌+◌, ◌*◌, ◌/◌, ◌%◌, ◌^◌, ◌<◌, ◌≤◌, zero, suc, true, false, List, [], length, take, drop, refl, sym, ◌∙◌, ap, subst, arith, inl, inr}
+use Rattle.std.proofs.Common.{◌≡◌, ℕ, ◌+◌, ◌*◌, ◌/◌, ◌%◌, ◌^◌, ◌<◌, ◌≤◌, zero, suc, true, false, List, [], length, take}
+use Rattle.std.proofs.Common.{drop, refl, sym, ◌∙◌, ap, subst, arith, inl, inr}
 use Rattle.std.proofs.Math.Nat.{div-add-mod, mul-le-mul_left}
 use Rattle.std.proofs.lemmas.Bool.{cases_lt}
 use Rattle.std.proofs.lemmas.List.{length-replicate}
@@ -24,18 +25,20 @@ use Rattle.melt_core.specs.Views.{View, view, values_of, registers_in, held_valu
 use Rattle.melt_core.specs.Epochs.{no_registers, IsNewRest, AtRest, core_of}
 use Rattle.melt_core.proofs.Resting.{start_at_rest}
 use Rattle.melt_core.proofs.Values.{get_or_replicate}
-use Rattle.melt_step.specs.declared.seat.Seat.{Seat}
-use Rattle.melt_step.specs.declared.seat.Mode.{Mode}
-use Rattle.melt_step.specs.declared.seat.Mode.TheVariants.{Running, Asked, Ended}
+use Rattle.melt_step.specs.declared.thread.ThreadState.{ThreadState}
+use Rattle.melt_step.specs.declared.thread.Mode.{Mode}
+use Rattle.melt_step.specs.declared.thread.Mode.TheVariants.{Running, Asked, Ended}
 use Rattle.melt_step.specs.Run.{is_collect, silent_in, collections}
-use Rattle.melt_step.specs.Seats.{owes_silent, Waits, AreNewSeats, IsNewSeat, FitsMode, KnowsStop, SeatStands, EndsSo, TableStands, replies_of}
+use Rattle.melt_step.specs.Threads.{owes_silent, Waits, AreNewThreads, IsNewThread, FitsMode, KnowsStop, ThreadStands}
+use Rattle.melt_step.specs.Threads.{EndsSo, TableStands, replies_of}
 use Rattle.melt_step.proofs.Cuts.{replies_here, replies_past}
 
 -- no thread has a reply
-no_replies : (script : Script) (entries t : ℕ) (seats : List Seat) → AreNewSeats script seats entries → replies_of seats t ≡ []
-no_replies script entries t seats new_seats = elim (slice_get_cases seats t).1 [
-  | inl w ↦ replies_here seats t w.0 w.2 ∙ (new_seats.each t w.0 w.2).replies
-  | inr w ↦ replies_past seats t w.0
+no_replies : (script : Script) (entries t : ℕ) (states : List ThreadState) → AreNewThreads script states entries
+    → replies_of states t ≡ []
+no_replies script entries t states new_states = elim (slice_get_cases states t).1 [
+  | inl w ↦ replies_here states t w.0 w.2 ∙ (new_states.each t w.0 w.2).replies
+  | inr w ↦ replies_past states t w.0
 ]
 
 -- the registers of a new thread
@@ -45,31 +48,40 @@ registers_new (suc threads) zero below = refl
 registers_new (suc threads) (suc t) below = registers_new threads t (omega arith)
 
 -- they hold nothing
-values_new : (script : Script) (entries t : ℕ) (heap : Heap) (rest : Rest) → IsNewRest (length script.programs) entries rest → t < length script.programs → values_of (view (core_of heap rest)) t ≡ replicate 16 Nil
+values_new : (script : Script) (entries t : ℕ) (heap : Heap) (rest : Rest)
+    → IsNewRest (length script.programs) entries rest → t < length script.programs
+    → values_of (view (core_of heap rest)) t ≡ replicate 16 Nil
 values_new script entries t heap rest new_rest below =
-    ap (held_values heap.names) (ap (λ (held : List Registers). registers_in held t) new_rest.held ∙ registers_new (length script.programs) t below)
+    ap (held_values heap.names) (ap (λ (held : List Registers). registers_in held t) new_rest.held
+    ∙ registers_new (length script.programs) t below)
 
 -- a thread that was told nothing
 Stands_new : (t : ℕ) (ops : List Op) → Stands [] t (take 0 ops) [] (replicate 16 Nil)
 Stands_new t ops = record {
   reached = refl;
-  references = λ r. let nothing : IsReference [] Nil = tt in subst (IsReference []) (sym (get_or_replicate 16 r Nil)) nothing;
+  references = λ r. let nothing : IsReference [] Nil =
+      tt in subst (IsReference []) (sym (get_or_replicate 16 r Nil)) nothing;
 }
 
 -- a thread stands before its first event
-Seat_new : (script : Script) (entries t : ℕ) (heap : Heap) (rest : Rest) (s : Seat) → AtRest true heap rest → IsNewRest (length script.programs) entries rest → t < length script.programs → IsNewSeat (operations script t) script.globals s → SeatStands script (view (core_of heap rest)) t s
-Seat_new script entries t heap rest s at_rest new_rest below new =
+Thread_new : (script : Script) (entries t : ℕ) (heap : Heap) (rest : Rest) (s : ThreadState) → AtRest true heap rest
+    → IsNewRest (length script.programs) entries rest → t < length script.programs
+    → IsNewThread (operations script t) script.globals s → ThreadStands script (view (core_of heap rest)) t s
+Thread_new script entries t heap rest s at_rest new_rest below new =
     let v : View = view (core_of heap rest) in
     let ops : List Op = operations script t in
     let none : values_of v t ≡ replicate 16 Nil = values_new script entries t heap rest new_rest below in
-    let nothing : Stands v.log t (take 0 ops) [] (replicate 16 Nil) = subst (λ (h : List Entry). Stands h t (take 0 ops) [] (replicate 16 Nil)) (sym new_rest.history) (Stands_new t ops) in
+    let nothing : Stands v.log t (take 0 ops) [] (replicate 16 Nil) =
+    subst (λ (h : List Entry). Stands h t (take 0 ops) [] (replicate 16 Nil)) (sym new_rest.history)
+    (Stands_new t ops) in
     record {
       to_come = new.to_come ∙ ap (λ (rs : List Reply). drop (length rs) ops) (sym new.replies);
       within = omega (arith, ap length new.replies, ap length new.to_come);
       none_left = new.none_left;
       registers = replicate 16 Nil;
-      told = subst (λ (rs : List Reply). Stands v.log t (take (length rs) ops) rs (replicate 16 Nil)) (sym new.replies) nothing;
-      held = inr (sym none);
+      told = subst (λ (rs : List Reply). Stands v.log t (take (length rs) ops) rs (replicate 16 Nil))
+          (sym new.replies) nothing;
+      in_registers = inr (sym none);
       dropped = λ over. none;
       call = λ c is. absurd (let quiet : call_of v t ≡ None = at_rest.quiet t in cc);
       fits = elim new.mode [
@@ -82,46 +94,56 @@ Seat_new script entries t heap rest s at_rest new_rest below new =
     }
 
 -- a thread that has ended at once has no operations
-ends_new : (script : Script) (log : List Entry) (config : Config) (entries t : ℕ) (seats : List Seat) (s : Seat) → AreNewSeats script seats entries → slice_get seats t ≡ Some s → EndsSo script log seats config t s.mode
-ends_new script log config entries t seats s new_seats at =
-    let new : IsNewSeat (operations script t) script.globals s = new_seats.each t s at in
+ends_new : (script : Script) (log : List Entry) (config : Config) (entries t : ℕ) (states : List ThreadState)
+    (s : ThreadState) → AreNewThreads script states entries → slice_get states t ≡ Some s
+    → EndsSo script log states config t s.mode
+ends_new script log config entries t states s new_states at =
+    let new : IsNewThread (operations script t) script.globals s = new_states.each t s at in
     elim new.mode [
-      | inl runs ↦ subst (EndsSo script log seats config t) (sym runs.0) tt
-      | inr over ↦ subst (EndsSo script log seats config t) (sym over.0) (ap length (no_replies script entries t seats new_seats) ∙ ap length (sym over.1 ∙ new.to_come))
+      | inl runs ↦ subst (EndsSo script log states config t) (sym runs.0) tt
+      | inr over ↦ subst (EndsSo script log states config t) (sym over.0)
+          (ap length (no_replies script entries t states new_states) ∙ ap length (sym over.1 ∙ new.to_come))
     ]
 
 -- all threads stand before their first events
-pub Table_new : (script : Script) (config : Config) (entries : ℕ) (heap : Heap) (rest : Rest) (seats : List Seat) → config.heap < 2 ^ 30 → length script.programs ≤ 8 → IsNewHeap config.heap script.globals true heap → IsNewRest (length script.programs) entries rest → AreNewSeats script seats entries → TableStands script config (view (core_of heap rest)) seats
-Table_new script config entries heap rest seats small few new_heap new_rest new_seats =
+pub Table_new : (script : Script) (config : Config) (entries : ℕ) (heap : Heap) (rest : Rest)
+    (states : List ThreadState) → config.heap < 2 ^ 30 → length script.programs ≤ 8
+    → IsNewHeap config.heap script.globals true heap → IsNewRest (length script.programs) entries rest
+    → AreNewThreads script states entries → TableStands script config (view (core_of heap rest)) states
+Table_new script config entries heap rest states small few new_heap new_rest new_states =
     let n : ℕ = length script.programs in
-    let at_rest : AtRest true heap rest = start_at_rest true config.heap script.globals n entries heap rest small few new_heap new_rest in
+    let at_rest : AtRest true heap rest =
+    start_at_rest true config.heap script.globals n entries heap rest small few new_heap new_rest in
     record {
       stands = at_rest.stands;
-      count = new_seats.count;
+      count = new_states.count;
       threads = ap length new_rest.held ∙ length-replicate n no_registers;
       globals = ap length new_heap.globals_hold_nothing ∙ length-replicate script.globals 0;
       words = new_heap.space.size;
-      each = λ t s at. Seat_new script entries t heap rest s at_rest new_rest (let below : t < length seats = slice_get_within seats t s at in omega (arith, new_seats.count)) (new_seats.each t s at);
+      each = λ t s at. Thread_new script entries t heap rest s at_rest new_rest
+          (let below : t < length states = slice_get_within states t s at in omega (arith, new_states.count))
+          (new_states.each t s at);
       own = subst (All (λ (e : Entry). e.thread < n)) (sym new_rest.history) (All-nil (λ (e : Entry). e.thread < n));
-      ends = λ t s at. ends_new script rest.log.items config entries t seats s new_seats at;
-      due = λ t s at owes. absurd (elim (new_seats.each t s at).mode [
+      ends = λ t s at. ends_new script rest.log.items config entries t states s new_states at;
+      due = λ t s at owes. absurd (elim (new_states.each t s at).mode [
         | inl runs ↦ let wrong : false ≡ true = ap owes_silent (sym runs.0) ∙ owes in cc
         | inr over ↦ let wrong : false ≡ true = ap owes_silent (sym over.0) ∙ owes in cc
       ]);
-      made = λ t k below. absurd (omega (arith, ap length (no_replies script entries t seats new_seats)));
-      entries = omega (arith, ap length new_rest.history, new_seats.entries, new_rest.room);
-      few = omega (arith, ap length new_rest.history, new_seats.few);
+      made = λ t k below. absurd (omega (arith, ap length (no_replies script entries t states new_states)));
+      entries = omega (arith, ap length new_rest.history, new_states.entries, new_rest.room);
+      few = omega (arith, ap length new_rest.history, new_states.few);
     }
 
 -- no thread waits
-pub stop_new : (script : Script) (entries : ℕ) (heap : Heap) (rest : Rest) (seats : List Seat) → AreNewSeats script seats entries → KnowsStop (view (core_of heap rest)) seats
-stop_new script entries heap rest seats new_seats = record {
-  waits = λ t s at waits. absurd (elim (new_seats.each t s at).mode [
+pub stop_new : (script : Script) (entries : ℕ) (heap : Heap) (rest : Rest) (states : List ThreadState)
+    → AreNewThreads script states entries → KnowsStop (view (core_of heap rest)) states
+stop_new script entries heap rest states new_states = record {
+  waits = λ t s at waits. absurd (elim (new_states.each t s at).mode [
     | inl runs ↦ subst Waits runs.0 waits
     | inr over ↦ subst Waits over.0 waits
   ]);
   stop = λ is. absurd (let not : false ≡ true = is in cc);
-  asked = λ t s at is. absurd (elim (new_seats.each t s at).mode [
+  asked = λ t s at is. absurd (elim (new_states.each t s at).mode [
     | inl runs ↦ let wrong : Running ≡ Asked = sym runs.0 ∙ is in cc
     | inr over ↦ let wrong : Ended end.Done ≡ Asked = sym over.0 ∙ is in cc
   ]);
@@ -134,14 +156,23 @@ silent_none (suc e) =
     let some : 0 < suc e = omega arith in
     let by : suc e * (0 / suc e) + 0 % suc e ≡ 0 = div-add-mod 0 (suc e) in
     elim (cases_lt 0 (0 / suc e)) [
-      | inl more ↦ absurd (let one : 1 ≤ 0 / suc e = omega (arith, more) in let large : suc e * 1 ≤ suc e * (0 / suc e) = mul-le-mul_left (suc e) one in omega (arith, large, by))
+      | inl more ↦ absurd (let one : 1 ≤ 0 / suc e = omega (arith, more) in
+          let large : suc e * 1 ≤ suc e * (0 / suc e) = mul-le-mul_left (suc e) one in omega (arith, large, by))
       | inr none ↦ omega (arith, none)
     ]
 
 -- no collection was answered
-pub collections_new : (script : Script) (config : Config) (entries n : ℕ) (seats : List Seat) → AreNewSeats script seats entries → collections script config (replies_of seats) n ≡ 0
-collections_new script config entries zero seats new_seats = refl
-collections_new script config entries (suc n) seats new_seats =
-    let none : length (replies_of seats n) ≡ 0 = ap length (no_replies script entries n seats new_seats) in
-    let own : count_by is_collect (take (length (replies_of seats n)) (operations script n)) ≡ 0 = ap (λ (k : ℕ). count_by is_collect (take k (operations script n))) none in
-    omega (arith, collections_new script config entries n seats new_seats, own, ap (silent_in config.every) none, silent_none config.every)
+pub collections_new : (script : Script) (config : Config) (entries n : ℕ) (states : List ThreadState)
+    → AreNewThreads script states entries → collections script config (replies_of states) n ≡ 0
+collections_new script config entries zero states new_states = refl
+collections_new script config entries (suc n) states new_states =
+    let none : length (replies_of states n) ≡ 0 = ap length (no_replies script entries n states new_states) in
+    let own : count_by is_collect (take (length (replies_of states n)) (operations script n)) ≡ 0 =
+    ap (λ (k : ℕ). count_by is_collect (take k (operations script n))) none in
+    omega (
+      arith,
+      collections_new script config entries n states new_states,
+      own,
+      ap (silent_in config.every) none,
+      silent_none config.every,
+    )

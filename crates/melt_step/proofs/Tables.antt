@@ -1,269 +1,59 @@
 -- What each step of a run keeps.
-use Rattle.std.proofs.Common.{◌≡◌, ◌≢◌, ℕ, ◌+◌, ◌*◌, ◌/◌, ◌%◌, ◌<◌, ◌≤◌, zero, suc, true, false, List, [], ◌∷◌, ◌++◌, length, take, refl, sym, ◌∙◌, ap, subst, arith, length-append, inl, inr}
+use Rattle.std.proofs.Common.{[], ◌≡◌, ◌≢◌, ℕ, ◌+◌, ◌<◌, ◌≤◌, suc, true, false, List, ◌∷◌, ◌++◌, length, take, refl}
+use Rattle.std.proofs.Common.{sym, ◌∙◌, ap, subst, arith, length-append, inl, inr}
 use Rattle.std.proofs.Math.ListN.{set, length-set}
-use Rattle.std.proofs.Math.Nat.{div-add-mod, mod-lt, mul-le-mul_left}
-use Rattle.std.proofs.Math.Seq.{take-append_seam}
-use Rattle.std.proofs.lemmas.Bool.{cases_eq, cases_lt, cond_both}
-use Rattle.std.proofs.lemmas.List.{append-nil, get_or_past, set-get_or}
-use Rattle.std.proofs.lemmas.List.Elements.{All-push}
-use Rattle.std.proofs.lemmas.List.Sums.{sum-map, sum_by-set, sum_by_push, get_or-le-sum_by}
-use Rattle.std.proofs.lemmas.Option.{none-some, same_Some, slice_get_within, slice_get_cases, get_or_from_slice_get}
-use Rattle.std.specs.Prelude.{Option, None, Some, IfSome, IsSome, All, slice_get, slice_set, drop, nat_lt, vec_capacity, if◌then◌else◌, Bool, ◌⊎◌}
-use Rattle.std.specs.Option.{option_map_or}
-use Rattle.std.specs.List.{count_by}
-use Rattle.melt_model.specs.History.{Shape, shape, made, last, IsReference, MayFollow, Legal}
-use Rattle.melt_model.specs.Standing.{HoldReferences, Stands}
-use Rattle.melt_model.specs.Thread.{Deed, unchanged, on_part, found, number, value_in, does}
+use Rattle.std.proofs.lemmas.Bool.{cases_eq, cases_lt}
+use Rattle.std.proofs.lemmas.List.{append-nil, get_or_past}
+use Rattle.std.proofs.lemmas.Option.{none-some, same_Some, slice_get_within, slice_get_cases}
+use Rattle.std.specs.Prelude.{Option, None, Some, IfSome, IsSome, All, slice_get, drop, replicate, vec_capacity, ◌⊎◌}
+use Rattle.melt_model.specs.History.{last, Legal}
+use Rattle.melt_model.specs.Standing.{Stands}
+use Rattle.melt_model.specs.Thread.{does}
 use Rattle.melt_model.specs.declared.config.Config.{Config}
 use Rattle.melt_model.specs.declared.history.Act.{Act}
-use Rattle.melt_model.specs.declared.history.Act.TheVariants.{Make, Read, Write}
 use Rattle.melt_model.specs.declared.history.Entry.{Entry}
-use Rattle.melt_model.specs.declared.history.Slot.{Slot}
-use Rattle.melt_model.specs.declared.history.Slot.TheVariants.{Field, Cell, Global}
 use Rattle.melt_model.specs.declared.history.Value.{Value}
-use Rattle.melt_model.specs.declared.history.Value.TheVariants.{Nil, Ref, Num}
+use Rattle.melt_model.specs.declared.history.Value.TheVariants.{Nil}
 use Rattle.melt_model.specs.declared.operations.Op.{Op}
-use Rattle.melt_model.specs.declared.operations.Op.TheVariants as op
 use Rattle.melt_model.specs.declared.operations.Op.TheVariants.{New, Collect}
 use Rattle.melt_model.specs.declared.operations.Reply.{Reply}
-use Rattle.melt_model.specs.declared.operations.Reply.TheVariants as reply
 use Rattle.melt_model.specs.declared.reports.ThreadEnd.TheVariants as end
-use Rattle.melt_model.proofs.Histories.{slice_get-append_seam, made-append, IsReference-append, last_holds}
-use Rattle.melt_model.proofs.Transcripts.{Stands_local, Stands_entry, Stands_other}
 use Rattle.melt_trace.specs.Grammar.{InRange}
 use Rattle.melt_trace.specs.Script.{Script, operations}
 use Rattle.melt_core.specs.declared.call.Call.{Call}
-use Rattle.melt_core.specs.Answering.{entry, with_entry, gives, Answers}
+use Rattle.melt_core.specs.Answering.{with_entry}
 use Rattle.melt_core.specs.Changed.{stopped}
 use Rattle.melt_core.specs.Views.{View, values_of, call_of, IsQuiet, Standing}
 use Rattle.melt_core.specs.declared.answer.Pause.{Pause}
 use Rattle.melt_core.specs.declared.answer.Pause.TheVariants as pause
 use Rattle.melt_core.specs.Advances.{KeepsOthers, HasRoom, HasRoomFor, Pauses}
-use Rattle.melt_core.proofs.Values.{get_or_set_keeps}
-use Rattle.melt_step.specs.declared.seat.Seat.{Seat}
-use Rattle.melt_step.specs.declared.seat.Mode.{Mode}
-use Rattle.melt_step.specs.declared.seat.Mode.TheVariants.{Running, Due, Silent, Collecting, Asked, Lacking, Ended}
-use Rattle.melt_step.specs.Run.{IsDue, is_collect, silent_in, collections, collections_of}
-use Rattle.melt_step.specs.Seats.{DueBy, owes_silent, owes, owing, paused_as, with_first, left, MayGo, IsEnded, FitsMode, SeatStands, replies_of, HadNow, MadeSo, EndsSo, to_reply, Later, TableStands, SeatWaits, SeatGoes, SeatRefused, TakesReply, SeatTold, IsReady, SeatStep, Renewed, Collected, AllWait}
+use Rattle.melt_step.specs.declared.thread.ThreadState.{ThreadState}
+use Rattle.melt_step.specs.declared.thread.Mode.{Mode}
+use Rattle.melt_step.specs.declared.thread.Mode.TheVariants.{Running, Due, Silent, Collecting, Asked, Lacking, Ended}
+use Rattle.melt_step.specs.Run.{IsDue}
+use Rattle.melt_step.specs.Threads.{DueBy, owes_silent, owes, paused_as, with_first, left, MayGo, IsEnded, FitsMode}
+use Rattle.melt_step.specs.Threads.{ThreadStands, replies_of, HadNow, MadeSo, EndsSo, to_reply, Later, TableStands}
+use Rattle.melt_step.specs.Threads.{ThreadWaits, ThreadGoes, ThreadRefused, TakesReply, ThreadTold, IsReady, ThreadStep}
+use Rattle.melt_step.specs.Threads.{Renewed, CoreCollected, AllWait}
 use Rattle.melt_step.proofs.Cuts.{replies_here, LacksNow_later, HadNow_later, had_room}
+use Rattle.melt_step.proofs.Telling.{get_set_same, get_set_other, set_got, drop_next, take_next, get_next}
+use Rattle.melt_step.proofs.Telling.{replies_other, replies_same, later_set, to_reply_set, to_reply_one, with_more}
+use Rattle.melt_step.proofs.Telling.{with_length, with_own, told_with, Stands_answers}
 
--- an element of a list in which one was set
-pub get_set_same : {A : Type 0} (xs : List A) (t : ℕ) (x y : A) → slice_get xs t ≡ Some x → slice_get (set xs t y) t ≡ Some y
-get_set_same [] t x y at = absurd (cc)
-get_set_same (z ∷ xs) zero x y at = refl
-get_set_same (z ∷ xs) (suc t) x y at = get_set_same xs t x y at
-
--- the others stay as they were
-pub get_set_other : {A : Type 0} (xs : List A) (t u : ℕ) (y : A) → u ≢ t → slice_get (set xs t y) u ≡ slice_get xs u
-get_set_other [] t u y differ = refl
-get_set_other (z ∷ xs) zero zero y differ = absurd (differ refl)
-get_set_other (z ∷ xs) zero (suc u) y differ = refl
-get_set_other (z ∷ xs) (suc t) zero y differ = refl
-get_set_other (z ∷ xs) (suc t) (suc u) y differ = get_set_other xs t u y (λ same. differ (ap suc same))
-
--- an element that is set where it stands
-pub set_got : (seats : List Seat) (t : ℕ) (s : Seat) → slice_get seats t ≡ Some s → set seats t s ≡ seats
-set_got seats t s at = subst (λ (y : Seat). set seats t y ≡ seats) (get_or_from_slice_get seats t s s at) (set-get_or seats t s)
-
--- the first of the elements that are left, where it stands, and what is left behind it
-drop_next : {A : Type 0} (xs rest : List A) (k : ℕ) (x : A) → drop k xs ≡ x ∷ rest → drop (suc k) xs ≡ rest
-drop_next [] rest zero x is = absurd (cc)
-drop_next [] rest (suc k) x is = absurd (cc)
-drop_next (y ∷ xs) rest zero x is = cc
-drop_next (y ∷ xs) rest (suc k) x is = drop_next xs rest k x is
-
--- with those before it, one element more is taken
-take_next : {A : Type 0} (xs rest : List A) (k : ℕ) (x : A) → drop k xs ≡ x ∷ rest → take (suc k) xs ≡ take k xs ++ x ∷ []
-take_next [] rest zero x is = absurd (cc)
-take_next [] rest (suc k) x is = absurd (cc)
-take_next (y ∷ xs) rest zero x is = cc
-take_next (y ∷ xs) rest (suc k) x is = ap (λ (ys : List _). y ∷ ys) (take_next xs rest k x is)
-
--- it stands where so many were dropped
-get_next : {A : Type 0} (xs rest : List A) (k : ℕ) (x : A) → drop k xs ≡ x ∷ rest → slice_get xs k ≡ Some x
-get_next [] rest zero x is = absurd (cc)
-get_next [] rest (suc k) x is = absurd (cc)
-get_next (y ∷ xs) rest zero x is = cc
-get_next (y ∷ xs) rest (suc k) x is = get_next xs rest k x is
-
--- a seat that was set leaves the replies of other threads
-pub replies_other : (seats : List Seat) (t u : ℕ) (after : Seat) → u ≢ t → replies_of (set seats t after) u ≡ replies_of seats u
-replies_other [] t u after differ = refl
-replies_other (x ∷ seats) zero zero after differ = absurd (differ refl)
-replies_other (x ∷ seats) zero (suc u) after differ = refl
-replies_other (x ∷ seats) (suc t) zero after differ = refl
-replies_other (x ∷ seats) (suc t) (suc u) after differ = replies_other seats t u after (λ same. differ (ap suc same))
-
--- and gives its own thread those of the new seat
-pub replies_same : (seats : List Seat) (t : ℕ) (s after : Seat) → slice_get seats t ≡ Some s → replies_of (set seats t after) t ≡ after.replies.items
-replies_same seats t s after at = replies_here (set seats t after) t after (get_set_same seats t s after at)
-
--- a thread that has not ended may get more replies
-pub later_set : (seats : List Seat) (t : ℕ) (s after : Seat) (extra : List Reply) → slice_get seats t ≡ Some s → (IsEnded s.mode → ⊥) → after.replies.items ≡ s.replies.items ++ extra → Later seats (set seats t after)
-later_set seats t s after extra at runs grown =
-    let here : replies_of (set seats t after) t ≡ replies_of seats t ++ extra =
-    replies_same seats t s after at ∙ (grown ∙ ap (λ (xs : List Reply). xs ++ extra) (sym (replies_here seats t s at))) in
-    record {
-      count = length-set seats t after;
-      replies = λ u. elim (cases_eq u t) [
-        | inl same ↦ subst (λ (k : ℕ). (more : List Reply) × (replies_of (set seats t after) k ≡ replies_of seats k ++ more)) (sym same) (extra, here)
-        | inr differ ↦ ([], replies_other seats t u after differ ∙ sym (append-nil (replies_of seats u)))
-      ];
-      ended = λ u x there over. elim (cases_eq u t) [
-        | inl same ↦ absurd (runs (subst (λ (y : Seat). IsEnded y.mode) (same_Some x s (sym (subst (λ (k : ℕ). slice_get seats k ≡ Some x) same there) ∙ at)) over))
-        | inr differ ↦ get_set_other seats t u after differ ∙ there
-      ];
-    }
-
--- how many replies are to come, where a seat was set
-to_reply_set : (seats : List Seat) (t : ℕ) (s after : Seat) → slice_get seats t ≡ Some s → to_reply (set seats t after) + length (left s) ≡ to_reply seats + length (left after)
-to_reply_set seats t s after at =
-    let f : Seat → ℕ = λ (x : Seat). length (left x) in
-    omega (arith, sum-map f seats, sum-map f (set seats t after), sum_by-set f seats t after s (slice_get_within seats t s at), ap f (get_or_from_slice_get seats t s s at))
-
--- the replies to come of one thread are among those of all
-to_reply_one : (seats : List Seat) (t : ℕ) (s : Seat) → slice_get seats t ≡ Some s → length (left s) ≤ to_reply seats
-to_reply_one seats t s at =
-    let f : Seat → ℕ = λ (x : Seat). length (left x) in
-    omega (arith, sum-map f seats, get_or-le-sum_by f seats t s (slice_get_within seats t s at), ap f (get_or_from_slice_get seats t s s at))
-
--- What the registers hold behind an operation are references where they were before.
-abbrev KeepsReferences : List Entry → ℕ → ℕ → Value → Deed → Type 0
-KeepsReferences h t globals x d = Legal (with_entry t h d.act) globals → gives h d.act ≡ x → HoldReferences (with_entry t h d.act) d.registers
-
--- what holds whether the object and its part are there or not
-on_part_both : (R : Deed → Type 0) (parts : Shape → ℕ) (h : List Entry) (regs : List Value) (v : Value) (k : ℕ) (f : ℕ → Deed) → R (unchanged regs reply.Nil) → R (unchanged regs reply.Range) → ((n : ℕ) → R (f n)) → R (on_part parts h regs v k f)
-on_part_both R parts h regs Nil k f nothing past there = nothing
-on_part_both R parts h regs (Num v) k f nothing past there = nothing
-on_part_both R parts h regs (Ref n) k f nothing past there = cond_both (nat_lt k (option_map_or parts (shape h n) 0)) (f n) (unchanged regs reply.Range) R (λ e. there n) (λ e. past)
-
--- registers that hold references do so by a longer history
-hold_more : (h k : List Entry) (regs : List Value) → HoldReferences h regs → HoldReferences (h ++ k) regs
-hold_more h k regs holds r = IsReference-append h k (value_in regs r) (holds r)
-
--- and where one of them is set to a reference
-hold_set : (h : List Entry) (regs : List Value) (dst : ℕ) (x : Value) → IsReference h x → HoldReferences h regs → HoldReferences h (set regs dst x)
-hold_set h regs dst x new holds r = get_or_set_keeps (IsReference h) regs dst x r Nil new (holds r)
-
--- what is read at a slot is what was written there last
-read_last_here : (h : List Entry) (t globals : ℕ) (slot : Slot) (x : Value) → Legal (h ++ entry t (Read slot x) ∷ []) globals → x ≡ last h slot
-read_last_here h t globals slot x legal =
-    let e : Entry = entry t (Read slot x) in
-    let follows : MayFollow (take (length h) (h ++ e ∷ [])) globals e.act = legal (length h) e (slice_get-append_seam h e []) in
-    let here : MayFollow h globals e.act = subst (λ (k : List Entry). MayFollow k globals e.act) (take-append_seam h (e ∷ [])) follows in
-    here.read_last
-
--- each operation keeps it that registers hold references
-does_references : (h : List Entry) (t globals : ℕ) (regs : List Value) (o : Op) (x : Value) → Legal h globals → HoldReferences h regs → KeepsReferences h t globals x (does h regs o x)
-does_references h t globals regs (op.New dst refs nums) x before holds = λ legal is.
-    let e : Entry = entry t (Make refs nums) in
-    let new : IsReference (h ++ e ∷ []) (Ref (made h)) = omega (arith, made-append h (e ∷ [])) in
-    hold_set (h ++ e ∷ []) regs dst x (subst (IsReference (h ++ e ∷ [])) is new) (hold_more h (e ∷ []) regs holds)
-does_references h t globals regs (op.Load dst src i) x before holds =
-    on_part_both (KeepsReferences h t globals x) (λ (z : Shape). z.refs) h regs (value_in regs src) i (λ (n : ℕ). record { act = Some (Read (Field n i) x); reply = found x; registers = slice_set regs dst x })
-    (λ legal is. holds) (λ legal is. holds)
-    (λ n legal is.
-    let e : Entry = entry t (Read (Field n i) x) in
-    let reads : IsReference h x = subst (IsReference h) (sym (read_last_here h t globals (Field n i) x legal)) (last_holds h globals before (Field n i)) in
-    hold_set (h ++ e ∷ []) regs dst x (IsReference-append h (e ∷ []) x reads) (hold_more h (e ∷ []) regs holds))
-does_references h t globals regs (op.Store obj i src) x before holds =
-    on_part_both (KeepsReferences h t globals x) (λ (z : Shape). z.refs) h regs (value_in regs obj) i (λ (n : ℕ). record { act = Some (Write (Field n i) (value_in regs src)); reply = reply.Done; registers = regs })
-    (λ legal is. holds) (λ legal is. holds)
-    (λ n legal is. hold_more h (entry t (Write (Field n i) (value_in regs src)) ∷ []) regs holds)
-does_references h t globals regs (op.Get src j) x before holds =
-    on_part_both (KeepsReferences h t globals x) (λ (z : Shape). z.nums) h regs (value_in regs src) j (λ (n : ℕ). record { act = Some (Read (Cell n j) (Num (number x))); reply = reply.Num (number x); registers = regs })
-    (λ legal is. holds) (λ legal is. holds)
-    (λ n legal is. hold_more h (entry t (Read (Cell n j) (Num (number x))) ∷ []) regs holds)
-does_references h t globals regs (op.Put obj j v) x before holds =
-    on_part_both (KeepsReferences h t globals x) (λ (z : Shape). z.nums) h regs (value_in regs obj) j (λ (n : ℕ). record { act = Some (Write (Cell n j) (Num v)); reply = reply.Done; registers = regs })
-    (λ legal is. holds) (λ legal is. holds)
-    (λ n legal is. hold_more h (entry t (Write (Cell n j) (Num v)) ∷ []) regs holds)
-does_references h t globals regs (op.GLoad dst g) x before holds = λ legal is.
-    let e : Entry = entry t (Read (Global g) x) in
-    let reads : IsReference h x = subst (IsReference h) (sym (read_last_here h t globals (Global g) x legal)) (last_holds h globals before (Global g)) in
-    hold_set (h ++ e ∷ []) regs dst x (IsReference-append h (e ∷ []) x reads) (hold_more h (e ∷ []) regs holds)
-does_references h t globals regs (op.GStore g src) x before holds = λ legal is. hold_more h (entry t (Write (Global g) (value_in regs src)) ∷ []) regs holds
-does_references h t globals regs (op.Same a b) x before holds = λ legal is. holds
-does_references h t globals regs (op.Copy dst src) x before holds = λ legal is. hold_set h regs dst (value_in regs src) (holds src) holds
-does_references h t globals regs (op.Drop r) x before holds = λ legal is. let nothing : IsReference h Nil = tt in hold_set h regs r Nil nothing holds
-does_references h t globals regs op.Collect x before holds = λ legal is. holds
-
--- what an entry more changes for the history
-with_more : (h : List Entry) (t : ℕ) (act : Option Act) → (more : List Entry) × (with_entry t h act ≡ h ++ more)
-with_more h t None = ([], sym (append-nil h))
-with_more h t (Some act) = (entry t act ∷ [], refl)
-
--- there is one entry more at most
-with_length : (h : List Entry) (t : ℕ) (act : Option Act) → length (with_entry t h act) ≤ length h + 1
-with_length h t None = omega arith
-with_length h t (Some act) = omega (arith, length-append h (entry t act ∷ []))
-
--- the new entry is of a thread of the script
-pub with_own : (h : List Entry) (t threads : ℕ) (act : Option Act) → t < threads → All (λ (e : Entry). e.thread < threads) h → All (λ (e : Entry). e.thread < threads) (with_entry t h act)
-with_own h t threads None within own = own
-with_own h t threads (Some act) within own = All-push (λ (e : Entry). e.thread < threads) h (entry t act) own within
-
--- what another thread was told stays
-pub told_with : (h : List Entry) (t u : ℕ) (ops : List Op) (replies : List Reply) (registers : List Value) (act : Option Act) → u ≢ t → Stands h u ops replies registers → Stands (with_entry t h act) u ops replies registers
-told_with h t u ops replies registers None differ told = told
-told_with h t u ops replies registers (Some act) differ told = Stands_other h u ops replies registers (entry t act) told (λ same. differ (sym same))
-
--- the thread stands one operation further, where its entry is the new last one or there is none
-stands_by : (h : List Entry) (t : ℕ) (ops : List Op) (replies : List Reply) (rs : List Value) (o : Op) (x : Value) (act : Option Act) → Stands h t ops replies rs → (does h rs o x).act ≡ act → gives h act ≡ x → HoldReferences (with_entry t h act) (does h rs o x).registers → Stands (with_entry t h act) t (ops ++ o ∷ []) (replies ++ (does h rs o x).reply ∷ []) (does h rs o x).registers
-stands_by h t ops replies rs o x None stands is given holds =
-    let S : Value → Type 0 = λ v. (does h rs o v).act ≡ None → HoldReferences h (does h rs o v).registers → Stands h t (ops ++ o ∷ []) (replies ++ (does h rs o v).reply ∷ []) (does h rs o v).registers in
-    let at_nil : S Nil = λ none references. Stands_local h t ops replies rs o stands none references in
-    subst S given at_nil is holds
-stands_by h t ops replies rs o x (Some act) stands is given holds =
-    let S : Value → Type 0 = λ v. (does h rs o v).act ≡ Some act → HoldReferences (h ++ entry t act ∷ []) (does h rs o v).registers → Stands (h ++ entry t act ∷ []) t (ops ++ o ∷ []) (replies ++ (does h rs o v).reply ∷ []) (does h rs o v).registers in
-    let at_given : S (gives h (Some act)) = λ same references. Stands_entry h t ops replies rs o (entry t act) stands refl same references in
-    subst S given at_given is holds
-
--- a thread that was answered stands one operation further
-pub Stands_answers : (h h' : List Entry) (t globals : ℕ) (ops : List Op) (replies : List Reply) (rs rs' : List Value) (o : Op) (r : Reply) → Legal h globals → Legal h' globals → Stands h t ops replies rs → Answers t h rs o r h' rs' → Stands h' t (ops ++ o ∷ []) (replies ++ r ∷ []) rs'
-Stands_answers h h' t globals ops replies rs rs' o r before legal stands a =
-    let d : Deed = does h rs o a.value in
-    let held : HoldReferences (with_entry t h d.act) d.registers =
-    does_references h t globals rs o a.value before stands.references (subst (λ (k : List Entry). Legal k globals) a.history legal) a.given in
-    let next : Stands (with_entry t h d.act) t (ops ++ o ∷ []) (replies ++ d.reply ∷ []) d.registers =
-    stands_by h t ops replies rs o a.value d.act stands refl a.given held in
-    let told : Stands (with_entry t h d.act) t (ops ++ o ∷ []) (replies ++ r ∷ []) d.registers =
-    subst (λ (x : Reply). Stands (with_entry t h d.act) t (ops ++ o ∷ []) (replies ++ x ∷ []) d.registers) a.told next in
-    let registers : Stands (with_entry t h d.act) t (ops ++ o ∷ []) (replies ++ r ∷ []) rs' =
-    subst (λ (xs : List Value). Stands (with_entry t h d.act) t (ops ++ o ∷ []) (replies ++ r ∷ []) xs) (sym a.registers) told in
-    subst (λ (k : List Entry). Stands k t (ops ++ o ∷ []) (replies ++ r ∷ []) rs') (sym a.history) registers
-
--- another thread than that of the event
-other_stands : (script : Script) (v w : View) (t u : ℕ) (s : Seat) (act : Option Act) → u ≢ t → KeepsOthers v w t → w.log ≡ with_entry t v.log act → SeatStands script v u s → SeatStands script w u s
-other_stands script v w t u s act differ others grown st = record {
+-- A thread stands so too in another history that tells it the same, with another mode.
+pub stands_so : (script : Script) (v w : View) (t : ℕ) (s : ThreadState) (mode : Mode) (st : ThreadStands script v t s)
+    → Stands w.log t (take (length s.replies.items) (operations script t)) s.replies.items st.registers
+    → IsEnded mode ⊎ (st.registers ≡ values_of w t) → (IsEnded mode → values_of w t ≡ replicate 16 Nil)
+    → ((c : Call) → call_of w t ≡ Some c → (mode ≡ Running) × (s.op ≡ Some c.op) × (c.op ≢ Collect))
+    → FitsMode mode s.op → ThreadStands script w t (record s { mode = mode })
+stands_so script v w t s mode st told in_registers dropped call fits = record {
   to_come = st.to_come;
   within = st.within;
   none_left = st.none_left;
   registers = st.registers;
-  told = subst (λ (h : List Entry). Stands h u (take (length s.replies.items) (operations script u)) s.replies.items st.registers) (sym grown) (told_with v.log t u (take (length s.replies.items) (operations script u)) s.replies.items st.registers act differ st.told);
-  held = elim st.held [ inl over ↦ inl over | inr same ↦ inr (same ∙ sym (others.values u differ)) ];
-  dropped = λ over. others.values u differ ∙ st.dropped over;
-  call = λ c is. st.call c (sym (others.calls u differ) ∙ is);
-  fits = st.fits;
-  in_range = st.in_range;
-  globals = st.globals;
-  room = st.room;
-}
-
--- the registers of a thread that has not ended hold what it was told
-held_now : (script : Script) (v : View) (t : ℕ) (s : Seat) (st : SeatStands script v t s) → (IsEnded s.mode → ⊥) → st.registers ≡ values_of v t
-held_now script v t s st runs = elim st.held [ inl over ↦ absurd (runs over) | inr same ↦ same ]
-
--- a thread of which at most the mode changes
-pub mode_stands : (script : Script) (v w : View) (t : ℕ) (s : Seat) (mode : Mode) → SeatStands script v t s → (IsEnded s.mode → ⊥) → (IsEnded mode → ⊥) → w.log ≡ v.log → values_of w t ≡ values_of v t → FitsMode mode s.op → ((c : Call) → call_of w t ≡ Some c → (mode ≡ Running) × (s.op ≡ Some c.op) × (c.op ≢ Collect)) → SeatStands script w t (record s { mode = mode })
-mode_stands script v w t s mode st runs waits history values fits call = record {
-  to_come = st.to_come;
-  within = st.within;
-  none_left = st.none_left;
-  registers = st.registers;
-  told = subst (λ (h : List Entry). Stands h t (take (length s.replies.items) (operations script t)) s.replies.items st.registers) (sym history) st.told;
-  held = elim st.held [ inl over ↦ absurd (runs over) | inr same ↦ inr (same ∙ sym values) ];
-  dropped = λ over. absurd (waits over);
+  told = told;
+  in_registers = in_registers;
+  dropped = dropped;
   call = call;
   fits = fits;
   in_range = st.in_range;
@@ -271,61 +61,103 @@ mode_stands script v w t s mode st runs waits history values fits call = record 
   room = st.room;
 }
 
+-- another thread than that of the event
+other_stands : (script : Script) (v w : View) (t u : ℕ) (s : ThreadState) (act : Option Act) → u ≢ t → KeepsOthers v w t
+    → w.log ≡ with_entry t v.log act → ThreadStands script v u s → ThreadStands script w u s
+other_stands script v w t u s act differ others grown st =
+    let told = told_with v.log t u (take (length s.replies.items) (operations script u)) s.replies.items
+    st.registers act differ st.told in
+    stands_so script v w u s s.mode st
+    (subst (λ (h : List Entry). Stands h u (take (length s.replies.items) (operations script u)) s.replies.items
+    st.registers) (sym grown) told)
+    (elim st.in_registers [ inl over ↦ inl over | inr same ↦ inr (same ∙ sym (others.values u differ)) ])
+    (λ over. others.values u differ ∙ st.dropped over) (λ c is. st.call c (sym (others.calls u differ) ∙ is)) st.fits
+
+-- the registers of a thread that has not ended hold what it was told
+held_now : (script : Script) (v : View) (t : ℕ) (s : ThreadState) (st : ThreadStands script v t s)
+    → (IsEnded s.mode → ⊥) → st.registers ≡ values_of v t
+held_now script v t s st runs = elim st.in_registers [ inl over ↦ absurd (runs over) | inr same ↦ same ]
+
+-- a thread of which at most the mode changes
+pub mode_stands : (script : Script) (v w : View) (t : ℕ) (s : ThreadState) (mode : Mode) → ThreadStands script v t s
+    → (IsEnded s.mode → ⊥) → (IsEnded mode → ⊥) → w.log ≡ v.log → values_of w t ≡ values_of v t → FitsMode mode s.op
+    → ((c : Call) → call_of w t ≡ Some c → (mode ≡ Running) × (s.op ≡ Some c.op) × (c.op ≢ Collect))
+    → ThreadStands script w t (record s { mode = mode })
+mode_stands script v w t s mode st runs waits history values fits call =
+    stands_so script v w t s mode st
+    (subst (λ (h : List Entry). Stands h t (take (length s.replies.items) (operations script t)) s.replies.items
+    st.registers) (sym history) st.told)
+    (elim st.in_registers [ inl over ↦ absurd (runs over) | inr same ↦ inr (same ∙ sym values) ])
+    (λ over. absurd (waits over)) call fits
+
 -- why a thread has ended stays so
-ends_later : (script : Script) (log more : List Entry) (seats after : List Seat) (config : Config) (u : ℕ) (s : Seat) (mode : Mode) → Later seats after → slice_get seats u ≡ Some s → replies_of after u ≡ replies_of seats u → s.mode ≡ mode → EndsSo script log seats config u mode → EndsSo script (log ++ more) after config u mode
-ends_later script log more seats after config u s Running later at same is ends = tt
-ends_later script log more seats after config u s Due later at same is ends = tt
-ends_later script log more seats after config u s Silent later at same is ends = tt
-ends_later script log more seats after config u s Collecting later at same is ends = tt
-ends_later script log more seats after config u s Asked later at same is ends = tt
-ends_later script log more seats after config u s Lacking later at same is ends = tt
-ends_later script log more seats after config u s (Ended end.Done) later at same is ends = ap length same ∙ ends
-ends_later script log more seats after config u s (Ended (end.OutOfHeap held need)) later at same is ends =
-    LacksNow_later script log more seats after config u held need s later at (let over : IsEnded (Ended (end.OutOfHeap held need)) = tt in subst IsEnded (sym is) over) ends
-ends_later script log more seats after config u s (Ended end.DiskFault) later at same is ends = absurd ends
-ends_later script log more seats after config u s (Ended (end.Damaged home place word)) later at same is ends = absurd ends
-ends_later script log more seats after config u s (Ended end.Halted) later at same is ends = absurd ends
+ends_later : (script : Script) (log more : List Entry) (states after : List ThreadState) (config : Config) (u : ℕ)
+    (s : ThreadState) (mode : Mode) → Later states after → slice_get states u ≡ Some s
+    → replies_of after u ≡ replies_of states u → s.mode ≡ mode → EndsSo script log states config u mode
+    → EndsSo script (log ++ more) after config u mode
+ends_later script log more states after config u s Running later at same is ends = tt
+ends_later script log more states after config u s Due later at same is ends = tt
+ends_later script log more states after config u s Silent later at same is ends = tt
+ends_later script log more states after config u s Collecting later at same is ends = tt
+ends_later script log more states after config u s Asked later at same is ends = tt
+ends_later script log more states after config u s Lacking later at same is ends = tt
+ends_later script log more states after config u s (Ended end.Done) later at same is ends = ap length same ∙ ends
+ends_later script log more states after config u s (Ended (end.OutOfHeap held_words need)) later at same is ends =
+    LacksNow_later script log more states after config u held_words need s later at
+    (let over : IsEnded (Ended (end.OutOfHeap held_words need)) = tt in subst IsEnded (sym is) over) ends
+ends_later script log more states after config u s (Ended end.DiskFault) later at same is ends = absurd ends
+ends_later script log more states after config u s (Ended (end.Damaged home place word)) later at same is ends =
+    absurd ends
+ends_later script log more states after config u s (Ended end.Halted) later at same is ends = absurd ends
 
 -- a thread that has not ended need not say why
-pub ends_open : (script : Script) (log : List Entry) (seats : List Seat) (config : Config) (t : ℕ) (mode : Mode) → (IsEnded mode → ⊥) → EndsSo script log seats config t mode
-ends_open script log seats config t Running free = tt
-ends_open script log seats config t Due free = tt
-ends_open script log seats config t Silent free = tt
-ends_open script log seats config t Collecting free = tt
-ends_open script log seats config t Asked free = tt
-ends_open script log seats config t Lacking free = tt
-ends_open script log seats config t (Ended e) free = absurd (free tt)
+pub ends_open : (script : Script) (log : List Entry) (states : List ThreadState) (config : Config) (t : ℕ) (mode : Mode)
+    → (IsEnded mode → ⊥) → EndsSo script log states config t mode
+ends_open script log states config t Running free = tt
+ends_open script log states config t Due free = tt
+ends_open script log states config t Silent free = tt
+ends_open script log states config t Collecting free = tt
+ends_open script log states config t Asked free = tt
+ends_open script log states config t Lacking free = tt
+ends_open script log states config t (Ended e) free = absurd (free tt)
 
 -- What an event of a thread shows of it, so that all threads stand behind the event: its entry, if it has one, and the
 -- replies that it got.
-pub record Moves (script : Script) (config : Config) (v w : View) (seats : List Seat) (t : ℕ) (s after : Seat) : Type 0 where
+pub record Moves (script : Script) (config : Config) (v w : View) (states : List ThreadState) (t : ℕ)
+    (s after : ThreadState) : Type 0 where
   pub act : Option Act
   pub extra : List Reply
   pub grown : w.log ≡ with_entry t v.log act
   pub replies : after.replies.items ≡ s.replies.items ++ extra
-  pub stands : SeatStands script w t after
+  pub stands : ThreadStands script w t after
   pub due : owes_silent after.mode ≡ true → IsDue config (length after.replies.items)
-  pub ends : EndsSo script w.log (set seats t after) config t after.mode
-  pub made_last : (k : ℕ) → k < length after.replies.items → length s.replies.items ≤ k → MadeSo script v.log seats config t k
+  pub ends : EndsSo script w.log (set states t after) config t after.mode
+  pub made_last : (k : ℕ) → k < length after.replies.items → length s.replies.items ≤ k
+      → MadeSo script v.log states config t k
   pub entries : length w.log + length (left after) ≤ length v.log + length (left s)
 
 -- all threads stand behind such an event
-pub Table_moves : (script : Script) (config : Config) (v w : View) (seats : List Seat) (t : ℕ) (s after : Seat) → TableStands script config v seats → slice_get seats t ≡ Some s → (IsEnded s.mode → ⊥) → Standing true w → KeepsOthers v w t → Moves script config v w seats t s after → TableStands script config w (set seats t after)
-Table_moves script config v w seats t s after table at runs stands others m =
-    let later : Later seats (set seats t after) = later_set seats t s after m.extra at runs m.replies in
+pub Table_moves : (script : Script) (config : Config) (v w : View) (states : List ThreadState) (t : ℕ)
+    (s after : ThreadState) → TableStands script config v states → slice_get states t ≡ Some s → (IsEnded s.mode → ⊥)
+    → Standing true w → KeepsOthers v w t → Moves script config v w states t s after
+    → TableStands script config w (set states t after)
+Table_moves script config v w states t s after table at runs stands others m =
+    let later : Later states (set states t after) = later_set states t s after m.extra at runs m.replies in
     let more = with_more v.log t m.act in
     let longer : w.log ≡ v.log ++ more.0 = m.grown ∙ more.1 in
-    let here : slice_get (set seats t after) t ≡ Some after = get_set_same seats t s after at in
-    let at_t : (u : ℕ) (x : Seat) → u ≡ t → slice_get (set seats t after) u ≡ Some x → after ≡ x =
-    λ u x same is. same_Some after x (sym here ∙ (ap (λ (k : ℕ). slice_get (set seats t after) k) (sym same) ∙ is)) in
-    let elsewhere : (u : ℕ) (x : Seat) → u ≢ t → slice_get (set seats t after) u ≡ Some x → slice_get seats u ≡ Some x =
-    λ u x differ is. sym (get_set_other seats t u after differ) ∙ is in
-    let was : replies_of seats t ≡ s.replies.items = replies_here seats t s at in
-    let now : replies_of (set seats t after) t ≡ after.replies.items = replies_same seats t s after at in
-    let to_come : to_reply (set seats t after) + length (left s) ≡ to_reply seats + length (left after) = to_reply_set seats t s after at in
+    let here : slice_get (set states t after) t ≡ Some after = get_set_same states t s after at in
+    let at_t : (u : ℕ) (x : ThreadState) → u ≡ t → slice_get (set states t after) u ≡ Some x → after ≡ x =
+    λ u x same is. same_Some after x (sym here ∙ (ap (λ (k : ℕ). slice_get (set states t after) k) (sym same) ∙ is)) in
+    let elsewhere : (u : ℕ) (x : ThreadState) → u ≢ t → slice_get (set states t after) u ≡ Some x
+    → slice_get states u ≡ Some x =
+    λ u x differ is. sym (get_set_other states t u after differ) ∙ is in
+    let was : replies_of states t ≡ s.replies.items = replies_here states t s at in
+    let now : replies_of (set states t after) t ≡ after.replies.items = replies_same states t s after at in
+    let to_come : to_reply (set states t after) + length (left s) ≡ to_reply states + length (left after) =
+    to_reply_set states t s after at in
     let fits : length w.log + length (left after) ≤ length v.log + length (left s) = m.entries in
-    let one : length (left s) ≤ to_reply seats = to_reply_one seats t s at in
-    let size : length (set seats t after) ≡ length seats = length-set seats t after in
+    let one : length (left s) ≤ to_reply states = to_reply_one states t s at in
+    let size : length (set states t after) ≡ length states = length-set states t after in
     record {
       stands = stands;
       count = size ∙ table.count;
@@ -333,42 +165,61 @@ Table_moves script config v w seats t s after table at runs stands others m =
       globals = others.globals ∙ table.globals;
       words = others.words ∙ table.words;
       each = λ u x is. elim (cases_eq u t) [
-        | inl same ↦ subst (λ (k : ℕ). SeatStands script w k x) (sym same) (subst (λ (y : Seat). SeatStands script w t y) (at_t u x same is) m.stands)
-        | inr differ ↦ other_stands script v w t u x m.act differ others m.grown (table.each u x (elsewhere u x differ is))
+        | inl same ↦ subst (λ (k : ℕ). ThreadStands script w k x) (sym same)
+            (subst (λ (y : ThreadState). ThreadStands script w t y) (at_t u x same is) m.stands)
+        | inr differ ↦ other_stands script v w t u x m.act differ others m.grown
+            (table.each u x (elsewhere u x differ is))
       ];
       own = subst (All (λ (e : Entry). e.thread < length script.programs)) (sym m.grown)
-          (with_own v.log t (length script.programs) m.act (let within : t < length seats = slice_get_within seats t s at in let count : length seats ≡ length script.programs = table.count in omega arith) table.own);
+          (with_own v.log t (length script.programs) m.act
+          (let within : t < length states = slice_get_within states t s at in
+          let count : length states ≡ length script.programs = table.count in omega arith) table.own);
       due = λ u x is. elim (cases_eq u t) [
-        | inl same ↦ subst (λ (y : Seat). owes_silent y.mode ≡ true → IsDue config (length y.replies.items)) (at_t u x same is) m.due
+        | inl same ↦ subst (λ (y : ThreadState). owes_silent y.mode ≡ true → IsDue config (length y.replies.items))
+            (at_t u x same is) m.due
         | inr differ ↦ table.due u x (elsewhere u x differ is)
       ];
       ends = λ u x is. elim (cases_eq u t) [
-        | inl same ↦ subst (λ (k : ℕ). EndsSo script w.log (set seats t after) config k x.mode) (sym same) (subst (λ (y : Seat). EndsSo script w.log (set seats t after) config t y.mode) (at_t u x same is) m.ends)
-        | inr differ ↦ subst (λ (h : List Entry). EndsSo script h (set seats t after) config u x.mode) (sym longer)
-            (ends_later script v.log more.0 seats (set seats t after) config u x x.mode later (elsewhere u x differ is) (replies_other seats t u after differ) refl (table.ends u x (elsewhere u x differ is)))
+        | inl same ↦ subst (λ (k : ℕ). EndsSo script w.log (set states t after) config k x.mode) (sym same)
+            (subst (λ (y : ThreadState). EndsSo script w.log (set states t after) config t y.mode)
+            (at_t u x same is) m.ends)
+        | inr differ ↦ subst (λ (h : List Entry). EndsSo script h (set states t after) config u x.mode) (sym longer)
+            (ends_later script v.log more.0 states (set states t after) config u x x.mode later
+            (elsewhere u x differ is) (replies_other states t u after differ) refl
+            (table.ends u x (elsewhere u x differ is)))
       ];
       made = λ u k below dst refs nums next.
-          let before : HadNow script v.log seats config u k (2 + refs + nums) = elim (cases_lt k (length (replies_of seats u))) [
+          let before : HadNow script v.log states config u k (2 + refs + nums) =
+          elim (cases_lt k (length (replies_of states u))) [
             | inl earlier ↦ table.made u k earlier dst refs nums next
             | inr last ↦ elim (cases_eq u t) [
-              | inl same ↦ subst (λ (j : ℕ). slice_get (operations script j) k ≡ Some (New dst refs nums) → HadNow script v.log seats config j k (2 + refs + nums)) (sym same)
+              | inl same ↦ subst (λ (j : ℕ). slice_get (operations script j) k ≡ Some (New dst refs nums)
+                  → HadNow script v.log states config j k (2 + refs + nums)) (sym same)
                   (m.made_last k
-                  (subst (λ (n : ℕ). k < n) (ap (λ (j : ℕ). length (replies_of (set seats t after) j)) same ∙ ap length now) below)
-                  (subst (λ (n : ℕ). n ≤ k) (ap (λ (j : ℕ). length (replies_of seats j)) same ∙ ap length was) last)
+                  (subst (λ (n : ℕ). k < n) (ap (λ (j : ℕ). length (replies_of (set states t after) j)) same
+                  ∙ ap length now) below)
+                  (subst (λ (n : ℕ). n ≤ k) (ap (λ (j : ℕ). length (replies_of states j)) same ∙ ap length was) last)
                   dst refs nums) next
-              | inr differ ↦ absurd (let same : length (replies_of (set seats t after) u) ≡ length (replies_of seats u) = ap length (replies_other seats t u after differ) in omega arith)
+              | inr differ ↦ absurd (let same : length (replies_of (set states t after) u) ≡ length
+                  (replies_of states u) = ap length (replies_other states t u after differ) in omega arith)
             ]
           ] in
-          subst (λ (h : List Entry). HadNow script h (set seats t after) config u k (2 + refs + nums)) (sym longer)
-          (HadNow_later script v.log more.0 seats (set seats t after) config u k (2 + refs + nums) later before);
-      entries = let e : length v.log + to_reply seats ≤ v.capacity = table.entries in let c : w.capacity ≡ v.capacity = others.capacity in omega (arith, e, c, to_come, fits, one);
-      few = let e : length v.log + to_reply seats ≤ 8388608 = table.few in omega (arith, e, to_come, fits, one);
+          subst (λ (h : List Entry). HadNow script h (set states t after) config u k (2 + refs + nums)) (sym longer)
+          (HadNow_later script v.log more.0 states (set states t after) config u k (2 + refs + nums) later before);
+      entries =
+          let e : length v.log + to_reply states ≤ v.capacity = table.entries in
+          let c : w.capacity ≡ v.capacity = others.capacity in
+          omega (arith, e, c, to_come, fits, one);
+      few = let e : length v.log + to_reply states ≤ 8388608 = table.few in omega (arith, e, to_come, fits, one);
     }
 
 -- a thread that got no reply
-pub same_moves : (script : Script) (config : Config) (v w : View) (seats : List Seat) (t : ℕ) (s : Seat) (mode : Mode) → (owes_silent mode ≡ true → IsDue config (length s.replies.items)) → (IsEnded mode → ⊥) → w.log ≡ v.log → SeatStands script w t (record s { mode = mode }) → Moves script config v w seats t s (record s { mode = mode })
-same_moves script config v w seats t s mode due free history stands =
-    let after : Seat = record s { mode = mode } in
+pub same_moves : (script : Script) (config : Config) (v w : View) (states : List ThreadState) (t : ℕ) (s : ThreadState)
+    (mode : Mode) → (owes_silent mode ≡ true → IsDue config (length s.replies.items)) → (IsEnded mode → ⊥)
+    → w.log ≡ v.log → ThreadStands script w t (record s { mode = mode })
+    → Moves script config v w states t s (record s { mode = mode })
+same_moves script config v w states t s mode due free history stands =
+    let after : ThreadState = record s { mode = mode } in
     record {
       act = None;
       extra = [];
@@ -376,18 +227,25 @@ same_moves script config v w seats t s mode due free history stands =
       replies = sym (append-nil s.replies.items);
       stands = stands;
       due = due;
-      ends = ends_open script w.log (set seats t after) config t mode free;
+      ends = ends_open script w.log (set states t after) config t mode free;
       made_last = λ k below last. absurd (omega arith);
       entries = let same : length w.log ≡ length v.log = ap length history in omega arith;
     }
 
 -- a thread that waits for a collection has not ended
-waits_open : (v w : View) (t : ℕ) (s after : Seat) (mode : Mode) → SeatWaits v w t s after mode → IsEnded mode → ⊥
-waits_open v w t s after mode waits over = elim waits.before [ inl own ↦ subst IsEnded own.2 over | inr due ↦ subst IsEnded due.1 over ]
+waits_open : (v w : View) (t : ℕ) (s after : ThreadState) (mode : Mode) → ThreadWaits v w t s after mode → IsEnded mode
+    → ⊥
+waits_open v w t s after mode waits over = elim waits.before [
+  | inl own ↦ subst IsEnded own.2 over
+  | inr due ↦ subst IsEnded due.1 over
+]
 
 -- a thread that waits for a collection
-waits_moves : (script : Script) (config : Config) (v w : View) (seats : List Seat) (t : ℕ) (s after : Seat) (mode : Mode) → (owes_silent s.mode ≡ true → IsDue config (length s.replies.items)) → SeatStands script v t s → (IsEnded s.mode → ⊥) → SeatWaits v w t s after mode → Moves script config v w seats t s after
-waits_moves script config v w seats t s after mode due st runs waits =
+waits_moves : (script : Script) (config : Config) (v w : View) (states : List ThreadState) (t : ℕ)
+    (s after : ThreadState) (mode : Mode) → (owes_silent s.mode ≡ true → IsDue config (length s.replies.items))
+    → ThreadStands script v t s → (IsEnded s.mode → ⊥) → ThreadWaits v w t s after mode
+    → Moves script config v w states t s after
+waits_moves script config v w states t s after mode due st runs waits =
     let waiting : IsEnded mode → ⊥ = waits_open v w t s after mode waits in
     let fits : FitsMode mode s.op = elim waits.before [
       | inl own ↦ subst (λ (m : Mode). FitsMode m s.op) (sym own.2) own.1
@@ -401,22 +259,36 @@ waits_moves script config v w seats t s after mode due st runs waits =
       | inl own ↦ let known = st.call c is in known.2 (same_Some c.op Collect (sym known.1 ∙ own.1))
       | inr due ↦ let known : s.mode ≡ Running = (st.call c is).0 in let is_due : s.mode ≡ Due = due.0 in absurd (cc)
     ] in
-    let stands : SeatStands script (stopped v) t (record s { mode = mode }) = mode_stands script v (stopped v) t s mode st runs waiting refl refl fits (λ c is. absurd (call c is)) in
-    subst (λ (y : Seat). Moves script config v w seats t s y) (sym waits.only)
-    (same_moves script config v w seats t s mode owes waiting (ap (λ (x : View). x.log) waits.stop) (subst (λ (x : View). SeatStands script x t (record s { mode = mode })) (sym waits.stop) stands))
+    let stands : ThreadStands script (stopped v) t (record s { mode = mode }) =
+    mode_stands script v (stopped v) t s mode st runs waiting refl refl fits (λ c is. absurd (call c is)) in
+    subst (λ (y : ThreadState). Moves script config v w states t s y) (sym waits.only)
+    (same_moves script config v w states t s mode owes waiting (ap (λ (x : View). x.log) waits.stop)
+    (subst (λ (x : View). ThreadStands script x t (record s { mode = mode })) (sym waits.stop) stands))
 
 -- a thread whose call goes on
-goes_moves : (script : Script) (config : Config) (v w : View) (seats : List Seat) (t : ℕ) (s after : Seat) → (owes_silent s.mode ≡ true → IsDue config (length s.replies.items)) → SeatStands script v t s → (IsEnded s.mode → ⊥) → SeatGoes v w t s after → Moves script config v w seats t s after
-goes_moves script config v w seats t s after due st runs goes =
-    let stands : SeatStands script w t (record s { mode = s.mode }) =
+goes_moves : (script : Script) (config : Config) (v w : View) (states : List ThreadState) (t : ℕ)
+    (s after : ThreadState) → (owes_silent s.mode ≡ true → IsDue config (length s.replies.items))
+    → ThreadStands script v t s → (IsEnded s.mode → ⊥) → ThreadGoes v w t s after
+    → Moves script config v w states t s after
+goes_moves script config v w states t s after due st runs goes =
+    let stands : ThreadStands script w t (record s { mode = s.mode }) =
     mode_stands script v w t s s.mode st runs runs goes.history goes.values st.fits
-    (λ c is. let same : goes.call ≡ c = same_Some goes.call c (sym goes.flight ∙ is) in
-    (goes.running, goes.op ∙ ap (λ (x : Call). Some x.op) same, subst (λ (x : Call). x.op ≢ Collect) same goes.no_collect)) in
-    subst (λ (y : Seat). Moves script config v w seats t s y) (sym goes.same) (same_moves script config v w seats t s s.mode due runs goes.history stands)
+    (λ c is. let same : goes.call ≡ c = same_Some goes.call c (sym goes.flight ∙ is) in (
+      goes.running,
+      goes.op ∙ ap (λ (x : Call). Some x.op) same,
+      subst (λ (x : Call). x.op ≢ Collect) same goes.no_collect,
+    )) in
+    subst (λ (y : ThreadState). Moves script config v w states t s y) (sym goes.same)
+    (same_moves script config v w states t s s.mode due runs goes.history stands)
 
 -- what a call that paused leaves of the view
-pub paused_view : (v w : View) (t : ℕ) (o : Op) (cause : Pause) → Pauses v w t o cause → (call_of w t ≡ None) × (w.log ≡ v.log) × (values_of w t ≡ values_of v t)
-paused_view v w t o pause.Asked pauses = (ap (λ (x : View). call_of x t) pauses.same ∙ pauses.first, ap (λ (x : View). x.log) pauses.same, ap (λ (x : View). values_of x t) pauses.same)
+pub paused_view : (v w : View) (t : ℕ) (o : Op) (cause : Pause) → Pauses v w t o cause
+    → (call_of w t ≡ None) × (w.log ≡ v.log) × (values_of w t ≡ values_of v t)
+paused_view v w t o pause.Asked pauses = (
+  ap (λ (x : View). call_of x t) pauses.same ∙ pauses.first,
+  ap (λ (x : View). x.log) pauses.same,
+  ap (λ (x : View). values_of x t) pauses.same,
+)
 paused_view v w t o (pause.Space need) pauses = (pauses.call, pauses.own.history, pauses.own.values)
 paused_view v w t o pause.Forward pauses = absurd pauses
 
@@ -427,9 +299,15 @@ paused_cases (pause.Space need) = inr refl
 paused_cases pause.Forward = inr refl
 
 -- a thread that waits for its call to be made again
-again_moves : (script : Script) (config : Config) (v w : View) (seats : List Seat) (t : ℕ) (s : Seat) (mode : Mode) → SeatStands script v t s → (IsEnded s.mode → ⊥) → (mode ≡ Asked) ⊎ (mode ≡ Lacking) → IsSome s.op → s.op ≢ Some Collect → (call_of w t ≡ None) × (w.log ≡ v.log) × (values_of w t ≡ values_of v t) → Moves script config v w seats t s (record s { mode = mode })
-again_moves script config v w seats t s mode st runs waits some no_collect behind =
-    let waiting : IsEnded mode → ⊥ = λ over. elim waits [ inl asked ↦ subst IsEnded asked over | inr lacking ↦ subst IsEnded lacking over ] in
+again_moves : (script : Script) (config : Config) (v w : View) (states : List ThreadState) (t : ℕ) (s : ThreadState)
+    (mode : Mode) → ThreadStands script v t s → (IsEnded s.mode → ⊥) → (mode ≡ Asked) ⊎ (mode ≡ Lacking) → IsSome s.op
+    → s.op ≢ Some Collect → (call_of w t ≡ None) × (w.log ≡ v.log) × (values_of w t ≡ values_of v t)
+    → Moves script config v w states t s (record s { mode = mode })
+again_moves script config v w states t s mode st runs waits some no_collect behind =
+    let waiting : IsEnded mode → ⊥ = λ over. elim waits [
+      | inl asked ↦ subst IsEnded asked over
+      | inr lacking ↦ subst IsEnded lacking over
+    ] in
     let owes : owes_silent mode ≡ true → IsDue config (length s.replies.items) = λ is. absurd (elim waits [
       | inl asked ↦ let wrong : false ≡ true = sym (ap owes_silent asked) ∙ is in cc
       | inr lacking ↦ let wrong : false ≡ true = sym (ap owes_silent lacking) ∙ is in cc
@@ -438,36 +316,46 @@ again_moves script config v w seats t s mode st runs waits some no_collect behin
       | inl asked ↦ subst (λ (m : Mode). FitsMode m s.op) (sym asked) (some, no_collect)
       | inr lacking ↦ subst (λ (m : Mode). FitsMode m s.op) (sym lacking) (some, no_collect)
     ] in
-    let stands : SeatStands script w t (record s { mode = mode }) =
+    let stands : ThreadStands script w t (record s { mode = mode }) =
     mode_stands script v w t s mode st runs waiting behind.1 behind.2 fits
     (λ c is. absurd (let none : call_of w t ≡ None = behind.0 in cc)) in
-    same_moves script config v w seats t s mode owes waiting behind.1 stands
+    same_moves script config v w states t s mode owes waiting behind.1 stands
 
 -- a thread whose call was refused
-refused_moves : (script : Script) (config : Config) (v w : View) (seats : List Seat) (t : ℕ) (s after : Seat) → SeatStands script v t s → (IsEnded s.mode → ⊥) → SeatRefused v w t s after → Moves script config v w seats t s after
-refused_moves script config v w seats t s after st runs refused =
-    subst (λ (y : Seat). Moves script config v w seats t s y) (sym refused.only)
-    (again_moves script config v w seats t s (paused_as refused.cause) st runs (paused_cases refused.cause) (rw refused.next refl)
-    (λ is. refused.no_collect (same_Some refused.op Collect (sym refused.next ∙ is))) (paused_view v w t refused.op refused.cause refused.pauses))
+refused_moves : (script : Script) (config : Config) (v w : View) (states : List ThreadState) (t : ℕ)
+    (s after : ThreadState) → ThreadStands script v t s → (IsEnded s.mode → ⊥) → ThreadRefused v w t s after
+    → Moves script config v w states t s after
+refused_moves script config v w states t s after st runs refused =
+    subst (λ (y : ThreadState). Moves script config v w states t s y) (sym refused.only)
+    (again_moves script config v w states t s (paused_as refused.cause) st runs (paused_cases refused.cause)
+    (rw refused.next refl)
+    (λ is. refused.no_collect (same_Some refused.op Collect (sym refused.next ∙ is)))
+    (paused_view v w t refused.op refused.cause refused.pauses))
 
 -- a thread that still lacks room stands as before
-pub Table_lacks : (script : Script) (config : Config) (v w : View) (seats : List Seat) (t : ℕ) (s : Seat) → TableStands script config v seats → slice_get seats t ≡ Some s → s.mode ≡ Lacking → Standing true w → KeepsOthers v w t → (call_of w t ≡ None) × (w.log ≡ v.log) × (values_of w t ≡ values_of v t) → TableStands script config w seats
-Table_lacks script config v w seats t s table at lacking stands others behind =
-    let st : SeatStands script v t s = table.each t s at in
+pub Table_lacks : (script : Script) (config : Config) (v w : View) (states : List ThreadState) (t : ℕ) (s : ThreadState)
+    → TableStands script config v states → slice_get states t ≡ Some s → s.mode ≡ Lacking → Standing true w
+    → KeepsOthers v w t → (call_of w t ≡ None) × (w.log ≡ v.log) × (values_of w t ≡ values_of v t)
+    → TableStands script config w states
+Table_lacks script config v w states t s table at lacking stands others behind =
+    let st : ThreadStands script v t s = table.each t s at in
     let runs : IsEnded s.mode → ⊥ = λ over. subst IsEnded lacking over in
     let fits : FitsMode Lacking s.op = subst (λ (m : Mode). FitsMode m s.op) lacking st.fits in
-    let same : record s { mode = Lacking } ≡ s = ap {B = Seat} (λ (m : Mode). record s { mode = m }) (sym lacking) in
-    let moves : Moves script config v w seats t s (record s { mode = Lacking }) = again_moves script config v w seats t s Lacking st runs (inr refl) fits.0 fits.1 behind in
-    subst (TableStands script config w) (set_got seats t s at)
-    (subst (λ (y : Seat). TableStands script config w (set seats t y)) same
-    (Table_moves script config v w seats t s (record s { mode = Lacking }) table at runs stands others moves))
+    let same : record s { mode = Lacking } ≡ s =
+    ap {B = ThreadState} (λ (m : Mode). record s { mode = m }) (sym lacking) in
+    let moves : Moves script config v w states t s (record s { mode = Lacking }) =
+    again_moves script config v w states t s Lacking st runs (inr refl) fits.0 fits.1 behind in
+    subst (TableStands script config w) (set_got states t s at)
+    (subst (λ (y : ThreadState). TableStands script config w (set states t y)) same
+    (Table_moves script config v w states t s (record s { mode = Lacking }) table at runs stands others moves))
 
 -- A thread that got the reply to its next operation: what was left began with it.
-told_left : (v w : View) (t : ℕ) (s after : Seat) (told : SeatTold v w t s after) → left s ≡ told.op ∷ s.rest.operations
-told_left v w t s after told = ap (λ (o : Option Op). with_first o s.rest.operations) told.next
+pub told_left : (v w : View) (t : ℕ) (s after : ThreadState) (told : ThreadTold v w t s after)
+    → left s ≡ told.op ∷ s.cursor.operations
+told_left v w t s after told = ap (λ (o : Option Op). with_first o s.cursor.operations) told.next
 
 -- its mode fits its next operation
-told_fits : (s after : Seat) (reply : Reply) → TakesReply s after reply → FitsMode after.mode after.op
+told_fits : (s after : ThreadState) (reply : Reply) → TakesReply s after reply → FitsMode after.mode after.op
 told_fits s after reply takes =
     elim takes.fits [
       | inl runs ↦ subst (λ (m : Mode). FitsMode m after.op) (sym runs.0) runs.1
@@ -478,33 +366,43 @@ told_fits s after reply takes =
     ]
 
 -- it stands one operation further in the history
-told_stands : (script : Script) (v w : View) (t : ℕ) (s after : Seat) → SeatStands script v t s → (IsEnded s.mode → ⊥) → Standing true v → Standing true w → length w.globals ≡ length v.globals → SeatTold v w t s after → SeatStands script w t after
+told_stands : (script : Script) (v w : View) (t : ℕ) (s after : ThreadState) → ThreadStands script v t s
+    → (IsEnded s.mode → ⊥) → Standing true v → Standing true w → length w.globals ≡ length v.globals
+    → ThreadTold v w t s after → ThreadStands script w t after
 told_stands script v w t s after st runs before behind globals told =
     let ops : List Op = operations script t in
     let k : ℕ = length s.replies.items in
     let takes : TakesReply s after told.reply = told.takes in
-    let first : left s ≡ told.op ∷ s.rest.operations = told_left v w t s after told in
-    let dropped : drop k ops ≡ told.op ∷ s.rest.operations = sym st.to_come ∙ first in
-    let count : length after.replies.items ≡ k + 1 = ap length takes.replies ∙ length-append s.replies.items (told.reply ∷ []) in
+    let first : left s ≡ told.op ∷ s.cursor.operations = told_left v w t s after told in
+    let dropped : drop k ops ≡ told.op ∷ s.cursor.operations = sym st.to_come ∙ first in
+    let count : length after.replies.items ≡ k + 1 =
+    ap length takes.replies ∙ length-append s.replies.items (told.reply ∷ []) in
     let more : length after.replies.items ≡ suc k = omega (arith, count) in
     let legal : Legal w.log (length v.globals) = subst (λ (n : ℕ). Legal w.log n) globals (behind.legal refl) in
-    let now : Stands v.log t (take k ops) s.replies.items (values_of v t) = subst (λ (rs : List Value). Stands v.log t (take k ops) s.replies.items rs) (held_now script v t s st runs) st.told in
+    let now : Stands v.log t (take k ops) s.replies.items (values_of v t) =
+    subst (λ (rs : List Value). Stands v.log t (take k ops) s.replies.items rs)
+    (held_now script v t s st runs) st.told in
     let next : Stands w.log t (take k ops ++ told.op ∷ []) (s.replies.items ++ told.reply ∷ []) told.registers =
-    Stands_answers v.log w.log t (length v.globals) (take k ops) s.replies.items (values_of v t) told.registers told.op told.reply (before.legal refl) legal now told.answers in
-    let taken : take (length after.replies.items) ops ≡ take k ops ++ told.op ∷ [] = ap (λ (n : ℕ). take n ops) more ∙ take_next ops s.rest.operations k told.op dropped in
-    let sizes : length (left s) ≡ length s.rest.operations + 1 = omega (arith, ap length first) in
-    let fewer : length (left after) ≡ length s.rest.operations = ap length takes.to_come in
+    Stands_answers v.log w.log t (length v.globals) (take k ops) s.replies.items
+    (values_of v t) told.registers told.op told.reply (before.legal refl) legal now told.answers in
+    let taken : take (length after.replies.items) ops ≡ take k ops ++ told.op ∷ [] =
+    ap (λ (n : ℕ). take n ops) more ∙ take_next ops s.cursor.operations k told.op dropped in
+    let sizes : length (left s) ≡ length s.cursor.operations + 1 = omega (arith, ap length first) in
+    let fewer : length (left after) ≡ length s.cursor.operations = ap length takes.to_come in
     let within : k + length (left s) ≡ length ops = st.within in
     let room : k + length (left s) ≤ vec_capacity s.replies = st.room in
     let capacity : vec_capacity after.replies ≡ vec_capacity s.replies = takes.capacity in
     record {
-      to_come = takes.to_come ∙ (sym (drop_next ops s.rest.operations k told.op dropped) ∙ ap (λ (n : ℕ). drop n ops) (sym more));
+      to_come =
+          takes.to_come ∙ (sym (drop_next ops s.cursor.operations k told.op dropped)
+          ∙ ap (λ (n : ℕ). drop n ops) (sym more));
       within = omega (arith, count, sizes, fewer, within);
       none_left = takes.none_left;
       registers = told.registers;
       told = subst (λ (os : List Op). Stands w.log t os after.replies.items told.registers) (sym taken)
-          (subst (λ (rs : List Reply). Stands w.log t (take k ops ++ told.op ∷ []) rs told.registers) (sym takes.replies) next);
-      held = told.held;
+          (subst (λ (rs : List Reply). Stands w.log t (take k ops ++ told.op ∷ []) rs told.registers)
+          (sym takes.replies) next);
+      in_registers = told.in_registers;
       dropped = told.dropped;
       call = λ c is. absurd (let none : call_of w t ≡ None = told.call in cc);
       fits = told_fits s after told.reply takes;
@@ -514,36 +412,48 @@ told_stands script v w t s after st runs before behind globals told =
     }
 
 -- if it has ended, all its operations were answered
-told_ends : (script : Script) (config : Config) (w : View) (seats : List Seat) (t : ℕ) (s after : Seat) (reply : Reply) → slice_get seats t ≡ Some s → SeatStands script w t after → TakesReply s after reply → EndsSo script w.log (set seats t after) config t after.mode
-told_ends script config w seats t s after reply at st takes =
+told_ends : (script : Script) (config : Config) (w : View) (states : List ThreadState) (t : ℕ) (s after : ThreadState)
+    (reply : Reply) → slice_get states t ≡ Some s → ThreadStands script w t after → TakesReply s after reply
+    → EndsSo script w.log (set states t after) config t after.mode
+told_ends script config w states t s after reply at st takes =
     elim takes.fits [
-      | inl runs ↦ subst (λ (m : Mode). EndsSo script w.log (set seats t after) config t m) (sym runs.0) tt
+      | inl runs ↦ subst (λ (m : Mode). EndsSo script w.log (set states t after) config t m) (sym runs.0) tt
       | inr rest ↦ elim rest [
-        | inl due ↦ subst (λ (m : Mode). EndsSo script w.log (set seats t after) config t m) (sym due) tt
+        | inl due ↦ subst (λ (m : Mode). EndsSo script w.log (set states t after) config t m) (sym due) tt
         | inr ended ↦
-            let all : length (replies_of (set seats t after) t) ≡ length (operations script t) =
-            omega (arith, ap length (replies_same seats t s after at), st.within, ap length ended.1) in
-            subst (λ (m : Mode). EndsSo script w.log (set seats t after) config t m) (sym ended.0) all
+            let all : length (replies_of (set states t after) t) ≡ length (operations script t) =
+            omega (arith, ap length (replies_same states t s after at), st.within, ap length ended.1) in
+            subst (λ (m : Mode). EndsSo script w.log (set states t after) config t m) (sym ended.0) all
       ]
     ]
 
 -- an object that it made had room
-told_made : (script : Script) (config : Config) (v w : View) (seats : List Seat) (t k : ℕ) (s after : Seat) → TableStands script config v seats → slice_get seats t ≡ Some s → (IsEnded s.mode → ⊥) → SeatTold v w t s after → k < length after.replies.items → length s.replies.items ≤ k → MadeSo script v.log seats config t k
-told_made script config v w seats t k s after table at runs told below last dst refs nums next =
-    let st : SeatStands script v t s = table.each t s at in
+told_made : (script : Script) (config : Config) (v w : View) (states : List ThreadState) (t k : ℕ)
+    (s after : ThreadState) → TableStands script config v states → slice_get states t ≡ Some s → (IsEnded s.mode → ⊥)
+    → ThreadTold v w t s after → k < length after.replies.items → length s.replies.items ≤ k
+    → MadeSo script v.log states config t k
+told_made script config v w states t k s after table at runs told below last dst refs nums next =
+    let st : ThreadStands script v t s = table.each t s at in
     let n : ℕ = length s.replies.items in
-    let count : length after.replies.items ≡ n + 1 = ap length told.takes.replies ∙ length-append s.replies.items (told.reply ∷ []) in
+    let count : length after.replies.items ≡ n + 1 =
+    ap length told.takes.replies ∙ length-append s.replies.items (told.reply ∷ []) in
     let is_last : k ≡ n = omega (arith, count, below, last) in
-    let here : slice_get (operations script t) n ≡ Some told.op = get_next (operations script t) s.rest.operations n told.op (sym st.to_come ∙ told_left v w t s after told) in
-    let op_is : told.op ≡ New dst refs nums = same_Some told.op (New dst refs nums) (sym here ∙ (ap (λ (j : ℕ). slice_get (operations script t) j) (sym is_last) ∙ next)) in
+    let here : slice_get (operations script t) n ≡ Some told.op =
+    get_next (operations script t) s.cursor.operations n told.op (sym st.to_come ∙ told_left v w t s after told) in
+    let op_is : told.op ≡ New dst refs nums =
+    same_Some told.op (New dst refs nums)
+    (sym here ∙ (ap (λ (j : ℕ). slice_get (operations script t) j) (sym is_last) ∙ next)) in
     let room : HasRoom v (2 + refs + nums) = subst (HasRoomFor v) op_is told.room in
-    subst (λ (j : ℕ). HadNow script v.log seats config t j (2 + refs + nums)) (ap length (replies_here seats t s at) ∙ sym is_last)
-    (had_room script config v seats t (2 + refs + nums) s table at runs room)
+    subst (λ (j : ℕ). HadNow script v.log states config t j (2 + refs + nums))
+    (ap length (replies_here states t s at) ∙ sym is_last)
+    (had_room script config v states t (2 + refs + nums) s table at runs room)
 
 -- if a silent collection is due behind the reply, it is by the number of replies
-told_due : (config : Config) (s after : Seat) (reply : Reply) → DueBy config.every s after → TakesReply s after reply → owes_silent after.mode ≡ true → IsDue config (length after.replies.items)
+told_due : (config : Config) (s after : ThreadState) (reply : Reply) → DueBy config.every s after
+    → TakesReply s after reply → owes_silent after.mode ≡ true → IsDue config (length after.replies.items)
 told_due config s after reply due takes owes =
-    let count : length after.replies.items ≡ length s.replies.items + 1 = ap length takes.replies ∙ length-append s.replies.items (reply ∷ []) in
+    let count : length after.replies.items ≡ length s.replies.items + 1 =
+    ap length takes.replies ∙ length-append s.replies.items (reply ∷ []) in
     let more : after.replies.items ≢ s.replies.items = λ same. omega (arith, ap length same, count) in
     let is : after.mode ≡ Due = elim takes.fits [
       | inl runs ↦ absurd (let wrong : false ≡ true = sym (ap owes_silent runs.0) ∙ owes in cc)
@@ -556,9 +466,13 @@ told_due config s after reply due takes owes =
     record { asked = by.0; some = λ none. omega (arith, none, count); divides = by.1 }
 
 -- so all threads stand behind its reply
-told_moves : (script : Script) (config : Config) (v w : View) (seats : List Seat) (t : ℕ) (s after : Seat) → DueBy config.every s after → TableStands script config v seats → slice_get seats t ≡ Some s → (IsEnded s.mode → ⊥) → Standing true w → length w.globals ≡ length v.globals → SeatTold v w t s after → Moves script config v w seats t s after
-told_moves script config v w seats t s after due table at runs behind globals told =
-    let st : SeatStands script w t after = told_stands script v w t s after (table.each t s at) runs table.stands behind globals told in
+told_moves : (script : Script) (config : Config) (v w : View) (states : List ThreadState) (t : ℕ)
+    (s after : ThreadState) → DueBy config.every s after → TableStands script config v states
+    → slice_get states t ≡ Some s → (IsEnded s.mode → ⊥) → Standing true w → length w.globals ≡ length v.globals
+    → ThreadTold v w t s after → Moves script config v w states t s after
+told_moves script config v w states t s after due table at runs behind globals told =
+    let st : ThreadStands script w t after =
+    told_stands script v w t s after (table.each t s at) runs table.stands behind globals told in
     let act : Option Act = (does v.log (values_of v t) told.op told.answers.value).act in
     let grown : w.log ≡ with_entry t v.log act = told.answers.history in
     record {
@@ -568,10 +482,10 @@ told_moves script config v w seats t s after due table at runs behind globals to
       replies = told.takes.replies;
       stands = st;
       due = told_due config s after told.reply due told.takes;
-      ends = told_ends script config w seats t s after told.reply at st told.takes;
-      made_last = λ k below last. told_made script config v w seats t k s after table at runs told below last;
+      ends = told_ends script config w states t s after told.reply at st told.takes;
+      made_last = λ k below last. told_made script config v w states t k s after table at runs told below last;
       entries =
-          let first : left s ≡ told.op ∷ s.rest.operations = told_left v w t s after told in
+          let first : left s ≡ told.op ∷ s.cursor.operations = told_left v w t s after told in
           omega (arith, ap length grown, with_length v.log t act, ap length first, ap length told.takes.to_come);
     }
 
@@ -586,20 +500,23 @@ goes_on Lacking goes over = over
 goes_on (Ended e) goes over = goes
 
 -- an event of one thread that has not ended
-pub Table_step : (script : Script) (config : Config) (v w : View) (seats : List Seat) (t : ℕ) (s after : Seat) → TableStands script config v seats → slice_get seats t ≡ Some s → (IsEnded s.mode → ⊥) → SeatStep v w t s after → DueBy config.every s after → TableStands script config w (set seats t after)
-Table_step script config v w seats t s after table at runs step due =
-    let st : SeatStands script v t s = table.each t s at in
-    let moves : Moves script config v w seats t s after = elim step.what [
-      | inl waits ↦ waits_moves script config v w seats t s after waits.0 (table.due t s at) st runs waits.1
+pub Table_step : (script : Script) (config : Config) (v w : View) (states : List ThreadState) (t : ℕ)
+    (s after : ThreadState) → TableStands script config v states → slice_get states t ≡ Some s → (IsEnded s.mode → ⊥)
+    → ThreadStep v w t s after → DueBy config.every s after → TableStands script config w (set states t after)
+Table_step script config v w states t s after table at runs step due =
+    let st : ThreadStands script v t s = table.each t s at in
+    let moves : Moves script config v w states t s after = elim step.what [
+      | inl waits ↦ waits_moves script config v w states t s after waits.0 (table.due t s at) st runs waits.1
       | inr rest ↦ elim rest [
-        | inl goes ↦ goes_moves script config v w seats t s after (table.due t s at) st runs goes
+        | inl goes ↦ goes_moves script config v w states t s after (table.due t s at) st runs goes
         | inr further ↦ elim further [
-          | inl refused ↦ refused_moves script config v w seats t s after st runs refused
-          | inr told ↦ told_moves script config v w seats t s after due table at runs step.stands step.others.globals told
+          | inl refused ↦ refused_moves script config v w states t s after st runs refused
+          | inr told ↦ told_moves script config v w states t s after due table at runs step.stands step.others.globals
+              told
         ]
       ]
     ] in
-    Table_moves script config v w seats t s after table at runs step.stands step.others moves
+    Table_moves script config v w states t s after table at runs step.stands step.others moves
 
 -- a next operation is one of those that are left
 first_counts : (o : Option Op) (ops : List Op) → IsSome o → 0 < length (with_first o ops)
@@ -607,15 +524,16 @@ first_counts None ops is = absurd (cc)
 first_counts (Some o) ops is = omega arith
 
 -- what an event needs
-pub table_ready : (script : Script) (config : Config) (v : View) (seats : List Seat) (t : ℕ) (s : Seat) → TableStands script config v seats → slice_get seats t ≡ Some s → IsReady v t s
-table_ready script config v seats t s table at =
-    let st : SeatStands script v t s = table.each t s at in
-    let within : t < length seats = slice_get_within seats t s at in
-    let count : length seats ≡ length script.programs = table.count in
+pub table_ready : (script : Script) (config : Config) (v : View) (states : List ThreadState) (t : ℕ) (s : ThreadState)
+    → TableStands script config v states → slice_get states t ≡ Some s → IsReady v t s
+table_ready script config v states t s table at =
+    let st : ThreadStands script v t s = table.each t s at in
+    let within : t < length states = slice_get_within states t s at in
+    let count : length states ≡ length script.programs = table.count in
     let threads : length v.held ≡ length script.programs = table.threads in
-    let entries : length v.log + to_reply seats ≤ v.capacity = table.entries in
-    let few : length v.log + to_reply seats ≤ 8388608 = table.few in
-    let one : length (left s) ≤ to_reply seats = to_reply_one seats t s at in
+    let entries : length v.log + to_reply states ≤ v.capacity = table.entries in
+    let few : length v.log + to_reply states ≤ 8388608 = table.few in
+    let one : length (left s) ≤ to_reply states = to_reply_one states t s at in
     let room : length s.replies.items + length (left s) ≤ vec_capacity s.replies = st.room in
     record {
       stands = table.stands;
@@ -625,20 +543,24 @@ table_ready script config v seats t s table at =
       in_range = subst (λ (n : ℕ). IfSome s.op (InRange n)) (sym table.globals) st.in_range;
       ranges = st.globals ∙ sym table.globals;
       none_left = st.none_left;
-      room = λ is. let more : 0 < length (left s) = first_counts s.op s.rest.operations is in omega (arith, room, more);
-      entries = λ is. let more : 0 < length (left s) = first_counts s.op s.rest.operations is in omega (arith, entries, one, more);
+      room = λ is. let more : 0 < length (left s) =
+          first_counts s.op s.cursor.operations is in omega (arith, room, more);
+      entries = λ is. let more : 0 < length (left s) =
+          first_counts s.op s.cursor.operations is in omega (arith, entries, one, more);
       few = omega (arith, few);
     }
 
 -- a call that is in flight is that of a thread that can go on
-call_goes : (script : Script) (config : Config) (v : View) (seats : List Seat) (t : ℕ) (c : Call) → TableStands script config v seats → AllWait seats → call_of v t ≡ Some c → ⊥
-call_goes script config v seats t c table waits is =
-    let count : length seats ≡ length script.programs = table.count in
+call_goes : (script : Script) (config : Config) (v : View) (states : List ThreadState) (t : ℕ) (c : Call)
+    → TableStands script config v states → AllWait states → call_of v t ≡ Some c → ⊥
+call_goes script config v states t c table waits is =
+    let count : length states ≡ length script.programs = table.count in
     let threads : length v.held ≡ length script.programs = table.threads in
     let each : length v.calls ≡ length v.held = table.stands.each in
-    elim ((slice_get_cases seats t).1) [
-      | inl seat ↦ waits t seat.0 seat.2 (subst MayGo (sym ((table.each t seat.0 seat.2).call c is).0) tt)
-      | inr past ↦ (let no_call : call_of v t ≡ None = get_or_past v.calls t None (omega (arith, count, threads, each, past.0)) in none-some c (sym no_call ∙ is))
+    elim ((slice_get_cases states t).1) [
+      | inl state ↦ waits t state.0 state.2 (subst MayGo (sym ((table.each t state.0 state.2).call c is).0) tt)
+      | inr past ↦ (let no_call : call_of v t ≡ None = get_or_past v.calls t None
+          (omega (arith, count, threads, each, past.0)) in none-some c (sym no_call ∙ is))
     ]
 
 -- what is nothing in particular is nothing
@@ -647,260 +569,42 @@ none_of None never = refl
 none_of (Some x) never = absurd (never x refl)
 
 -- no call is in flight where no thread can go on
-pub waiting_quiet : (script : Script) (config : Config) (v : View) (seats : List Seat) → TableStands script config v seats → AllWait seats → IsQuiet v
-waiting_quiet script config v seats table waits t = none_of (call_of v t) (λ c is. call_goes script config v seats t c table waits is)
+pub waiting_quiet : (script : Script) (config : Config) (v : View) (states : List ThreadState)
+    → TableStands script config v states → AllWait states → IsQuiet v
+waiting_quiet script config v states table waits t =
+    none_of (call_of v t) (λ c is. call_goes script config v states t c table waits is)
 
 -- all threads stand in it
-pub Table_renewed : (script : Script) (config : Config) (v w : View) (seats : List Seat) → TableStands script config v seats → Renewed v w → TableStands script config w seats
-Table_renewed script config v w seats table renewed = record {
+pub Table_renewed : (script : Script) (config : Config) (v w : View) (states : List ThreadState)
+    → TableStands script config v states → Renewed v w → TableStands script config w states
+Table_renewed script config v w states table renewed = record {
   stands = renewed.stands;
   count = table.count;
   threads = renewed.threads ∙ table.threads;
   globals = renewed.globals ∙ table.globals;
   words = renewed.words ∙ table.words;
-  each = λ t s at. let st : SeatStands script v t s = table.each t s at in record {
-    to_come = st.to_come;
-    within = st.within;
-    none_left = st.none_left;
-    registers = st.registers;
-    told = subst (λ (h : List Entry). Stands h t (take (length s.replies.items) (operations script t)) s.replies.items st.registers) (sym renewed.history) st.told;
-    held = elim st.held [ inl over ↦ inl over | inr same ↦ inr (same ∙ sym (renewed.values t)) ];
-    dropped = λ over. renewed.values t ∙ st.dropped over;
-    call = λ c is. absurd (let none : call_of w t ≡ None = renewed.quiet t in cc);
-    fits = st.fits;
-    in_range = st.in_range;
-    globals = st.globals;
-    room = st.room;
-  };
+  each = λ t s at.
+      let st : ThreadStands script v t s = table.each t s at in
+      stands_so script v w t s s.mode st
+      (subst (λ (h : List Entry). Stands h t (take (length s.replies.items) (operations script t)) s.replies.items
+      st.registers) (sym renewed.history) st.told)
+      (elim st.in_registers [ inl over ↦ inl over | inr same ↦ inr (same ∙ sym (renewed.values t)) ])
+      (λ over. renewed.values t ∙ st.dropped over)
+      (λ c is. absurd (let none : call_of w t ≡ None = renewed.quiet t in cc)) st.fits;
   own = subst (All (λ (e : Entry). e.thread < length script.programs)) (sym renewed.history) table.own;
   due = table.due;
-  ends = λ t s at. subst (λ (h : List Entry). EndsSo script h seats config t s.mode) (sym renewed.history) (table.ends t s at);
-  made = λ t k below dst refs nums next. subst (λ (h : List Entry). HadNow script h seats config t k (2 + refs + nums)) (sym renewed.history) (table.made t k below dst refs nums next);
-  entries = let e : length v.log + to_reply seats ≤ v.capacity = table.entries in let c : w.capacity ≡ v.capacity = renewed.capacity in omega (arith, e, c, ap length renewed.history);
-  few = let e : length v.log + to_reply seats ≤ 8388608 = table.few in omega (arith, e, ap length renewed.history);
+  ends = λ t s at. subst (λ (h : List Entry). EndsSo script h states config t s.mode) (sym renewed.history)
+      (table.ends t s at);
+  made = λ t k below dst refs nums next. subst (λ (h : List Entry). HadNow script h states config t k (2 + refs + nums))
+      (sym renewed.history) (table.made t k below dst refs nums next);
+  entries =
+      let e : length v.log + to_reply states ≤ v.capacity = table.entries in
+      let c : w.capacity ≡ v.capacity = renewed.capacity in
+      omega (arith, e, c, ap length renewed.history);
+  few = let e : length v.log + to_reply states ≤ 8388608 = table.few in omega (arith, e, ap length renewed.history);
 }
 
 -- a collection
-pub Table_collected : (script : Script) (config : Config) (v w : View) (seats : List Seat) → TableStands script config v seats → Collected v w → TableStands script config w seats
-Table_collected script config v w seats table collected = Table_renewed script config v w seats table (record {
-  stands = collected.stands;
-  quiet = collected.quiet;
-  globals = collected.globals;
-  words = collected.words;
-  threads = collected.threads;
-  capacity = collected.capacity;
-  history = collected.history;
-  values = collected.values;
-})
-
--- the collections of all threads, where those of each are the same
-pub collections_same : (script : Script) (config : Config) (a b : ℕ → List Reply) (n : ℕ) → ((u : ℕ) → u < n → collections_of script config a u ≡ collections_of script config b u) → collections script config a n ≡ collections script config b n
-collections_same script config a b zero same = refl
-collections_same script config a b (suc n) same =
-    let front : collections script config a n ≡ collections script config b n = collections_same script config a b n (λ u below. same u (omega arith)) in
-    let here : collections_of script config a n ≡ collections_of script config b n = same n (omega arith) in
-    cc
-
--- the collections of all threads, where those of no thread but one differ
-collections_at : (script : Script) (config : Config) (a b : ℕ → List Reply) (t n : ℕ) → t < n → ((u : ℕ) → u ≢ t → collections_of script config a u ≡ collections_of script config b u) → collections script config a n + collections_of script config b t ≡ collections script config b n + collections_of script config a t
-collections_at script config a b t zero below same = absurd (omega arith)
-collections_at script config a b t (suc n) below same = elim (cases_eq n t) [
-  | inl here ↦
-      let front : collections script config a n ≡ collections script config b n = collections_same script config a b n (λ u under. same u (λ is. absurd (omega arith))) in
-      omega (arith, front, ap (collections_of script config a) here, ap (collections_of script config b) here)
-  | inr differ ↦
-      let front : collections script config a n + collections_of script config b t ≡ collections script config b n + collections_of script config a t = collections_at script config a b t n (omega arith) same in
-      omega (arith, front, same n differ)
-]
-
--- the collections by the replies of a thread
-by_replies : Script → Config → ℕ → List Reply → ℕ
-by_replies script config u rs = count_by is_collect (take (length rs) (operations script u)) + silent_in config.every (length rs)
-
--- those of another thread stay
-collections_other : (script : Script) (config : Config) (seats : List Seat) (t u : ℕ) (after : Seat) → u ≢ t → collections_of script config (replies_of (set seats t after)) u ≡ collections_of script config (replies_of seats) u
-unfolding by_replies
-collections_other script config seats t u after differ = ap (by_replies script config u) (replies_other seats t u after differ)
-
--- an operation that is no collection does not count as one
-is_no_collect : (o : Op) → o ≢ Collect → is_collect o ≡ false
-is_no_collect (op.New dst refs nums) differ = refl
-is_no_collect (op.Load dst src i) differ = refl
-is_no_collect (op.Store obj i src) differ = refl
-is_no_collect (op.Get src j) differ = refl
-is_no_collect (op.Put obj j v) differ = refl
-is_no_collect (op.GLoad dst g) differ = refl
-is_no_collect (op.GStore g src) differ = refl
-is_no_collect (op.Same a b) differ = refl
-is_no_collect (op.Copy dst src) differ = refl
-is_no_collect (op.Drop r) differ = refl
-is_no_collect op.Collect differ = absurd (differ refl)
-
--- one reply counts as one collection at most
-one_at_most : (b : Bool) → (if b then 1 else 0) ≤ 1
-one_at_most true = omega arith
-one_at_most false = omega arith
-
--- behind a reply whose number is a multiple one silent collection more
-silent_due : (every n : ℕ) → every ≢ 0 → (n + 1) % every ≡ 0 → silent_in every (n + 1) ≡ silent_in every n + 1
-silent_due zero n some divides = absurd (some refl)
-silent_due (suc e) n some divides =
-    let m : ℕ = suc e in
-    let q : ℕ = n / m in
-    let p : ℕ = (n + 1) / m in
-    let now : m * p + (n + 1) % m ≡ n + 1 = div-add-mod (n + 1) m in
-    let was : m * q + n % m ≡ n = div-add-mod n m in
-    let some_m : 0 < m = omega arith in
-    let rest : n % m < m = mod-lt n some_m in
-    elim (cases_lt q p) [
-      | inl more ↦ elim (cases_lt (q + 1) p) [
-        | inl far ↦ absurd (let more_q : q + 2 ≤ p = omega (arith, far) in let large : m * (q + 2) ≤ m * p = mul-le-mul_left m more_q in omega (arith, large, now, was, rest, divides))
-        | inr one ↦ omega (arith, more, one)
-      ]
-      | inr less ↦ absurd (let large : m * p ≤ m * q = mul-le-mul_left m less in omega (arith, large, now, was, rest, divides))
-    ]
-
--- and none behind another
-silent_not : (every n : ℕ) → (every ≢ 0 → (n + 1) % every ≡ 0 → ⊥) → silent_in every (n + 1) ≡ silent_in every n
-silent_not zero n not = refl
-silent_not (suc e) n not =
-    let m : ℕ = suc e in
-    let q : ℕ = n / m in
-    let p : ℕ = (n + 1) / m in
-    let now : m * p + (n + 1) % m ≡ n + 1 = div-add-mod (n + 1) m in
-    let was : m * q + n % m ≡ n = div-add-mod n m in
-    let some_m : 0 < m = omega arith in
-    let rest : n % m < m = mod-lt n some_m in
-    let over : (n + 1) % m < m = mod-lt (n + 1) some_m in
-    let some : 0 < (n + 1) % m = elim (cases_lt 0 ((n + 1) % m)) [ inl is ↦ is | inr none ↦ absurd (not (λ is. omega (arith, is)) (omega (arith, none))) ] in
-    elim (cases_lt q p) [
-      | inl more ↦ absurd (let more_q : q + 1 ≤ p = omega (arith, more) in let large : m * (q + 1) ≤ m * p = mul-le-mul_left m more_q in omega (arith, large, now, was, rest, some))
-      | inr less ↦ elim (cases_lt p q) [
-        | inl far ↦ absurd (let more_p : p + 1 ≤ q = omega (arith, far) in let large : m * (p + 1) ≤ m * q = mul-le-mul_left m more_p in omega (arith, large, now, was, over))
-        | inr one ↦ omega (arith, less, one)
-      ]
-    ]
-
--- a mode is that of a thread with a silent collection to come or is not
-due_cases : (mode : Mode) → (mode ≡ Due) ⊎ (mode ≡ Due → ⊥)
-due_cases Running = inr (λ is. cc)
-due_cases Due = inl refl
-due_cases Silent = inr (λ is. cc)
-due_cases Collecting = inr (λ is. cc)
-due_cases Asked = inr (λ is. cc)
-due_cases Lacking = inr (λ is. cc)
-due_cases (Ended e) = inr (λ is. cc)
-
--- a reply brings a silent collection exactly where one is due behind it
-silent_told : (config : Config) (s after : Seat) (reply : Reply) → DueBy config.every s after → TakesReply s after reply → silent_in config.every (length s.replies.items + 1) ≡ silent_in config.every (length s.replies.items) + owes after.mode
-silent_told config s after reply due takes =
-    let k : ℕ = length s.replies.items in
-    let count : length after.replies.items ≡ k + 1 = ap length takes.replies ∙ length-append s.replies.items (reply ∷ []) in
-    let more : after.replies.items ≢ s.replies.items = λ same. omega (arith, ap length same, count) in
-    let by = due more in
-    elim (due_cases after.mode) [
-      | inl is ↦
-          let divides = by.0 is in
-          omega (arith, silent_due config.every k divides.0 (ap (λ (n : ℕ). n % config.every) (sym count) ∙ divides.1), ap owes is)
-      | inr not ↦
-          let none : owes after.mode ≡ 0 = elim takes.fits [
-            | inl runs ↦ ap owes runs.0
-            | inr rest ↦ elim rest [ inl is ↦ absurd (not is) | inr ended ↦ ap owes ended.0 ]
-          ] in
-          omega (arith, none, silent_not config.every k (λ some divides. not (by.1 (some, ap (λ (n : ℕ). n % config.every) count ∙ divides))))
-    ]
-
--- the collections of a thread that got a reply
-told_collections : (script : Script) (config : Config) (v w : View) (seats : List Seat) (t : ℕ) (s after : Seat) → SeatStands script v t s → slice_get seats t ≡ Some s → DueBy config.every s after → (told : SeatTold v w t s after) → collections_of script config (replies_of (set seats t after)) t ≡ collections_of script config (replies_of seats) t + owes after.mode + (if is_collect told.op then 1 else 0)
-told_collections script config v w seats t s after st at due told =
-    let ops : List Op = operations script t in
-    let k : ℕ = length s.replies.items in
-    let C : ℕ → ℕ = λ (n : ℕ). count_by is_collect (take n ops) in
-    let count : length after.replies.items ≡ k + 1 = ap length told.takes.replies ∙ length-append s.replies.items (told.reply ∷ []) in
-    let now : length (replies_of (set seats t after) t) ≡ k + 1 = omega (arith, count, ap length (replies_same seats t s after at)) in
-    let was : length (replies_of seats t) ≡ k = ap length (replies_here seats t s at) in
-    let taken : take (suc k) ops ≡ take k ops ++ told.op ∷ [] = take_next ops s.rest.operations k told.op (sym st.to_come ∙ told_left v w t s after told) in
-    let next : C (suc k) ≡ C k + (if is_collect told.op then 1 else 0) = ap (count_by is_collect) taken ∙ sum_by_push (λ (o : Op). if is_collect o then 1 else 0) (take k ops) told.op in
-    let suc_k : k + 1 ≡ suc k = omega arith in
-    omega (arith, next, ap C was, ap C (now ∙ suc_k), ap (silent_in config.every) was, ap (silent_in config.every) now, silent_told config s after told.reply due told.takes)
-
--- the collections of a thread that got no reply
-silent_collections : (script : Script) (config : Config) (seats : List Seat) (t : ℕ) (s after : Seat) → slice_get seats t ≡ Some s → after.replies.items ≡ s.replies.items → collections_of script config (replies_of (set seats t after)) t ≡ collections_of script config (replies_of seats) t
-unfolding by_replies
-silent_collections script config seats t s after at same =
-    ap (by_replies script config t) (replies_same seats t s after at ∙ (same ∙ sym (replies_here seats t s at)))
-
--- how many threads have a silent collection still to come, where a seat was set
-pub owing_set : (seats : List Seat) (t : ℕ) (s after : Seat) → slice_get seats t ≡ Some s → owing (set seats t after) + owes s.mode ≡ owing seats + owes after.mode
-owing_set seats t s after at =
-    let f : Seat → ℕ = λ (x : Seat). owes x.mode in
-    omega (arith, sum-map f seats, sum-map f (set seats t after), sum_by-set f seats t after s (slice_get_within seats t s at), ap f (get_or_from_slice_get seats t s s at))
-
--- So many collections more were made for the replies that threads got, and for those that are no longer to come.
-abbrev pub Adds : Script → Config → List Seat → List Seat → ℕ → Type 0
-Adds script config seats after c =
-    collections script config (replies_of after) (length script.programs) + owing seats ≡ collections script config (replies_of seats) (length script.programs) + owing after + c
-
--- where the replies of one thread change alone
-adds_at : (script : Script) (config : Config) (seats : List Seat) (t c : ℕ) (s after : Seat) → slice_get seats t ≡ Some s → length seats ≡ length script.programs → collections_of script config (replies_of (set seats t after)) t + owes s.mode ≡ collections_of script config (replies_of seats) t + owes after.mode + c → Adds script config seats (set seats t after) c
-adds_at script config seats t c s after at count here =
-    let below : t < length seats = slice_get_within seats t s at in
-    omega (
-      arith,
-      here,
-      owing_set seats t s after at,
-      collections_at script config (replies_of (set seats t after)) (replies_of seats) t (length script.programs) (omega (arith, below, count)) (λ u differ. collections_other script config seats t u after differ),
-    )
-
--- no reply and the same silent collections to come
-pub adds_mode : (script : Script) (config : Config) (seats : List Seat) (t : ℕ) (s : Seat) (mode : Mode) → slice_get seats t ≡ Some s → length seats ≡ length script.programs → owes s.mode ≡ owes mode → Adds script config seats (set seats t (record s { mode = mode })) 0
-adds_mode script config seats t s mode at count same =
-    adds_at script config seats t 0 s (record s { mode = mode }) at count (omega (arith, same, silent_collections script config seats t s (record s { mode = mode }) at refl))
-
--- a silent collection that was made for a thread
-pub adds_silent : (script : Script) (config : Config) (seats : List Seat) (t : ℕ) (s : Seat) (mode : Mode) → slice_get seats t ≡ Some s → length seats ≡ length script.programs → owes s.mode ≡ owes mode + 1 → Adds script config seats (set seats t (record s { mode = mode })) 1
-adds_silent script config seats t s mode at count same =
-    adds_at script config seats t 1 s (record s { mode = mode }) at count (omega (arith, same, silent_collections script config seats t s (record s { mode = mode }) at refl))
-
--- a thread that waits for its call to be made again has no silent collection to come
-paused_owes : (cause : Pause) → owes (paused_as cause) ≡ 0
-paused_owes pause.Asked = refl
-paused_owes (pause.Space need) = refl
-paused_owes pause.Forward = refl
-
--- An event of a thread adds its silent collection to those that are to come, and one at most that was answered.
-here_step : (script : Script) (config : Config) (v w : View) (seats : List Seat) (t : ℕ) (s after : Seat) → TableStands script config v seats → slice_get seats t ≡ Some s → SeatStep v w t s after → DueBy config.every s after → Adds script config seats (set seats t after) 0 ⊎ ((told : SeatTold v w t s after) × Adds script config seats (set seats t after) (if is_collect told.op then 1 else 0))
-here_step script config v w seats t s after table at step due =
-    let by_mode : (mode : Mode) → after ≡ record s { mode = mode } → owes s.mode ≡ owes mode → Adds script config seats (set seats t after) 0 = λ mode is same.
-    subst (λ (y : Seat). Adds script config seats (set seats t y) 0) (sym is) (adds_mode script config seats t s mode at table.count same) in
-    elim step.what [
-      | inl waits ↦ inl (by_mode waits.0 waits.1.only (elim waits.1.before [ inl own ↦ ap owes own.0 ∙ ap owes (sym own.2) | inr silent ↦ ap owes silent.0 ∙ ap owes (sym silent.1) ]))
-      | inr rest ↦ elim rest [
-        | inl goes ↦ inl (by_mode s.mode goes.same refl)
-        | inr further ↦ elim further [
-          | inl refused ↦ inl (by_mode (paused_as refused.cause) refused.only (ap owes refused.running ∙ sym (paused_owes refused.cause)))
-          | inr told ↦ inr (
-            told,
-            adds_at script config seats t (if is_collect told.op then 1 else 0) s after at table.count
-                (let none : owes s.mode ≡ 0 = ap {B = ℕ} (λ (b : Bool). if b then 1 else 0) told.not_due in
-                omega (arith, none, told_collections script config v w seats t s after (table.each t s at) at due told)),
-          )
-        ]
-      ]
-    ]
-
--- one collection at most was answered
-pub collections_grow : (script : Script) (config : Config) (v w : View) (seats : List Seat) (t : ℕ) (s after : Seat) → TableStands script config v seats → slice_get seats t ≡ Some s → SeatStep v w t s after → DueBy config.every s after → (c : ℕ) × (c ≤ 1) × Adds script config seats (set seats t after) c
-collections_grow script config v w seats t s after table at step due =
-    elim (here_step script config v w seats t s after table at step due) [
-      | inl same ↦ (0, omega arith, same)
-      | inr more ↦ ((if is_collect more.0.op then 1 else 0), one_at_most (is_collect more.0.op), more.1)
-    ]
-
--- and none where the reply was to another operation
-pub collections_step : (script : Script) (config : Config) (v w : View) (seats : List Seat) (t : ℕ) (s after : Seat) → TableStands script config v seats → slice_get seats t ≡ Some s → SeatStep v w t s after → DueBy config.every s after → ((told : SeatTold v w t s after) → told.op ≢ Collect) → Adds script config seats (set seats t after) 0
-collections_step script config v w seats t s after table at step due other =
-    elim (here_step script config v w seats t s after table at step due) [
-      | inl same ↦ same
-      | inr more ↦ subst (Adds script config seats (set seats t after)) (ap {B = ℕ} (λ (b : Bool). if b then 1 else 0) (is_no_collect more.0.op (other more.0))) more.1
-    ]
+pub Table_collected : (script : Script) (config : Config) (v w : View) (states : List ThreadState)
+    → TableStands script config v states → CoreCollected v w → TableStands script config w states
+Table_collected script config v w states table collected = Table_renewed script config v w states table collected.stays

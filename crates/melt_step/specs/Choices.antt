@@ -31,17 +31,17 @@ abbrev pub nothing_yet : SoFar
 nothing_yet = record { ops = []; replies = []; over = false }
 
 -- one operation more was answered
-abbrev pub and_then : SoFar → Op → Reply → SoFar
-and_then s o reply = record { ops = s.ops ++ o ∷ []; replies = s.replies ++ reply ∷ []; over = s.over }
+abbrev pub with_reply : SoFar → Op → Reply → SoFar
+with_reply s o reply = record { ops = s.ops ++ o ∷ []; replies = s.replies ++ reply ∷ []; over = s.over }
 
 -- one thread has this behind it, and each other what it had
-pub record Sets (all after : ℕ → SoFar) (t : ℕ) (s : SoFar) : Type 0 where
+pub record SetsSoFar (all after : ℕ → SoFar) (t : ℕ) (s : SoFar) : Type 0 where
   pub here : after t ≡ s
   pub others : (u : ℕ) → u ≢ t → after u ≡ all u
 
 -- what an event with this result makes of that
 abbrev pub SetsBy : (ℕ → SoFar) → (ℕ → SoFar) → ℕ → Op → StepResult → Type 0
-SetsBy all after t o (Answered reply) = Sets all after t (and_then (all t) o reply)
+SetsBy all after t o (Answered reply) = SetsSoFar all after t (with_reply (all t) o reply)
 SetsBy all after t o Going = (u : ℕ) → after u ≡ all u
 SetsBy all after t o (Refused refusal) = (u : ℕ) → after u ≡ all u
 
@@ -58,20 +58,30 @@ pub record CollectsRest (heap : Heap) (rest : Rest) (new : Heap) (after : Rest) 
   pub log : after.log ≡ rest.log
   pub made : after.made ≡ rest.made
 
--- A run so far, by any choices among what the public calls of a core and the collection do, each where it may be called:
--- a new core, an event of a thread, the stop word set, an answer to a `collect`, a thread that drops its registers, a new
--- epoch, and a collection between two epochs.
+-- A run so far, by any choices among what the public calls of a core and the collection do, each where it may be
+-- called: a new core, an event of a thread, the stop word set, an answer to a `collect`, a thread that drops its
+-- registers, a new epoch, and a collection between two epochs.
 pub data Chosen (threads globals : ℕ) : View → (ℕ → SoFar) → Type 0 where
-  starts : (v : View) (all : ℕ → SoFar) (words entries : ℕ) (heap : Heap) (rest : Rest) → words < 2 ^ 30 → threads ≤ 8 → IsNewHeap words globals true heap → IsNewRest threads entries rest → v ≡ view (core_of heap rest) → ((t : ℕ) → all t ≡ nothing_yet) → Chosen threads globals v all
-  event : (v w : View) (all after : ℕ → SoFar) (t : ℕ) (o : Op) (result : StepResult) → Chosen threads globals v all → (all t).over ≡ false → MayAdvance v t o → Advances v w t o result → SetsBy all after t o result → Chosen threads globals w after
+  starts : (v : View) (all : ℕ → SoFar) (words entries : ℕ) (heap : Heap) (rest : Rest) → words < 2 ^ 30 → threads ≤ 8
+      → IsNewHeap words globals true heap → IsNewRest threads entries rest → v ≡ view (core_of heap rest)
+      → ((t : ℕ) → all t ≡ nothing_yet) → Chosen threads globals v all
+  event : (v w : View) (all after : ℕ → SoFar) (t : ℕ) (o : Op) (result : StepResult) → Chosen threads globals v all
+      → (all t).over ≡ false → MayAdvance v t o → Advances v w t o result → SetsBy all after t o result
+      → Chosen threads globals w after
   asks : (v w : View) (all : ℕ → SoFar) → Chosen threads globals v all → w ≡ stopped v → Chosen threads globals w all
-  collect : (v : View) (all after : ℕ → SoFar) (t : ℕ) → Chosen threads globals v all → Sets all after t (and_then (all t) Collect Done) → Chosen threads globals v after
-  drops : (v w : View) (all after : ℕ → SoFar) (t : ℕ) → Chosen threads globals v all → call_of v t ≡ None → HasDropped v w t → Sets all after t (record (all t) { over = true }) → Chosen threads globals w after
-  epoch : (v w : View) (all : ℕ → SoFar) (heap : Heap) (rest : Rest) → Chosen threads globals v all → IsQuiet v → ((told : Bool) → Standing told v → AtRest told heap rest) → HasFinished v (view (core_of heap rest)) → w ≡ view (core_of heap rest) → Chosen threads globals w all
-  collection : (v w : View) (all : ℕ → SoFar) (heap new : Heap) (rest after : Rest) → Chosen threads globals v all → v ≡ view (core_of heap rest) → IsQuiet v → CollectsRest heap rest new after → w ≡ view (core_of new after) → Chosen threads globals w all
+  collect : (v : View) (all after : ℕ → SoFar) (t : ℕ) → Chosen threads globals v all
+      → SetsSoFar all after t (with_reply (all t) Collect Done) → Chosen threads globals v after
+  drops : (v w : View) (all after : ℕ → SoFar) (t : ℕ) → Chosen threads globals v all → call_of v t ≡ None
+      → HasDropped v w t → SetsSoFar all after t (record (all t) { over = true }) → Chosen threads globals w after
+  epoch : (v w : View) (all : ℕ → SoFar) (heap : Heap) (rest : Rest) → Chosen threads globals v all → IsQuiet v
+      → ((told : Bool) → Standing told v → AtRest told heap rest) → HasFinished v (view (core_of heap rest))
+      → w ≡ view (core_of heap rest) → Chosen threads globals w all
+  collection : (v w : View) (all : ℕ → SoFar) (heap new : Heap) (rest after : Rest) → Chosen threads globals v all
+      → v ≡ view (core_of heap rest) → IsQuiet v → CollectsRest heap rest new after → w ≡ view (core_of new after)
+      → Chosen threads globals w all
 
--- There is one legal history, with entries of the threads alone; the replies that each thread has by now are those that it
--- gives, whatever operations are to come; and the words stand for it.
+-- There is one legal history, with entries of the threads alone; the replies that each thread has by now are those that
+-- it gives, whatever operations are to come; and the words stand for it.
 pub record AreTold (threads globals : ℕ) (v : View) (all : ℕ → SoFar) : Type 0 where
   pub stands : Standing true v
   pub legal : Legal v.log globals

@@ -34,5 +34,6 @@ before journal (suc k) = slice_get journal k
 -- Each collection is of the phase that was planned behind the one before it, or was forced, as it can be only where an
 -- object might have no room behind the one before. What registers hold is a part of what is in use, which the heap has.
 pub record IsJournalOf (config : Config) (journal : List Journal) : Type 0 where
-  pub phases : (k : ℕ) (j : Journal) → slice_get journal k ≡ Some j → (j.phase ≡ next_of config (before journal k)) ⊎ ((j.phase ≡ forced) × IsTight config (before journal k))
+  pub phases : (k : ℕ) (j : Journal) → slice_get journal k ≡ Some j → (j.phase ≡ next_of config (before journal k))
+      ⊎ ((j.phase ≡ forced) × IsTight config (before journal k))
   pub words : All (λ j. (j.held ≤ j.live) × (j.live ≤ config.heap)) journal

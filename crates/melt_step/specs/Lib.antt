@@ -1,5 +1,5 @@
 pub mod Journals
 pub mod Run
-pub mod Seats
+pub mod Threads
 pub mod Turns
 pub mod Choices

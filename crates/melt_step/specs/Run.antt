@@ -1,5 +1,6 @@
 -- What a report of a run by the written order says of a trace.
-use Rattle.std.specs.Prelude.{◌≡◌, ◌≢◌, ℕ, zero, suc, ◌+◌, ◌/◌, ◌%◌, ◌<◌, ◌≤◌, ◌⊎◌, Bool, true, false, if◌then◌else◌, List, [], length, All, take, slice_get, Option, None, Some, IfSome, IsSome}
+use Rattle.std.specs.Prelude.{◌≡◌, ◌≢◌, ℕ, zero, suc, ◌+◌, ◌/◌, ◌%◌, ◌<◌, ◌≤◌, ◌⊎◌, Bool, true, false, if◌then◌else◌}
+use Rattle.std.specs.Prelude.{List, [], length, All, take, slice_get, Option, None, Some, IfSome, IsSome}
 use Rattle.std.specs.List.{count_by}
 use Rattle.std.specs.Option.{option_map_or}
 use Rattle.melt_model.specs.Alive.{Alive, words_of, CostsSum}
@@ -33,7 +34,8 @@ is_collect o = false
 pub record HasHistory (script : Script) (history : List Entry) (report : Report) : Type 0 where
   pub legal : Legal history script.globals
   pub threads : length report.threads ≡ length script.programs
-  pub transcripts : (t : ℕ) (r : ThreadReport) → slice_get report.threads t ≡ Some r → Transcript history t (operations script t) r.replies
+  pub transcripts : (t : ℕ) (r : ThreadReport) → slice_get report.threads t ≡ Some r
+      → Transcript history t (operations script t) r.replies
   pub own_threads : All (λ e. e.thread < length script.programs) history
 
 -- the replies of a thread
@@ -58,7 +60,8 @@ history_at log cut = take cut.entries log
 -- the registers of a thread at the moment; one that had ended holds nothing
 abbrev pub registers_at : Script → List Entry → Cut → ℕ → ℕ → Value
 registers_at script log cut t r =
-    if cut.ended t then Nil else value_in (registers_after (history_at log cut) t (operations script t) (cut.replies t)) r
+    if cut.ended t then Nil else value_in (registers_after (history_at log cut) t (operations script t) (cut.replies t))
+    r
 
 -- behind so many replies of a thread a silent collection is due
 pub record IsDue (config : Config) (count : ℕ) : Type 0 where
@@ -72,7 +75,8 @@ IsOver script config cut t = (cut.ended t ≡ true) ⊎ IsDue config (length (op
 
 -- The replies that the threads had at the moment take exactly the entries that the history had. A thread that had ended
 -- got no further one, and one with all its replies had ended, unless a silent collection was due behind the last.
-pub record IsCut (script : Script) (log : List Entry) (replies : ℕ → List Reply) (config : Config) (cut : Cut) : Type 0 where
+pub record IsCut (script : Script) (log : List Entry) (replies : ℕ → List Reply) (config : Config)
+    (cut : Cut) : Type 0 where
   pub within : cut.entries ≤ length log
   pub few : (t : ℕ) → cut.replies t ≤ length (replies t)
   pub told : (t : ℕ) → Transcript (history_at log cut) t (operations script t) (take (cut.replies t) (replies t))
@@ -80,7 +84,8 @@ pub record IsCut (script : Script) (log : List Entry) (replies : ℕ → List Re
   pub over : (t : ℕ) → cut.replies t ≡ length (operations script t) → IsOver script config cut t
 
 -- the moment at which a thread that had not ended had got so many replies
-pub record IsCutAt (script : Script) (log : List Entry) (replies : ℕ → List Reply) (config : Config) (t k : ℕ) (cut : Cut) : Type 0 where
+pub record IsCutAt (script : Script) (log : List Entry) (replies : ℕ → List Reply) (config : Config) (t k : ℕ)
+    (cut : Cut) : Type 0 where
   pub is : IsCut script log replies config cut
   pub count : cut.replies t ≡ k
   pub alive : cut.ended t ≡ false
@@ -97,36 +102,41 @@ EndsWithCollect ops = (k : ℕ) × (length ops ≡ suc k) × (slice_get ops k �
 -- At some moment the next operation of the thread makes an object that needs more words than the heap has beside those
 -- of the objects that registers and globals reach. All silent collections were made by then, but for those behind a
 -- `collect` that was answered at the same safepoint.
-pub record LacksRoom (script : Script) (log : List Entry) (replies : ℕ → List Reply) (config : Config) (t held need : ℕ) : Type 0 where
+pub record LacksRoom (script : Script) (log : List Entry) (replies : ℕ → List Reply) (config : Config)
+    (t held_words need : ℕ) : Type 0 where
   pub cut : Cut
   pub is_cut : IsCutAt script log replies config t (length (replies t)) cut
-  pub over : (u : ℕ) → cut.replies u ≡ length (operations script u) → (cut.ended u ≡ true) ⊎ (IsDue config (length (operations script u)) × EndsWithCollect (operations script u))
+  pub over : (u : ℕ) → cut.replies u ≡ length (operations script u)
+      → (cut.ended u ≡ true) ⊎ (IsDue config (length (operations script u)) × EndsWithCollect (operations script u))
   pub dst : ℕ
   pub refs : ℕ
   pub nums : ℕ
   pub next : slice_get (operations script t) (length (replies t)) ≡ Some (New dst refs nums)
   pub needed : need ≡ 2 + refs + nums
-  pub reach : ReachesWords script log cut held
-  pub above : config.heap < held + need
+  pub reach : ReachesWords script log cut held_words
+  pub above : config.heap < held_words + need
 
 -- At some moment at which the thread had got k replies, the heap had so many words beside those of the objects that
 -- registers and globals reached.
-pub record HadRoom (script : Script) (log : List Entry) (replies : ℕ → List Reply) (config : Config) (t k need : ℕ) : Type 0 where
+pub record HadRoom (script : Script) (log : List Entry) (replies : ℕ → List Reply) (config : Config)
+    (t k need : ℕ) : Type 0 where
   pub cut : Cut
   pub is_cut : IsCutAt script log replies config t k cut
-  pub held : ℕ
-  pub reach : ReachesWords script log cut held
-  pub fits : held + need ≤ config.heap
+  pub held_words : ℕ
+  pub reach : ReachesWords script log cut held_words
+  pub fits : held_words + need ≤ config.heap
 
 -- If operation k of the thread makes an object, there was room for it.
-abbrev pub HasRoom : Script → List Entry → (ℕ → List Reply) → Config → ℕ → ℕ → Type 0
-HasRoom script log replies config t k =
-    (dst refs nums : ℕ) → slice_get (operations script t) k ≡ Some (New dst refs nums) → HadRoom script log replies config t k (2 + refs + nums)
+abbrev pub HadRoomToMake : Script → List Entry → (ℕ → List Reply) → Config → ℕ → ℕ → Type 0
+HadRoomToMake script log replies config t k =
+    (dst refs nums : ℕ) → slice_get (operations script t) k ≡ Some (New dst refs nums)
+    → HadRoom script log replies config t k (2 + refs + nums)
 
 -- why a thread may end so
 abbrev pub MayEnd : Script → Config → Report → ℕ → ThreadEnd → Type 0
 MayEnd script config report t end.Done = answered report t ≡ length (operations script t)
-MayEnd script config report t (end.OutOfHeap held need) = LacksRoom script report.log (replies_in report) config t held need
+MayEnd script config report t (end.OutOfHeap held_words need) =
+    LacksRoom script report.log (replies_in report) config t held_words need
 MayEnd script config report t end.DiskFault = ⊥
 MayEnd script config report t (end.Damaged home at word) = ⊥
 MayEnd script config report t end.Halted = ⊥
@@ -152,7 +162,7 @@ collections script config replies (suc n) = collections script config replies n 
 pub record IsStepReport (script : Script) (config : Config) (report : Report) : Type 0 where
   pub history : HasHistory script report.log report
   pub ends : (t : ℕ) (r : ThreadReport) → slice_get report.threads t ≡ Some r → MayEnd script config report t r.end
-  pub room : (t k : ℕ) → k < answered report t → HasRoom script report.log (replies_in report) config t k
+  pub room : (t k : ℕ) → k < answered report t → HadRoomToMake script report.log (replies_in report) config t k
   pub no_halt : report.halt ≡ None
   pub no_moves : All (λ j. j.phase ≢ Move) report.journal
   pub journal : IsJournalOf config report.journal

@@ -6,7 +6,7 @@ ghost use Rattle.melt_core.specs.Views.{IsQuiet, Standing, view};
 ghost use Rattle.melt_policy.specs.Policy.{planned};
 ghost use Rattle.melt_model.specs.declared.reports.Phase.{Phase};
 ghost use Rattle.melt_step.specs.Journals.{made_as};
-ghost use Rattle.melt_step.specs.Seats.{Collected, IsPlanning, PlansBy};
+ghost use Rattle.melt_step.specs.Threads.{CoreCollected, IsPlanning, PlansBy};
 
 use melt_copy::collect_copy;
 use melt_core::Core;
@@ -23,10 +23,10 @@ fn count_registers(registers: Registers)
 {}
 
 /// Each thread has 16 registers.
-fn count_all_registers(held: &[Registers])
-    ensures { All (λ registers. length registers.regs ≡ 16) held.now }
+fn count_all_registers(all: &[Registers])
+    ensures { All (λ each. length each.regs ≡ 16) all.now }
 {
-    for &registers in held {
+    for &registers in all {
         count_registers(registers);
     }
 }
@@ -35,23 +35,23 @@ fn count_all_registers(held: &[Registers])
 fn collect_uncounted<L: Ledger>(
     alloc: Global,
     heap: &mut Heap,
-    held: &mut [Registers],
+    registers: &mut [Registers],
     phase: Phase,
     blank: Blank,
 ) -> Result<Journal, NoMemory>
     requires name { blank.name ≡ L.name }
     requires parts { blank.parts ≡ L.parts }
     requires some { 0 < blank.parts }
-    requires formed { IsFormed heap.old held.old }
+    requires formed { IsFormed heap.old registers.old }
     requires phase { IsCopying phase }
-    ensures collected { IfOk result (Collects heap.old held.old heap.new held.new phase) }
-    ensures before { All (λ registers. length registers.regs ≡ 16) held.old }
-    ensures after { OnOk result (All (λ registers. length registers.regs ≡ 16) held.new) }
+    ensures collected { IfOk result (Collects heap.old registers.old heap.new registers.new phase) }
+    ensures before { All (λ each. length each.regs ≡ 16) registers.old }
+    ensures after { OnOk result (All (λ each. length each.regs ≡ 16) registers.new) }
 {
-    count_all_registers(held);
+    count_all_registers(registers);
     let mut steps = Steps::<L>::new(blank);
-    let journal = collect_copy(alloc, heap, held, phase, &mut steps)?;
-    count_all_registers(held);
+    let journal = collect_copy(alloc, heap, registers, phase, &mut steps)?;
+    count_all_registers(registers);
     Ok(journal)
 }
 
@@ -84,7 +84,7 @@ impl Collector {
         requires phase { IsCopying phase }
         requires stands { Standing true (view core) }
         requires quiet { IsQuiet (view core) }
-        ensures collected { IfOk result (λ after. Collected (view core) (view after)) }
+        ensures collected { IfOk result (λ after. CoreCollected (view core) (view after)) }
         ensures plans { IfOk result (λ after. PlansBy self.old self.new (view after) phase) }
     {
         let (mut heap, mut rest) = core.finish();
@@ -101,7 +101,8 @@ impl Collector {
         ensures planning { IsPlanning self.new }
         ensures journal { self.new.journal ≡ self.old.journal }
         ensures config { self.new.config ≡ self.old.config }
-        ensures next { self.new.planned ≡ made_as (planned live self.old.config.heap phase self.old.config.mark self.old.config.move_) }
+        ensures next { self.new.planned ≡ made_as
+            (planned live self.old.config.heap phase self.old.config.mark self.old.config.move_) }
     {
         let config = self.config;
         let next = next_phase(live, config.heap, phase, config.mark, config.move_);
@@ -116,7 +117,7 @@ impl Collector {
         requires planning { IsPlanning self.old }
         requires stands { Standing true (view core) }
         requires quiet { IsQuiet (view core) }
-        ensures collected { IfOk result (λ after. Collected (view core) (view after)) }
+        ensures collected { IfOk result (λ after. CoreCollected (view core) (view after)) }
         ensures plans { IfOk result (λ after. PlansBy self.old self.new (view after) self.old.planned) }
     {
         self.collect(alloc, core, self.planned)

@@ -4,9 +4,10 @@ ghost use Rattle.melt_model.specs.declared.operations.Op.{Op};
 ghost use Rattle.melt_core.specs.Advances.{InBounds};
 ghost use Rattle.melt_core.specs.Changed.{HasRoomForEntry};
 ghost use Rattle.melt_core.specs.Views.{Standing, call_of, view};
-ghost use Rattle.melt_step.specs.Seats.{CalledAlone, DropsIfEnded, DueBy, IsReady, MayGo, SeatStep, SetsStop, TakesReply};
+ghost use Rattle.melt_step.specs.Threads.{CalledAlone, DropsIfEnded, DueBy, IsReady, MayGo, ThreadStep, SetsStop};
+ghost use Rattle.melt_step.specs.Threads.{TakesReply};
 
-use crate::seat::{Mode, Seat};
+use crate::thread::{Mode, ThreadState};
 use melt_core::{Core, Pause, Refusal, StepResult};
 use melt_io::{Failed, RecordReader};
 use melt_model::{Op, Reply};
@@ -31,79 +32,89 @@ impl RecordReader for NoDisk {
 }
 
 /// Makes the next event of a thread that can go on.
-pub fn make_event(core: &mut Core, seat: &mut Seat<'_>, thread: u32, every: u32)
-    requires ready { IsReady (view core.old) thread seat.old }
-    requires goes { MayGo seat.old.mode }
-    ensures step { SeatStep (view core.old) (view core.new) thread seat.old seat.new }
-    ensures stop { SetsStop (view core.old) (view core.new) seat.new }
-    ensures due { DueBy every seat.old seat.new }
+pub fn make_event(core: &mut Core, state: &mut ThreadState<'_>, thread: u32, every: u32)
+    requires ready { IsReady (view core.old) thread state.old }
+    requires goes { MayGo state.old.mode }
+    ensures step { ThreadStep (view core.old) (view core.new) thread state.old state.new }
+    ensures stop { SetsStop (view core.old) (view core.new) state.new }
+    ensures due { DueBy every state.old state.new }
 {
-    match (seat.mode, seat.op) {
+    match (state.mode, state.op) {
         (Mode::Running, Some(Op::Collect)) => {
             core.ask();
-            seat.mode = Mode::Collecting;
+            state.mode = Mode::Collecting;
         }
         (Mode::Running, Some(op)) => {
             match core.advance(thread, op, 1, &mut NoDisk) {
                 StepResult::Going => {}
-                StepResult::Answered(reply) => answered(core, seat, thread, reply, every),
-                StepResult::Refused(Refusal::Pause(Pause::Asked)) => seat.mode = Mode::Asked,
+                StepResult::Answered(reply) => answered(core, state, thread, reply, every),
+                StepResult::Refused(Refusal::Pause(Pause::Asked)) => state.mode = Mode::Asked,
                 StepResult::Refused(Refusal::Pause(Pause::Space { .. } | Pause::Forward)) => {
-                    seat.mode = Mode::Lacking;
+                    state.mode = Mode::Lacking;
                 }
                 StepResult::Refused(Refusal::DiskFault | Refusal::Damaged(_)) => unreachable!(),
             }
         }
         _ => {
             core.ask();
-            seat.mode = Mode::Silent;
+            state.mode = Mode::Silent;
         }
     }
 }
 
-/// A thread got a reply. One that has ended drops its registers.
-pub fn answered(core: &mut Core, seat: &mut Seat<'_>, thread: u32, reply: Reply, every: u32)
+/// A thread that has ended drops its registers.
+pub fn drop_if_ended(core: &mut Core, mode: Mode, thread: u32)
     requires stands { Standing true (view core.old) }
     requires thread { thread < length (view core.old).held }
     requires no_call { call_of (view core.old) thread ≡ None }
-    requires room { length seat.old.replies.items < vec_capacity seat.old.replies }
-    ensures takes { TakesReply seat.old seat.new reply }
-    ensures drops { DropsIfEnded (view core.old) (view core.new) thread seat.new.mode }
-    ensures due { DueBy every seat.old seat.new }
+    ensures { DropsIfEnded (view core.old) (view core.new) thread mode }
 {
-    seat.take_reply(reply, every);
-    if seat.has_ended() {
+    if let Mode::Ended(_) = mode {
         core.drop_all(thread);
     }
+}
+
+/// A thread got a reply.
+pub fn answered(core: &mut Core, state: &mut ThreadState<'_>, thread: u32, reply: Reply, every: u32)
+    requires stands { Standing true (view core.old) }
+    requires thread { thread < length (view core.old).held }
+    requires no_call { call_of (view core.old) thread ≡ None }
+    requires room { length state.old.replies.items < vec_capacity state.old.replies }
+    ensures takes { TakesReply state.old state.new reply }
+    ensures drops { DropsIfEnded (view core.old) (view core.new) thread state.new.mode }
+    ensures due { DueBy every state.old state.new }
+{
+    state.take_reply(reply, every);
+    drop_if_ended(core, state.mode, thread);
 }
 
 /// Makes the call of a thread alone, while all others wait. Answers the words that it lacked, if it was refused.
 pub fn call_alone(
     core: &mut Core,
-    seat: &mut Seat<'_>,
+    state: &mut ThreadState<'_>,
     thread: u32,
     op: Op,
     every: u32,
 ) -> Option<u32>
     requires stands { Standing true (view core.old) }
     requires thread { thread < length (view core.old).held }
-    requires waits { seat.old.mode ≡ Mode.Lacking }
-    requires op { seat.old.op ≡ Some op }
+    requires waits { state.old.mode ≡ Mode.Lacking }
+    requires op { state.old.op ≡ Some op }
     requires no_collect { op ≢ Op.Collect }
     requires bounds { InBounds (length (view core.old).globals) op }
     requires no_call { call_of (view core.old) thread ≡ None }
     requires no_stop { (view core.old).stop ≡ false }
     requires entries { HasRoomForEntry (view core.old) }
     requires few { length (view core.old).log < 2 ^ 32 }
-    requires room { length seat.old.replies.items < vec_capacity seat.old.replies }
-    ensures called { CalledAlone (view core.old) (view core.new) thread seat.old seat.new result }
-    ensures due { DueBy every seat.old seat.new }
+    requires room { length state.old.replies.items < vec_capacity state.old.replies }
+    ensures called { CalledAlone (view core.old) (view core.new) thread state.old state.new result }
+    ensures due { DueBy every state.old state.new }
 {
     loop {
         match core.advance(thread, op, 1, &mut NoDisk) {
             StepResult::Going => {}
             StepResult::Answered(reply) => {
-                answered(core, seat, thread, reply, every);
+                answered(core, state, thread, reply, every);
                 return None;
             }
             StepResult::Refused(Refusal::Pause(Pause::Space { need })) => return Some(need),

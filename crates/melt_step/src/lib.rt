@@ -6,7 +6,7 @@ mod collector;
 mod events;
 mod run;
 mod safepoint;
-pub mod seat;
+pub mod thread;
 mod turns;
 
 pub use choices::any_choices;

@@ -3,12 +3,15 @@ ghost use Rattle.std.specs.Prelude.{◌≡◌, ℕ, ◌<◌, length, slice_get, 
 ghost use Rattle.melt_model.specs.declared.config.Config.{Config};
 ghost use Rattle.melt_trace.specs.Script.{Script};
 ghost use Rattle.melt_core.specs.Views.{IsQuiet, Standing, view};
-ghost use Rattle.melt_step.specs.declared.seat.Seat.{Seat};
-ghost use Rattle.melt_step.specs.Seats.{AllWait, CalledAt, CalledFirst, CollectedAll, CollectedAt, ForCollection, IsPlanning, JustCollected, KeepsRun, KnowsStop, MakesCollections, MakesFor, MakesForAll, MakesPlanned, NoneBelow, Passed, Resumed, RunStands, SomeGoesOn, StandsCollected};
+ghost use Rattle.melt_step.specs.declared.thread.ThreadState.{ThreadState};
+ghost use Rattle.melt_step.specs.Threads.{AllWait, CalledAt, CalledFirst, CollectedAll, CollectedAt, ForCollection};
+ghost use Rattle.melt_step.specs.Threads.{IsPlanning, JustCollected, KeepsRun, KnowsStop, MakesCollections, MakesFor};
+ghost use Rattle.melt_step.specs.Threads.{MakesForAll, MakesPlanned, NoneBelow, Passed, Resumed, RunStands, SomeGoesOn};
+ghost use Rattle.melt_step.specs.Threads.{StandsCollected};
 
-use crate::events::{answered, call_alone};
+use crate::events::{call_alone, drop_if_ended};
 use crate::run::Run;
-use crate::seat::Mode;
+use crate::thread::Mode;
 use melt_core::Core;
 use melt_model::{NoMemory, Phase, Reply, ThreadEnd};
 use std::alloc::Global;
@@ -29,38 +32,31 @@ impl<'a> Run<'a> {
     /// Makes the collection for which a thread waits, if it waits for one of its own.
     fn collect_for(self, alloc: Global, thread: u32) -> Result<Run<'a>, NoMemory>
         requires stands { (script : Script) × ((config : Config) × RunStands script config self) }
-        requires thread { thread < length self.seats.items }
-        requires first { NoneBelow ForCollection self.seats.items thread }
+        requires thread { thread < length self.states.items }
+        requires first { NoneBelow ForCollection self.states.items thread }
         requires quiet { IsQuiet (view self.core) }
         ensures keeps { IfOk result (KeepsRun self.entry) }
         ensures quiet { IfOk result (λ run. IsQuiet (view run.core)) }
-        ensures only { IfOk result (λ run. CollectedAt self.entry.seats.items run.seats.items thread) }
-        ensures made { IfOk result (λ run. (s : Seat) → slice_get self.entry.seats.items thread ≡ Some s → MakesFor s self.entry run) }
+        ensures only { IfOk result (λ run. CollectedAt self.entry.states.items run.states.items thread) }
+        ensures made { IfOk result (λ run. (s : ThreadState) → slice_get self.entry.states.items thread ≡ Some s
+            → MakesFor s self.entry run) }
     {
-        match self.seats[thread as usize].mode {
+        match self.states[thread as usize].mode {
             Mode::Collecting => {
-                let Run {
-                    mut core,
-                    mut seats,
-                    collector,
-                    every,
-                } = self.collect(alloc)?;
-                let seat = &mut seats[thread as usize];
-                answered(&mut core, seat, thread, Reply::Done, every);
-                Ok(Run {
-                    core,
-                    seats,
-                    collector,
-                    every,
-                })
+                let mut run = self.collect(alloc)?;
+                let every = run.every;
+                let state = &mut run.states[thread as usize];
+                state.take_reply(Reply::Done, every);
+                let mode = state.mode;
+                drop_if_ended(&mut run.core, mode, thread);
+                Ok(run)
             }
             Mode::Silent => {
                 let mut run = self.collect(alloc)?;
-                let seat = &mut run.seats[thread as usize];
-                seat.go_on();
-                if seat.has_ended() {
-                    run.core.drop_all(thread);
-                }
+                let state = &mut run.states[thread as usize];
+                state.go_on();
+                let mode = state.mode;
+                drop_if_ended(&mut run.core, mode, thread);
                 Ok(run)
             }
             _ => Ok(self),
@@ -73,11 +69,11 @@ impl<'a> Run<'a> {
         requires quiet { IsQuiet (view self.core) }
         ensures keeps { IfOk result (KeepsRun self.entry) }
         ensures quiet { IfOk result (λ run. IsQuiet (view run.core)) }
-        ensures all { IfOk result (λ run. CollectedAll self.entry.seats.items run.seats.items) }
+        ensures all { IfOk result (λ run. CollectedAll self.entry.states.items run.states.items) }
         ensures made { IfOk result (MakesForAll self.entry) }
     {
         let mut run = self;
-        for t in 0..run.seats.len() as u32 {
+        for t in 0..run.states.len() as u32 {
             run = run.collect_for(alloc, t)?;
         }
         Ok(run)
@@ -86,50 +82,53 @@ impl<'a> Run<'a> {
     /// The lowest thread that waits for room.
     fn lacking(&self) -> Option<u32>
         requires stands { (script : Script) × ((config : Config) × RunStands script config self.now) }
-        ensures some { IfSome result (λ t. (s : Seat) × (slice_get self.now.seats.items t ≡ Some s) × (s.mode ≡ Mode.Lacking)) }
-        ensures first { IfSome result (NoneBelow (λ mode. mode ≡ Mode.Lacking) self.now.seats.items) }
-        ensures none { IfNone result ((t : ℕ) (s : Seat) → slice_get self.now.seats.items t ≡ Some s → s.mode ≡ Mode.Lacking → ⊥) }
+        ensures some { IfSome result
+            (λ t. (s : ThreadState) × (slice_get self.now.states.items t ≡ Some s) × (s.mode ≡ Mode.Lacking)) }
+        ensures first { IfSome result (NoneBelow (λ mode. mode ≡ Mode.Lacking) self.now.states.items) }
+        ensures none { IfNone result
+            ((t : ℕ) (s : ThreadState) → slice_get self.now.states.items t ≡ Some s → s.mode ≡ Mode.Lacking → ⊥) }
     {
-        for (t, seat) in self.seats.iter().enumerate() {
-            if let Mode::Lacking = seat.mode {
+        for (t, state) in self.states.iter().enumerate() {
+            if let Mode::Lacking = state.mode {
                 return Some(t as u32);
             }
         }
         None
     }
 
-    /// Makes the call of the first thread that lacked room, after a collection. If it lacks room even after a forced one,
-    /// the thread ends.
+    /// Makes the call of the first thread that lacked room, after a collection. If it lacks room even after a forced
+    /// one, the thread ends.
     fn call_first(self, alloc: Global, thread: u32) -> Result<Run<'a>, NoMemory>
         requires stands { (script : Script) × ((config : Config) × StandsCollected script config self) }
-        requires waits { (s : Seat) × (slice_get self.seats.items thread ≡ Some s) × (s.mode ≡ Mode.Lacking) }
-        requires first { NoneBelow (λ mode. mode ≡ Mode.Lacking) self.seats.items thread }
+        requires waits { (s : ThreadState) × (slice_get self.states.items thread ≡ Some s) × (s.mode ≡ Mode.Lacking) }
+        requires first { NoneBelow (λ mode. mode ≡ Mode.Lacking) self.states.items thread }
         requires quiet { IsQuiet (view self.core) }
-        ensures keeps { IfOk result (λ run. (script : Script) (config : Config) → StandsCollected script config self.entry → RunStands script config run) }
+        ensures keeps { IfOk result (λ run. (script : Script) (config : Config)
+            → StandsCollected script config self.entry → RunStands script config run) }
         ensures quiet { IfOk result (λ run. IsQuiet (view run.core)) }
-        ensures only { IfOk result (λ run. CalledAt self.entry.seats.items run.seats.items thread) }
+        ensures only { IfOk result (λ run. CalledAt self.entry.states.items run.states.items thread) }
         ensures called { IfOk result (λ run. CalledFirst self.entry run thread) }
     {
         let Run {
             mut core,
-            mut seats,
+            mut states,
             mut collector,
             every,
         } = self;
-        let seat = &mut seats[thread as usize];
-        if let Some(op) = seat.op {
-            if call_alone(&mut core, seat, thread, op, every).is_some() {
+        let state = &mut states[thread as usize];
+        if let Some(op) = state.op {
+            if call_alone(&mut core, state, thread, op, every).is_some() {
                 core = collector.collect(alloc, core, Phase::Inactive)?;
                 let held = core.used();
-                if let Some(need) = call_alone(&mut core, seat, thread, op, every) {
-                    seat.mode = Mode::Ended(ThreadEnd::OutOfHeap { held, need });
+                if let Some(need) = call_alone(&mut core, state, thread, op, every) {
+                    state.mode = Mode::Ended(ThreadEnd::OutOfHeap { held, need });
                     core.drop_all(thread);
                 }
             }
         }
         Ok(Run {
             core,
-            seats,
+            states,
             collector,
             every,
         })
@@ -139,15 +138,16 @@ impl<'a> Run<'a> {
     fn resume(mut self) -> Run<'a>
         requires stands { (script : Script) × ((config : Config) × RunStands script config self) }
         requires quiet { IsQuiet (view self.core) }
-        requires collected { (t : ℕ) (s : Seat) → slice_get self.seats.items t ≡ Some s → ForCollection s.mode → ⊥ }
+        requires collected { (t : ℕ) (s : ThreadState) → slice_get self.states.items t ≡ Some s → ForCollection s.mode
+            → ⊥ }
         ensures keeps { KeepsRun self.entry result }
         ensures quiet { IsQuiet (view result.core) }
-        ensures stop { KnowsStop (view result.core) result.seats.items }
-        ensures resumed { Resumed self.entry.seats.items result.seats.items }
+        ensures stop { KnowsStop (view result.core) result.states.items }
+        ensures resumed { Resumed self.entry.states.items result.states.items }
         ensures collector { result.collector ≡ self.entry.collector }
     {
-        for seat in self.seats.iter_mut() {
-            seat.make_again();
+        for state in self.states.iter_mut() {
+            state.make_again();
         }
         if self.core.is_stopped() {
             let (heap, rest) = self.core.finish();
@@ -160,14 +160,15 @@ impl<'a> Run<'a> {
     /// lacked room, after a collection if there was none; then all that wait go on.
     pub fn pass_safepoint(self, alloc: Global) -> Result<Run<'a>, NoMemory>
         requires stands { (script : Script) × ((config : Config) × RunStands script config self) }
-        requires waits { AllWait self.seats.items }
-        requires stop { KnowsStop (view self.core) self.seats.items }
-        requires some { SomeGoesOn self.seats.items }
+        requires waits { AllWait self.states.items }
+        requires stop { KnowsStop (view self.core) self.states.items }
+        requires some { SomeGoesOn self.states.items }
         ensures keeps { IfOk result (KeepsRun self.entry) }
         ensures quiet { IfOk result (λ run. IsQuiet (view run.core)) }
-        ensures stop { IfOk result (λ run. KnowsStop (view run.core) run.seats.items) }
-        ensures made { IfOk result (λ run. MakesCollections self.entry.seats.items self.entry.collector run.collector) }
-        ensures passed { IfOk result (λ run. Passed self.entry.seats.items run.seats.items) }
+        ensures stop { IfOk result (λ run. KnowsStop (view run.core) run.states.items) }
+        ensures made { IfOk result (λ run.
+            MakesCollections self.entry.states.items self.entry.collector run.collector) }
+        ensures passed { IfOk result (λ run. Passed self.entry.states.items run.states.items) }
     {
         let run = self.collect_for_all(alloc)?;
         let Some(t) = run.lacking() else {

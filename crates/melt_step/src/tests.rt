@@ -2,7 +2,7 @@ ghost use Rattle.std.specs.Prelude.{◌≡◌, ◌≤◌, ℕ};
 ghost use Rattle.melt_model.specs.Config.{InRanges};
 ghost use Rattle.melt_model.specs.declared.config.Config.{Config};
 ghost use Rattle.melt_core.specs.Views.{view};
-ghost use Rattle.melt_step.specs.Seats.{KeepsRun, KnowsStop, RunStands};
+ghost use Rattle.melt_step.specs.Threads.{KeepsRun, KnowsStop, RunStands};
 
 use super::*;
 use crate::run::{Run, new_run};
@@ -14,7 +14,9 @@ use std::process::Abort;
 use std::test::Fail;
 
 const ROUND_TRIPS: &[u8] =
-    b"melt 1\nthreads 1\nglobals 1\nthread 0\nnew 0 1 1\nnew 1 0 0\nstore 0 0 1\nload 2 0 0\nsame 1 2\nput 0 0 7\nget 0 0\ngload 3 0\ngstore 0 0\ngload 3 0\nsame 3 1\nload 4 3 0\nsame 4 2\ncopy 5 4\ndrop 4\nsame 4 5\nload 0 4 0\nget 1 0\nload 6 3 1\ndone\n";
+    b"melt 1\nthreads 1\nglobals 1\nthread 0\nnew 0 1 1\nnew 1 0 0\nstore 0 0 1\nload 2 0 0\nsame 1 2\nput 0 0 7\n\
+      get 0 0\ngload 3 0\ngstore 0 0\ngload 3 0\nsame 3 1\nload 4 3 0\nsame 4 2\ncopy 5 4\ndrop 4\nsame 4 5\n\
+      load 0 4 0\nget 1 0\nload 6 3 1\ndone\n";
 
 const LARGEST: &[u8] = b"melt 1\nthreads 1\nglobals 0\nthread 0\nnew 0 62 62\ndone\n";
 
@@ -26,10 +28,11 @@ const GARBAGE: &[u8] =
 
 /// Two threads and three lines of events. Behind the last line they take turns.
 const ORDERED: &[u8] =
-    b"melt 1\nthreads 2\nglobals 1\norder 0 6\norder 1 2\norder 0 3\nthread 0\nnew 0 1 0\ngstore 0 0\ndone\nthread 1\ngload 0 0\ngload 1 0\nsame 0 1\ndone\n";
+    b"melt 1\nthreads 2\nglobals 1\norder 0 6\norder 1 2\norder 0 3\nthread 0\nnew 0 1 0\ngstore 0 0\ndone\n\
+      thread 1\ngload 0 0\ngload 1 0\nsame 0 1\ndone\n";
 
-/// The thread of each event, and how many replies it has behind it. A `new` of three words takes five events, a `gstore`
-/// and a `gload` two, and a `same` one.
+/// The thread of each event, and how many replies it has behind it. A `new` of three words takes five events, a
+/// `gstore` and a `gload` two, and a `same` one.
 const EVENTS: [(u32, usize); 12] = [
     (0, 0),
     (0, 0),
@@ -161,19 +164,18 @@ fn an_object_that_nothing_reaches_gives_its_words_back(rt: HostRuntime) -> Resul
 /// behind the last.
 fn expect_events<R: Abort>(rt: &R, trace: &Trace, run: &mut Run<'_>, events: &[(u32, usize)])
     requires stands { (config : Config) × RunStands trace.now config run.old }
-    requires stop { KnowsStop (view run.old.core) run.old.seats.items }
+    requires stop { KnowsStop (view run.old.core) run.old.states.items }
     ensures keeps { KeepsRun run.old run.new }
 {
     let mut turns = Turns::new();
     for &(thread, replies) in events {
-        let Some(next) = turns.next(trace, &run.seats) else {
+        let Some(next) = run.take_turn(&mut turns, trace) else {
             panic!(rt; "no thread can go on");
         };
         assert_eq!(rt; next, thread);
-        run.step(next);
-        assert_eq!(rt; run.seats[next as usize].replies.len(), replies);
+        assert_eq!(rt; run.states[next as usize].replies.len(), replies);
     }
-    assert_eq!(rt; turns.next(trace, &run.seats), None);
+    assert_eq!(rt; turns.next(trace, &run.states), None);
 }
 
 #[test]

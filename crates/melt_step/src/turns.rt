@@ -1,10 +1,10 @@
 //! The order in which threads take their events.
 ghost use Rattle.std.specs.Prelude.{◌≡◌, ℕ, ◌+◌, ◌<◌, ◌≤◌, ◌⊎◌, length, slice_get, Some, None, IfSome, IfNone};
-ghost use Rattle.melt_step.specs.Seats.{MayGo};
+ghost use Rattle.melt_step.specs.Threads.{MayGo};
 ghost use Rattle.melt_step.specs.Turns.{InTurn, NoLine, NoTurn, NoneGoes, OfLine};
-ghost use Rattle.melt_step.specs.declared.seat.Seat.{Seat};
+ghost use Rattle.melt_step.specs.declared.thread.ThreadState.{ThreadState};
 
-use crate::seat::Seat;
+use crate::thread::ThreadState;
 use melt_trace::Trace;
 
 /// Where the giving out of events stands: at a line of the trace's orders, of whose events some are left if it was
@@ -37,17 +37,18 @@ impl Turns {
     }
 
     /// The thread that has the next event by the lines of the trace. A line whose thread cannot go on is dropped.
-    fn by_line(&mut self, trace: &Trace, seats: &[Seat<'_>]) -> Option<u32>
-        requires { length seats.now ≡ length trace.now.programs }
-        ensures line { IfSome result (OfLine trace.now.orders seats.now self.old self.new) }
-        ensures none { IfNone result (NoLine trace.now.orders seats.now self.old.line (length trace.now.orders)) }
+    fn by_line(&mut self, trace: &Trace, states: &[ThreadState<'_>]) -> Option<u32>
+        requires { length states.now ≡ length trace.now.programs }
+        ensures line { IfSome result (OfLine trace.now.orders states.now self.old self.new) }
+        ensures none { IfNone result (NoLine trace.now.orders states.now self.old.line (length trace.now.orders)) }
         ensures turn { self.new.turn ≡ self.old.turn }
-        ensures over { IfNone result (self.old.line ≤ length trace.now.orders → self.new.line ≡ length trace.now.orders) }
+        ensures over { IfNone result
+            (self.old.line ≤ length trace.now.orders → self.new.line ≡ length trace.now.orders) }
         ensures none_left { IfNone result (self.old.line < length trace.now.orders → self.new.left ≡ 0) }
     {
         while self.line < trace.orders() {
             let (thread, events) = trace.order(self.line);
-            if seats[thread as usize].can_go() {
+            if states[thread as usize].can_go() {
                 let left = if self.left == 0 { events } else { self.left };
                 self.left = left - 1;
                 if self.left == 0 {
@@ -62,17 +63,19 @@ impl Turns {
 
     /// The thread that has the next event, if one can go on. Behind the last line the threads take one event each, in
     /// ascending order and again from the first. A line that is begun is not taken up again once no thread can go on.
-    pub fn next(&mut self, trace: &Trace, seats: &[Seat<'_>]) -> Option<u32>
-        requires { length seats.now ≡ length trace.now.programs }
-        ensures goes { IfSome result (λ t. (s : Seat) × (slice_get seats.now t ≡ Some s) × MayGo s.mode) }
-        ensures none { IfNone result ((t : ℕ) (s : Seat) → slice_get seats.now t ≡ Some s → MayGo s.mode → ⊥) }
-        ensures given { IfSome result (λ t. OfLine trace.now.orders seats.now self.old self.new t ⊎ InTurn trace.now.orders seats.now self.old self.new t) }
-        ensures waits { IfNone result (NoTurn seats.now self.old self.new) }
+    pub fn next(&mut self, trace: &Trace, states: &[ThreadState<'_>]) -> Option<u32>
+        requires { length states.now ≡ length trace.now.programs }
+        ensures goes { IfSome result (λ t. (s : ThreadState) × (slice_get states.now t ≡ Some s) × MayGo s.mode) }
+        ensures none { IfNone result ((t : ℕ) (s : ThreadState) → slice_get states.now t ≡ Some s → MayGo s.mode → ⊥) }
+        ensures given { IfSome result
+            (λ t. OfLine trace.now.orders states.now self.old self.new t
+            ⊎ InTurn trace.now.orders states.now self.old self.new t) }
+        ensures waits { IfNone result (NoTurn states.now self.old self.new) }
     {
         let count = trace.threads();
-        let first = match first_from(seats, self.turn, count) {
+        let first = match first_from(states, self.turn, count) {
             Some(t) => t,
-            None => match first_from(seats, 0, count) {
+            None => match first_from(states, 0, count) {
                 Some(t) => t,
                 None => {
                     if self.left != 0 {
@@ -82,7 +85,7 @@ impl Turns {
                 }
             },
         };
-        if let Some(thread) = self.by_line(trace, seats) {
+        if let Some(thread) = self.by_line(trace, states) {
             return Some(thread);
         }
         self.turn = first + 1;
@@ -91,14 +94,15 @@ impl Turns {
 }
 
 /// The first thread that can go on, of those from one on.
-fn first_from(seats: &[Seat<'_>], start: u32, count: u32) -> Option<u32>
-    requires { count ≡ length seats.now }
-    ensures goes { IfSome result (λ t. (s : Seat) × (slice_get seats.now t ≡ Some s) × MayGo s.mode) }
-    ensures first { IfSome result (λ t. (start ≤ t) × NoneGoes seats.now start t) }
-    ensures none { IfNone result ((t : ℕ) (s : Seat) → start ≤ t → slice_get seats.now t ≡ Some s → MayGo s.mode → ⊥) }
+fn first_from(states: &[ThreadState<'_>], start: u32, count: u32) -> Option<u32>
+    requires { count ≡ length states.now }
+    ensures goes { IfSome result (λ t. (s : ThreadState) × (slice_get states.now t ≡ Some s) × MayGo s.mode) }
+    ensures first { IfSome result (λ t. (start ≤ t) × NoneGoes states.now start t) }
+    ensures none { IfNone result ((t : ℕ) (s : ThreadState) → start ≤ t → slice_get states.now t ≡ Some s → MayGo s.mode
+        → ⊥) }
 {
     for t in start..count {
-        if seats[t as usize].can_go() {
+        if states[t as usize].can_go() {
             return Some(t);
         }
     }

@@ -5,5 +5,6 @@ use Rattle.melt_copy.proofs.commit.forward_held.Goals as goal
 
 pub loop-registers-preserved : goal.loop-registers-preserved
 loop-registers-preserved g c =
-    forwards_more (goes c.args.forwarding.now) c.args.held.now c.loop-registers.held c.loop-registers.registers-index (record { regs = [] }) c.forward_thread.new.registers
+    forwards_more (goes c.args.forwarding.now) c.args.held.now c.loop-registers.held c.loop-registers.registers-index
+    (record { regs = [] }) c.forward_thread.new.registers
     c.loop-registers.invariant (omega arith) c.forward_thread.ensures

@@ -7,8 +7,13 @@ use Rattle.melt_copy.proofs.copy.copy_objects.Goals as goal
 pub copy_object-requires : goal.copy_object-requires
 copy_object-requires g c =
     let s = c.requires.0 in
-    let copied = c.loop-done.invariant.copied s c.requires.1 in
-    (s, next_object c.args.space.now s c.loop-done.forwarding c.loop-done.words.items c.loop-done.done c.index-m.result.now copied (omega (arith, c.loop-done-test.true, c.len.ensures, c.loop-done.forwarding.moves.ok.0)) c.index-m.ensures)
+    let copied = c.loop-done.invariant.copied s c.requires.1 in (
+      s,
+      next_object c.args.space.now s c.loop-done.forwarding c.loop-done.words.items c.loop-done.done
+          c.index-m.result.now copied (omega
+          (arith, c.loop-done-test.true, c.len.ensures, c.loop-done.forwarding.moves.ok.0))
+          c.index-m.ensures,
+    )
 
 pub loop-done-smaller : goal.loop-done-smaller
 loop-done-smaller g c =
@@ -19,15 +24,33 @@ loop-done-smaller g c =
 
 pub loop-done-preserved : goal.loop-done-preserved
 loop-done-preserved g c = record {
-  within = let more = longer c.loop-done.forwarding c.copy_object.new.forwarding c.copy_object.ensures.grows in omega (arith, more, c.loop-done-test.true, c.len.ensures, c.loop-done.forwarding.moves.ok.0);
-  grows = Grows-more c.args.forwarding.now c.loop-done.forwarding c.copy_object.new.forwarding c.loop-done.invariant.grows c.copy_object.ensures.grows;
+  within = let more =
+      longer c.loop-done.forwarding c.copy_object.new.forwarding c.copy_object.ensures.grows in
+      omega (arith, more, c.loop-done-test.true, c.len.ensures, c.loop-done.forwarding.moves.ok.0);
+  grows =
+      Grows-more c.args.forwarding.now c.loop-done.forwarding c.copy_object.new.forwarding c.loop-done.invariant.grows
+      c.copy_object.ensures.grows;
   copied = λ s tracks.
       let copied = c.loop-done.invariant.copied s tracks in
-      let of = next_object c.args.space.now s c.loop-done.forwarding c.loop-done.words.items c.loop-done.done c.index-m.result.now copied (omega (arith, c.loop-done-test.true, c.len.ensures, c.loop-done.forwarding.moves.ok.0)) c.index-m.ensures in
-      copied_more c.args.phase c.args.front c.args.space.now s c.loop-done.forwarding c.copy_object.new.forwarding c.loop-done.words.items _ c.loop-done.done c.index-m.result.now copied (omega (arith, c.loop-done-test.true, c.len.ensures, c.loop-done.forwarding.moves.ok.0)) c.index-m.ensures c.copy_object.ensures.grows (c.copy_object.ensures.tracks s of) c.in_ok-copy_object.ensures.extends (c.in_ok-copy_object.ensures.object s of);
+      let of = next_object c.args.space.now s c.loop-done.forwarding c.loop-done.words.items c.loop-done.done
+      c.index-m.result.now copied (omega
+      (arith, c.loop-done-test.true, c.len.ensures, c.loop-done.forwarding.moves.ok.0)) c.index-m.ensures in
+      copied_more c.args.phase c.args.front c.args.space.now s c.loop-done.forwarding c.copy_object.new.forwarding
+      c.loop-done.words.items _ c.loop-done.done c.index-m.result.now copied
+      (omega (arith, c.loop-done-test.true, c.len.ensures, c.loop-done.forwarding.moves.ok.0)) c.index-m.ensures
+      c.copy_object.ensures.grows (c.copy_object.ensures.tracks s of) c.in_ok-copy_object.ensures.extends
+      (c.in_ok-copy_object.ensures.object s of);
 }
 
 pub returns-clause-copied : goal.returns-clause-copied
 returns-clause-copied g c = λ s tracks.
-    let all : c.loop-done.done ≡ length c.loop-done.forwarding.moves.items = omega (arith, c.loop-done.invariant.within, c.loop-done-test.false, c.len.ensures, c.loop-done.forwarding.moves.ok.0) in
-    subst (HasCopied c.args.phase c.args.front c.args.space.now s c.loop-done.forwarding c.loop-done.words.items) all (c.loop-done.invariant.copied s tracks)
+    let all : c.loop-done.done ≡ length c.loop-done.forwarding.moves.items =
+    omega (
+      arith,
+      c.loop-done.invariant.within,
+      c.loop-done-test.false,
+      c.len.ensures,
+      c.loop-done.forwarding.moves.ok.0,
+    ) in
+    subst (HasCopied c.args.phase c.args.front c.args.space.now s c.loop-done.forwarding c.loop-done.words.items) all
+    (c.loop-done.invariant.copied s tracks)

@@ -7,7 +7,8 @@ abbrev pub invariant-loop-done : goal.invariant-loop-done
 invariant-loop-done g l = record {
   within : l.done ≤ length l.forwarding.moves.items;
   grows : Grows l.fn.forwarding l.forwarding;
-  copied : (s : State) → Tracks l.space s l.fn.forwarding → HasCopied l.phase l.front l.space s l.forwarding l.words.items l.done;
+  copied : (s : State) → Tracks l.space s l.fn.forwarding
+      → HasCopied l.phase l.front l.space s l.forwarding l.words.items l.done;
 }
 
 abbrev pub decreases-loop-done : goal.decreases-loop-done

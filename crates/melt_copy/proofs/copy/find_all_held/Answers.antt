@@ -6,16 +6,39 @@ use Rattle.melt_copy.proofs.copy.find_all_held.Goals as goal
 
 pub find_held-requires : goal.find_held-requires
 find_held-requires g c =
-    let s = c.requires.0 in
-    (s, tracks_thread c.args.space.now s c.args.forwarding.now c.loop-registers.forwarding c.args.held.now c.loop-registers.registers-index _ (omega arith) (get_or_default c.args.held.now c.loop-registers.registers-index _ _ (omega arith)) c.requires.1 (c.loop-registers.invariant.tracks s c.requires.1))
+    let s = c.requires.0 in (
+      s,
+      tracks_thread c.args.space.now s c.args.forwarding.now c.loop-registers.forwarding c.args.held.now
+          c.loop-registers.registers-index _ (omega arith)
+          (get_or_default c.args.held.now c.loop-registers.registers-index _ _ (omega arith)) c.requires.1
+          (c.loop-registers.invariant.tracks s c.requires.1),
+    )
 
 pub returns-in_err-find_held-clause-tracks : goal.returns-in_err-find_held-clause-tracks
-returns-in_err-find_held-clause-tracks g c = λ s threads. c.find_held.ensures.tracks s (tracks_thread c.args.space.now s c.args.forwarding.now c.loop-registers.forwarding c.args.held.now c.loop-registers.registers-index _ (omega arith) (get_or_default c.args.held.now c.loop-registers.registers-index _ _ (omega arith)) threads (c.loop-registers.invariant.tracks s threads))
+returns-in_err-find_held-clause-tracks g c =
+    λ s threads. c.find_held.ensures.tracks s
+    (tracks_thread c.args.space.now s c.args.forwarding.now c.loop-registers.forwarding c.args.held.now
+    c.loop-registers.registers-index _ (omega arith)
+    (get_or_default c.args.held.now c.loop-registers.registers-index _ _ (omega arith)) threads
+    (c.loop-registers.invariant.tracks s threads))
 
 pub loop-registers-preserved : goal.loop-registers-preserved
 loop-registers-preserved g c = record {
-  all = threads_more c.loop-registers.forwarding c.find_held.new.forwarding c.args.held.now c.loop-registers.registers-index _ (omega arith) (get_or_default c.args.held.now c.loop-registers.registers-index _ _ (omega arith)) c.find_held.ensures.grows c.in_ok-find_held.ensures.finds c.loop-registers.invariant.all;
-  each = each_thread_more c.args.forwarding.now c.loop-registers.forwarding c.find_held.new.forwarding c.args.held.now c.loop-registers.registers-index _ (omega arith) (get_or_default c.args.held.now c.loop-registers.registers-index _ _ (omega arith)) c.in_ok-find_held.ensures.finds c.loop-registers.invariant.each;
-  grows = Grows-more c.args.forwarding.now c.loop-registers.forwarding c.find_held.new.forwarding c.loop-registers.invariant.grows c.find_held.ensures.grows;
-  tracks = λ s threads. c.find_held.ensures.tracks s (tracks_thread c.args.space.now s c.args.forwarding.now c.loop-registers.forwarding c.args.held.now c.loop-registers.registers-index _ (omega arith) (get_or_default c.args.held.now c.loop-registers.registers-index _ _ (omega arith)) threads (c.loop-registers.invariant.tracks s threads));
+  all =
+      threads_more c.loop-registers.forwarding c.find_held.new.forwarding c.args.held.now
+      c.loop-registers.registers-index _ (omega arith)
+      (get_or_default c.args.held.now c.loop-registers.registers-index _ _ (omega arith)) c.find_held.ensures.grows
+      c.in_ok-find_held.ensures.finds c.loop-registers.invariant.all;
+  each = each_thread_more c.args.forwarding.now c.loop-registers.forwarding c.find_held.new.forwarding c.args.held.now
+      c.loop-registers.registers-index _ (omega arith)
+      (get_or_default c.args.held.now c.loop-registers.registers-index _ _ (omega arith))
+      c.in_ok-find_held.ensures.finds c.loop-registers.invariant.each;
+  grows =
+      Grows-more c.args.forwarding.now c.loop-registers.forwarding c.find_held.new.forwarding
+      c.loop-registers.invariant.grows c.find_held.ensures.grows;
+  tracks = λ s threads. c.find_held.ensures.tracks s
+      (tracks_thread c.args.space.now s c.args.forwarding.now c.loop-registers.forwarding c.args.held.now
+      c.loop-registers.registers-index _ (omega arith)
+      (get_or_default c.args.held.now c.loop-registers.registers-index _ _ (omega arith)) threads
+      (c.loop-registers.invariant.tracks s threads));
 }

@@ -9,7 +9,8 @@ use Rattle.melt_copy.proofs.copy.find_all_held.Given as goal
 abbrev pub invariant-loop-registers : goal.invariant-loop-registers
 invariant-loop-registers g l = record {
   all : (t r : ℕ) → t < l.registers-index → register_in l.held t r ≢ 0 → goes l.forwarding (register_in l.held t r) ≢ 0;
-  each : (k : ℕ) (m : Relocation) → slice_get l.forwarding.moves.items k ≡ Some m → (slice_get l.fn.forwarding.moves.items k ≡ Some m) ⊎ ((t : ℕ) × (r : ℕ) × (register_in l.held t r ≡ m.from));
+  each : (k : ℕ) (m : Relocation) → slice_get l.forwarding.moves.items k ≡ Some m
+      → (slice_get l.fn.forwarding.moves.items k ≡ Some m) ⊎ ((t : ℕ) × (r : ℕ) × (register_in l.held t r ≡ m.from));
   grows : Grows l.fn.forwarding l.forwarding;
   tracks : (s : State) → TracksThreads l.space s l.fn.forwarding l.held → Tracks l.space s l.forwarding;
 }

@@ -7,8 +7,11 @@ use Rattle.melt_copy.proofs.copy.find_held.Given as goal
 
 abbrev pub invariant-loop-address : goal.invariant-loop-address
 invariant-loop-address g l = record {
-  all : (r : ℕ) → r < l.address-index → slice_index l.registers.regs r ≢ 0 → goes l.forwarding (slice_index l.registers.regs r) ≢ 0;
-  each : (k : ℕ) (m : Relocation) → slice_get l.forwarding.moves.items k ≡ Some m → (slice_get l.fn.forwarding.moves.items k ≡ Some m) ⊎ ((r : ℕ) × (slice_index l.registers.regs r ≡ m.from));
+  all : (r : ℕ) → r < l.address-index → slice_index l.registers.regs r ≢ 0
+      → goes l.forwarding (slice_index l.registers.regs r) ≢ 0;
+  each : (k : ℕ) (m : Relocation) → slice_get l.forwarding.moves.items k ≡ Some m
+      → (slice_get l.fn.forwarding.moves.items k ≡ Some m) ⊎ ((r : ℕ) × (slice_index l.registers.regs r ≡ m.from));
   grows : Grows l.fn.forwarding l.forwarding;
-  tracks : (s : State) → TracksHeld l.space s l.fn.forwarding (slice_index l.registers.regs) → Tracks l.space s l.forwarding;
+  tracks : (s : State) → TracksHeld l.space s l.fn.forwarding (slice_index l.registers.regs)
+      → Tracks l.space s l.forwarding;
 }

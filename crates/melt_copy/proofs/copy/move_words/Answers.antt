@@ -4,19 +4,36 @@ use Rattle.melt_copy.proofs.copy.move_words.Goals as goal
 
 pub move_word-requires : goal.move_word-requires
 move_word-requires g c =
-    let s = c.requires.0 in
-    (s, words_for c.args.space.now s c.args.forwarding.now c.loop-word.forwarding c.args.words.now c.loop-word.word-index c.requires.1 (c.loop-word.invariant.tracks s c.requires.1) (omega arith))
+    let s = c.requires.0 in (
+      s,
+      words_for c.args.space.now s c.args.forwarding.now c.loop-word.forwarding c.args.words.now
+          c.loop-word.word-index c.requires.1 (c.loop-word.invariant.tracks s c.requires.1) (omega arith),
+    )
 
 pub returns-in_err-move_word-clause-tracks : goal.returns-in_err-move_word-clause-tracks
-returns-in_err-move_word-clause-tracks g c = λ s in_. c.move_word.ensures.tracks s (words_for c.args.space.now s c.args.forwarding.now c.loop-word.forwarding c.args.words.now c.loop-word.word-index in_ (c.loop-word.invariant.tracks s in_) (omega arith))
+returns-in_err-move_word-clause-tracks g c =
+    λ s in_. c.move_word.ensures.tracks s
+    (words_for c.args.space.now s c.args.forwarding.now c.loop-word.forwarding c.args.words.now c.loop-word.word-index
+    in_ (c.loop-word.invariant.tracks s in_) (omega arith))
 
 pub returns-in_err-push-clause-tracks : goal.returns-in_err-push-clause-tracks
-returns-in_err-push-clause-tracks g c = λ s in_. c.move_word.ensures.tracks s (words_for c.args.space.now s c.args.forwarding.now c.loop-word.forwarding c.args.words.now c.loop-word.word-index in_ (c.loop-word.invariant.tracks s in_) (omega arith))
+returns-in_err-push-clause-tracks g c =
+    λ s in_. c.move_word.ensures.tracks s
+    (words_for c.args.space.now s c.args.forwarding.now c.loop-word.forwarding c.args.words.now c.loop-word.word-index
+    in_ (c.loop-word.invariant.tracks s in_) (omega arith))
 
 pub loop-word-preserved : goal.loop-word-preserved
 loop-word-preserved g c = record {
-  extends = Extends-push c.args.out.now.items c.loop-word.out.items _ c.loop-word.word-index _ c.loop-word.invariant.extends c.in_ok-push.ensures.items;
-  moves = moves_push c.loop-word.forwarding c.move_word.new.self c.args.words.now c.args.out.now.items c.loop-word.out.items _ c.loop-word.word-index _ c.loop-word.invariant.extends c.in_ok-push.ensures.items c.move_word.ensures.grows c.loop-word.invariant.moves c.in_ok-move_word.ensures.moves;
-  grows = Grows-more c.args.forwarding.now c.loop-word.forwarding c.move_word.new.self c.loop-word.invariant.grows c.move_word.ensures.grows;
-  tracks = λ s in_. c.move_word.ensures.tracks s (words_for c.args.space.now s c.args.forwarding.now c.loop-word.forwarding c.args.words.now c.loop-word.word-index in_ (c.loop-word.invariant.tracks s in_) (omega arith));
+  extends =
+      Extends-push c.args.out.now.items c.loop-word.out.items _ c.loop-word.word-index _ c.loop-word.invariant.extends
+      c.in_ok-push.ensures.items;
+  moves =
+      moves_push c.loop-word.forwarding c.move_word.new.self c.args.words.now c.args.out.now.items c.loop-word.out.items
+      _ c.loop-word.word-index _ c.loop-word.invariant.extends c.in_ok-push.ensures.items c.move_word.ensures.grows
+      c.loop-word.invariant.moves c.in_ok-move_word.ensures.moves;
+  grows = Grows-more c.args.forwarding.now c.loop-word.forwarding c.move_word.new.self c.loop-word.invariant.grows
+      c.move_word.ensures.grows;
+  tracks = λ s in_. c.move_word.ensures.tracks s
+      (words_for c.args.space.now s c.args.forwarding.now c.loop-word.forwarding c.args.words.now c.loop-word.word-index
+      in_ (c.loop-word.invariant.tracks s in_) (omega arith));
 }

@@ -8,7 +8,9 @@ use Rattle.melt_copy.proofs.copy.move_words.Given as goal
 abbrev pub invariant-loop-word : goal.invariant-loop-word
 invariant-loop-word g l = record {
   extends : Extends l.fn.out.items l.out.items l.word-index;
-  moves : (i : ℕ) → i < l.word-index → WordMoves l.phase (goes l.forwarding) (slice_index l.words i) (slice_index l.out.items (length l.fn.out.items + i));
+  moves : (i : ℕ) → i < l.word-index
+      → WordMoves l.phase (goes l.forwarding) (slice_index l.words i)
+      (slice_index l.out.items (length l.fn.out.items + i));
   grows : Grows l.fn.forwarding l.forwarding;
   tracks : (s : State) → TracksIn l.space s l.fn.forwarding l.words → Tracks l.space s l.forwarding;
 }

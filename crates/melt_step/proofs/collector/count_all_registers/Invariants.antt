@@ -3,4 +3,4 @@ use Rattle.melt_scion.specs.declared.registers.Registers.{Registers}
 use Rattle.melt_step.proofs.collector.count_all_registers.Given as goal
 
 abbrev pub invariant-loop-registers : goal.invariant-loop-registers
-invariant-loop-registers l = (k : ℕ) (d : Registers) → k < l.registers-index → length (get_or l.held k d).regs ≡ 16
+invariant-loop-registers l = (k : ℕ) (d : Registers) → k < l.registers-index → length (get_or l.all k d).regs ≡ 16

@@ -7,7 +7,8 @@ use Rattle.melt_step.proofs.Alone.{OnCall}
 use Rattle.melt_step.proofs.events.call_alone.Given as goal
 
 abbrev pub invariant-loop-reply : goal.invariant-loop-reply
-invariant-loop-reply l = record { on : OnCall (view l.initial.core) (view l.core) l.thread l.op; seat : l.seat ≡ l.initial.seat }
+invariant-loop-reply l =
+    record { on : OnCall (view l.initial.core) (view l.core) l.thread l.op; state : l.state ≡ l.initial.state }
 
 abbrev pub decreases-loop-reply : goal.decreases-loop-reply
 decreases-loop-reply l = events_left (stage_in (call_of (view l.core) l.thread))

@@ -6,7 +6,8 @@ use Rattle.melt_step.proofs.events.make_event.Goals as goal
 
 pub returns-in-Running-Some-Collect-clause-step : goal.returns-in-Running-Some-Collect-clause-step
 returns-in-Running-Some-Collect-clause-step c =
-    waits_step (view c.args.core.now) (view c.ask.new.self) c.args.thread c.args.seat.now _ c.requires.ready.stands c.ask.ensures (inl (c.in-Running-Some-Collect.is-0, search rules, refl))
+    waits_step (view c.args.core.now) (view c.ask.new.self) c.args.thread c.args.state.now _ c.requires.ready.stands
+    c.ask.ensures (inl (c.in-Running-Some-Collect.is-0, search rules, refl))
 
 pub answered-requires : goal.answered-requires
 answered-requires c = record {
@@ -18,20 +19,30 @@ answered-requires c = record {
 
 pub returns-in-Going : goal.returns-in-Going
 returns-in-Going c =
-    let both = goes_step (view c.args.core.now) (view c.advance.new.self) c.args.thread c.in-Running-Some.op c.args.seat.now (search rules) (search rules) (search rules) c.requires.ready.stands (search rules) in
+    let both = goes_step (view c.args.core.now)
+    (view c.advance.new.self) c.args.thread c.in-Running-Some.op c.args.state.now (search rules) (search rules)
+    (search rules) c.requires.ready.stands (search rules) in
     record { step = both.0; stop = both.1; due = λ other. absurd (other refl) }
 
 pub returns-in-Refused-Pause-Space : goal.returns-in-Refused-Pause-Space
 returns-in-Refused-Pause-Space c =
-    let both = lacks_step (view c.args.core.now) (view c.advance.new.self) c.args.thread c.in-Running-Some.op c.advance.result c.args.seat.now (search rules) (search rules) (search rules) c.requires.ready.stands c.advance.ensures (search rules) in
+    let both = lacks_step (view c.args.core.now)
+    (view c.advance.new.self) c.args.thread c.in-Running-Some.op c.advance.result c.args.state.now (search rules)
+    (search rules) (search rules) c.requires.ready.stands c.advance.ensures (search rules) in
     record { step = both.0; stop = both.1; due = λ other. absurd (other refl) }
 
 pub returns-in-Answered : goal.returns-in-Answered
 returns-in-Answered c =
-    let both = told_step (view c.args.core.now) (view c.advance.new.self) (view c.answered.new.core) c.args.thread c.in-Running-Some.op c.in-Answered.reply c.args.seat.now c.answered.new.seat
-    (search rules) (search rules) (search rules) c.requires.ready.stands (c.advance.ensures.keeps true c.requires.ready.stands) c.advance.ensures.others (search rules) c.answered.ensures.takes c.answered.ensures.drops in
+    let both = told_step (view c.args.core.now) (view c.advance.new.self)
+    (view c.answered.new.core) c.args.thread c.in-Running-Some.op c.in-Answered.reply c.args.state.now
+    c.answered.new.state
+    (search rules) (search rules) (search rules) c.requires.ready.stands
+    (c.advance.ensures.keeps true c.requires.ready.stands) c.advance.ensures.others
+    (search rules) c.answered.ensures.takes c.answered.ensures.drops in
     record { step = both.0; stop = both.1; due = c.answered.ensures.due }
 
 pub returns-in_default-clause-step : goal.returns-in_default-clause-step
 returns-in_default-clause-step c =
-    waits_step (view c.args.core.now) (view c.ask-in_default.new.self) c.args.thread c.args.seat.now _ c.requires.ready.stands c.ask-in_default.ensures (search rules)
+    waits_step (view c.args.core.now)
+    (view c.ask-in_default.new.self) c.args.thread c.args.state.now _ c.requires.ready.stands c.ask-in_default.ensures
+    (search rules)

@@ -3,36 +3,48 @@ use Rattle.std.proofs.Common.{◌≡◌, ℕ, ◌<◌, List, length, get_or, inl
 use Rattle.std.proofs.lemmas.Bool.{cases_eq}
 use Rattle.std.proofs.lemmas.Option.{slice_get_read, slice_get_within, get_or_from_slice_get}
 use Rattle.std.specs.Prelude.{true, false, Some, slice_get}
-use Rattle.melt_step.specs.Seats.{IsEnded}
-use Rattle.melt_step.specs.declared.seat.Seat.{Seat}
+use Rattle.melt_step.specs.Threads.{IsEnded}
+use Rattle.melt_step.specs.declared.thread.ThreadState.{ThreadState}
 use Rattle.melt_step.proofs.run.Run.has_ended.Goals as goal
 
-pub loop-seat-init : goal.loop-seat-init
-loop-seat-init c = λ t s below at. absurd (omega arith)
+pub loop-state-init : goal.loop-state-init
+loop-state-init c = λ t s below at. absurd (omega arith)
 
 pub returns-then-not-has_ended-clause-goes : goal.returns-then-not-has_ended-clause-goes
 returns-then-not-has_ended-clause-goes c = λ no.
-    let seats : List Seat = c.args.self.now.seats.items in
-    let items : List Seat = c.deref-seat-items.result.now in
-    let there : slice_get items c.loop-seat.seat-index ≡ Some c.seat-item.result =
-    slice_get_read items (length items) c.loop-seat.seat-index c.seat-item.result refl c.loop-seat-test.true c.seat-item.is in
-    let at : slice_get seats c.loop-seat.seat-index ≡ Some c.seat-item.result =
-    subst (λ (xs : List Seat). slice_get xs c.loop-seat.seat-index ≡ Some c.seat-item.result) c.deref-seat-items.ensures.value there in
-    (c.loop-seat.seat-index, (c.seat-item.result, at, λ over. let yes : c.has_ended.result ≡ true = c.has_ended.ensures.1 over in let wrong : false ≡ true = sym c.if-not-has_ended.true ∙ yes in absurd (cc)))
+    let states : List ThreadState = c.args.self.now.states.items in
+    let items : List ThreadState = c.deref-state-items.result.now in
+    let there : slice_get items c.loop-state.state-index ≡ Some c.state-item.result =
+    slice_get_read items (length items) c.loop-state.state-index c.state-item.result refl c.loop-state-test.true
+    c.state-item.is in
+    let at : slice_get states c.loop-state.state-index ≡ Some c.state-item.result =
+    subst (λ (xs : List ThreadState). slice_get xs c.loop-state.state-index ≡ Some c.state-item.result)
+    c.deref-state-items.ensures.value there in (
+      c.loop-state.state-index,
+      (
+        c.state-item.result,
+        at,
+        λ over.
+            let yes : c.has_ended.result ≡ true = c.has_ended.ensures.1 over in let wrong : false ≡ true =
+            sym c.if-not-has_ended.true ∙ yes in absurd (cc),
+      ),
+    )
 
-pub loop-seat-preserved : goal.loop-seat-preserved
-loop-seat-preserved c = λ t s below at. elim (cases_eq t c.loop-seat.seat-index) [
+pub loop-state-preserved : goal.loop-state-preserved
+loop-state-preserved c = λ t s below at. elim (cases_eq t c.loop-state.state-index) [
   | inl same ↦
-      let items : List Seat = c.deref-seat-items.result.now in
-      let here : c.seat-item.result ≡ s =
-      c.seat-item.is ∙ (ap (λ (n : ℕ). get_or items n c.seat-item.result) (sym same) ∙ get_or_from_slice_get items t s c.seat-item.result at) in
-      subst (λ (x : Seat). IsEnded x.mode) here (c.has_ended.ensures.0 c.if-not-has_ended.false)
-  | inr other ↦ c.loop-seat.invariant t s (omega (arith, other)) at
+      let items : List ThreadState = c.deref-state-items.result.now in
+      let here : c.state-item.result ≡ s =
+      c.state-item.is ∙ (ap (λ (n : ℕ). get_or items n c.state-item.result) (sym same)
+      ∙ get_or_from_slice_get items t s c.state-item.result at) in
+      subst (λ (x : ThreadState). IsEnded x.mode) here (c.has_ended.ensures.0 c.if-not-has_ended.false)
+  | inr other ↦ c.loop-state.invariant t s (omega (arith, other)) at
 ]
 
 pub returns-clause-ended : goal.returns-clause-ended
 returns-clause-ended c = λ yes t s at.
-    let items : List Seat = c.deref-seat-items.result.now in
-    let there : slice_get items t ≡ Some s = subst (λ (xs : List Seat). slice_get xs t ≡ Some s) (sym c.deref-seat-items.ensures.value) at in
+    let items : List ThreadState = c.deref-state-items.result.now in
+    let there : slice_get items t ≡ Some s =
+    subst (λ (xs : List ThreadState). slice_get xs t ≡ Some s) (sym c.deref-state-items.ensures.value) at in
     let within : t < length items = slice_get_within items t s there in
-    c.loop-seat.invariant t s (omega (arith, c.loop-seat-test.false)) there
+    c.loop-state.invariant t s (omega (arith, c.loop-state-test.false)) there

@@ -1,8 +1,9 @@
 -- The threads before this one have ended.
 use Rattle.std.proofs.Common.{◌≡◌, ℕ, ◌<◌, slice_get, Some}
-use Rattle.melt_step.specs.Seats.{IsEnded}
-use Rattle.melt_step.specs.declared.seat.Seat.{Seat}
+use Rattle.melt_step.specs.Threads.{IsEnded}
+use Rattle.melt_step.specs.declared.thread.ThreadState.{ThreadState}
 use Rattle.melt_step.proofs.run.Run.has_ended.Given as goal
 
-abbrev pub invariant-loop-seat : goal.invariant-loop-seat
-invariant-loop-seat l = (t : ℕ) (s : Seat) → t < l.seat-index → slice_get l.seat-items t ≡ Some s → IsEnded s.mode
+abbrev pub invariant-loop-state : goal.invariant-loop-state
+invariant-loop-state l = (t : ℕ) (s : ThreadState) → t < l.state-index → slice_get l.state-items t ≡ Some s
+    → IsEnded s.mode

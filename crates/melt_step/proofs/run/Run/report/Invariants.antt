@@ -3,5 +3,6 @@ use Rattle.std.proofs.Common.{◌≡◌, ◌++◌}
 use Rattle.melt_step.proofs.Reporting.{Reported}
 use Rattle.melt_step.proofs.run.Run.report.Given as goal
 
-abbrev pub invariant-loop-seat : goal.invariant-loop-seat
-invariant-loop-seat l = Reported l.yielded l.threads.items × (l.yielded ++ l.seat-iterator.rest.items ≡ l.fn.self.seats.items)
+abbrev pub invariant-loop-state : goal.invariant-loop-state
+invariant-loop-state l = Reported l.yielded l.threads.items
+    × (l.yielded ++ l.state-iterator.rest.items ≡ l.fn.self.states.items)

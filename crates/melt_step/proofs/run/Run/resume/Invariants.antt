@@ -2,5 +2,5 @@
 use Rattle.melt_step.proofs.Passing.{AgainBelow}
 use Rattle.melt_step.proofs.run.Run.resume.Given as goal
 
-abbrev pub invariant-loop-seat : goal.invariant-loop-seat
-invariant-loop-seat l = AgainBelow l.fn.self.seats.items l.seat-items l.seat-index
+abbrev pub invariant-loop-state : goal.invariant-loop-state
+invariant-loop-state l = AgainBelow l.fn.self.states.items l.state-items l.state-index

@@ -1,35 +1,36 @@
--- A turn is an event or a safepoint.
-use Rattle.std.proofs.Common.{◌≡◌, List, ◌∙◌, subst}
-use Rattle.std.specs.Prelude.{Some, slice_get}
-use Rattle.melt_step.specs.declared.seat.Seat.{Seat}
-use Rattle.melt_step.specs.Seats.{MayGo}
+-- A round is an event or a safepoint.
+use Rattle.std.proofs.Common.{◌≡◌, rules, subst}
+use Rattle.std.specs.Prelude.{None}
+use Rattle.melt_step.specs.Threads.{IsNearer, RunStands}
+use Rattle.melt_step.specs.declared.run.Run.{Run}
 use Rattle.melt_step.proofs.Going.{safepoint_less}
 use Rattle.melt_step.proofs.run.Run.run_all.Goals as goal
+use Rattle.melt_step.proofs.run.Run.run_all.Goals.{After-take_turn}
 
-pub step-requires-clause-stands : goal.step-requires-clause-stands
-step-requires-clause-stands c = (c.args.trace.now, (c.requires.stands.0, c.loop-t.invariant.keeps c.args.trace.now c.requires.stands.0 c.requires.stands.1))
+pub take_turn-requires-clause-stands : goal.take_turn-requires-clause-stands
+take_turn-requires-clause-stands c =
+    (c.requires.stands.0, c.loop-run.invariant.keeps c.args.trace.now c.requires.stands.0 c.requires.stands.1)
 
-pub step-requires-clause-goes : goal.step-requires-clause-goes
-step-requires-clause-goes c =
-    subst (λ (xs : List Seat). (s : Seat) × (slice_get xs c.in-Some.t ≡ Some s) × MayGo s.mode) c.deref.ensures.value c.in-Some.ensures.goes
-
-pub loop-t-preserved-in-Some : goal.loop-t-preserved-in-Some
-loop-t-preserved-in-Some c = record {
-  count = c.step.ensures.count ∙ c.loop-t.invariant.count;
-  keeps = λ script config stands. c.step.ensures.keeps script config (c.loop-t.invariant.keeps script config stands);
-  stop = c.step.ensures.stop;
-}
+-- the run stands behind the turn
+stands : (c : After-take_turn) → RunStands c.args.trace.now c.requires.stands.0 c.take_turn.new.self
+stands c = c.take_turn.ensures.keeps c.args.trace.now c.requires.stands.0
+    (c.loop-run.invariant.keeps c.args.trace.now c.requires.stands.0 c.requires.stands.1)
 
 pub pass_safepoint-requires-clause-stands : goal.pass_safepoint-requires-clause-stands
-pass_safepoint-requires-clause-stands c = (c.args.trace.now, (c.requires.stands.0, c.loop-t.invariant.keeps c.args.trace.now c.requires.stands.0 c.requires.stands.1))
+pass_safepoint-requires-clause-stands c =
+    (c.args.trace.now, (c.requires.stands.0, stands (goal.at.pass_safepoint-requires-clause-stands c).After-take_turn))
 
-pub loop-t-smaller : goal.loop-t-smaller
-loop-t-smaller c =
-    safepoint_less c.args.trace.now c.requires.stands.0 c.loop-t.run c.in_ok-run.run' (c.loop-t.invariant.keeps c.args.trace.now c.requires.stands.0 c.requires.stands.1) c.in_ok-run.ensures.quiet c.in_ok-run.ensures.passed
+pub loop-run-smaller : goal.loop-run-smaller
+loop-run-smaller c =
+    let none : c.take_turn.result ≡ None = search rules in
+    subst (λ (run : Run). IsNearer run c.in_ok-run.run') (c.take_turn.ensures.waits none).0
+    (safepoint_less c.args.trace.now c.requires.stands.0 c.take_turn.new.self c.in_ok-run.run'
+    (stands (goal.at.loop-run-smaller c).After-take_turn) c.in_ok-run.ensures.quiet c.in_ok-run.ensures.passed)
 
-pub loop-t-preserved : goal.loop-t-preserved
-loop-t-preserved c = record {
-  count = c.in_ok-run.ensures.passed.count ∙ c.loop-t.invariant.count;
-  keeps = λ script config stands. c.in_ok-run.ensures.keeps script config (c.loop-t.invariant.keeps script config stands);
+pub loop-run-preserved : goal.loop-run-preserved
+loop-run-preserved c = record {
+  keeps = λ script config had.
+      c.in_ok-run.ensures.keeps script config
+      (c.take_turn.ensures.keeps script config (c.loop-run.invariant.keeps script config had));
   stop = c.in_ok-run.ensures.stop;
 }

@@ -1,15 +1,13 @@
 -- The run stands on, and has less to do each time.
-use Rattle.std.proofs.Common.{◌≡◌, length}
 use Rattle.melt_core.specs.Views.{view}
-use Rattle.melt_step.specs.Seats.{KeepsRun, KnowsStop, potential}
+use Rattle.melt_step.specs.Threads.{KeepsRun, KnowsStop, potential}
 use Rattle.melt_step.proofs.run.Run.run_all.Given as goal
 
-abbrev pub decreases-loop-t : goal.decreases-loop-t
-decreases-loop-t l = potential l.run.seats.items (view l.run.core).calls
+abbrev pub decreases-loop-run : goal.decreases-loop-run
+decreases-loop-run l = potential l.run.states.items (view l.run.core).calls
 
-abbrev pub invariant-loop-t : goal.invariant-loop-t
-invariant-loop-t l = record {
-  count : length l.run.seats.items ≡ length l.trace.programs;
+abbrev pub invariant-loop-run : goal.invariant-loop-run
+invariant-loop-run l = record {
   keeps : KeepsRun l.fn.self l.run;
-  stop : KnowsStop (view l.run.core) l.run.seats.items;
+  stop : KnowsStop (view l.run.core) l.run.states.items;
 }

@@ -1,35 +1,57 @@
--- The seat that was read is that of the line's thread.
-use Rattle.std.proofs.Common.{◌≡◌, inl, inr, List, ℕ, true, Some, slice_get, refl, sym, ◌∙◌, subst, arith}
+-- The state that was read is that of the line's thread.
+use Rattle.std.proofs.Common.{◌≡◌, ◌≢◌, ◌+◌, ◌-◌, inl, inr, List, ℕ, true, Some, slice_get, refl, sym, ◌∙◌, subst}
+use Rattle.std.proofs.Common.{arith}
 use Rattle.std.proofs.lemmas.Option.{slice_get_read, same_Some}
-use Rattle.melt_step.specs.Seats.{MayGo}
-use Rattle.melt_step.specs.Turns.{GoesAt}
-use Rattle.melt_step.specs.declared.seat.Seat.{Seat}
+use Rattle.melt_step.specs.Threads.{MayGo}
+use Rattle.melt_step.specs.Turns.{GoesAt, OfLine}
+use Rattle.melt_step.specs.declared.thread.ThreadState.{ThreadState}
+use Rattle.melt_step.specs.declared.turns.Turns.{Turns}
 use Rattle.melt_step.proofs.Turning.{of_line, dropped_more}
 use Rattle.melt_step.proofs.turns.Turns.by_line.Goals as goal
-use Rattle.melt_step.proofs.turns.Turns.by_line.Goals.{then-self-eq0, else-self-eq0}
+use Rattle.melt_step.proofs.turns.Turns.by_line.Goals.{Joined-self-eq0, then-self-eq0, else-self-eq0}
+
+-- the event is one of the line
+by_this : (c : Joined-self-eq0) (new : Turns) → new.left ≡ c.if-self-eq0.left - 1
+    → (new.left ≢ 0 → new.line ≡ c.loop-self.self.line) → (new.left ≡ 0 → new.line ≡ c.loop-self.self.line + 1)
+    → new.turn ≡ c.loop-self.self.turn
+    → OfLine c.args.trace.now.orders c.args.states.now c.args.self.now new c.order-thread.result.0
+by_this c new less stays over turn =
+    of_line _ _ _ c.loop-self.self new c.order-thread.result.0 c.order-thread.result.1 c.if-self-eq0.left
+    c.loop-self.invariant c.order-thread.ensures.value c.order-thread.ensures.events.0 (
+      c.index-states-thread.result,
+      slice_get_read c.args.states.now _ c.order-thread.result.0 c.index-states-thread.result
+          (sym c.requires) c.order-thread.ensures.thread c.index-states-thread.is,
+      c.can_go.ensures.0 c.if-can_go.true,
+    )
+    (elim c.if-self-eq0.branch [
+      | then-self-eq0 w ↦ inl (w.if-self-eq0.true, w.left-is)
+      | else-self-eq0 w ↦ inr (w.if-self-eq0.false, w.left-is)
+    ])
+    less stays over turn
 
 pub returns-then-self-eq0-2-clause-line : goal.returns-then-self-eq0-2-clause-line
 returns-then-self-eq0-2-clause-line c =
-    of_line _ _ _ c.loop-self.self _ c.order-thread.result.0 c.order-thread.result.1 c.if-self-eq0.left c.loop-self.invariant c.order-thread.ensures.value c.order-thread.ensures.events.0
-    (c.index-seats-thread.result, slice_get_read c.args.seats.now _ c.order-thread.result.0 c.index-seats-thread.result (sym c.requires) c.order-thread.ensures.thread c.index-seats-thread.is, c.can_go.ensures.0 c.if-can_go.true)
-    (elim c.if-self-eq0.branch [ then-self-eq0 w ↦ inl (w.if-self-eq0.true, w.left-is) | else-self-eq0 w ↦ inr (w.if-self-eq0.false, w.left-is) ])
-    refl (λ some. absurd (some c.if-self-eq0-2.true)) (λ none. refl) refl
+    by_this (goal.at.returns-then-self-eq0-2-clause-line c).Joined-self-eq0 _ refl
+    (λ some. absurd (some c.if-self-eq0-2.true)) (λ none. refl) refl
 
 pub returns-else-self-eq0-2-clause-line : goal.returns-else-self-eq0-2-clause-line
 returns-else-self-eq0-2-clause-line c =
-    of_line _ _ _ c.loop-self.self _ c.order-thread.result.0 c.order-thread.result.1 c.if-self-eq0.left c.loop-self.invariant c.order-thread.ensures.value c.order-thread.ensures.events.0
-    (c.index-seats-thread.result, slice_get_read c.args.seats.now _ c.order-thread.result.0 c.index-seats-thread.result (sym c.requires) c.order-thread.ensures.thread c.index-seats-thread.is, c.can_go.ensures.0 c.if-can_go.true)
-    (elim c.if-self-eq0.branch [ then-self-eq0 w ↦ inl (w.if-self-eq0.true, w.left-is) | else-self-eq0 w ↦ inr (w.if-self-eq0.false, w.left-is) ])
-    refl (λ some. refl) (λ none. absurd (c.if-self-eq0-2.false none)) refl
+    by_this (goal.at.returns-else-self-eq0-2-clause-line c).Joined-self-eq0 _ refl
+    (λ some. refl) (λ none. absurd (c.if-self-eq0-2.false none)) refl
 
--- a seat that was read cannot go on, so its thread cannot
-no_seat : (seats : List Seat) (t : ℕ) (x : Seat) → slice_get seats t ≡ Some x → (MayGo x.mode → ⊥) → GoesAt seats t → ⊥
-no_seat seats t x is cannot goes = cannot (subst (λ (s : Seat). MayGo s.mode) (same_Some goes.0 x (sym goes.1 ∙ is)) goes.2)
+-- a state that was read cannot go on, so its thread cannot
+no_state : (states : List ThreadState) (t : ℕ) (x : ThreadState) → slice_get states t ≡ Some x → (MayGo x.mode → ⊥)
+    → GoesAt states t → ⊥
+no_state states t x is cannot goes =
+    cannot (subst (λ (s : ThreadState). MayGo s.mode) (same_Some goes.0 x (sym goes.1 ∙ is)) goes.2)
 
 pub loop-self-preserved : goal.loop-self-preserved
 loop-self-preserved c =
-    let here : slice_get c.args.seats.now c.order-thread.result.0 ≡ Some c.index-seats-thread.result =
-    slice_get_read c.args.seats.now _ c.order-thread.result.0 c.index-seats-thread.result (sym c.requires) c.order-thread.ensures.thread c.index-seats-thread.is in
-    dropped_more _ _ _ c.loop-self.self c.drop_line.new.self c.order-thread.result c.loop-self.invariant c.order-thread.ensures.value
-    (no_seat c.args.seats.now c.order-thread.result.0 c.index-seats-thread.result here (λ goes. let yes : c.can_go.result ≡ true = c.can_go.ensures.1 goes in cc))
+    let here : slice_get c.args.states.now c.order-thread.result.0 ≡ Some c.index-states-thread.result =
+    slice_get_read c.args.states.now _ c.order-thread.result.0 c.index-states-thread.result
+    (sym c.requires) c.order-thread.ensures.thread c.index-states-thread.is in
+    dropped_more _ _ _ c.loop-self.self c.drop_line.new.self c.order-thread.result c.loop-self.invariant
+    c.order-thread.ensures.value
+    (no_state c.args.states.now c.order-thread.result.0 c.index-states-thread.result here
+    (λ goes. let yes : c.can_go.result ≡ true = c.can_go.ensures.1 goes in cc))
     (omega (arith, c.loop-self-test.true, c.orders.ensures)) (c.drop_line.ensures (omega arith))

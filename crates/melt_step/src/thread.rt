@@ -1,7 +1,7 @@
 //! The threads of a run.
 ghost use Rattle.std.specs.Prelude.{◌≡◌, ◌<◌, ◌↔◌, length, vec_capacity, IsTrue, IsSome, IfOk, true, Some, None};
 ghost use Rattle.melt_trace.specs.Script.{operations};
-ghost use Rattle.melt_step.specs.Seats.{CallsAgain, DueBy, IsEnded, IsNewSeat, MayGo, TakesReply};
+ghost use Rattle.melt_step.specs.Threads.{CallsAgain, DueBy, IsEnded, IsNewThread, MayGo, TakesReply};
 
 use melt_model::{NoMemory, Op, Reply, ThreadEnd};
 use melt_trace::{Cursor, Trace};
@@ -27,29 +27,29 @@ pub enum Mode {
 
 /// A thread of a run: its next operation, those behind it, and its replies so far.
 #[derive(Drop)]
-pub struct Seat<'a> {
+pub struct ThreadState<'a> {
     pub op: Option<Op>,
-    pub rest: Cursor<'a>,
+    pub cursor: Cursor<'a>,
     pub replies: Vec<Reply>,
     pub mode: Mode,
 }
 
-impl<'a> Seat<'a> {
+impl<'a> ThreadState<'a> {
     /// A thread before its first event, with room for all its replies. One without operations has ended.
-    pub fn new(alloc: Global, trace: &'a Trace, thread: u32) -> Result<Seat<'a>, NoMemory>
+    pub fn new(alloc: Global, trace: &'a Trace, thread: u32) -> Result<ThreadState<'a>, NoMemory>
         requires { thread < length trace.now.programs }
-        ensures { IfOk result (IsNewSeat (operations trace.now thread) trace.now.globals) }
+        ensures { IfOk result (IsNewThread (operations trace.now thread) trace.now.globals) }
     {
-        let mut rest = trace.cursor(thread);
-        let op = rest.next();
-        let mut seat = Seat {
+        let mut cursor = trace.cursor(thread);
+        let op = cursor.next();
+        let mut state = ThreadState {
             op,
-            rest,
+            cursor,
             replies: Vec::with_capacity(alloc, trace.count(thread) as usize)?,
             mode: Mode::Running,
         };
-        seat.go_on();
-        Ok(seat)
+        state.go_on();
+        Ok(state)
     }
 
     /// Whether the thread neither waits nor has ended.
@@ -103,7 +103,7 @@ impl<'a> Seat<'a> {
         ensures due { DueBy every self.old self.new }
     {
         self.replies.push_reserved(reply);
-        self.op = self.rest.next();
+        self.op = self.cursor.next();
         if every != 0 && self.replies.len() as u64 % every as u64 == 0 {
             self.mode = Mode::Due;
         } else {

@@ -1,0 +1,288 @@
+-- What a thread is told, and lists of threads of which one was set.
+use Rattle.std.proofs.Common.{[], ◌≡◌, ◌≢◌, ℕ, ◌+◌, ◌<◌, ◌≤◌, zero, suc, List, ◌∷◌, ◌++◌, length, take, refl, sym, ◌∙◌}
+use Rattle.std.proofs.Common.{ap, subst, arith, length-append, inl, inr}
+use Rattle.std.proofs.Math.ListN.{set, length-set}
+use Rattle.std.proofs.Math.Seq.{take-append_seam}
+use Rattle.std.proofs.lemmas.Bool.{cases_eq, cond_both}
+use Rattle.std.proofs.lemmas.List.{append-nil, set-get_or}
+use Rattle.std.proofs.lemmas.List.Elements.{All-push}
+use Rattle.std.proofs.lemmas.List.Sums.{sum-map, sum_by-set, get_or-le-sum_by}
+use Rattle.std.proofs.lemmas.Option.{same_Some, slice_get_within, get_or_from_slice_get}
+use Rattle.std.specs.Prelude.{Option, None, Some, All, map, slice_get, slice_set, sum, drop, nat_lt}
+use Rattle.std.specs.Option.{option_map_or}
+use Rattle.melt_model.specs.History.{Shape, shape, made, last, IsReference, MayFollow, Legal}
+use Rattle.melt_model.specs.Standing.{HoldReferences, Stands}
+use Rattle.melt_model.specs.Thread.{Deed, unchanged, on_part, found, number, value_in, does}
+use Rattle.melt_model.specs.declared.history.Act.{Act}
+use Rattle.melt_model.specs.declared.history.Act.TheVariants.{Make, Read, Write}
+use Rattle.melt_model.specs.declared.history.Entry.{Entry}
+use Rattle.melt_model.specs.declared.history.Slot.{Slot}
+use Rattle.melt_model.specs.declared.history.Slot.TheVariants.{Field, Cell, Global}
+use Rattle.melt_model.specs.declared.history.Value.{Value}
+use Rattle.melt_model.specs.declared.history.Value.TheVariants.{Nil, Ref, Num}
+use Rattle.melt_model.specs.declared.operations.Op.{Op}
+use Rattle.melt_model.specs.declared.operations.Op.TheVariants as op
+use Rattle.melt_model.specs.declared.operations.Op.TheVariants.{New, Collect}
+use Rattle.melt_model.specs.declared.operations.Reply.{Reply}
+use Rattle.melt_model.specs.declared.operations.Reply.TheVariants as reply
+use Rattle.melt_model.proofs.Histories.{slice_get-append_seam, made-append, IsReference-append, last_holds}
+use Rattle.melt_model.proofs.Transcripts.{Stands_local, Stands_entry, Stands_other}
+use Rattle.melt_core.specs.Answering.{entry, with_entry, gives, Answers}
+use Rattle.melt_core.proofs.Values.{get_or_set_keeps}
+use Rattle.melt_step.specs.declared.thread.ThreadState.{ThreadState}
+use Rattle.melt_step.specs.Threads.{left, IsEnded, replies_of, to_reply, Later}
+use Rattle.melt_step.proofs.Cuts.{replies_here}
+
+-- an element of a list in which one was set
+pub get_set_same : {A : Type 0} (xs : List A) (t : ℕ) (x y : A) → slice_get xs t ≡ Some x
+    → slice_get (set xs t y) t ≡ Some y
+get_set_same [] t x y at = absurd (cc)
+get_set_same (z ∷ xs) zero x y at = refl
+get_set_same (z ∷ xs) (suc t) x y at = get_set_same xs t x y at
+
+-- the others stay as they were
+pub get_set_other : {A : Type 0} (xs : List A) (t u : ℕ) (y : A) → u ≢ t → slice_get (set xs t y) u ≡ slice_get xs u
+get_set_other [] t u y differ = refl
+get_set_other (z ∷ xs) zero zero y differ = absurd (differ refl)
+get_set_other (z ∷ xs) zero (suc u) y differ = refl
+get_set_other (z ∷ xs) (suc t) zero y differ = refl
+get_set_other (z ∷ xs) (suc t) (suc u) y differ = get_set_other xs t u y (λ same. differ (ap suc same))
+
+-- an element that is set where it stands
+pub set_got : (states : List ThreadState) (t : ℕ) (s : ThreadState) → slice_get states t ≡ Some s
+    → set states t s ≡ states
+set_got states t s at = subst (λ (y : ThreadState). set states t y ≡ states) (get_or_from_slice_get states t s s at)
+    (set-get_or states t s)
+
+-- the first of the elements that are left, where it stands, and what is left behind it
+pub drop_next : {A : Type 0} (xs rest : List A) (k : ℕ) (x : A) → drop k xs ≡ x ∷ rest → drop (suc k) xs ≡ rest
+drop_next [] rest zero x is = absurd (cc)
+drop_next [] rest (suc k) x is = absurd (cc)
+drop_next (y ∷ xs) rest zero x is = cc
+drop_next (y ∷ xs) rest (suc k) x is = drop_next xs rest k x is
+
+-- with those before it, one element more is taken
+pub take_next : {A : Type 0} (xs rest : List A) (k : ℕ) (x : A) → drop k xs ≡ x ∷ rest
+    → take (suc k) xs ≡ take k xs ++ x ∷ []
+take_next [] rest zero x is = absurd (cc)
+take_next [] rest (suc k) x is = absurd (cc)
+take_next (y ∷ xs) rest zero x is = cc
+take_next (y ∷ xs) rest (suc k) x is = ap (λ (ys : List _). y ∷ ys) (take_next xs rest k x is)
+
+-- it stands where so many were dropped
+pub get_next : {A : Type 0} (xs rest : List A) (k : ℕ) (x : A) → drop k xs ≡ x ∷ rest → slice_get xs k ≡ Some x
+get_next [] rest zero x is = absurd (cc)
+get_next [] rest (suc k) x is = absurd (cc)
+get_next (y ∷ xs) rest zero x is = cc
+get_next (y ∷ xs) rest (suc k) x is = get_next xs rest k x is
+
+-- a state that was set leaves the replies of other threads
+pub replies_other : (states : List ThreadState) (t u : ℕ) (after : ThreadState) → u ≢ t
+    → replies_of (set states t after) u ≡ replies_of states u
+replies_other [] t u after differ = refl
+replies_other (x ∷ states) zero zero after differ = absurd (differ refl)
+replies_other (x ∷ states) zero (suc u) after differ = refl
+replies_other (x ∷ states) (suc t) zero after differ = refl
+replies_other (x ∷ states) (suc t) (suc u) after differ = replies_other states t u after (λ same. differ (ap suc same))
+
+-- and gives its own thread those of the new state
+pub replies_same : (states : List ThreadState) (t : ℕ) (s after : ThreadState) → slice_get states t ≡ Some s
+    → replies_of (set states t after) t ≡ after.replies.items
+replies_same states t s after at = replies_here (set states t after) t after (get_set_same states t s after at)
+
+-- a thread that has not ended may get more replies
+pub later_set : (states : List ThreadState) (t : ℕ) (s after : ThreadState) (extra : List Reply)
+    → slice_get states t ≡ Some s → (IsEnded s.mode → ⊥) → after.replies.items ≡ s.replies.items ++ extra
+    → Later states (set states t after)
+later_set states t s after extra at runs grown =
+    let here : replies_of (set states t after) t ≡ replies_of states t ++ extra =
+    replies_same states t s after at
+    ∙ (grown ∙ ap (λ (xs : List Reply). xs ++ extra) (sym (replies_here states t s at))) in
+    record {
+      count = length-set states t after;
+      replies = λ u. elim (cases_eq u t) [
+        | inl same ↦ subst (λ (k : ℕ). (more : List Reply)
+            × (replies_of (set states t after) k ≡ replies_of states k ++ more)) (sym same) (extra, here)
+        | inr differ ↦ ([], replies_other states t u after differ ∙ sym (append-nil (replies_of states u)))
+      ];
+      ended = λ u x there over. elim (cases_eq u t) [
+        | inl same ↦ absurd (runs (subst (λ (y : ThreadState). IsEnded y.mode)
+            (same_Some x s (sym (subst (λ (k : ℕ). slice_get states k ≡ Some x) same there) ∙ at)) over))
+        | inr differ ↦ get_set_other states t u after differ ∙ there
+      ];
+    }
+
+-- a sum over all states, where one was set
+pub sum_set : (f : ThreadState → ℕ) (states : List ThreadState) (t : ℕ) (s after : ThreadState)
+    → slice_get states t ≡ Some s → sum (map f (set states t after)) + f s ≡ sum (map f states) + f after
+sum_set f states t s after at =
+    omega (
+      arith,
+      sum-map f states,
+      sum-map f (set states t after),
+      sum_by-set f states t after s (slice_get_within states t s at),
+      ap f (get_or_from_slice_get states t s s at),
+    )
+
+-- how many replies are to come, where a state was set
+pub to_reply_set : (states : List ThreadState) (t : ℕ) (s after : ThreadState) → slice_get states t ≡ Some s
+    → to_reply (set states t after) + length (left s) ≡ to_reply states + length (left after)
+to_reply_set states t s after at = sum_set (λ (x : ThreadState). length (left x)) states t s after at
+
+-- the replies to come of one thread are among those of all
+pub to_reply_one : (states : List ThreadState) (t : ℕ) (s : ThreadState) → slice_get states t ≡ Some s
+    → length (left s) ≤ to_reply states
+to_reply_one states t s at =
+    let f : ThreadState → ℕ = λ (x : ThreadState). length (left x) in
+    omega (
+      arith,
+      sum-map f states,
+      get_or-le-sum_by f states t s (slice_get_within states t s at),
+      ap f (get_or_from_slice_get states t s s at),
+    )
+
+-- What the registers hold behind an operation are references where they were before.
+abbrev KeepsReferences : List Entry → ℕ → ℕ → Value → Deed → Type 0
+KeepsReferences h t globals x d = Legal (with_entry t h d.act) globals → gives h d.act ≡ x
+    → HoldReferences (with_entry t h d.act) d.registers
+
+-- what holds whether the object and its part are there or not
+on_part_both : (R : Deed → Type 0) (parts : Shape → ℕ) (h : List Entry) (regs : List Value) (v : Value) (k : ℕ)
+    (f : ℕ → Deed) → R (unchanged regs reply.Nil) → R (unchanged regs reply.Range) → ((n : ℕ) → R (f n))
+    → R (on_part parts h regs v k f)
+on_part_both R parts h regs Nil k f nothing past there = nothing
+on_part_both R parts h regs (Num v) k f nothing past there = nothing
+on_part_both R parts h regs (Ref n) k f nothing past there =
+    cond_both (nat_lt k (option_map_or parts (shape h n) 0)) (f n) (unchanged regs reply.Range) R (λ e. there n)
+    (λ e. past)
+
+-- registers that hold references do so by a longer history
+hold_more : (h k : List Entry) (regs : List Value) → HoldReferences h regs → HoldReferences (h ++ k) regs
+hold_more h k regs holds r = IsReference-append h k (value_in regs r) (holds r)
+
+-- and where one of them is set to a reference
+hold_set : (h : List Entry) (regs : List Value) (dst : ℕ) (x : Value) → IsReference h x → HoldReferences h regs
+    → HoldReferences h (set regs dst x)
+hold_set h regs dst x new holds r = get_or_set_keeps (IsReference h) regs dst x r Nil new (holds r)
+
+-- what is read at a slot is what was written there last
+read_last_here : (h : List Entry) (t globals : ℕ) (slot : Slot) (x : Value)
+    → Legal (h ++ entry t (Read slot x) ∷ []) globals → x ≡ last h slot
+read_last_here h t globals slot x legal =
+    let e : Entry = entry t (Read slot x) in
+    let follows : MayFollow (take (length h) (h ++ e ∷ [])) globals e.act =
+    legal (length h) e (slice_get-append_seam h e []) in
+    let here : MayFollow h globals e.act =
+    subst (λ (k : List Entry). MayFollow k globals e.act) (take-append_seam h (e ∷ [])) follows in
+    here.read_last
+
+-- each operation keeps it that registers hold references
+does_references : (h : List Entry) (t globals : ℕ) (regs : List Value) (o : Op) (x : Value) → Legal h globals
+    → HoldReferences h regs → KeepsReferences h t globals x (does h regs o x)
+does_references h t globals regs (op.New dst refs nums) x before holds = λ legal is.
+    let e : Entry = entry t (Make refs nums) in
+    let new : IsReference (h ++ e ∷ []) (Ref (made h)) = omega (arith, made-append h (e ∷ [])) in
+    hold_set (h ++ e ∷ []) regs dst x (subst (IsReference (h ++ e ∷ [])) is new) (hold_more h (e ∷ []) regs holds)
+does_references h t globals regs (op.Load dst src i) x before holds =
+    on_part_both (KeepsReferences h t globals x) (λ (z : Shape). z.refs) h regs (value_in regs src) i
+    (λ (n : ℕ). record { act = Some (Read (Field n i) x); reply = found x; registers = slice_set regs dst x })
+    (λ legal is. holds) (λ legal is. holds)
+    (λ n legal is.
+    let e : Entry = entry t (Read (Field n i) x) in
+    let reads : IsReference h x = subst (IsReference h) (sym (read_last_here h t globals (Field n i) x legal))
+    (last_holds h globals before (Field n i)) in
+    hold_set (h ++ e ∷ []) regs dst x (IsReference-append h (e ∷ []) x reads) (hold_more h (e ∷ []) regs holds))
+does_references h t globals regs (op.Store obj i src) x before holds =
+    on_part_both (KeepsReferences h t globals x) (λ (z : Shape). z.refs) h regs (value_in regs obj) i
+    (λ (n : ℕ). record { act = Some (Write (Field n i) (value_in regs src)); reply = reply.Done; registers = regs })
+    (λ legal is. holds) (λ legal is. holds)
+    (λ n legal is. hold_more h (entry t (Write (Field n i) (value_in regs src)) ∷ []) regs holds)
+does_references h t globals regs (op.Get src j) x before holds =
+    on_part_both (KeepsReferences h t globals x) (λ (z : Shape). z.nums) h regs (value_in regs src) j
+    (λ (n : ℕ). record {
+      act = Some (Read (Cell n j) (Num (number x)));
+      reply = reply.Num (number x);
+      registers = regs;
+    })
+    (λ legal is. holds) (λ legal is. holds)
+    (λ n legal is. hold_more h (entry t (Read (Cell n j) (Num (number x))) ∷ []) regs holds)
+does_references h t globals regs (op.Put obj j v) x before holds =
+    on_part_both (KeepsReferences h t globals x) (λ (z : Shape). z.nums) h regs (value_in regs obj) j
+    (λ (n : ℕ). record { act = Some (Write (Cell n j) (Num v)); reply = reply.Done; registers = regs })
+    (λ legal is. holds) (λ legal is. holds)
+    (λ n legal is. hold_more h (entry t (Write (Cell n j) (Num v)) ∷ []) regs holds)
+does_references h t globals regs (op.GLoad dst g) x before holds = λ legal is.
+    let e : Entry = entry t (Read (Global g) x) in
+    let reads : IsReference h x = subst (IsReference h) (sym (read_last_here h t globals (Global g) x legal))
+    (last_holds h globals before (Global g)) in
+    hold_set (h ++ e ∷ []) regs dst x (IsReference-append h (e ∷ []) x reads) (hold_more h (e ∷ []) regs holds)
+does_references h t globals regs (op.GStore g src) x before holds =
+    λ legal is. hold_more h (entry t (Write (Global g) (value_in regs src)) ∷ []) regs holds
+does_references h t globals regs (op.Same a b) x before holds = λ legal is. holds
+does_references h t globals regs (op.Copy dst src) x before holds =
+    λ legal is. hold_set h regs dst (value_in regs src) (holds src) holds
+does_references h t globals regs (op.Drop r) x before holds = λ legal is. let nothing : IsReference h Nil =
+    tt in hold_set h regs r Nil nothing holds
+does_references h t globals regs op.Collect x before holds = λ legal is. holds
+
+-- what an entry more changes for the history
+pub with_more : (h : List Entry) (t : ℕ) (act : Option Act) → (more : List Entry) × (with_entry t h act ≡ h ++ more)
+with_more h t None = ([], sym (append-nil h))
+with_more h t (Some act) = (entry t act ∷ [], refl)
+
+-- there is one entry more at most
+pub with_length : (h : List Entry) (t : ℕ) (act : Option Act) → length (with_entry t h act) ≤ length h + 1
+with_length h t None = omega arith
+with_length h t (Some act) = omega (arith, length-append h (entry t act ∷ []))
+
+-- the new entry is of a thread of the script
+pub with_own : (h : List Entry) (t threads : ℕ) (act : Option Act) → t < threads
+    → All (λ (e : Entry). e.thread < threads) h → All (λ (e : Entry). e.thread < threads) (with_entry t h act)
+with_own h t threads None within own = own
+with_own h t threads (Some act) within own = All-push (λ (e : Entry). e.thread < threads) h (entry t act) own within
+
+-- what another thread was told stays
+pub told_with : (h : List Entry) (t u : ℕ) (ops : List Op) (replies : List Reply) (registers : List Value)
+    (act : Option Act) → u ≢ t → Stands h u ops replies registers → Stands (with_entry t h act) u ops replies registers
+told_with h t u ops replies registers None differ told = told
+told_with h t u ops replies registers (Some act) differ told =
+    Stands_other h u ops replies registers (entry t act) told (λ same. differ (sym same))
+
+-- the thread stands one operation further, where its entry is the new last one or there is none
+stands_by : (h : List Entry) (t : ℕ) (ops : List Op) (replies : List Reply) (rs : List Value) (o : Op) (x : Value)
+    (act : Option Act) → Stands h t ops replies rs → (does h rs o x).act ≡ act → gives h act ≡ x
+    → HoldReferences (with_entry t h act) (does h rs o x).registers
+    → Stands (with_entry t h act) t (ops ++ o ∷ []) (replies ++ (does h rs o x).reply ∷ [])
+    (does h rs o x).registers
+stands_by h t ops replies rs o x None stands is given holds =
+    let S : Value → Type 0 = λ v. (does h rs o v).act ≡ None → HoldReferences h (does h rs o v).registers
+    → Stands h t (ops ++ o ∷ []) (replies ++ (does h rs o v).reply ∷ []) (does h rs o v).registers in
+    let at_nil : S Nil = λ none references. Stands_local h t ops replies rs o stands none references in
+    subst S given at_nil is holds
+stands_by h t ops replies rs o x (Some act) stands is given holds =
+    let S : Value → Type 0 = λ v. (does h rs o v).act ≡ Some act
+    → HoldReferences (h ++ entry t act ∷ []) (does h rs o v).registers
+    → Stands (h ++ entry t act ∷ []) t (ops ++ o ∷ []) (replies ++ (does h rs o v).reply ∷ [])
+    (does h rs o v).registers in
+    let at_given : S (gives h (Some act)) =
+    λ same references. Stands_entry h t ops replies rs o (entry t act) stands refl same references in
+    subst S given at_given is holds
+
+-- a thread that was answered stands one operation further
+pub Stands_answers : (h h' : List Entry) (t globals : ℕ) (ops : List Op) (replies : List Reply) (rs rs' : List Value)
+    (o : Op) (r : Reply) → Legal h globals → Legal h' globals → Stands h t ops replies rs → Answers t h rs o r h' rs'
+    → Stands h' t (ops ++ o ∷ []) (replies ++ r ∷ []) rs'
+Stands_answers h h' t globals ops replies rs rs' o r before legal stands a =
+    let d : Deed = does h rs o a.value in
+    let held : HoldReferences (with_entry t h d.act) d.registers =
+    does_references h t globals rs o a.value before stands.references
+    (subst (λ (k : List Entry). Legal k globals) a.history legal) a.given in
+    let next : Stands (with_entry t h d.act) t (ops ++ o ∷ []) (replies ++ d.reply ∷ []) d.registers =
+    stands_by h t ops replies rs o a.value d.act stands refl a.given held in
+    let told : Stands (with_entry t h d.act) t (ops ++ o ∷ []) (replies ++ r ∷ []) d.registers =
+    subst (λ (x : Reply). Stands (with_entry t h d.act) t (ops ++ o ∷ []) (replies ++ x ∷ []) d.registers) a.told
+    next in
+    let registers : Stands (with_entry t h d.act) t (ops ++ o ∷ []) (replies ++ r ∷ []) rs' =
+    subst (λ (xs : List Value). Stands (with_entry t h d.act) t (ops ++ o ∷ []) (replies ++ r ∷ []) xs)
+    (sym a.registers) told in
+    subst (λ (k : List Entry). Stands k t (ops ++ o ∷ []) (replies ++ r ∷ []) rs') (sym a.history) registers

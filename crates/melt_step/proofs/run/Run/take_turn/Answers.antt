@@ -1,0 +1,80 @@
+-- The state that was borrowed is that of the thread whose turn it is.
+use Rattle.std.proofs.Common.{◌≡◌, ◌<◌, true, false, List, length, refl, sym, ◌∙◌, ap, subst, arith}
+use Rattle.std.proofs.Math.ListN.{length-set}
+use Rattle.std.proofs.lemmas.Option.{get_or_from_slice_get, slice_get_within}
+use Rattle.std.specs.Prelude.{Some, slice_get}
+use Rattle.melt_core.specs.Views.{view}
+use Rattle.melt_step.specs.declared.thread.ThreadState.{ThreadState}
+use Rattle.melt_step.specs.Threads.{AllWait, MayGo}
+use Rattle.melt_step.specs.Turns.{GoesAt}
+use Rattle.melt_step.proofs.Tables.{table_ready}
+use Rattle.melt_step.proofs.Modes.{stop_known}
+use Rattle.melt_step.proofs.Going.{step_keeps, step_less}
+use Rattle.melt_step.proofs.run.Run.take_turn.Goals as goal
+use Rattle.melt_step.proofs.run.Run.take_turn.Goals.{After-index_mut-state, In-Some}
+
+pub next-requires : goal.next-requires
+next-requires c = ap length c.deref.ensures.value ∙ c.requires.stands.1.table.count
+
+-- the thread that the turns gave the event
+given : (c : In-Some) → GoesAt c.args.self.now.states.items c.in-Some.thread
+given c = subst (λ (xs : List ThreadState). GoesAt xs c.in-Some.thread) c.deref.ensures.value c.in-Some.ensures.goes
+
+pub index_mut-state-requires : goal.index_mut-state-requires
+index_mut-state-requires c =
+    let turn = given (goal.at.index_mut-state-requires c).In-Some in
+    let within : c.in-Some.thread < length c.args.self.now.states.items =
+    slice_get_within c.args.self.now.states.items c.in-Some.thread turn.0 turn.1 in
+    omega (arith, within, c.args.self.now.states.ok)
+
+-- the state that was borrowed
+here : (c : After-index_mut-state) → GoesAt c.args.self.now.states.items c.in-Some.thread
+    → (slice_get c.args.self.now.states.items c.in-Some.thread ≡ Some c.index_mut-state.result.now)
+    × MayGo c.index_mut-state.result.now.mode
+here c turn =
+    let is : c.index_mut-state.result.now ≡ turn.0 =
+    c.index_mut-state.ensures.value
+    ∙ get_or_from_slice_get c.args.self.now.states.items c.in-Some.thread turn.0 _ turn.1 in
+    (turn.1 ∙ ap Some (sym is), subst (λ (x : ThreadState). MayGo x.mode) (sym is) turn.2)
+
+pub make_event-requires : goal.make_event-requires
+make_event-requires c =
+    let at = goal.at.make_event-requires c in
+    let borrowed = here at.After-index_mut-state (given at.In-Some) in
+    record {
+      ready = table_ready c.args.trace.now c.requires.stands.0
+          (view c.args.self.now.core) c.args.self.now.states.items c.in-Some.thread _ c.requires.stands.1.table
+          borrowed.0;
+      goes = borrowed.1;
+    }
+
+pub returns : goal.returns
+returns c =
+    let at = goal.at.returns c in
+    let borrowed = here at.After-index_mut-state (given at.In-Some) in
+    let s : ThreadState = c.index_mut-state.result.now in
+    let after : ThreadState = c.make_event.new.state in
+    let states : List ThreadState = c.args.self.now.states.items in
+    record {
+      keeps = step_keeps c.args.self.now _ c.in-Some.thread s after borrowed.0 borrowed.1 c.make_event.ensures.step refl
+          c.make_event.ensures.due refl refl;
+      stop = stop_known (view c.args.self.now.core)
+          (view c.make_event.new.core) states c.in-Some.thread s after c.requires.stop borrowed.0 borrowed.1
+          c.make_event.ensures.stop;
+      there =
+          let within : c.in-Some.thread < length states = slice_get_within states c.in-Some.thread s borrowed.0 in
+          omega (arith, within, length-set states c.in-Some.thread after);
+      nearer = λ some. step_less c.args.trace.now c.requires.stands.0 (view c.args.self.now.core)
+          (view c.make_event.new.core) states c.in-Some.thread s after c.requires.stands.1.table borrowed.0 borrowed.1
+          c.make_event.ensures.step;
+      waits = λ none. absurd (cc);
+    }
+
+pub returns-in_default : goal.returns-in_default
+returns-in_default c = record {
+  keeps = λ script config stands. stands;
+  stop = c.requires.stop;
+  there = tt;
+  nearer = λ some. absurd (let wrong : false ≡ true = some in cc);
+  waits = λ none. (refl, subst AllWait c.deref.ensures.value c.in_default.ensures.none);
+}

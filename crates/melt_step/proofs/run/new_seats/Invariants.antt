@@ -1,5 +1,0 @@
-use Rattle.melt_step.proofs.Reporting.{NewSoFar}
-use Rattle.melt_step.proofs.run.new_seats.Given as goal
-
-abbrev pub invariant-loop-t : goal.invariant-loop-t
-invariant-loop-t l = NewSoFar l.trace l.t l.seats.items l.entries
