@@ -68,6 +68,20 @@ new_heap_empty heap held words globals forward named small is = record {
   globals = λ g below. ap (λ xs. slice_index xs g) is.globals_hold_nothing ∙ nothing_at globals g;
 }
 
+-- an empty forwarding word sends no home
+pub sends_nothing : (word home address : ℕ) → word ≡ 0 → Sends word home address → ⊥
+sends_nothing word home address is sends =
+    let some : 0 < home = sends.home_in_range.not_null in
+    let spelled : word ≡ forward_word home address = sends.is in
+    omega arith
+
+-- where none is filled, none is empty before one that is
+pub settled_gaps : (s : State) → ((p : ℕ) → s.forward p ≡ 0) → NoGaps s
+settled_gaps s settled = record {
+  filled = λ home address k i below sends less gap.
+      sends_nothing (s.forward (probe home s.base.forwards k)) home address (settled (probe home s.base.forwards k)) sends;
+}
+
 -- each place that is tried is that of a forwarding word
 probe_at : (home count k : ℕ) → probe home count k ≡ k
 probe_at home count zero = refl
@@ -85,12 +99,6 @@ module _ (maps : Maps) (s : State) (none : NoObjects maps) (empty : IsEmpty s) w
 
   no_scion : {A : Type 0} (k : ℕ) (x : A) → (y : Option A) → y ≡ None → y ≢ Some x
   no_scion k x y is live = let e : None ≡ Some x = sym is ∙ live in absurd (cc)
-
-  sends_nothing : (word home address : ℕ) → word ≡ 0 → Sends word home address → ⊥
-  sends_nothing word home address is sends =
-      let some : 0 < home = sends.home_in_range.not_null in
-      let spelled : word ≡ forward_word home address = sends.is in
-      omega arith
 
   pub FormedWords_start : FormedWords maps s
   FormedWords_start = record {

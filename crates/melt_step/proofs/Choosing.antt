@@ -217,10 +217,10 @@ dropped_stands threads globals v w all after t a dropped others sets =
     }
 
 -- a run begins
-start_stands : (threads globals words entries : ℕ) (heap : Heap) (rest : Rest) (all : ℕ → SoFar) → AtRest true heap rest
-    → IsNewHeap words globals true heap → IsNewRest threads entries rest → ((t : ℕ) → all t ≡ nothing_yet)
+start_stands : (threads globals words forward entries : ℕ) (heap : Heap) (rest : Rest) (all : ℕ → SoFar) → AtRest true heap rest
+    → IsNewHeap words globals forward true heap → IsNewRest threads entries rest → ((t : ℕ) → all t ≡ nothing_yet)
     → AllStand threads globals (view (core_of heap rest)) all
-start_stands threads globals words entries heap rest all at_rest new_heap new_rest none =
+start_stands threads globals words forward entries heap rest all at_rest new_heap new_rest none =
     let v : View = view (core_of heap rest) in
     let count : length rest.held.items ≡ threads = ap length new_rest.held ∙ length-replicate threads no_registers in
     let each : (t : ℕ) → StandsSoFar v t nothing_yet = λ t. record {
@@ -266,10 +266,11 @@ collection_stands threads globals all heap new rest after a quiet c =
 -- they stand after each choice
 chosen_stands : (threads globals : ℕ) (v : View) (all : ℕ → SoFar) → Chosen threads globals v all
     → AllStand threads globals v all
-chosen_stands threads globals v all (Chosen.starts _ _ words entries heap rest small few new_heap new_rest is none) =
+chosen_stands threads globals v all (Chosen.starts _ _ words forward entries heap rest small few new_heap new_rest is none) =
     subst (λ (x : View). AllStand threads globals x all) (sym is)
-    (start_stands threads globals words entries heap rest all
-    (start_at_rest true words globals threads entries heap rest small few new_heap new_rest) new_heap new_rest none)
+    (start_stands threads globals words forward entries heap rest all
+    (start_at_rest true words globals forward threads entries heap rest small few new_heap new_rest) new_heap new_rest
+    none)
 chosen_stands threads globals w after (Chosen.event v _ all _ t o result chosen open_ may advances sets) =
     event_stands threads globals v w all after t o result
     (chosen_stands threads globals v all chosen) open_ may advances sets

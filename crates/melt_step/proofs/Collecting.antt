@@ -5,7 +5,7 @@ use Rattle.std.proofs.Math.Path.{fun_ext}
 use Rattle.std.proofs.Math.ListN.{get_or-map}
 use Rattle.std.proofs.lemmas.Bool.{cases_lt}
 use Rattle.std.proofs.lemmas.List.{get_or_past}
-use Rattle.std.specs.Prelude.{◌≢◌, All, Option, None, Some, IsSome}
+use Rattle.std.specs.Prelude.{◌≢◌, ◌/◌, All, Option, None, Some, IsSome}
 use Rattle.std.proofs.lemmas.List.Sums.{sum-map, sum_by-cons}
 use Rattle.std.proofs.lemmas.List.Elements.{All-append, All-from_recursion}
 use Rattle.melt_model.specs.History.{Legal}
@@ -19,17 +19,19 @@ use Rattle.melt_model.specs.declared.reports.Journal.{Journal}
 use Rattle.melt_model.proofs.Sums.{CostsSum-part}
 use Rattle.melt_scion.specs.State.{State}
 use Rattle.melt_scion.specs.Placed.{Maps, IsNamed, Placed}
-use Rattle.melt_scion.specs.Collected.{Leaves, Collected as Gone, CountsWords}
+use Rattle.melt_scion.specs.Moves.{Leaves, MovesNames}
+use Rattle.melt_scion.specs.Collected.{CountsWords}
 use Rattle.melt_scion.specs.Names.{name_at}
-use Rattle.melt_scion.specs.Heaps.{HasNames, KeepsNames, NamesMade, IsFormed, state_of}
+use Rattle.melt_scion.specs.GhostMaps.{NamePairs}
+use Rattle.melt_scion.specs.Heaps.{no_homes_on, HasNames, KeepsNames, NamesMade, IsFormed, state_of}
 use Rattle.melt_scion.specs.declared.heap.Names as heap
 use Rattle.melt_scion.specs.declared.heap.Heap.{Heap}
 use Rattle.melt_scion.specs.declared.registers.Registers.{Registers}
-use Rattle.melt_scion.proofs.Homeless.{heap_has_no_scions, no_homes}
+use Rattle.melt_scion.proofs.Starting.{settled_gaps}
 use Rattle.melt_scion.proofs.Numbered.{counts_numbers}
 use Rattle.melt_scion.proofs.Totals.{held_costs, live_costs}
 use Rattle.melt_core.proofs.Alive.{placed as placed_now}
-use Rattle.melt_copy.specs.Copying.{IsCopying, Collects, HasCollected, no_home}
+use Rattle.melt_copy.specs.Copying.{IsCopying, Collects, HasCollected}
 use Rattle.melt_core.specs.declared.call.Call.{Call}
 use Rattle.melt_core.specs.declared.machine.Rest.{Rest}
 use Rattle.melt_core.specs.Views.{View, view, maps, maps_of, state, value, values_of, numbers_of, registers_in}
@@ -41,10 +43,10 @@ use Rattle.melt_step.specs.Journals.{made_as}
 use Rattle.melt_step.specs.Threads.{CoreCollected, IsPlanning, PlansBy}
 use Rattle.melt_step.specs.declared.collector.Collector.{Collector}
 
--- the names of a heap are those of its map
-pub names_are : (names : Option heap.Names) → HasNames names (maps_of names)
-names_are None = tt
-names_are (Some names) = λ address. refl
+-- the names that a heap keeps are those of its maps
+pub names_are : (names : Option heap.Names) (pairs : NamePairs) → IsSome names → HasNames names pairs (maps_of names)
+names_are None pairs some = absurd (cc)
+names_are (Some names) pairs some = (λ address. refl, λ home. refl)
 
 -- names that are there are for all words
 names_made : (names : Option heap.Names) (words : ℕ) → length (numbers_of names) ≡ words → NamesMade words names
@@ -55,26 +57,24 @@ names_made (Some names) words room = room
 pub rest_formed : (heap : Heap) (rest : Rest) → AtRest true heap rest → IsFormed heap rest.held.items
 rest_formed heap rest at_rest = record {
   maps = maps_of heap.names;
-  end = 1;
-  names = names_are heap.names;
-  made = names_made heap.names (length heap.space.list) at_rest.stands.room;
+  disk = no_homes_on;
+  names = names_are heap.names heap.maps at_rest.stands.named;
+  made = record {
+    scions = at_rest.stands.scions_made;
+    names = names_made heap.names (length heap.space.list) at_rest.stands.room;
+  };
   formed = record { words = at_rest.stands.holds.formed; registers = at_rest.stands.registers };
 }
 
--- a home that is no object's
-no_object : (o : Option ℕ) → ((n : ℕ) → o ≡ Some n → ⊥) → o ≡ None
-no_object None none = refl
-no_object (Some n) none = absurd (none n refl)
-
--- maps that agree with the names, and have no homes
-same_maps : (old new : Option heap.Names) (after : Maps) → IsSome old → KeepsNames old new → HasNames new after
-    → ((home n : ℕ) → after.home home ≡ Some n → ⊥) → after ≡ maps_of new
-same_maps None new after is_some keeps has none = absurd (cc)
-same_maps (Some old) None after is_some keeps has none = absurd keeps
-same_maps (Some old) (Some new) after is_some keeps has none =
-    ap (λ (f : ℕ → Option ℕ). let m : Maps = record { address = f; home = after.home } in m) (fun_ext has)
+-- maps that are those of names that are kept
+same_maps : (old new : Option heap.Names) (pairs : NamePairs) (after : Maps) → IsSome old → KeepsNames old new
+    → HasNames new pairs after → after ≡ maps_of new
+same_maps None new pairs after is_some keeps has = absurd (cc)
+same_maps (Some old) None pairs after is_some keeps has = absurd keeps
+same_maps (Some old) (Some new) pairs after is_some keeps has =
+    ap (λ (f : ℕ → Option ℕ). let m : Maps = record { address = f; home = after.home } in m) (fun_ext has.0)
     ∙ ap (λ (g : ℕ → Option ℕ). let m : Maps = record { address = name_at new.addresses; home = g } in m)
-    (fun_ext (λ home. no_object (after.home home) (none home)))
+    (fun_ext has.1)
 
 -- names stay where they are
 keeps_some : (old new : Option heap.Names) → IsSome old → KeepsNames old new → IsSome new
@@ -96,11 +96,8 @@ none_leave Mark s copying a leaves = leaves
 none_leave Move s copying a leaves = copying
 
 -- what is in use after a collection was in use before it
-was_in_use : (phase : Phase) (old new : Maps) (s t : State) (to home : ℕ → ℕ) (n : ℕ) → Gone phase old new s t to home
-    → InUse new n → InUse old n
-was_in_use phase old new s t to home n collected is =
-    let from = collected.goes.only is.0 (n, is.1) in
-    (from.0, sym (collected.goes.named from.0 (λ none. from.2 (sym from.1 ∙ none))) ∙ (ap new.address from.1 ∙ is.1))
+was_in_use : (old new : Maps) (to : ℕ → ℕ) (n : ℕ) → MovesNames old new to → InUse new n → InUse old n
+was_in_use old new to n names is = let from = names.only is.0 n is.1 in (from.0, from.3)
 
 -- the words of what is in use, counted by headers, are those of the objects of the history
 in_use_costs : (h : List Entry) (value : ℕ → ℕ → Value) (m : Maps) (s : State) (total : ℕ) → Placed h value m s
@@ -133,11 +130,11 @@ collected_stands heap new rest registers phase journal at_rest copying collects 
     let w : View = collected_view new rest registers in
     let s : Standing true v = at_rest.stands in
     let before : Placed v.log (value v) (maps v) (state v) = placed_now v s in
-    let has : HasCollected (maps v) 1 heap new rest.held.items registers phase journal =
-    collects (maps v) 1 (names_are heap.names) before.formed in
+    let has : HasCollected (maps v) no_homes_on heap new rest.held.items registers phase journal =
+    collects.each (maps v) no_homes_on (names_are heap.names heap.maps s.named) before.formed in
     let placed_at : Placed v.log (value v) has.after (state w) = has.collected.placed v.log (value v) before in
-    let same : has.after ≡ maps w = same_maps heap.names new.names has.after s.named has.names_stay has.names
-    (λ home n. no_homes v.log has.after (state w) home n placed_at.tells refl) in
+    let same : has.after ≡ maps w =
+    same_maps heap.names new.names new.maps has.after s.named collects.tables.names has.names in
     let placed : Placed v.log (value v) (maps w) (state w) =
     subst (λ (m : Maps). Placed v.log (value v) m (state w)) same placed_at in
     let values : (t : ℕ) → values_of w t ≡ values_of v t = λ t.
@@ -145,8 +142,8 @@ collected_stands heap new rest registers phase journal at_rest copying collects 
     (placed.registers t) in
     let value_is : value v ≡ value w =
     fun_ext (λ t. fun_ext (λ r. ap (λ (vs : List Value). value_in vs r) (sym (values t)))) in
-    let size : length new.space.list ≡ length heap.space.list = has.collected.size in
-    let globals : length new.globals ≡ length heap.globals = has.collected.globals in
+    let size : length new.space.list ≡ length heap.space.list = has.collected.words.size in
+    let globals : length new.globals ≡ length heap.globals = has.collected.words.globals in
     let none : claimed v.calls ≡ 0 = unclaimed v.calls at_rest.quiet in
     let used : journal.live ≡ new.space.used = has.told.live_words in
     let counted : CountsWords (state w) (IsNamed has.after) new.space.used =
@@ -156,19 +153,20 @@ collected_stands heap new rest registers phase journal at_rest copying collects 
     let told : Counts v = s.counts refl in
     let fewer : new.space.used ≤ told.in_use =
     CostsSum-part (words_of v.log) (InUse has.after) (InUse (maps v)) new.space.used told.in_use
-    (λ n is. was_in_use phase (maps v) has.after (state v) (state w) has.to no_home n has.collected is) live
+    (λ n is. was_in_use (maps v) has.after has.to n has.collected.names is) live
     told.adds_up in
     let alive : CostsSum (words_of v.log) (Alive v.log (value w)) new.space.used =
     subst (λ (f : ℕ → ℕ → Value). CostsSum (words_of v.log) (Alive v.log f) new.space.used) value_is
-    (live_costs v.log (value v) (maps v) (state v) before phase has.after (state w) has.to no_home new.space.used
-    (s.legal refl) (heap_has_no_scions heap rest.held.items 1) refl
-    (none_leave phase (state v) copying) has.collected counted) in
+    (live_costs v.log (value v) (maps v) (state v) before phase has.after (state w) has.to has.home has.scion
+    new.space.used (s.legal refl) refl (none_leave phase (state v) copying) has.collected counted) in
     let within : new.space.used ≤ length new.space.list = omega (arith, none, size, fewer, told.within) in
     record {
       stays = record {
         stands = record {
-          named = keeps_some heap.names new.names s.named has.names_stay;
-          room = keeps_room heap.names new.names has.names_stay ∙ (s.room ∙ sym size);
+          named = keeps_some heap.names new.names s.named collects.tables.names;
+          room = keeps_room heap.names new.names collects.tables.names ∙ (s.room ∙ sym size);
+          scions_made = collects.tables.scions ∙ (s.scions_made ∙ ap (λ (n : ℕ). n / 2) (sym size));
+          settled = collects.settled;
           few = subst (λ (n : ℕ). n ≤ 8) (sym threads) s.few;
           each = s.each ∙ sym threads;
           counted = s.counted;
@@ -176,7 +174,7 @@ collected_stands heap new rest registers phase journal at_rest copying collects 
           bounded = inl (omega (arith, within));
           holds = record {
             formed = placed.formed.words;
-            no_gaps = record { filled = λ home address k i below sends less. absurd (omega arith) };
+            no_gaps = settled_gaps (state w) collects.settled;
             tells = λ is. placed.tells;
           };
           legal = λ is. subst (Legal v.log) (sym globals) (s.legal refl);
@@ -249,10 +247,7 @@ rest_collected heap new rest after phase journal at_rest copying collects thread
 pub collected_named : (heap new : Heap) (rest : Rest) (registers : List Registers) (phase : Phase) (journal : Journal)
     → AtRest true heap rest → Collects heap rest.held.items new registers phase journal → IsSome new.names
 collected_named heap new rest registers phase journal at_rest collects =
-    let has : HasCollected (maps_of heap.names) 1 heap new rest.held.items registers phase journal =
-    collects (maps_of heap.names) 1 (names_are heap.names)
-    (record { words = at_rest.stands.holds.formed; registers = at_rest.stands.registers }) in
-    keeps_some heap.names new.names at_rest.stands.named has.names_stay
+    keeps_some heap.names new.names at_rest.stands.named collects.tables.names
 
 -- a collection of what an epoch left is one of the epoch's core
 pub finished_collected : (v x w : View) → HasFinished v x → CoreCollected x w → CoreCollected v w
@@ -293,23 +288,23 @@ pub left_words : (heap new : Heap) (rest after : Rest) (phase : Phase) (journal 
 left_words heap new rest after phase journal at_rest copying collects =
     let v : View = view (core_of heap rest) in
     let s : Standing true v = at_rest.stands in
-    let t : State = state_of new after.held.items 1 in
+    let t : State = state_of new after.held.items no_homes_on in
     let before : Placed v.log (value v) (maps v) (state v) = placed_now v s in
-    let has : HasCollected (maps v) 1 heap new rest.held.items after.held.items phase journal =
-    collects (maps v) 1 (names_are heap.names) before.formed in
+    let has : HasCollected (maps v) no_homes_on heap new rest.held.items after.held.items phase journal =
+    collects.each (maps v) no_homes_on (names_are heap.names heap.maps s.named) before.formed in
     let placed_at : Placed v.log (value v) has.after t = has.collected.placed v.log (value v) before in
     let told : Counts v = s.counts refl in
     let live : CostsSum (words_of v.log) (InUse has.after) journal.live =
     in_use_costs v.log (value v) has.after t journal.live placed_at has.live in
     let alive : CostsSum (words_of v.log) (Alive v.log (value v)) journal.live =
-    live_costs v.log (value v) (maps v) (state v) before phase has.after t has.to no_home journal.live (s.legal refl)
-    (heap_has_no_scions heap rest.held.items 1) refl (none_leave phase (state v) copying) has.collected has.live in
+    live_costs v.log (value v) (maps v) (state v) before phase has.after t has.to has.home has.scion journal.live
+    (s.legal refl) refl (none_leave phase (state v) copying) has.collected has.live in
     let by_registers : CostsSum (words_of v.log) (Held (value v)) journal.held =
     held_costs v.log (value v) (maps v) (state v) before journal.held has.held_words in
     let fewer : journal.live ≤ told.in_use =
     CostsSum-part (words_of v.log) (InUse has.after) (InUse (maps v)) journal.live told.in_use
-    (λ n is. was_in_use phase (maps v) has.after (state v) t has.to no_home n has.collected is) live told.adds_up in
-    let size : length new.space.list ≡ length heap.space.list = has.collected.size in
+    (λ n is. was_in_use (maps v) has.after has.to n has.collected.names is) live told.adds_up in
+    let size : length new.space.list ≡ length heap.space.list = has.collected.words.size in
     record {
       held_within = CostsSum-part (words_of v.log) (Held (value v)) (Alive v.log (value v)) journal.held journal.live
           (λ n is. Alive.in_register n is) by_registers alive;

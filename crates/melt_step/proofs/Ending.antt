@@ -20,7 +20,7 @@ use Rattle.melt_model.specs.declared.reports.ThreadEnd.TheVariants as end
 use Rattle.melt_model.specs.declared.reports.ThreadReport.{ThreadReport}
 use Rattle.melt_scion.specs.State.{State}
 use Rattle.melt_scion.specs.Placed.{Placed}
-use Rattle.melt_scion.specs.Heaps.{state_of}
+use Rattle.melt_scion.specs.Heaps.{no_homes_on, state_of}
 use Rattle.melt_scion.specs.declared.heap.Heap.{Heap}
 use Rattle.melt_scion.proofs.Staying.{SameParts, same_words, FormedWords_same, Tells_same}
 use Rattle.melt_scion.proofs.Following.{same_history}
@@ -149,11 +149,11 @@ may_end script config report states t end.Halted same ends = ends
 
 -- the heap without the registers of its threads
 placed_left : (heap : Heap) (rest : Rest) → AtRest true heap rest
-    → Placed rest.log.items (λ t r. Nil) (maps_of heap.names) (state_of heap [] 1)
+    → Placed rest.log.items (λ t r. Nil) (maps_of heap.names) (state_of heap [] no_homes_on)
 placed_left heap rest at_rest =
     let v : View = view (core_of heap rest) in
     let s : State = state v in
-    let left : State = state_of heap [] 1 in
+    let left : State = state_of heap [] no_homes_on in
     let same : SameParts (maps v) s left =
     same_words (maps v) s left (record
     { base = refl; free = refl; word = λ k. refl; global = λ g. refl; forward = λ p. refl }) in
@@ -240,8 +240,8 @@ has_run script config run heap rest report stands ended at_rest finished count t
         words = ap length finished.words ∙ table.words;
         named = at_rest.stands.named;
         maps = maps_of heap.names;
-        names = names_are heap.names;
-        placed = subst (λ (h : List Entry). Placed h (λ t r. Nil) (maps_of heap.names) (state_of heap [] 1)) (sym log)
+        names = names_are heap.names heap.maps at_rest.stands.named;
+        placed = subst (λ (h : List Entry). Placed h (λ t r. Nil) (maps_of heap.names) (state_of heap [] no_homes_on)) (sym log)
             (placed_left heap rest at_rest);
       };
     }

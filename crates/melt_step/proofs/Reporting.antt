@@ -80,7 +80,7 @@ new_all script k amount states all eight so_far = record {
 -- a run before its first event
 pub Run_new : (script : Script) (config : Config) (entries globals threads : ℕ) (heap : Heap) (rest : Rest) (run : Run)
     → InRanges config → globals ≡ script.globals → threads ≡ length script.programs → threads ≤ 8
-    → IsNewHeap config.heap globals true heap → IsNewRest threads entries rest
+    → IsNewHeap config.heap globals config.forward true heap → IsNewRest threads entries rest
     → AreNewThreads script run.states.items entries → run.core ≡ core_of heap rest → run.every ≡ config.every
     → IsPlanning run.collector → run.collector.journal.items ≡ [] → run.collector.planned ≡ Inactive
     → run.collector.config ≡ config
@@ -88,8 +88,8 @@ pub Run_new : (script : Script) (config : Config) (entries globals threads : ℕ
 Run_new script config entries globals threads heap rest run ranges all_globals all_threads eight is_heap is_rest
     new_states begins every planning none planned numbers =
     let states : List ThreadState = run.states.items in
-    let new_heap : IsNewHeap config.heap script.globals true heap =
-    subst (λ (n : ℕ). IsNewHeap config.heap n true heap) all_globals is_heap in
+    let new_heap : IsNewHeap config.heap script.globals config.forward true heap =
+    subst (λ (n : ℕ). IsNewHeap config.heap n config.forward true heap) all_globals is_heap in
     let new_rest : IsNewRest (length script.programs) entries rest =
     subst (λ (n : ℕ). IsNewRest n entries rest) all_threads is_rest in
     let table : TableStands script config (view (core_of heap rest)) states =

@@ -108,12 +108,12 @@ ends_new script log config entries t states s new_states at =
 -- all threads stand before their first events
 pub Table_new : (script : Script) (config : Config) (entries : ℕ) (heap : Heap) (rest : Rest)
     (states : List ThreadState) → config.heap < 2 ^ 30 → length script.programs ≤ 8
-    → IsNewHeap config.heap script.globals true heap → IsNewRest (length script.programs) entries rest
+    → IsNewHeap config.heap script.globals config.forward true heap → IsNewRest (length script.programs) entries rest
     → AreNewThreads script states entries → TableStands script config (view (core_of heap rest)) states
 Table_new script config entries heap rest states small few new_heap new_rest new_states =
     let n : ℕ = length script.programs in
     let at_rest : AtRest true heap rest =
-    start_at_rest true config.heap script.globals n entries heap rest small few new_heap new_rest in
+    start_at_rest true config.heap script.globals config.forward n entries heap rest small few new_heap new_rest in
     record {
       stands = at_rest.stands;
       count = new_states.count;

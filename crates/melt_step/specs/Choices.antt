@@ -62,8 +62,8 @@ pub record CollectsRest (heap : Heap) (rest : Rest) (new : Heap) (after : Rest) 
 -- called: a new core, an event of a thread, the stop word set, an answer to a `collect`, a thread that drops its
 -- registers, a new epoch, and a collection between two epochs.
 pub data Chosen (threads globals : ℕ) : View → (ℕ → SoFar) → Type 0 where
-  starts : (v : View) (all : ℕ → SoFar) (words entries : ℕ) (heap : Heap) (rest : Rest) → words < 2 ^ 30 → threads ≤ 8
-      → IsNewHeap words globals true heap → IsNewRest threads entries rest → v ≡ view (core_of heap rest)
+  starts : (v : View) (all : ℕ → SoFar) (words forward entries : ℕ) (heap : Heap) (rest : Rest) → words < 2 ^ 30
+      → threads ≤ 8 → IsNewHeap words globals forward true heap → IsNewRest threads entries rest → v ≡ view (core_of heap rest)
       → ((t : ℕ) → all t ≡ nothing_yet) → Chosen threads globals v all
   event : (v w : View) (all after : ℕ → SoFar) (t : ℕ) (o : Op) (result : StepResult) → Chosen threads globals v all
       → (all t).over ≡ false → MayAdvance v t o → Advances v w t o result → SetsBy all after t o result

@@ -20,7 +20,7 @@ use Rattle.melt_model.specs.declared.reports.ThreadReport.{ThreadReport}
 use Rattle.melt_model.specs.declared.reports.Report.{Report}
 use Rattle.melt_trace.specs.Script.{Script, operations}
 use Rattle.melt_scion.specs.Placed.{Maps, Placed}
-use Rattle.melt_scion.specs.Heaps.{state_of, HasNames}
+use Rattle.melt_scion.specs.Heaps.{no_homes_on, state_of, HasMaps}
 use Rattle.melt_scion.specs.declared.heap.Heap.{Heap}
 use Rattle.melt_step.specs.Journals.{IsJournalOf}
 
@@ -175,8 +175,8 @@ pub record IsLeft (script : Script) (config : Config) (report : Report) (heap : 
   pub words : length heap.space.list ≡ config.heap
   pub named : IsSome heap.names
   pub maps : Maps
-  pub names : HasNames heap.names maps
-  pub placed : Placed report.log (λ t r. Nil) maps (state_of heap [] 1)
+  pub names : HasMaps heap maps
+  pub placed : Placed report.log (λ t r. Nil) maps (state_of heap [] no_homes_on)
 
 -- a report, and the heap that is left
 pub record HasRun (script : Script) (config : Config) (report : Report) (heap : Option Heap) : Type 0 where

@@ -1,6 +1,6 @@
 //! The collections of a run.
 ghost use Rattle.std.specs.Prelude.{◌≡◌, ◌<◌, All, [], length, IfOk, OnOk, true};
-ghost use Rattle.melt_scion.specs.Heaps.{IsFormed};
+ghost use Rattle.melt_scion.specs.Heaps.{IsFormed, IsSettled};
 ghost use Rattle.melt_copy.specs.Copying.{Collects, IsCopying};
 ghost use Rattle.melt_core.specs.Views.{IsQuiet, Standing, view};
 ghost use Rattle.melt_policy.specs.Policy.{planned};
@@ -43,6 +43,7 @@ fn collect_uncounted<L: Ledger>(
     requires parts { blank.parts ≡ L.parts }
     requires some { 0 < blank.parts }
     requires formed { IsFormed heap.old registers.old }
+    requires settled { IsSettled heap.old }
     requires phase { IsCopying phase }
     ensures collected { IfOk result (Collects heap.old registers.old heap.new registers.new phase) }
     ensures before { All (λ each. length each.regs ≡ 16) registers.old }

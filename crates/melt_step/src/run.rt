@@ -141,7 +141,7 @@ pub fn new_run<'a>(alloc: Global, trace: &'a Trace, config: Config) -> Result<Ru
     ensures stop { IfOk result (λ run. KnowsStop (view run.core) run.states.items) }
 {
     let (states, entries) = new_states(alloc, trace)?;
-    let heap = Heap::new(alloc, config.heap, trace.globals(), true)?;
+    let heap = Heap::new(alloc, config.heap, trace.globals(), config.forward, true)?;
     let rest = Rest::new(alloc, trace.threads(), entries)?;
     Ok(Run {
         core: Core::begin(heap, rest),

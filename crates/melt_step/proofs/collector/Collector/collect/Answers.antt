@@ -2,7 +2,7 @@
 use Rattle.std.proofs.Common.{◌≡◌, List, length, refl, sym, ◌∙◌, ap, subst}
 use Rattle.std.proofs.lemmas.List.{with_items_is}
 use Rattle.std.specs.Prelude.{All, true}
-use Rattle.melt_scion.specs.Heaps.{IsFormed}
+use Rattle.melt_scion.specs.Heaps.{IsFormed, no_homes_on}
 use Rattle.melt_scion.specs.declared.registers.Registers.{Registers}
 use Rattle.melt_copy.specs.Copying.{Collects}
 use Rattle.melt_core.specs.Views.{view, maps_of}
@@ -20,6 +20,10 @@ pub collect_uncounted-requires-clause-formed : goal.collect_uncounted-requires-c
 collect_uncounted-requires-clause-formed c =
     subst (IsFormed c.finish-heap.result.0) (sym c.registers.ensures.value)
     (rest_formed c.finish-heap.result.0 c.finish-heap.result.1 (c.finish-heap.ensures.rests true c.requires.stands))
+
+pub collect_uncounted-requires-clause-settled : goal.collect_uncounted-requires-clause-settled
+collect_uncounted-requires-clause-settled c =
+    (c.finish-heap.ensures.rests true c.requires.stands).stands.settled
 
 -- the registers behind the collection are those of the rest
 given_back : (c : In_ok-journal)
@@ -48,6 +52,7 @@ begin-requires c =
       names = collected_named c.finish-heap.result.0 c.collect_uncounted.new.heap rest
           (with_held rest c.collect_uncounted.new.registers).held.items c.args.phase c.in_ok-journal.journal
           (c.finish-heap.ensures.rests true c.requires.stands) (collects at);
+      settled = (collects at).settled;
     }
 
 pub returns-clause-collected : goal.returns-clause-collected
@@ -75,7 +80,8 @@ returns-clause-plans c =
     let after : Rest = with_held rest c.collect_uncounted.new.registers in
     let at_rest = c.finish-heap.ensures.rests true c.requires.stands in
     let of_phase : c.in_ok-journal.journal.phase ≡ c.args.phase =
-    (collects at (maps_of c.finish-heap.result.0.names) 1 (names_are c.finish-heap.result.0.names)
+    ((collects at).each (maps_of c.finish-heap.result.0.names) no_homes_on
+    (names_are c.finish-heap.result.0.names c.finish-heap.result.0.maps at_rest.stands.named)
     (record { words = at_rest.stands.holds.formed; registers = at_rest.stands.registers })).told.of_phase in
     let left : LeavesWords (view c.begin.result) c.in_ok-journal.journal =
     subst (λ (core : Core). LeavesWords (view core) c.in_ok-journal.journal) (sym c.begin.ensures)

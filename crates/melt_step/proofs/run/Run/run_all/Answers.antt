@@ -1,7 +1,7 @@
 -- A round is an event or a safepoint.
-use Rattle.std.proofs.Common.{◌≡◌, rules, subst}
+use Rattle.std.proofs.Common.{◌≡◌, rules, sym, subst}
 use Rattle.std.specs.Prelude.{None}
-use Rattle.melt_step.specs.Threads.{IsNearer, RunStands}
+use Rattle.melt_step.specs.Threads.{AllWait, IsNearer, RunStands}
 use Rattle.melt_step.specs.declared.run.Run.{Run}
 use Rattle.melt_step.proofs.Going.{safepoint_less}
 use Rattle.melt_step.proofs.run.Run.run_all.Goals as goal
@@ -19,6 +19,15 @@ stands c = c.take_turn.ensures.keeps c.args.trace.now c.requires.stands.0
 pub pass_safepoint-requires-clause-stands : goal.pass_safepoint-requires-clause-stands
 pass_safepoint-requires-clause-stands c =
     (c.args.trace.now, (c.requires.stands.0, stands (goal.at.pass_safepoint-requires-clause-stands c).After-take_turn))
+
+pub pass_safepoint-requires-clause-waits : goal.pass_safepoint-requires-clause-waits
+pass_safepoint-requires-clause-waits c =
+    let none : c.take_turn.result ≡ None = search rules in
+    let waits = c.take_turn.ensures.waits none in
+    subst (λ (run : Run). AllWait run.states.items) (sym waits.0) waits.1
+
+pub returns-then-has_ended-clause-ended : goal.returns-then-has_ended-clause-ended
+returns-then-has_ended-clause-ended c = c.has_ended.ensures.ended c.if-has_ended.true
 
 pub loop-run-smaller : goal.loop-run-smaller
 loop-run-smaller c =
