@@ -6,6 +6,7 @@ use Rattle.std.specs.Prelude.{Option, None, Some, slice_get, replicate, nat_le, 
 use Rattle.std.specs.List.{list_any}
 use Rattle.melt_io.specs.Outside.{Rose, TakesFront, Appends}
 use Rattle.melt_io.specs.Whole.{TakesCount}
+use Rattle.melt_io.proofs.Told.{TakesFront-nothing}
 use Rattle.melt_model.specs.declared.config.Config.{Config}
 use Rattle.melt_model.specs.declared.reports.Report.{Report}
 use Rattle.melt_model.specs.declared.reports.ThreadReport.{ThreadReport}
@@ -16,7 +17,7 @@ use Rattle.melt_step.specs.Run.{MayEnd, IsStepReport}
 use Rattle.melt_trace.specs.Language.{script_of}
 use Rattle.melt_top.specs.Text.{read_fault_text, refused_text}
 use Rattle.melt_top.specs.Command.{status_of, ended, is_disk_fault, is_damaged, is_out_of_heap, halted_by_fault, halted_by_full}
-use Rattle.melt_top.specs.Headline.{Change, StepDue, Due, WroteAll, Outcome, IsBuilt}
+use Rattle.melt_top.specs.Headline.{Change, ReadAFront, StepDue, Due, WroteAll, Outcome, IsBuilt}
 use Rattle.melt_top.specs.declared.command.Command.{Command}
 use Rattle.melt_top.specs.declared.command.Command.TheVariants.{Step}
 use Rattle.melt_top.specs.declared.status.Status.{Status}
@@ -29,6 +30,17 @@ taken (Some old) (Some new) n count =
     (take n old, length-take-le n old count.0, sym (ap (λ (rest : List ℕ). take n old ++ rest) count.1 ∙ take-append-drop n old))
 taken None (Some new) n count = absurd count
 taken (Some old) None n count = absurd count
+
+pub read_a_front : (input : Change) (n : ℕ) → n ≤ 16777217 → TakesCount input.before n input.after → ReadAFront input
+read_a_front input n few count =
+    let t = taken input.before input.after n count in
+    record { bytes = t.0; front = t.2; no_more = omega (arith, t.1) }
+
+-- nothing was read
+pub read_nothing : (input : Change) → input.after ≡ input.before → ReadAFront input
+read_nothing input same =
+    let front : TakesFront input.before [] input.after = subst (λ (left : Option (List ℕ)). TakesFront input.before [] left) (sym same) (TakesFront-nothing input.before) in
+    record { bytes = []; front = front; no_more = omega arith }
 
 -- the reading failed
 pub read_failed : (config : Config) (input : Change) (n : ℕ) (due : Status) (output : List ℕ) → n ≤ 16777217 → TakesCount input.before n input.after → Rose input.faults_before input.faults_after → due ≡ status.ReadFault → output ≡ read_fault_text → StepDue config input due output

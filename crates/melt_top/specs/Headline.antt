@@ -32,6 +32,12 @@ pub record WasRead (input : Change) (bytes : List ℕ) : Type 0 where
   pub whole : length bytes ≤ 16777216 → IfSome input.after (λ left. left ≡ [])
   pub no_more : length bytes ≤ 16777217
 
+-- No more was read than a front of the input, of at most one byte more than a trace may have.
+pub record ReadAFront (input : Change) : Type 0 where
+  pub bytes : List ℕ
+  pub front : TakesFront input.before bytes input.after
+  pub no_more : length bytes ≤ 16777217
+
 -- The bytes are no trace, and the output has the first bad line and why it is bad.
 pub record TraceRefused (bytes : List ℕ) (due : Status) (output : List ℕ) : Type 0 where
   pub line : ℕ
@@ -105,9 +111,10 @@ pub record WrotePart (command : Option Command) (input out : Change) : Type 0 wh
   pub written : Appends out.before (take count output) out.after
   pub fault : Rose out.faults_before out.faults_after
 
--- memory was wanted: nothing was written, and nothing was read for words that mean nothing
+-- Memory was wanted: nothing was written. What was read is a front of the input, and nothing for words that mean nothing.
 pub record GaveUp (command : Option Command) (input out : Change) : Type 0 where
   pub written : Appends out.before [] out.after
+  pub read : ReadAFront input
   pub unread : IfNone command (IsUntouched input)
 
 -- What a call did, by the status that it answered.
