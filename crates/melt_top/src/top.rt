@@ -13,12 +13,9 @@ use crate::text::report_text;
 use melt_io::{Gate, ReadRefusal, Sink, Source, StaleDisk, read_all, write_all};
 use melt_model::{Config, NoMemory};
 use melt_step::run_schedule;
-use melt_trace::{ParseRefusal, Trace, TraceError, parse, push_line};
+use melt_trace::{MAX_BYTES, ParseRefusal, Trace, TraceError, parse, push_line};
 use std::alloc::Global;
 use std::thread::Threads;
-
-/// The longest input of a trace, in bytes.
-const MAX_INPUT: usize = 16_777_216;
 
 /// A status, and the text that is to be written with it.
 #[derive(Debug, Drop)]
@@ -79,7 +76,7 @@ fn step_answer<S: Source>(alloc: Global, config: Config, input: &mut S) -> Resul
     ensures read { ReadAFront
         (record { before = S.left input.old; after = S.left input.new; faults_before = S.faults input.old; faults_after = S.faults input.new }) }
 {
-    match read_all(alloc, input, MAX_INPUT) {
+    match read_all(alloc, input, MAX_BYTES) {
         Ok(bytes) => trace_answer(alloc, config, &bytes),
         Err(ReadRefusal::Fault) => Answer::line(alloc, Status::ReadFault, b"error read", &[]),
         Err(ReadRefusal::TooLong) => Answer::refused(alloc, TraceError::too_long()),

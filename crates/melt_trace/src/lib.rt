@@ -13,7 +13,7 @@ pub mod trace;
 
 pub use cursor::Cursor;
 pub use error::{ParseRefusal, TraceError};
-pub use parser::{parse, read_number};
+pub use parser::{MAX_BYTES, parse, read_number};
 pub use printing::{print, push_line};
 pub use reason::Reason;
 pub use script::Item;

@@ -27,7 +27,8 @@ use crate::reason::Reason;
 use crate::trace::Trace;
 use std::alloc::Global;
 
-const MAX_BYTES: usize = 16_777_216;
+/// The most bytes that a trace may have.
+pub const MAX_BYTES: usize = 16_777_216;
 
 /// What the lines of the bytes say.
 fn read_lines(alloc: Global, bytes: &[u8]) -> Result<Draft, ParseRefusal>
@@ -56,7 +57,7 @@ fn read_lines(alloc: Global, bytes: &[u8]) -> Result<Draft, ParseRefusal>
     }
 }
 
-/// The trace that the bytes are, or the first bad line and the reason. Takes at most 16,777,216 bytes.
+/// The trace that the bytes are, or the first bad line and the reason. Takes at most `MAX_BYTES` of them.
 pub fn parse(alloc: Global, bytes: &[u8]) -> Result<Trace, ParseRefusal>
     ensures found { IfOk result (λ trace. script_of bytes.now ≡ Ok trace) }
     ensures refused { IfErr result (IsRefused bytes.now) }
