@@ -1,6 +1,7 @@
 use super::*;
 use melt_io::{Failed, LendRefusal, MemDisk, StaleDisk, SteadyDisk};
 use melt_word::Shape;
+use std::fmt::InlineText;
 use std::test::Fail;
 
 const SHAPE: Shape = Shape { refs: 0, nums: 1 };
@@ -10,14 +11,14 @@ fn homes_stand_one_behind_another_up_to_the_limit(rt: HostRuntime) {
     let mut disk = SteadyDisk::new(rt.alloc());
     let mut space = StaleSpace::new(&mut disk, 9);
     assert_eq!(rt; space.reserve_home(Shape { refs: 0, nums: 6 }), Ok(1));
-    assert_eq!(rt;
-        space.reserve_home(Shape { refs: 0, nums: 0 }),
-        Err(DiskFull {
-            end: 9,
-            need: 2,
-            limit: 9
-        })
-    );
+    let full = DiskFull {
+        end: 9,
+        need: 2,
+        limit: 9,
+    };
+    assert_eq!(rt; space.reserve_home(Shape { refs: 0, nums: 0 }), Err(full));
+    let told = "the disk has no room for a home of 2 words from word 9 on, before word 9";
+    assert_eq!(rt; InlineText::<96>::of(full).as_str(), told);
     assert_eq!(rt; (space.end(), space.limit()), (9, 9));
 }
 
