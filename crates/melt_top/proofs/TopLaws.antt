@@ -6,7 +6,6 @@ use Rattle.std.specs.Prelude.{Option, None, Some, slice_get, replicate, nat_le, 
 use Rattle.std.specs.List.{list_any}
 use Rattle.melt_io.specs.Outside.{Rose, TakesFront, Appends}
 use Rattle.melt_io.specs.Whole.{TakesCount}
-use Rattle.melt_io.proofs.Told.{TakesFront-nothing}
 use Rattle.melt_model.specs.declared.config.Config.{Config}
 use Rattle.melt_model.specs.declared.reports.Report.{Report}
 use Rattle.melt_model.specs.declared.reports.ThreadReport.{ThreadReport}
@@ -35,12 +34,6 @@ pub read_a_front : (input : Change) (n : ℕ) → n ≤ max_bytes + 1 → TakesC
 read_a_front input n few count =
     let t = taken input.before input.after n count in
     record { bytes = t.0; front = t.2; no_more = omega (arith, t.1) }
-
--- nothing was read
-pub read_nothing : (input : Change) → input.after ≡ input.before → ReadAFront input
-read_nothing input same =
-    let front : TakesFront input.before [] input.after = subst (λ (left : Option (List ℕ)). TakesFront input.before [] left) (sym same) (TakesFront-nothing input.before) in
-    record { bytes = []; front = front; no_more = omega arith }
 
 -- the reading failed
 pub read_failed : (config : Config) (input : Change) (n : ℕ) (due : Status) (output : List ℕ) → n ≤ max_bytes + 1 → TakesCount input.before n input.after → Rose input.faults_before input.faults_after → due ≡ status.ReadFault → output ≡ read_fault_text → StepDue config input due output

@@ -111,10 +111,10 @@ pub record WrotePart (command : Option Command) (input out : Change) : Type 0 wh
   pub written : Appends out.before (take count output) out.after
   pub fault : Rose out.faults_before out.faults_after
 
--- Memory was wanted: nothing was written. What was read is a front of the input, and nothing for words that mean nothing.
+-- Memory was wanted: nothing was written. A command read a front of the input, and words that mean nothing read nothing.
 pub record GaveUp (command : Option Command) (input out : Change) : Type 0 where
   pub written : Appends out.before [] out.after
-  pub read : ReadAFront input
+  pub read : IfSome command (λ c. ReadAFront input)
   pub unread : IfNone command (IsUntouched input)
 
 -- What a call did, by the status that it answered.

@@ -1,5 +1,5 @@
 //! The whole program, over any source and any sink.
-ghost use Rattle.std.specs.Prelude.{◌≡◌, map, string_bytes, IfOk, IfNone, IsNone, OnErr};
+ghost use Rattle.std.specs.Prelude.{◌≡◌, map, string_bytes, IfOk, IfNone, IfSome, IsNone, OnErr};
 ghost use Rattle.melt_io.specs.Outside.{Rose};
 ghost use Rattle.melt_model.specs.Config.{InRanges};
 ghost use Rattle.melt_trace.specs.Grammar.{line};
@@ -89,8 +89,8 @@ fn answer_to<S: Source>(alloc: Global, words: &[String], input: &mut S) -> Resul
     ensures due { IfOk result (λ answer. Due (meant (map string_bytes words.now))
         (record { before = S.left input.old; after = S.left input.new; faults_before = S.faults input.old; faults_after = S.faults input.new })
         answer.status answer.text.items) }
-    ensures read { ReadAFront
-        (record { before = S.left input.old; after = S.left input.new; faults_before = S.faults input.old; faults_after = S.faults input.new }) }
+    ensures read { IfSome (meant (map string_bytes words.now)) (λ _. ReadAFront
+        (record { before = S.left input.old; after = S.left input.new; faults_before = S.faults input.old; faults_after = S.faults input.new })) }
     ensures unread { OnErr result (IfNone (meant (map string_bytes words.now))
         (IsUntouched (record { before = S.left input.old; after = S.left input.new; faults_before = S.faults input.old; faults_after = S.faults input.new }))) }
 {
