@@ -1,21 +1,10 @@
 -- Words of a disk that a write leaves as they are, and those that it wrote.
-use Rattle.std.proofs.Common.{◌≡◌, ℕ, ◌+◌, ◌-◌, ◌<◌, List, ◌++◌, length, take, drop, replicate, get_or, Option, None, Some, Result, Ok, Err, OnOk, OnErr, IfSome, inl, inr, refl, sym, ◌∙◌, ap, subst, arith, length-append}
-use Rattle.std.proofs.lemmas.List.{ext_get_or, get_or-append-add, get_or-append_right, get_or-drop, get_or-replicate, get_or-take, get_or_append_left, get_or_past, length-replicate, length-take}
-use Rattle.std.proofs.lemmas.Bool.{cases_lt}
+use Rattle.std.proofs.Common.{◌≡◌, ℕ, ◌+◌, ◌<◌, List, ◌++◌, length, take, drop, replicate, get_or, Option, None, Some, Result, Ok, Err, OnOk, OnErr, IfSome, inl, inr, sym, ◌∙◌, ap, subst, arith, length-append}
+use Rattle.std.proofs.lemmas.List.{ext_get_or, get_or-append-add, get_or-drop, get_or-take, get_or_append_left, length-replicate, length-take}
+use Rattle.melt_io.proofs.Images.{length-front, with_words-outside}
+use Rattle.melt_io.proofs.WordBytes.{get_or-padded}
 use Rattle.melt_io.specs.Outside.{KeepsOthers, SameOutside, Writes, with_words, words_at}
 use Rattle.melt_disk.specs.Homes.{IsApart, KeepsApart}
-
-get_or-zeros : (n i : ℕ) → get_or {A = ℕ} (replicate n 0) i 0 ≡ 0
-get_or-zeros n i = elim (cases_lt i n) [
-  | inl within ↦ get_or-replicate n i 0 0 within
-  | inr past ↦ get_or_past (replicate n 0) i 0 (simp length-replicate past)
-]
-
-get_or-padded : (xs : List ℕ) (n i : ℕ) → get_or (xs ++ replicate n 0) i 0 ≡ get_or xs i 0
-get_or-padded xs n i = elim (cases_lt i (length xs)) [
-  | inl within ↦ get_or_append_left xs (replicate n 0) 0 i within
-  | inr past ↦ get_or-append_right xs (replicate n 0) (length xs) i 0 refl past ∙ get_or-zeros n (i - length xs) ∙ sym (get_or_past xs i 0 past)
-]
 
 length-words_at : (image : List ℕ) (at n : ℕ) → length (words_at image at n) ≡ n
 length-words_at image at n =
@@ -34,27 +23,6 @@ same_words old new at n same =
 SameOutside-apart : (old : List ℕ) (home m : ℕ) (new : List ℕ) → SameOutside old home m new → (at n : ℕ) → IsApart at n home m → words_at new at n ≡ words_at old at n
 SameOutside-apart old home m new same at n (inl below) = same_words old new at n (λ i h. same.before (at + i) (omega arith))
 SameOutside-apart old home m new same at n (inr above) = same_words old new at n (λ i h. same.behind (at + i) (omega arith))
-
-length-front : (image : List ℕ) (at : ℕ) → length (take at (image ++ replicate at 0)) ≡ at
-length-front image at = length-take at (image ++ replicate at 0) ∙ omega (arith, length-append image (replicate at 0), length-replicate {A = ℕ} at 0)
-
-with_words-outside : (image : List ℕ) (at : ℕ) (words : List ℕ) → SameOutside image at (length words) (with_words image at words)
-with_words-outside image at words =
-    let front : List ℕ = take at (image ++ replicate at 0) in
-    let rest : List ℕ = drop (at + length words) image in
-    let len : length (front ++ words) ≡ at + length words = length-append front words ∙ ap (λ n. n + length words) (length-front image at) in
-    record {
-      before = λ k h.
-          let in_front : k < length front = omega (arith, length-front image at) in
-          let in_both : k < length (front ++ words) = omega (arith, len) in
-          get_or_append_left (front ++ words) rest 0 k in_both ∙ get_or_append_left front words 0 k in_front
-          ∙ get_or-take at (image ++ replicate at 0) k 0 h ∙ get_or-padded image at k;
-      behind = λ k h.
-          let place : at + length words + (k - (at + length words)) ≡ k = omega arith in
-          get_or-append_right (front ++ words) rest (at + length words) k 0 len h
-          ∙ get_or-drop (at + length words) image (k - (at + length words)) 0
-          ∙ ap (λ n. get_or image n 0) place;
-    }
 
 pub Writes-apart : (old : Option (List ℕ)) (at : ℕ) (words : List ℕ) (new : Option (List ℕ)) → Writes old at words new → KeepsApart old at (length words) new
 Writes-apart None at words None told = tt

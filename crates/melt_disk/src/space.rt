@@ -11,6 +11,7 @@ use melt_record::{encode_body, encode_stub};
 use melt_word::{Shape, cost};
 use std::alloc::Global;
 use std::marker::Model;
+use thiserror::Error;
 
 /// The greatest cost of an object, in words.
 const MAX_COST: usize = 126;
@@ -19,7 +20,8 @@ const MAX_COST: usize = 126;
 const STUB_WORDS: usize = 2;
 
 /// The disk has no room for another home: `need` words from word `end` on reach past `limit`.
-#[derive(Clone, Copy, Debug, PartialEq, Eq)]
+#[derive(Clone, Copy, Debug, PartialEq, Eq, Error)]
+#[error("the disk has no room for a home of {need} words from word {end} on, before word {limit}")]
 pub struct DiskFull {
     /// The first word past all homes.
     pub end: u32,

@@ -1,6 +1,7 @@
 use super::*;
 use melt_io::{Failed, LendRefusal, MemDisk, StaleDisk, SteadyDisk};
 use melt_word::Shape;
+use std::fmt::InlineText;
 use std::test::Fail;
 
 const SHAPE: Shape = Shape { refs: 0, nums: 1 };
@@ -10,14 +11,14 @@ fn homes_stand_one_behind_another_up_to_the_limit(rt: HostRuntime) {
     let mut disk = SteadyDisk::new(rt.alloc());
     let mut space = StaleSpace::new(&mut disk, 9);
     assert_eq!(rt; space.reserve_home(Shape { refs: 0, nums: 6 }), Ok(1));
-    assert_eq!(rt;
-        space.reserve_home(Shape { refs: 0, nums: 0 }),
-        Err(DiskFull {
-            end: 9,
-            need: 2,
-            limit: 9
-        })
-    );
+    let full = DiskFull {
+        end: 9,
+        need: 2,
+        limit: 9,
+    };
+    assert_eq!(rt; space.reserve_home(Shape { refs: 0, nums: 0 }), Err(full));
+    let told = "the disk has no room for a home of 2 words from word 9 on, before word 9";
+    assert_eq!(rt; InlineText::<96>::of(full).as_str(), told);
     assert_eq!(rt; (space.end(), space.limit()), (9, 9));
 }
 
@@ -36,7 +37,10 @@ fn a_stub_leaves_the_slots_of_the_body(rt: HostRuntime) -> Result<(), Fail> {
     space.give_back(reader);
     assert_eq!(rt; disk.image.as_slice(), [0, 4_295_032_834, 1, 7].as_slice());
     assert_eq!(rt; disk.writes, 2);
-    assert_eq!(rt; (disk.lends, disk.faults, disk.read_faults), (1, 0, 0));
+    assert_eq!(rt;
+        (disk.lends, disk.faults.count(), disk.read_faults),
+        (1, 0, 0)
+    );
     Ok(())
 }
 
@@ -71,7 +75,10 @@ fn a_write_that_fails_leaves_the_other_records(rt: HostRuntime) -> Result<(), Fa
         disk.image.as_slice(),
         [0, 4_295_032_833, 0, 7, 17_179_934_721, 0, 8].as_slice()
     );
-    assert_eq!(rt; (disk.writes, disk.faults, disk.read_faults), (3, 1, 0));
+    assert_eq!(rt;
+        (disk.writes, disk.faults.count(), disk.read_faults),
+        (3, 1, 0)
+    );
     Ok(())
 }
 
@@ -89,6 +96,9 @@ fn a_lend_that_fails_leaves_the_records(rt: HostRuntime) -> Result<(), Fail> {
         [0, 4_295_032_833, 0, 7].as_slice()
     );
     space.give_back(reader);
-    assert_eq!(rt; (disk.lends, disk.faults, disk.read_faults), (2, 1, 0));
+    assert_eq!(rt;
+        (disk.lends, disk.faults.count(), disk.read_faults),
+        (2, 1, 0)
+    );
     Ok(())
 }

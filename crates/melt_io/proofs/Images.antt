@@ -1,25 +1,25 @@
--- A disk's words, with zeros past their end.
+-- A disk's words, with zeros past their end, and items written over others.
 use Rattle.std.proofs.Common.{◌≡◌, ℕ, ◌+◌, ◌-◌, ◌<◌, ◌≤◌, List, ◌++◌, length, min, take, drop, replicate, get_or, arith, inl, inr, sym, ◌∙◌, ap, length-drop, length-append}
 use Rattle.std.proofs.lemmas.List.{drop_all, take_all, take-append-le, take-replicate, drop-replicate, length-replicate, length-take, append-nil, get_or-append_right, get_or-drop, get_or-take, get_or_append_left}
 use Rattle.std.proofs.lemmas.Bool.{cases_lt}
 use Rattle.std.proofs.Math.Seq.{take-append-add, take-append_seam}
 use Rattle.melt_io.proofs.Fronts.{drop-min, take-rest}
 use Rattle.melt_io.proofs.WordBytes.{get_or-padded}
-use Rattle.melt_io.specs.Outside.{SameOutside, words_at, with_words}
+use Rattle.melt_io.specs.Outside.{SameOutside, overlaid, words_at, with_words}
 
--- the first words, where zeros enough stand behind
-pub take-padded : (at k : ℕ) (xs : List ℕ) → at ≤ length xs + k → take at (xs ++ replicate k 0) ≡ take at xs ++ replicate (at - length xs) 0
-take-padded at k xs h = elim (cases_lt (length xs) at) [
+-- the first items, where blank ones enough stand behind
+take-padded : {A : Type 0} (blank : A) (at k : ℕ) (xs : List A) → at ≤ length xs + k → take at (xs ++ replicate k blank) ≡ take at xs ++ replicate (at - length xs) blank
+take-padded {A} blank at k xs h = elim (cases_lt (length xs) at) [
   | inl past ↦
       let at_is : at ≡ length xs + (at - length xs) = omega arith in
       let short : at - length xs ≤ k = omega arith in
       let whole : take at xs ≡ xs = take_all at xs (omega arith) in
-      let zeros : take (at - length xs) (replicate k 0) ≡ replicate (at - length xs) 0 = take-replicate (at - length xs) k 0 short in
-      ap (λ n. take n (xs ++ replicate k 0)) at_is ∙ take-append-add xs (replicate k 0) (at - length xs)
-      ∙ ap (λ bytes. xs ++ bytes) zeros ∙ ap (λ bytes. bytes ++ replicate (at - length xs) 0) (sym whole)
+      let blanks : take (at - length xs) (replicate k blank) ≡ replicate (at - length xs) blank = take-replicate (at - length xs) k blank short in
+      ap (λ (n : ℕ). take n (xs ++ replicate k blank)) at_is ∙ take-append-add xs (replicate k blank) (at - length xs)
+      ∙ ap (λ (ys : List A). xs ++ ys) blanks ∙ ap (λ (ys : List A). ys ++ replicate (at - length xs) blank) (sym whole)
   | inr within ↦
       let none : at - length xs ≡ 0 = omega arith in
-      take-append-le at xs (replicate k 0) within ∙ sym (append-nil (take at xs)) ∙ ap (λ n. take at xs ++ replicate n 0) (sym none)
+      take-append-le at xs (replicate k blank) within ∙ sym (append-nil (take at xs)) ∙ ap (λ (n : ℕ). take at xs ++ replicate n blank) (sym none)
 ]
 
 -- as many of the first words as there are
@@ -29,15 +29,15 @@ take-min n k xs e = elim (cases_lt (length xs) n) [
   | inr within ↦ let same : k ≡ n = omega arith in ap (λ m. take m xs) same
 ]
 
--- what lies past the zeros
-pub drop-padded : (end : ℕ) (xs : List ℕ) → drop end (xs ++ replicate (end - length xs) 0) ≡ drop end xs
-drop-padded end xs = elim (cases_lt end (length xs)) [
+-- what lies past the blank items
+drop-padded : {A : Type 0} (blank : A) (end : ℕ) (xs : List A) → drop end (xs ++ replicate (end - length xs) blank) ≡ drop end xs
+drop-padded {A} blank end xs = elim (cases_lt end (length xs)) [
   | inl within ↦
       let none : end - length xs ≡ 0 = omega arith in
-      ap (λ n. drop end (xs ++ replicate n 0)) none ∙ ap (λ words. drop end words) (append-nil xs)
+      ap (λ (n : ℕ). drop end (xs ++ replicate n blank)) none ∙ ap (λ (ys : List A). drop end ys) (append-nil xs)
   | inr past ↦
-      let padded : length (xs ++ replicate (end - length xs) 0) ≤ end = simp (length-append, length-replicate) (omega arith) in
-      drop_all end (xs ++ replicate (end - length xs) 0) padded ∙ sym (drop_all end xs past)
+      let padded : length (xs ++ replicate (end - length xs) blank) ≤ end = simp (length-append, length-replicate) (omega arith) in
+      drop_all end (xs ++ replicate (end - length xs) blank) padded ∙ sym (drop_all end xs past)
 ]
 
 -- a copy of the first words, and zeros behind it
@@ -48,7 +48,7 @@ front_padded left n k front count e =
     ap (λ words. front ++ words) (drop-replicate k n 0)
     ∙ ap (λ m. front ++ replicate m 0) zeros
     ∙ ap (λ words. words ++ replicate (n - length left) 0) (e ∙ take-min n k left count)
-    ∙ sym (take-padded n n left fits)
+    ∙ sym (take-padded 0 n n left fits)
 
 -- a copy of what is left, and zeros behind it, in a buffer of n words
 pub copied_words : (image : List ℕ) (at start n k : ℕ) (front : List ℕ) → start ≡ min (length image) at → k ≡ min n (length image - start) → front ≡ take k (take (length image - start) (drop start image)) → front ++ drop k (replicate n 0) ≡ words_at image at n
@@ -59,21 +59,21 @@ copied_words image at start n k front begins count e =
     let count_left : k ≡ min n (length (drop at image)) = omega arith in
     front_padded (drop at image) n k front count_left copied
 
--- words put into an image that reaches far enough
-pub overwritten : (image long new : List ℕ) (at : ℕ) (words : List ℕ) → long ≡ image ++ replicate (at + length words - length image) 0 → new ≡ take at long ++ words ++ drop (at + length words) long → new ≡ with_words image at words
-overwritten image long new at words reached e =
-    let end : ℕ = at + length words in
-    let near : at ≤ length image + (end - length image) = omega arith in
-    let far : at ≤ length image + at = omega arith in
-    let front : take at long ≡ take at (image ++ replicate at 0)
-    = ap (λ w. take at w) reached ∙ take-padded at (end - length image) image near ∙ sym (take-padded at at image far) in
-    let behind : drop end long ≡ drop end image = ap (λ w. drop end w) reached ∙ drop-padded end image in
-    e ∙ ap (λ w. w ++ words ++ drop end long) front ∙ ap (λ w. take at (image ++ replicate at 0) ++ words ++ w) behind
+-- items put over those of a list that reaches far enough
+pub overwritten : {A : Type 0} (blank : A) (items long new : List A) (at : ℕ) (piece : List A) → long ≡ items ++ replicate (at + length piece - length items) blank → new ≡ take at long ++ piece ++ drop (at + length piece) long → new ≡ overlaid blank items at piece
+overwritten {A} blank items long new at piece reached e =
+    let end : ℕ = at + length piece in
+    let near : at ≤ length items + (end - length items) = omega arith in
+    let far : at ≤ length items + at = omega arith in
+    let front : take at long ≡ take at (items ++ replicate at blank)
+    = ap (λ (ys : List A). take at ys) reached ∙ take-padded blank at (end - length items) items near ∙ sym (take-padded blank at at items far) in
+    let behind : drop end long ≡ drop end items = ap (λ (ys : List A). drop end ys) reached ∙ drop-padded blank end items in
+    e ∙ ap (λ (ys : List A). ys ++ piece ++ drop end long) front ∙ ap (λ (ys : List A). take at (items ++ replicate at blank) ++ piece ++ ys) behind
 
 -- What is written back over all of a vector is all of it.
-pub written_back : (n : ℕ) (new old : List ℕ) → length new ≡ n → take n (new ++ drop (length new) old) ≡ new
-written_back n new old e =
-    ap (λ m. take m (new ++ drop (length new) old)) (sym e) ∙ take-append_seam new (drop (length new) old)
+pub written_back : {A : Type 0} (n : ℕ) (new old : List A) → length new ≡ n → take n (new ++ drop (length new) old) ≡ new
+written_back {A} n new old e =
+    ap (λ (m : ℕ). take m (new ++ drop (length new) old)) (sym e) ∙ take-append_seam new (drop (length new) old)
 
 pub length-front : (image : List ℕ) (at : ℕ) → length (take at (image ++ replicate at 0)) ≡ at
 length-front image at = length-take at (image ++ replicate at 0) ∙ omega (arith, length-append image (replicate at 0), length-replicate {A = ℕ} at 0)

@@ -1,5 +1,5 @@
 -- The words in which the traits of the outside are told.
-use Rattle.std.specs.Prelude.{◌≡◌, ℕ, ◌+◌, ◌-◌, ◌^◌, ◌<◌, ◌≤◌, List, ◌++◌, length, take, drop, replicate, min, slice_index, Option, None, Some}
+use Rattle.std.specs.Prelude.{◌≡◌, ℕ, ◌+◌, ◌-◌, ◌^◌, ◌<◌, ◌≤◌, List, ◌++◌, length, take, drop, replicate, min, slice_index, Option, None, Some, Result, OnOk, OnErr}
 
 -- A counter is a word, and stands still once it is at its end.
 abbrev pub counted : ℕ → ℕ → ℕ
@@ -8,6 +8,13 @@ counted count more = min (count + more) (2 ^ 64 - 1)
 -- The count rose, or it stands at its end and cannot rise.
 abbrev pub Rose : ℕ → ℕ → Type 0
 Rose before after = before < 2 ^ 64 - 1 → before < after
+
+-- The count of faults of an object stays where a call of it ends well, and rises where it fails.
+pub record CountsFault {A E : Type 0} (result : Result A E) (before after : ℕ) : Type 0 where
+  pub no_fault : OnOk result (after ≡ before)
+  pub failed : OnErr result (Rose before after)
+  pub count : before ≤ after
+  pub word : after < 2 ^ 64
 
 -- The old bytes are this front and the new ones, where they are told.
 abbrev pub TakesFront : Option (List ℕ) → List ℕ → Option (List ℕ) → Type 0
@@ -27,10 +34,14 @@ Appends (Some old) piece None = ⊥
 abbrev pub words_at : List ℕ → ℕ → ℕ → List ℕ
 words_at image at n = take n (drop at image ++ replicate n 0)
 
+-- the items with new ones from place `at` on, and blank ones between where there were fewer
+abbrev pub overlaid : {A : Type 0} → A → List A → ℕ → List A → List A
+overlaid blank items at new = take at (items ++ replicate at blank) ++ new ++ drop (at + length new) items
+
 -- the image with these words from word `at` on, with zeros between where it was shorter; of a file's bytes
 -- it is said too, as is what follows
 abbrev pub with_words : List ℕ → ℕ → List ℕ → List ℕ
-with_words image at words = take at (image ++ replicate at 0) ++ words ++ drop (at + length words) image
+with_words image at words = overlaid 0 image at words
 
 abbrev pub Writes : Option (List ℕ) → ℕ → List ℕ → Option (List ℕ) → Type 0
 Writes None at words None = Unit {0}

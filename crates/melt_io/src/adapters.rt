@@ -1,8 +1,9 @@
 //! The real outside: standard input and output, a file, and a gate that lets each operation through.
 ghost use Rattle.std.specs.Prelude.{◌≡◌, ◌+◌, ◌^◌, ◌<◌, ◌≤◌, true, false, is_some, None, length, IfOk, IsNone, OnOk, OnErr};
 ghost use Rattle.std.specs.Io.KnownBytes.{ReadConsumes, WriteAppends};
-ghost use Rattle.melt_io.specs.Outside.{Rose};
+ghost use Rattle.melt_io.specs.Outside.{CountsFault};
 
+use crate::faults::Faults;
 use crate::outside::{Failed, Gate, PositionedFile, PositionedReader, Sink, Source};
 use std::fmt::Debug;
 use std::fs;
@@ -18,7 +19,7 @@ const PATH: &str = "melt.stale";
 #[derive(Debug, Drop)]
 pub struct StdSource<R> {
     pub reader: R,
-    pub faults: u64,
+    pub faults: Faults,
     ghost word: { faults < 2 ^ 64 },
 }
 
@@ -28,7 +29,7 @@ pub struct StdSource<R> {
 #[derive(Debug, Drop)]
 pub struct StdSink<W> {
     pub writer: W,
-    pub faults: u64,
+    pub faults: Faults,
     ghost word: { faults < 2 ^ 64 },
 }
 
@@ -39,7 +40,7 @@ pub struct StdSink<W> {
 pub struct StdFile<R: Files> {
     pub runtime: R,
     pub file: Option<R::File>,
-    pub faults: u64,
+    pub faults: Faults,
     ghost word: { faults < 2 ^ 64 },
 }
 
@@ -48,7 +49,7 @@ pub struct StdFile<R: Files> {
 #[derive(Debug, Drop)]
 pub struct StdFileReader<F> {
     pub file: F,
-    pub faults: u64,
+    pub faults: Faults,
     ghost word: { faults < 2 ^ 64 },
 }
 
@@ -62,7 +63,10 @@ impl<R: Read> StdSource<R> {
         ensures reader { result.reader ≡ reader }
         ensures no_faults { result.faults ≡ 0 }
     {
-        StdSource { reader, faults: 0 }
+        StdSource {
+            reader,
+            faults: Faults::none(),
+        }
     }
 }
 
@@ -72,7 +76,10 @@ impl<W: Write> StdSink<W> {
         ensures writer { result.writer ≡ writer }
         ensures no_faults { result.faults ≡ 0 }
     {
-        StdSink { writer, faults: 0 }
+        StdSink {
+            writer,
+            faults: Faults::none(),
+        }
     }
 }
 
@@ -84,14 +91,11 @@ impl<R: Read> Source for StdSource<R> {
     fn read(&mut self, buf: &mut [u8]) -> Result<usize, Failed>
         ensures within { IfOk result (λ n. n ≤ length buf.old) }
         ensures passed_on { ReadConsumes (R.remaining self.old.reader) (R.remaining self.new.reader) result buf.new }
-        ensures no_fault { OnOk result (self.new.faults ≡ self.old.faults) }
-        ensures failed { OnErr result (Rose self.old.faults self.new.faults) }
-        ensures count { self.old.faults ≤ self.new.faults }
-        ensures word { self.new.faults < 2 ^ 64 }
+        ensures faults { CountsFault result self.old.faults self.new.faults }
     {
         match self.reader.read(buf) {
             Ok(n) => Ok(n),
-            Err(_) => Err(Failed::counted(&mut self.faults)),
+            Err(_) => Err(self.faults.rise()),
         }
     }
 }
@@ -105,14 +109,11 @@ impl<W: Write> Sink for StdSink<W> {
         ensures within { IfOk result (λ n. n ≤ length piece.now) }
         ensures some { IfOk result (λ n. 0 < length piece.now → 0 < n) }
         ensures passed_on { WriteAppends (W.contents self.old.writer) (W.contents self.new.writer) result piece.now }
-        ensures no_fault { OnOk result (self.new.faults ≡ self.old.faults) }
-        ensures failed { OnErr result (Rose self.old.faults self.new.faults) }
-        ensures count { self.old.faults ≤ self.new.faults }
-        ensures word { self.new.faults < 2 ^ 64 }
+        ensures faults { CountsFault result self.old.faults self.new.faults }
     {
         match self.writer.write(piece) {
             Ok(n) if n > 0 || piece.is_empty() => Ok(n),
-            _ => Err(Failed::counted(&mut self.faults)),
+            _ => Err(self.faults.rise()),
         }
     }
 }
@@ -127,7 +128,7 @@ impl<R: Files> StdFile<R> {
         StdFile {
             runtime,
             file: None,
-            faults: 0,
+            faults: Faults::none(),
         }
     }
 }
@@ -140,7 +141,7 @@ impl<F: FileExt> PositionedReader for StdFileReader<F> {
     fn read_at(&mut self, buf: &mut [u8], at: u64) -> Result<usize, Failed> {
         match self.file.read_at(buf, at) {
             Ok(n) => Ok(n),
-            Err(_) => Err(Failed::counted(&mut self.faults)),
+            Err(_) => Err(self.faults.rise()),
         }
     }
 }
@@ -169,21 +170,24 @@ where
                 self.file = Some(file);
                 Ok(())
             }
-            Err(_) => Err(Failed::counted(&mut self.faults)),
+            Err(_) => Err(self.faults.rise()),
         }
     }
 
     fn write_all_at(&mut self, piece: &[u8], at: u64) -> Result<(), Failed> {
         match &self.file {
             Some(file) if file.write_all_at(piece, at).is_ok() => Ok(()),
-            _ => Err(Failed::counted(&mut self.faults)),
+            _ => Err(self.faults.rise()),
         }
     }
 
     fn open(&mut self) -> Result<StdFileReader<R::File>, Failed> {
         match fs::open(&self.runtime, PATH) {
-            Ok(file) => Ok(StdFileReader { file, faults: 0 }),
-            Err(_) => Err(Failed::counted(&mut self.faults)),
+            Ok(file) => Ok(StdFileReader {
+                file,
+                faults: Faults::none(),
+            }),
+            Err(_) => Err(self.faults.rise()),
         }
     }
 }

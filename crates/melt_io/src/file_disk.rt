@@ -1,9 +1,10 @@
 //! A disk in a file.
 ghost use Rattle.std.specs.Prelude.{◌≡◌, ◌+◌, ◌*◌, ◌<◌, ◌≤◌, ◌^◌, ◌↔◌, true, None, length, take, drop, vec_len, IsNone, IsSome, IsErr, IsErrOf, IfOk, IfSome, OnOk, OnErr};
-ghost use Rattle.melt_io.specs.Outside.{KeepsOthers, Rose, Writes, counted};
+ghost use Rattle.melt_io.specs.Outside.{CountsFault, KeepsOthers, Rose, Writes, counted};
 ghost use Rattle.melt_io.specs.Words.{word_bytes, words_of};
 
 use crate::adapters::StdFile;
+use crate::faults::Faults;
 use crate::outside::{
     Failed, LendRefusal, PositionedFile, PositionedReader, RecordReader, StaleDisk,
 };
@@ -25,7 +26,7 @@ pub struct FileDisk<F> {
     pub piece: Vec<u8>,
     pub writes: u64,
     pub lends: u64,
-    pub faults: u64,
+    pub faults: Faults,
     pub read_faults: u64,
     ghost roomy: { 8 ≤ vec_len piece },
     ghost word: { faults < 2 ^ 64 },
@@ -40,7 +41,7 @@ pub struct FileReader<F> {
     pub file: Option<F>,
     pub piece: Vec<u8>,
     pub reads: u64,
-    pub faults: u64,
+    pub faults: Faults,
     ghost roomy: { 8 ≤ vec_len piece },
     ghost word: { faults < 2 ^ 64 },
 }
@@ -77,7 +78,7 @@ impl<F: Drop> FileDisk<F> {
             piece: vec![in alloc; 0; 8 * PIECE]?,
             writes: 0,
             lends: 0,
-            faults: 0,
+            faults: Faults::none(),
             read_faults: 0,
         })
     }
@@ -99,10 +100,7 @@ impl<F: PositionedReader> RecordReader for FileReader<F> {
         ensures kept { IfSome self.old.file (λ old. IfSome self.new.file (λ new. F.bytes new ≡ F.bytes old)) }
         ensures no_file_fault { OnOk result (IfSome self.old.file (λ old. IfSome self.new.file (λ new. F.faults new ≡ F.faults old))) }
         ensures file_failed { OnErr result (IfSome self.old.file (λ old. IfSome self.new.file (λ new. Rose (F.faults old) (F.faults new)))) }
-        ensures no_fault { OnOk result (self.new.faults ≡ self.old.faults) }
-        ensures failed { OnErr result (Rose self.old.faults self.new.faults) }
-        ensures count { self.old.faults ≤ self.new.faults }
-        ensures word { self.new.faults < 2 ^ 64 }
+        ensures faults { CountsFault result self.old.faults self.new.faults }
         ensures reads { self.new.reads ≡ counted self.old.reads 1 }
         ensures reads_rise { self.old.reads ≤ self.new.reads }
         ensures reads_word { self.new.reads < 2 ^ 64 }
@@ -110,7 +108,7 @@ impl<F: PositionedReader> RecordReader for FileReader<F> {
         self.reads = self.reads.saturating_add(1);
         let piece = &mut self.piece;
         if read_file(&mut self.file, piece, at, words).is_err() {
-            return Err(Failed::counted(&mut self.faults));
+            return Err(self.faults.rise());
         }
         Ok(())
     }
@@ -141,10 +139,7 @@ where
         ensures stays_made { F.made self.old.file ≡ true → F.made self.new.file ≡ true }
         ensures no_file_fault { OnOk result (F.faults self.new.file ≡ F.faults self.old.file) }
         ensures file_failed { OnErr result (Rose (F.faults self.old.file) (F.faults self.new.file)) }
-        ensures no_fault { OnOk result (self.new.faults ≡ self.old.faults) }
-        ensures failed { OnErr result (Rose self.old.faults self.new.faults) }
-        ensures count { self.old.faults ≤ self.new.faults }
-        ensures word { self.new.faults < 2 ^ 64 }
+        ensures faults { CountsFault result self.old.faults self.new.faults }
         ensures read_faults { self.new.read_faults ≡ self.old.read_faults }
         ensures lends { self.new.lends ≡ self.old.lends }
         ensures writes { self.new.writes ≡ counted self.old.writes 1 }
@@ -152,7 +147,7 @@ where
         self.writes = self.writes.saturating_add(1);
         let piece = &mut self.piece;
         if write_file(&mut self.file, piece, at, words).is_err() {
-            return Err(Failed::counted(&mut self.faults));
+            return Err(self.faults.rise());
         }
         Ok(())
     }
@@ -182,10 +177,10 @@ where
                 file,
                 piece,
                 reads: 0,
-                faults: 0,
+                faults: Faults::none(),
             }),
             Err(_) => {
-                Failed::counted(&mut self.faults);
+                self.faults.rise();
                 Err(LendRefusal::Failed)
             }
         }
@@ -198,7 +193,7 @@ where
         ensures lends { self.new.lends ≡ self.old.lends }
         ensures writes { self.new.writes ≡ self.old.writes }
     {
-        self.read_faults = self.read_faults.saturating_add(reader.faults);
+        self.read_faults = self.read_faults.saturating_add(reader.faults.count());
     }
 }
 

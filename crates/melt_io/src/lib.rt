@@ -10,16 +10,19 @@
 #![tactic(auto)]
 
 pub mod adapters;
+pub mod faults;
 pub mod file_disk;
 pub mod mem_disk;
 pub mod mem_file;
 pub mod memory;
 pub mod outside;
+mod overlay;
 pub mod steady;
 pub mod whole;
 pub mod words;
 
 pub use adapters::{OpenGate, StdFile, StdFileReader, StdSink, StdSource};
+pub use faults::Faults;
 pub use file_disk::{FileDisk, FileReader};
 pub use mem_disk::{MemDisk, MemReader};
 pub use mem_file::{MemFile, MemFileReader};

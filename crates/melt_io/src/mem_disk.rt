@@ -1,12 +1,14 @@
 //! A disk in memory, of which calls can be made to fail, and whose readers can be made to lie.
 ghost use Rattle.std.specs.Prelude.{◌≡◌, ◌≢◌, ℕ, ◌+◌, ◌<◌, ◌≤◌, ◌^◌, ◌↔◌, [], length, vec_len, IsErr, IsErrOf, IfOk, OnOk, OnErr, Contains};
 ghost use Rattle.std.specs.Vec.{vec_capacity};
-ghost use Rattle.melt_io.specs.Outside.{Rose, counted, words_at, with_words};
+ghost use Rattle.melt_io.specs.Outside.{CountsFault, Rose, counted, words_at, with_words};
 ghost use Rattle.melt_io.specs.Lies.{told, with_lie, with_lies};
 
+use crate::faults::Faults;
 use crate::memory::is_due;
 use crate::outside::{Failed, LendRefusal, RecordReader, StaleDisk};
-use crate::steady::{copy_words, write_image};
+use crate::overlay::write_over;
+use crate::steady::copy_words;
 use std::alloc::{AllocError, Global};
 
 /// A disk in memory, of which `image` has the words from word 0 on. A write past its end fills it with
@@ -26,7 +28,7 @@ pub struct MemDisk {
     pub fail_lends: Vec<u64>,
     pub fail_reads: Vec<(u64, u64)>,
     pub lies: Vec<(u64, u32, u64)>,
-    pub faults: u64,
+    pub faults: Faults,
     pub read_faults: u64,
     ghost word: { faults < 2 ^ 64 },
 }
@@ -40,7 +42,7 @@ pub struct MemReader {
     pub reads: u64,
     pub fail_reads: Vec<(u64, u64)>,
     pub lies: Vec<(u64, u32, u64)>,
-    pub faults: u64,
+    pub faults: Faults,
     ghost word: { faults < 2 ^ 64 },
 }
 
@@ -63,7 +65,7 @@ impl MemDisk {
             fail_lends: Vec::new(alloc),
             fail_reads: Vec::new(alloc),
             lies: Vec::new(alloc),
-            faults: 0,
+            faults: Faults::none(),
             read_faults: 0,
         }
     }
@@ -79,10 +81,7 @@ impl RecordReader for MemReader {
     fn read_at(&mut self, at: u32, words: &mut [u64]) -> Result<(), Failed>
         ensures words { OnOk result (words.new ≡ with_lies self.old.lend at (words_at self.old.image.items at (length words.old)) self.old.lies.items) }
         ensures image { (self.new.image.items ≡ self.old.image.items) × (self.new.lies.items ≡ self.old.lies.items) }
-        ensures no_fault { OnOk result (self.new.faults ≡ self.old.faults) }
-        ensures failed { OnErr result (Rose self.old.faults self.new.faults) }
-        ensures count { self.old.faults ≤ self.new.faults }
-        ensures word { self.new.faults < 2 ^ 64 }
+        ensures faults { CountsFault result self.old.faults self.new.faults }
         ensures reads { self.new.reads ≡ counted self.old.reads 1 }
         ensures reads_rise { self.old.reads ≤ self.new.reads }
         ensures reads_word { self.new.reads < 2 ^ 64 }
@@ -92,7 +91,7 @@ impl RecordReader for MemReader {
     {
         self.reads = self.reads.saturating_add(1);
         if self.fail_reads.contains(&(self.lend, self.reads)) {
-            return Err(Failed::counted(&mut self.faults));
+            return Err(self.faults.rise());
         }
         copy_words(&self.image, at as usize, words);
         tell_lies(&self.lies, self.lend, at, words);
@@ -118,10 +117,7 @@ impl StaleDisk for MemDisk {
         requires in_range { at + length words.now ≤ 2 ^ 32 }
         ensures written { OnOk result (self.new.image.items ≡ with_words self.old.image.items at words.now) }
         ensures others { OnErr result (self.new.image.items ≡ self.old.image.items) }
-        ensures no_fault { OnOk result (self.new.faults ≡ self.old.faults) }
-        ensures failed { OnErr result (Rose self.old.faults self.new.faults) }
-        ensures count { self.old.faults ≤ self.new.faults }
-        ensures word { self.new.faults < 2 ^ 64 }
+        ensures faults { CountsFault result self.old.faults self.new.faults }
         ensures read_faults { self.new.read_faults ≡ self.old.read_faults }
         ensures lends { self.new.lends ≡ self.old.lends }
 
@@ -132,9 +128,9 @@ impl StaleDisk for MemDisk {
         ensures lies { self.new.lies.items ≡ self.old.lies.items }
     {
         if is_due(&mut self.writes, &self.fail_writes)
-            || write_image(&mut self.image, at as usize, words).is_err()
+            || write_over(&mut self.image, at as usize, words, 0).is_err()
         {
-            return Err(Failed::counted(&mut self.faults));
+            return Err(self.faults.rise());
         }
         Ok(())
     }
@@ -159,7 +155,7 @@ impl StaleDisk for MemDisk {
         ensures lies { self.new.lies.items ≡ self.old.lies.items }
     {
         if is_due(&mut self.lends, &self.fail_lends) {
-            Failed::counted(&mut self.faults);
+            self.faults.rise();
             return Err(LendRefusal::Failed);
         }
         reader_of(self, alloc).map_err(|_| LendRefusal::NoMemory)
@@ -175,7 +171,7 @@ impl StaleDisk for MemDisk {
         ensures kept { (self.new.fail_writes.items ≡ self.old.fail_writes.items) × (self.new.fail_lends.items ≡ self.old.fail_lends.items) × (self.new.fail_reads.items ≡ self.old.fail_reads.items) }
         ensures lies { self.new.lies.items ≡ self.old.lies.items }
     {
-        self.read_faults = self.read_faults.saturating_add(reader.faults);
+        self.read_faults = self.read_faults.saturating_add(reader.faults.count());
     }
 }
 
@@ -194,7 +190,7 @@ fn reader_of(disk: &MemDisk, alloc: Global) -> Result<MemReader, AllocError>
         reads: 0,
         fail_reads: Vec::from_slice(alloc, &disk.fail_reads)?,
         lies: Vec::from_slice(alloc, &disk.lies)?,
-        faults: 0,
+        faults: Faults::none(),
     })
 }
 

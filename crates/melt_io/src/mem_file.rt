@@ -1,11 +1,13 @@
 //! A file in memory, of which calls can be made to fail, and whose reads can be made short.
-ghost use Rattle.std.specs.Prelude.{◌≡◌, ◌+◌, ◌-◌, ◌^◌, ◌<◌, ◌≤◌, ◌↔◌, [], ◌++◌, length, take, drop, min, max, replicate, true, false, is_some, Some, vec_len, IsErr, IsNone, IfOk, IfSome, OnOk, OnErr, Contains};
+ghost use Rattle.std.specs.Prelude.{◌≡◌, ◌+◌, ◌-◌, ◌^◌, ◌<◌, ◌↔◌, [], length, take, drop, min, max, true, false, is_some, Some, IsErr, IsNone, IfOk, IfSome, OnOk, OnErr, Contains};
 ghost use Rattle.std.specs.Vec.{vec_capacity};
-ghost use Rattle.melt_io.specs.Outside.{Rose, counted, with_words};
+ghost use Rattle.melt_io.specs.Outside.{CountsFault, counted, with_words};
 ghost use Rattle.std.proofs.Common.{rules};
 
+use crate::faults::Faults;
 use crate::memory::is_due;
 use crate::outside::{Failed, PositionedFile, PositionedReader};
+use crate::overlay::write_over;
 use std::alloc::{AllocError, Global};
 
 /// A file in memory: `bytes` is `None` before it is made. A write past the end fills it with zeros up to
@@ -22,7 +24,7 @@ pub struct MemFile {
     pub fail: Vec<u64>,
     pub fail_reads: Vec<u64>,
     pub most: usize,
-    pub faults: u64,
+    pub faults: Faults,
     ghost word: { faults < 2 ^ 64 },
 }
 
@@ -33,7 +35,7 @@ pub struct MemFileReader {
     pub calls: u64,
     pub fail: Vec<u64>,
     pub most: usize,
-    pub faults: u64,
+    pub faults: Faults,
     ghost word: { faults < 2 ^ 64 },
 }
 
@@ -52,7 +54,7 @@ impl MemFile {
             fail: Vec::new(alloc),
             fail_reads: Vec::new(alloc),
             most: usize::MAX,
-            faults: 0,
+            faults: Faults::none(),
         }
     }
 }
@@ -77,7 +79,7 @@ impl MemFile {
             calls: 0,
             fail: Vec::from_slice(alloc, &self.fail_reads)?,
             most: self.most,
-            faults: 0,
+            faults: Faults::none(),
         })
     }
 }
@@ -91,17 +93,14 @@ impl PositionedReader for MemFileReader {
         ensures within { IfOk result (λ n. n ≡ min (min (length buf.old) (max self.old.most 1)) (length (drop at self.old.bytes.items))) }
         ensures read { IfOk result (λ n. take n buf.new ≡ take n (drop at self.old.bytes.items)) }
         ensures kept { self.new.bytes.items ≡ self.old.bytes.items }
-        ensures no_fault { OnOk result (self.new.faults ≡ self.old.faults) }
-        ensures failed { OnErr result (Rose self.old.faults self.new.faults) }
-        ensures count { self.old.faults ≤ self.new.faults }
-        ensures word { self.new.faults < 2 ^ 64 }
+        ensures faults { CountsFault result self.old.faults self.new.faults }
 
         ensures due { IsErr result ↔ Contains self.old.fail.items (counted self.old.calls 1) }
         ensures calls { self.new.calls ≡ counted self.old.calls 1 }
         ensures lists { (self.new.fail.items ≡ self.old.fail.items) × (self.new.most ≡ self.old.most) }
     {
         if is_due(&mut self.calls, &self.fail) {
-            return Err(Failed::counted(&mut self.faults));
+            return Err(self.faults.rise());
         }
         let end = buf.len().min(self.most.max(1));
         Ok(copy_bytes(&self.bytes, at as usize, &mut buf[..end]))
@@ -130,17 +129,14 @@ impl PositionedFile for MemFile {
         ensures made { OnOk result (is_some self.new.bytes ≡ true) }
         ensures not_made { OnErr result (is_some self.new.bytes ≡ false) }
         ensures empty { IfSome self.new.bytes (λ bytes. bytes.items ≡ []) }
-        ensures no_fault { OnOk result (self.new.faults ≡ self.old.faults) }
-        ensures failed { OnErr result (Rose self.old.faults self.new.faults) }
-        ensures count { self.old.faults ≤ self.new.faults }
-        ensures word { self.new.faults < 2 ^ 64 }
+        ensures faults { CountsFault result self.old.faults self.new.faults }
 
         ensures due { IsErr result ↔ Contains self.old.fail.items (counted self.old.calls 1) }
         ensures calls { self.new.calls ≡ counted self.old.calls 1 }
         ensures lists { (self.new.fail.items ≡ self.old.fail.items) × (self.new.fail_reads.items ≡ self.old.fail_reads.items) × (self.new.most ≡ self.old.most) }
     {
         if is_due(&mut self.calls, &self.fail) {
-            return Err(Failed::counted(&mut self.faults));
+            return Err(self.faults.rise());
         }
         let alloc = *self.fail.allocator();
         self.bytes = Some(Vec::new(alloc));
@@ -154,10 +150,7 @@ impl PositionedFile for MemFile {
         ensures written { OnOk result (bytes_of self.new ≡ with_words (bytes_of self.old) at piece.now) }
         ensures others { OnErr result (bytes_of self.new ≡ bytes_of self.old) }
         ensures made { is_some self.new.bytes ≡ true }
-        ensures no_fault { OnOk result (self.new.faults ≡ self.old.faults) }
-        ensures failed { OnErr result (Rose self.old.faults self.new.faults) }
-        ensures count { self.old.faults ≤ self.new.faults }
-        ensures word { self.new.faults < 2 ^ 64 }
+        ensures faults { CountsFault result self.old.faults self.new.faults }
 
         ensures due { Contains self.old.fail.items (counted self.old.calls 1) → IsErr result }
         ensures full { IsErr result → ¬ Contains self.old.fail.items (counted self.old.calls 1) → IfSome self.old.bytes (λ bytes. vec_capacity bytes < at + length piece.now) }
@@ -168,8 +161,8 @@ impl PositionedFile for MemFile {
         let Some(bytes) = &mut self.bytes else {
             unreachable!()
         };
-        if is_refused || write_bytes(bytes, at as usize, piece).is_err() {
-            return Err(Failed::counted(&mut self.faults));
+        if is_refused || write_over(bytes, at as usize, piece, 0).is_err() {
+            return Err(self.faults.rise());
         }
         Ok(())
     }
@@ -181,10 +174,7 @@ impl PositionedFile for MemFile {
         ensures no_read_yet { IfOk result (λ reader. reader.calls ≡ 0) }
         ensures reads { IfOk result (λ reader. (reader.fail.items ≡ self.old.fail_reads.items) × (reader.most ≡ self.old.most)) }
         ensures kept { self.new.bytes ≡ self.old.bytes }
-        ensures no_fault { OnOk result (self.new.faults ≡ self.old.faults) }
-        ensures failed { OnErr result (Rose self.old.faults self.new.faults) }
-        ensures count { self.old.faults ≤ self.new.faults }
-        ensures word { self.new.faults < 2 ^ 64 }
+        ensures faults { CountsFault result self.old.faults self.new.faults }
 
         ensures due { Contains self.old.fail.items (counted self.old.calls 1) → IsErr result }
         ensures calls { self.new.calls ≡ counted self.old.calls 1 }
@@ -193,7 +183,7 @@ impl PositionedFile for MemFile {
         let is_refused = is_due(&mut self.calls, &self.fail);
         match self.reader() {
             Ok(reader) if !is_refused => Ok(reader),
-            _ => Err(Failed::counted(&mut self.faults)),
+            _ => Err(self.faults.rise()),
         }
     }
 }
@@ -208,36 +198,4 @@ fn copy_bytes(bytes: &[u8], at: usize, buf: &mut [u8]) -> usize
     let n = buf.len().min(left.len());
     buf[..n].copy_from_slice(&left[..n]);
     n
-}
-
-/// Writes the bytes from byte `start` on, with zeros before them where there are fewer.
-fn write_bytes(bytes: &mut Vec<u8>, start: usize, piece: &[u8]) -> Result<(), AllocError>
-    requires { start + length piece.now < 2 ^ 63 }
-    ensures written { OnOk result (bytes.new.items ≡ with_words bytes.old.items start piece.now) }
-    ensures err { OnErr result (bytes.new.items ≡ bytes.old.items) }
-    ensures full { OnErr result (vec_capacity bytes.old < start + length piece.now) }
-{
-    reach(bytes, start + piece.len())?;
-    overwrite(bytes, start, piece);
-    Ok(())
-}
-
-/// Fills up with zeros to the length `end`, where there are fewer bytes.
-fn reach(bytes: &mut Vec<u8>, end: usize) -> Result<(), AllocError>
-    ensures reached { OnOk result (bytes.new.items ≡ bytes.old.items ++ replicate (end - vec_len bytes.old) 0) }
-    ensures err { OnErr result (bytes.new.items ≡ bytes.old.items) }
-    ensures full { OnErr result (vec_capacity bytes.old < end) }
-{
-    if end > bytes.len() {
-        bytes.resize(end, 0)?;
-    }
-    Ok(())
-}
-
-/// Writes the bytes from byte `start` on.
-fn overwrite(bytes: &mut [u8], start: usize, piece: &[u8])
-    requires { start + length piece.now ≤ length bytes.old }
-    ensures { bytes.new ≡ take start bytes.old ++ piece.now ++ drop (start + length piece.now) bytes.old }
-{
-    bytes[start..start + piece.len()].copy_from_slice(piece);
 }

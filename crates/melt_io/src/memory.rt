@@ -1,8 +1,9 @@
 //! A source and a sink in memory, of which calls can be made to fail.
 ghost use Rattle.std.specs.Prelude.{◌^◌, ◌≡◌, ℕ, ◌+◌, ◌<◌, ◌≤◌, ◌↔◌, Some, [], ◌++◌, length, take, drop, min, vec_len, IsTrue, IsOk, IsErr, IfOk, OnOk, OnErr, Contains};
 ghost use Rattle.std.specs.Vec.{vec_capacity};
-ghost use Rattle.melt_io.specs.Outside.{Rose, counted};
+ghost use Rattle.melt_io.specs.Outside.{CountsFault, counted};
 
+use crate::faults::Faults;
 use crate::outside::{Failed, Sink, Source};
 use std::alloc::Global;
 
@@ -14,7 +15,7 @@ pub struct MemSource {
     pub pos: usize,
     pub calls: u64,
     pub fail: Vec<u64>,
-    pub faults: u64,
+    pub faults: Faults,
     ghost word: { faults < 2 ^ 64 },
 }
 
@@ -25,7 +26,7 @@ pub struct MemSink {
     pub bytes: Vec<u8>,
     pub calls: u64,
     pub fail: Vec<u64>,
-    pub faults: u64,
+    pub faults: Faults,
     ghost word: { faults < 2 ^ 64 },
 }
 
@@ -44,7 +45,7 @@ impl MemSource {
             pos: 0,
             calls: 0,
             fail: Vec::new(alloc),
-            faults: 0,
+            faults: Faults::none(),
         }
     }
 }
@@ -61,7 +62,7 @@ impl MemSink {
             bytes: Vec::new(alloc),
             calls: 0,
             fail: Vec::new(alloc),
-            faults: 0,
+            faults: Faults::none(),
         }
     }
 }
@@ -74,11 +75,8 @@ impl Source for MemSource {
     fn read(&mut self, buf: &mut [u8]) -> Result<usize, Failed>
         ensures within { IfOk result (λ n. n ≤ length buf.old) }
         ensures taken { IfOk result (λ n. drop self.old.pos self.old.bytes.items ≡ take n buf.new ++ drop self.new.pos self.new.bytes.items) }
-        ensures no_fault { OnOk result (self.new.faults ≡ self.old.faults) }
-        ensures failed { OnErr result (Rose self.old.faults self.new.faults) }
+        ensures faults { CountsFault result self.old.faults self.new.faults }
         ensures untouched { OnErr result (drop self.new.pos self.new.bytes.items ≡ drop self.old.pos self.old.bytes.items) }
-        ensures count { self.old.faults ≤ self.new.faults }
-        ensures word { self.new.faults < 2 ^ 64 }
 
         ensures whole { IfOk result (λ n. n ≡ min (length buf.old) (length (drop self.old.pos self.old.bytes.items))) }
         ensures due { IsErr result ↔ Contains self.old.fail.items (counted self.old.calls 1) }
@@ -86,7 +84,7 @@ impl Source for MemSource {
         ensures kept { (self.new.bytes.items ≡ self.old.bytes.items) × (self.new.fail.items ≡ self.old.fail.items) }
     {
         if is_due(&mut self.calls, &self.fail) {
-            return Err(Failed::counted(&mut self.faults));
+            return Err(self.faults.rise());
         }
         Ok(take_next(&self.bytes, &mut self.pos, buf))
     }
@@ -99,11 +97,8 @@ impl Sink for MemSink {
 
     fn write(&mut self, piece: &[u8]) -> Result<usize, Failed>
         ensures appended { IfOk result (λ n. self.new.bytes.items ≡ self.old.bytes.items ++ take n piece.now) }
-        ensures no_fault { OnOk result (self.new.faults ≡ self.old.faults) }
-        ensures failed { OnErr result (Rose self.old.faults self.new.faults) }
+        ensures faults { CountsFault result self.old.faults self.new.faults }
         ensures untouched { OnErr result (self.new.bytes.items ≡ self.old.bytes.items) }
-        ensures count { self.old.faults ≤ self.new.faults }
-        ensures word { self.new.faults < 2 ^ 64 }
 
         ensures whole { IfOk result (λ n. n ≡ length piece.now) }
         ensures due { Contains self.old.fail.items (counted self.old.calls 1) → IsErr result }
@@ -112,7 +107,7 @@ impl Sink for MemSink {
         ensures kept { self.new.fail.items ≡ self.old.fail.items }
     {
         if is_due(&mut self.calls, &self.fail) || self.bytes.extend_from_slice(piece).is_err() {
-            return Err(Failed::counted(&mut self.faults));
+            return Err(self.faults.rise());
         }
         Ok(piece.len())
     }

@@ -20,16 +20,6 @@ impl fmt::Display for Failed {
 
 impl Error for Failed {}
 
-impl Failed {
-    /// A failure, with which a count of faults rises.
-    pub(crate) fn counted(faults: &mut u64) -> Failed
-        ensures { faults.new ≡ counted faults.old 1 }
-    {
-        *faults = faults.saturating_add(1);
-        Failed
-    }
-}
-
 /// Why a disk lent no reader.
 #[derive(Clone, Copy, Debug, PartialEq, Eq, thiserror::Error)]
 pub enum LendRefusal {

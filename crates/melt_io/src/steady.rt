@@ -1,11 +1,13 @@
 //! Forms in memory with no lists of calls that fail: they fail only where a write finds no memory.
-ghost use Rattle.std.specs.Prelude.{◌≡◌, ℕ, ◌+◌, ◌<◌, ◌≤◌, ◌^◌, ◌-◌, Some, [], ◌++◌, length, take, drop, replicate, min, vec_len, IsOk, IsOkUnless, IfOk, OnOk, OnErr};
+ghost use Rattle.std.specs.Prelude.{◌≡◌, ℕ, ◌+◌, ◌<◌, ◌≤◌, ◌^◌, ◌-◌, Some, [], ◌++◌, length, take, drop, min, vec_len, IsOk, IsOkUnless, IfOk, OnOk, OnErr};
 ghost use Rattle.std.specs.Vec.{vec_capacity};
-ghost use Rattle.melt_io.specs.Outside.{Rose, counted, words_at, with_words};
+ghost use Rattle.melt_io.specs.Outside.{CountsFault, counted, words_at, with_words};
 
+use crate::faults::Faults;
 use crate::memory::take_next;
 use crate::outside::{Failed, LendRefusal, RecordReader, Sink, Source, StaleDisk};
-use std::alloc::{AllocError, Global};
+use crate::overlay::write_over;
+use std::alloc::Global;
 
 /// Gives the bytes from `pos` on, at each read as many as fit the buffer. It never fails.
 #[derive(Debug, Drop)]
@@ -18,7 +20,7 @@ pub struct SteadySource {
 #[derive(Debug, Drop)]
 pub struct SteadySink {
     pub bytes: Vec<u8>,
-    pub faults: u64,
+    pub faults: Faults,
     ghost word: { faults < 2 ^ 64 },
 }
 
@@ -30,7 +32,7 @@ pub struct SteadyDisk {
     pub image: Vec<u64>,
     pub writes: u64,
     pub lends: u64,
-    pub faults: u64,
+    pub faults: Faults,
     pub read_faults: u64,
     ghost word: { faults < 2 ^ 64 },
 }
@@ -60,7 +62,7 @@ impl SteadySink {
     {
         SteadySink {
             bytes: Vec::new(alloc),
-            faults: 0,
+            faults: Faults::none(),
         }
     }
 }
@@ -78,7 +80,7 @@ impl SteadyDisk {
             image: Vec::new(alloc),
             writes: 0,
             lends: 0,
-            faults: 0,
+            faults: Faults::none(),
             read_faults: 0,
         }
     }
@@ -107,15 +109,12 @@ impl Sink for SteadySink {
     fn write(&mut self, piece: &[u8]) -> Result<usize, Failed>
         ensures whole { IfOk result (λ n. n ≡ length piece.now) }
         ensures appended { OnOk result (self.new.bytes.items ≡ self.old.bytes.items ++ piece.now) }
-        ensures no_fault { OnOk result (self.new.faults ≡ self.old.faults) }
-        ensures failed { OnErr result (Rose self.old.faults self.new.faults) }
+        ensures faults { CountsFault result self.old.faults self.new.faults }
         ensures untouched { OnErr result (self.new.bytes.items ≡ self.old.bytes.items) }
-        ensures count { self.old.faults ≤ self.new.faults }
-        ensures word { self.new.faults < 2 ^ 64 }
         ensures full { OnErr result (vec_capacity self.old.bytes < vec_len self.old.bytes + length piece.now) }
     {
         if self.bytes.extend_from_slice(piece).is_err() {
-            return Err(Failed::counted(&mut self.faults));
+            return Err(self.faults.rise());
         }
         Ok(piece.len())
     }
@@ -160,18 +159,15 @@ impl StaleDisk for SteadyDisk {
         requires in_range { at + length words.now ≤ 2 ^ 32 }
         ensures written { OnOk result (self.new.image.items ≡ with_words self.old.image.items at words.now) }
         ensures others { OnErr result (self.new.image.items ≡ self.old.image.items) }
-        ensures no_fault { OnOk result (self.new.faults ≡ self.old.faults) }
-        ensures failed { OnErr result (Rose self.old.faults self.new.faults) }
-        ensures count { self.old.faults ≤ self.new.faults }
-        ensures word { self.new.faults < 2 ^ 64 }
+        ensures faults { CountsFault result self.old.faults self.new.faults }
         ensures full { OnErr result (vec_capacity self.old.image < at + length words.now) }
         ensures read_faults { self.new.read_faults ≡ self.old.read_faults }
         ensures lends { self.new.lends ≡ self.old.lends }
         ensures writes { self.new.writes ≡ counted self.old.writes 1 }
     {
         self.writes = self.writes.saturating_add(1);
-        if write_image(&mut self.image, at as usize, words).is_err() {
-            return Err(Failed::counted(&mut self.faults));
+        if write_over(&mut self.image, at as usize, words, 0).is_err() {
+            return Err(self.faults.rise());
         }
         Ok(())
     }
@@ -205,40 +201,4 @@ pub(crate) fn copy_words(image: &[u64], at: usize, words: &mut [u64])
     let n = words.len().min(left.len());
     words.fill(0);
     words[..n].copy_from_slice(&left[..n]);
-}
-
-/// Writes the words from word `start` on, with zeros before them where the image is shorter.
-pub(crate) fn write_image(
-    image: &mut Vec<u64>,
-    start: usize,
-    words: &[u64],
-) -> Result<(), AllocError>
-    requires { start + length words.now ≤ 2 ^ 32 }
-    ensures written { OnOk result (image.new.items ≡ with_words image.old.items start words.now) }
-    ensures err { OnErr result (image.new.items ≡ image.old.items) }
-    ensures full { OnErr result (vec_capacity image.old < start + length words.now) }
-{
-    reach(image, start + words.len())?;
-    overwrite(image, start, words);
-    Ok(())
-}
-
-/// Fills up with zeros to the length `end`, where the image is shorter.
-fn reach(image: &mut Vec<u64>, end: usize) -> Result<(), AllocError>
-    ensures reached { OnOk result (image.new.items ≡ image.old.items ++ replicate (end - vec_len image.old) 0) }
-    ensures err { OnErr result (image.new.items ≡ image.old.items) }
-    ensures full { OnErr result (vec_capacity image.old < end) }
-{
-    if end > image.len() {
-        image.resize(end, 0)?;
-    }
-    Ok(())
-}
-
-/// Writes the words from word `start` on.
-fn overwrite(image: &mut [u64], start: usize, words: &[u64])
-    requires { start + length words.now ≤ length image.old }
-    ensures { image.new ≡ take start image.old ++ words.now ++ drop (start + length words.now) image.old }
-{
-    image[start..start + words.len()].copy_from_slice(words);
 }

@@ -1,5 +1,5 @@
 -- Laws of what is due, and of what was written.
-use Rattle.std.proofs.Common.{◌≡◌, ℕ, suc, ◌<◌, ◌≤◌, Bool, true, false, List, [], ◌∷◌, ◌++◌, length, take, refl, sym, ◌∙◌, ap, subst, arith, inl, inr}
+use Rattle.std.proofs.Common.{◌≡◌, ℕ, suc, ◌+◌, ◌<◌, ◌≤◌, Bool, true, false, List, [], ◌∷◌, ◌++◌, length, take, refl, sym, ◌∙◌, ap, subst, arith, inl, inr}
 use Rattle.std.proofs.lemmas.Bool.{cond-false, lt-leb}
 use Rattle.std.proofs.lemmas.List.{length-take-le, take-append-drop, length-replicate}
 use Rattle.std.specs.Prelude.{Option, None, Some, slice_get, replicate, nat_le, Err, ◌||◌, if◌then◌else◌}
@@ -13,10 +13,10 @@ use Rattle.melt_model.specs.declared.reports.ThreadEnd.{ThreadEnd}
 use Rattle.melt_model.specs.declared.reports.ThreadEnd.TheVariants as end
 use Rattle.melt_trace.specs.Script.{Script}
 use Rattle.melt_step.specs.Run.{MayEnd, IsStepReport}
-use Rattle.melt_trace.specs.Language.{script_of}
+use Rattle.melt_trace.specs.Language.{max_bytes, script_of}
 use Rattle.melt_top.specs.Text.{read_fault_text, refused_text}
 use Rattle.melt_top.specs.Command.{status_of, ended, is_disk_fault, is_damaged, is_out_of_heap, halted_by_fault, halted_by_full}
-use Rattle.melt_top.specs.Headline.{Change, StepDue, Due, WroteAll, Outcome, IsBuilt}
+use Rattle.melt_top.specs.Headline.{Change, ReadAFront, StepDue, Due, WroteAll, Outcome, IsBuilt}
 use Rattle.melt_top.specs.declared.command.Command.{Command}
 use Rattle.melt_top.specs.declared.command.Command.TheVariants.{Step}
 use Rattle.melt_top.specs.declared.status.Status.{Status}
@@ -30,17 +30,22 @@ taken (Some old) (Some new) n count =
 taken None (Some new) n count = absurd count
 taken (Some old) None n count = absurd count
 
+pub read_a_front : (input : Change) (n : ℕ) → n ≤ max_bytes + 1 → TakesCount input.before n input.after → ReadAFront input
+read_a_front input n few count =
+    let t = taken input.before input.after n count in
+    record { bytes = t.0; front = t.2; no_more = omega (arith, t.1) }
+
 -- the reading failed
-pub read_failed : (config : Config) (input : Change) (n : ℕ) (due : Status) (output : List ℕ) → n ≤ 16777217 → TakesCount input.before n input.after → Rose input.faults_before input.faults_after → due ≡ status.ReadFault → output ≡ read_fault_text → StepDue config input due output
+pub read_failed : (config : Config) (input : Change) (n : ℕ) (due : Status) (output : List ℕ) → n ≤ max_bytes + 1 → TakesCount input.before n input.after → Rose input.faults_before input.faults_after → due ≡ status.ReadFault → output ≡ read_fault_text → StepDue config input due output
 read_failed config input n due output few count rose is told =
     let t = taken input.before input.after n count in
     inl (record { bytes = t.0; front = t.2; no_more = omega (arith, t.1); fault = rose; status = is; told = told })
 
 -- more bytes than a trace may have
-long_refused : (bytes : List ℕ) → 16777216 < length bytes → script_of bytes ≡ Err (0, 1)
-long_refused bytes long = cond-false (nat_le (length bytes) 16777216) _ _ (lt-leb (length bytes) 16777216 long)
+long_refused : (bytes : List ℕ) → max_bytes < length bytes → script_of bytes ≡ Err (0, 1)
+long_refused bytes long = cond-false (nat_le (length bytes) max_bytes) _ _ (lt-leb (length bytes) max_bytes long)
 
-pub too_long : (config : Config) (input : Change) (n : ℕ) (due : Status) (output : List ℕ) → n ≡ 16777217 → TakesCount input.before n input.after → due ≡ status.Trace → output ≡ refused_text 0 1 → StepDue config input due output
+pub too_long : (config : Config) (input : Change) (n : ℕ) (due : Status) (output : List ℕ) → n ≡ max_bytes + 1 → TakesCount input.before n input.after → due ≡ status.Trace → output ≡ refused_text 0 1 → StepDue config input due output
 too_long config input n due output long count is told =
     let t = taken input.before input.after n count in
     inr (record {

@@ -1,11 +1,11 @@
 -- What a call of the program does, from the words and the bytes read to the bytes written.
-use Rattle.std.specs.Prelude.{◌≡◌, ℕ, ◌<◌, ◌≤◌, List, [], length, take, Option, None, Some, IfSome, IfNone, ◌⊎◌, Ok, Err}
+use Rattle.std.specs.Prelude.{◌≡◌, ℕ, ◌+◌, ◌<◌, ◌≤◌, List, [], length, take, Option, None, Some, IfSome, IfNone, ◌⊎◌, Ok, Err}
 use Rattle.melt_io.specs.Outside.{Rose, TakesFront, Appends}
 use Rattle.melt_model.specs.declared.config.Config.{Config}
 use Rattle.melt_model.specs.declared.reports.Report.{Report}
 use Rattle.melt_scion.specs.declared.heap.Heap.{Heap}
 use Rattle.melt_trace.specs.Script.{Script}
-use Rattle.melt_trace.specs.Language.{script_of}
+use Rattle.melt_trace.specs.Language.{max_bytes, script_of}
 use Rattle.melt_top.specs.Text.{text, usage_text, read_fault_text, refused_text}
 use Rattle.melt_top.specs.Command.{status_of}
 use Rattle.melt_step.specs.Run.{HasRun}
@@ -29,8 +29,14 @@ pub record IsUntouched (input : Change) : Type 0 where
 -- These bytes were read: all that there were, or one more than a trace may have.
 pub record WasRead (input : Change) (bytes : List ℕ) : Type 0 where
   pub front : TakesFront input.before bytes input.after
-  pub whole : length bytes ≤ 16777216 → IfSome input.after (λ left. left ≡ [])
-  pub no_more : length bytes ≤ 16777217
+  pub whole : length bytes ≤ max_bytes → IfSome input.after (λ left. left ≡ [])
+  pub no_more : length bytes ≤ max_bytes + 1
+
+-- No more was read than a front of the input, of at most one byte more than a trace may have.
+pub record ReadAFront (input : Change) : Type 0 where
+  pub bytes : List ℕ
+  pub front : TakesFront input.before bytes input.after
+  pub no_more : length bytes ≤ max_bytes + 1
 
 -- The bytes are no trace, and the output has the first bad line and why it is bad.
 pub record TraceRefused (bytes : List ℕ) (due : Status) (output : List ℕ) : Type 0 where
@@ -63,7 +69,7 @@ TraceDue config bytes due output = TraceRefused bytes due output ⊎ TraceRan co
 pub record CouldNotRead (input : Change) (due : Status) (output : List ℕ) : Type 0 where
   pub bytes : List ℕ
   pub front : TakesFront input.before bytes input.after
-  pub no_more : length bytes ≤ 16777217
+  pub no_more : length bytes ≤ max_bytes + 1
   pub fault : Rose input.faults_before input.faults_after
   pub status : due ≡ status.ReadFault
   pub told : output ≡ read_fault_text
@@ -105,9 +111,10 @@ pub record WrotePart (command : Option Command) (input out : Change) : Type 0 wh
   pub written : Appends out.before (take count output) out.after
   pub fault : Rose out.faults_before out.faults_after
 
--- memory was wanted: nothing was written, and nothing was read for words that mean nothing
+-- Memory was wanted: nothing was written. A command read a front of the input, and words that mean nothing read nothing.
 pub record GaveUp (command : Option Command) (input out : Change) : Type 0 where
   pub written : Appends out.before [] out.after
+  pub read : IfSome command (λ c. ReadAFront input)
   pub unread : IfNone command (IsUntouched input)
 
 -- What a call did, by the status that it answered.

@@ -95,7 +95,7 @@ fn a_sink_that_fails_has_nothing(rt: HostRuntime) -> Result<(), Fail> {
             Status::WriteFault
         );
         assert_eq!(rt; sink.bytes.len(), 0);
-        assert_eq!(rt; sink.faults, 1);
+        assert_eq!(rt; sink.faults.count(), 1);
     }
     Ok(())
 }
@@ -110,7 +110,7 @@ fn a_source_that_fails_is_told(rt: HostRuntime) -> Result<(), Fail> {
         Status::ReadFault
     );
     assert_eq!(rt; sink.bytes.as_slice(), b"error read\n".as_slice());
-    assert_eq!(rt; source.faults, 1);
+    assert_eq!(rt; source.faults.count(), 1);
     Ok(())
 }
 

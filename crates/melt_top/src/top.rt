@@ -1,11 +1,11 @@
 //! The whole program, over any source and any sink.
-ghost use Rattle.std.specs.Prelude.{◌≡◌, map, string_bytes, IfOk, IfNone, IsNone, OnErr};
+ghost use Rattle.std.specs.Prelude.{◌≡◌, map, string_bytes, IfOk, IfNone, IfSome, IsNone, OnErr};
 ghost use Rattle.melt_io.specs.Outside.{Rose};
 ghost use Rattle.melt_model.specs.Config.{InRanges};
 ghost use Rattle.melt_trace.specs.Grammar.{line};
 ghost use Rattle.melt_top.specs.Command.{meant};
 ghost use Rattle.melt_top.specs.Text.{refused_text};
-ghost use Rattle.melt_top.specs.Headline.{IsUntouched, RunDue, TraceDue, StepDue, Due, Outcome, IsBuilt};
+ghost use Rattle.melt_top.specs.Headline.{IsUntouched, ReadAFront, RunDue, TraceDue, StepDue, Due, Outcome, IsBuilt};
 
 use crate::command::{Command, command_of};
 use crate::status::{Status, status_for};
@@ -13,12 +13,9 @@ use crate::text::report_text;
 use melt_io::{Gate, ReadRefusal, Sink, Source, StaleDisk, read_all, write_all};
 use melt_model::{Config, NoMemory};
 use melt_step::run_schedule;
-use melt_trace::{ParseRefusal, Trace, TraceError, parse, push_line};
+use melt_trace::{MAX_BYTES, ParseRefusal, Trace, TraceError, parse, push_line};
 use std::alloc::Global;
 use std::thread::Threads;
-
-/// The longest input of a trace, in bytes.
-const MAX_INPUT: usize = 16_777_216;
 
 /// A status, and the text that is to be written with it.
 #[derive(Debug, Drop)]
@@ -73,14 +70,16 @@ fn trace_answer(alloc: Global, config: Config, bytes: &[u8]) -> Result<Answer, N
 /// What is due for the input of `step`.
 fn step_answer<S: Source>(alloc: Global, config: Config, input: &mut S) -> Result<Answer, NoMemory>
     requires { InRanges config }
-    ensures { IfOk result (λ answer. StepDue config
+    ensures due { IfOk result (λ answer. StepDue config
         (record { before = S.left input.old; after = S.left input.new; faults_before = S.faults input.old; faults_after = S.faults input.new })
         answer.status answer.text.items) }
+    ensures read { ReadAFront
+        (record { before = S.left input.old; after = S.left input.new; faults_before = S.faults input.old; faults_after = S.faults input.new }) }
 {
-    match read_all(alloc, input, MAX_INPUT) {
+    match read_all(alloc, input, MAX_BYTES) {
         Ok(bytes) => trace_answer(alloc, config, &bytes),
         Err(ReadRefusal::Fault) => Answer::line(alloc, Status::ReadFault, b"error read", &[]),
-        Err(ReadRefusal::TooLong) => Answer::refused(alloc, TraceError { line: 0, reason: 1 }),
+        Err(ReadRefusal::TooLong) => Answer::refused(alloc, TraceError::too_long()),
         Err(ReadRefusal::NoMemory) => Err(NoMemory),
     }
 }
@@ -90,6 +89,8 @@ fn answer_to<S: Source>(alloc: Global, words: &[String], input: &mut S) -> Resul
     ensures due { IfOk result (λ answer. Due (meant (map string_bytes words.now))
         (record { before = S.left input.old; after = S.left input.new; faults_before = S.faults input.old; faults_after = S.faults input.new })
         answer.status answer.text.items) }
+    ensures read { IfSome (meant (map string_bytes words.now)) (λ _. ReadAFront
+        (record { before = S.left input.old; after = S.left input.new; faults_before = S.faults input.old; faults_after = S.faults input.new })) }
     ensures unread { OnErr result (IfNone (meant (map string_bytes words.now))
         (IsUntouched (record { before = S.left input.old; after = S.left input.new; faults_before = S.faults input.old; faults_after = S.faults input.new }))) }
 {

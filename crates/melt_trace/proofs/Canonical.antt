@@ -17,7 +17,7 @@ use Rattle.melt_trace.specs.declared.language.Stage.{Stage}
 use Rattle.melt_trace.specs.declared.language.Stage.TheVariants as stage
 use Rattle.melt_trace.specs.Script.{Script, expand}
 use Rattle.melt_trace.specs.Grammar.{line, op_line, item_line, program_lines, canonical, InRange}
-use Rattle.melt_trace.specs.Language.{Place, start, global, ranges_of, numbers, operation_count, with_operation, with_program, fits, is_skipped, lines_of, without_empty_rest, word_of, after_line, after_word, and_then, heading, in_heading, number_of, after_fields, after, script_from, script_of, AreItems, IsOrder, IsScript}
+use Rattle.melt_trace.specs.Language.{max_bytes, Place, start, global, ranges_of, numbers, operation_count, with_operation, with_program, fits, is_skipped, lines_of, without_empty_rest, word_of, after_line, after_word, and_then, heading, in_heading, number_of, after_fields, after, script_from, script_of, AreItems, IsOrder, IsScript}
 use Rattle.melt_trace.proofs.Cuts.{split_parts, line_before}
 use Rattle.melt_trace.proofs.Kept.{AreWithin, placed}
 use Rattle.melt_trace.proofs.Again.{is_plain, spaced, AreWords, split_line, line_taken, number_again, numbers_again}
@@ -294,7 +294,7 @@ script_leads globals orders (program ∷ programs) h =
     (leads_both start (ordering threads globals []) (ordering threads globals orders) opening (flat_map order_line orders) (opening_leads threads globals h.some h.few h.globals) ordered)
     lines
 
-pub canonical_is_read : (script : Script) → IsScript script → length (canonical script) ≤ 16777216 → script_of (canonical script) ≡ Ok script
+pub canonical_is_read : (script : Script) → IsScript script → length (canonical script) ≤ max_bytes → script_of (canonical script) ≡ Ok script
 canonical_is_read script h short =
     let whole = script_leads script.globals script.orders script.programs h 1 [] in
     ap (λ (t : Bool). cond t (script_from 1 start (lines_of (canonical script))) (Err (0, 1))) (le-leb _ _ short)

@@ -16,7 +16,7 @@ use Rattle.melt_trace.specs.declared.language.Stage.{Stage}
 use Rattle.melt_trace.specs.declared.language.Stage.TheVariants as stage
 use Rattle.melt_trace.specs.Script.{Script}
 use Rattle.melt_trace.specs.Grammar.{InRange}
-use Rattle.melt_trace.specs.Language.{Range, Place, start, within, checked, with_number, numbers_in, numbers, number_of, global, ranges_of, operation_of, operation_count, with_operation, with_program, fits, is_printable, is_skipped, fields_of, lines_of, word_of, after_operation, after_repeat, after_end, after_done, after_thread, after_order, after_line, and_then, after_word, in_heading, heading, after_fields, after, ended, script_from, script_of, AreItems, IsOrder, IsScript}
+use Rattle.melt_trace.specs.Language.{max_bytes, Range, Place, start, within, checked, with_number, numbers_in, numbers, number_of, global, ranges_of, operation_of, operation_count, with_operation, with_program, fits, is_printable, is_skipped, fields_of, lines_of, word_of, after_operation, after_repeat, after_end, after_done, after_thread, after_order, after_line, and_then, after_word, in_heading, heading, after_fields, after, ended, script_from, script_of, AreItems, IsOrder, IsScript}
 
 -- ---- results
 
@@ -367,4 +367,4 @@ not_long false r script e = absurd cc
 -- what is read is in range
 pub is_script : (bytes : List ℕ) (script : Script) → script_of bytes ≡ Ok script → IsScript script
 is_script bytes script e =
-    from_kept 1 start (lines_of bytes) script tt (not_long (leb (length bytes) 16777216) (script_from 1 start (lines_of bytes)) script e)
+    from_kept 1 start (lines_of bytes) script tt (not_long (leb (length bytes) max_bytes) (script_from 1 start (lines_of bytes)) script e)

@@ -5,6 +5,7 @@ use Rattle.melt_trace.specs.declared.parser.fault.Fault.{Fault}
 use Rattle.melt_trace.specs.declared.parser.fault.Fault.TheVariants as fault
 use Rattle.melt_trace.specs.declared.parser.draft.Block.{Block}
 use Rattle.melt_trace.specs.declared.parser.draft.Draft.{Draft}
+use Rattle.melt_trace.specs.Reasons.{number_of_reason}
 use Rattle.melt_trace.specs.Script.{levels}
 use Rattle.melt_trace.specs.Language.{Place, operation_count, start, lines_of, script_from}
 
@@ -80,7 +81,7 @@ pub record IsSound (draft : Draft) : Type 0 where
 -- a line was taken as reading does, unless memory ran out
 abbrev pub LeadsTo : {X : Type 0} → Result X Fault → Draft → Result Place ℕ → Type 0
 LeadsTo (Ok x) draft read = (read ≡ Ok (place_of draft)) × IsSound draft
-LeadsTo (Err (fault.Bad reason)) draft read = read ≡ Err reason
+LeadsTo (Err (fault.Bad reason)) draft read = read ≡ Err (number_of_reason reason)
 LeadsTo (Err fault.NoMemory) draft read = Unit {0}
 
 -- the lines that are left lead to what all lines say

@@ -311,9 +311,13 @@ abbrev pub script_from : ℕ → Place → List (List ℕ) → Result Script (�
 script_from n place [] = ended n place.stage place.script
 script_from n place (bytes ∷ lines) = elim (after place bytes) [ Ok next ↦ script_from (n + 1) next lines | Err reason ↦ Err (n, reason) ]
 
+-- the most bytes that a trace may have
+abbrev pub max_bytes : ℕ
+max_bytes = 16777216
+
 -- the script of the bytes, or the first bad line and the reason
 abbrev pub script_of : List ℕ → Result Script (ℕ × ℕ)
-script_of bytes = if nat_le (length bytes) 16777216 then script_from 1 start (lines_of bytes) else Err (0, 1)
+script_of bytes = if nat_le (length bytes) max_bytes then script_from 1 start (lines_of bytes) else Err (0, 1)
 
 -- 5. What a script may be
 

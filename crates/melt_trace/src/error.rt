@@ -1,19 +1,17 @@
 //! Why bytes are refused.
 ghost use Rattle.std.specs.Prelude.{◌≡◌, Some};
+ghost use Rattle.melt_trace.specs.Reasons.{number_of_reason};
 ghost use Rattle.melt_trace.specs.Refusal.{trace_error_text, refusal_text};
 ghost use Rattle.melt_trace.specs.declared.error.ParseRefusal.TheVariants.{NoMemory};
 
+use crate::reason::Reason;
 use melt_model::NoMemory;
 use std::alloc::AllocFailed;
 use std::error::Error;
 use std::fmt;
 
-/// The first bad place of bytes that are no trace. Lines are numbered from 1, and line 0 stands for
-/// the whole input. The reasons are:
-///
-/// - 1: there are more than 16,777,216 bytes.
-/// - 15: the trace does not have the form that is built: one thread, and at most 1,048,576 operations,
-///   in the canonical text.
+/// The first bad line of bytes that are no trace, and the number of the `Reason`. Lines are numbered from 1, and line 0
+/// stands for the whole input.
 #[derive(Clone, Copy, Debug, PartialEq, Eq)]
 pub struct TraceError {
     pub line: u32,
@@ -21,21 +19,33 @@ pub struct TraceError {
 }
 
 impl TraceError {
-    pub(crate) const TOO_LONG: TraceError = TraceError { line: 0, reason: 1 };
+    /// The whole input is refused, since it has more bytes than a trace may have.
+    pub fn too_long() -> TraceError
+        ensures { result ≡ record { line = 0; reason = 1 } }
+    {
+        TraceError::at(0, Reason::TooLong)
+    }
 
-    pub(crate) const OTHER_FORM: TraceError = TraceError {
-        line: 0,
-        reason: 15,
-    };
+    pub(crate) fn at(line: u32, reason: Reason) -> TraceError
+        ensures { result ≡ record { line = line; reason = number_of_reason reason } }
+    {
+        TraceError {
+            line,
+            reason: reason.number(),
+        }
+    }
 }
 
 impl fmt::Display for TraceError {
-    ghost output = { λ error. Some (trace_error_text error.line error.reason) };
+    ghost output = { λ error. Some (trace_error_text error) };
 
     fn fmt<W: fmt::Write>(&self, f: &mut fmt::Formatter<W>) -> fmt::Result {
         let line = self.line;
-        let reason = self.reason;
-        write!(f, "line {line}: reason {reason}")
+        let number = self.reason;
+        match Reason::of_number(number) {
+            Some(reason) => write!(f, "line {line}, reason {number}: {reason}"),
+            None => write!(f, "line {line}, reason {number}"),
+        }
     }
 }
 

@@ -7,13 +7,15 @@ pub mod error;
 mod language;
 mod parser;
 mod printing;
+pub mod reason;
 pub mod script;
 pub mod trace;
 
 pub use cursor::Cursor;
 pub use error::{ParseRefusal, TraceError};
-pub use parser::{parse, read_number};
+pub use parser::{MAX_BYTES, parse, read_number};
 pub use printing::{print, push_line};
+pub use reason::Reason;
 pub use script::Item;
 pub use trace::{Program, Trace};
 

@@ -23,12 +23,12 @@ use crate::parser::fault::Fault;
 use crate::parser::line::take_line;
 use crate::parser::lines::next_line;
 use crate::parser::number::number;
+use crate::reason::Reason;
 use crate::trace::Trace;
 use std::alloc::Global;
 
-const MAX_BYTES: usize = 16_777_216;
-
-const ENDS_EARLY: u32 = 14;
+/// The most bytes that a trace may have.
+pub const MAX_BYTES: usize = 16_777_216;
 
 /// What the lines of the bytes say.
 fn read_lines(alloc: Global, bytes: &[u8]) -> Result<Draft, ParseRefusal>
@@ -36,7 +36,7 @@ fn read_lines(alloc: Global, bytes: &[u8]) -> Result<Draft, ParseRefusal>
     ensures refused { IfErr result (IsRefused bytes.now) }
 {
     if bytes.len() > MAX_BYTES {
-        return Err(ParseRefusal::Bad(TraceError::TOO_LONG));
+        return Err(ParseRefusal::Bad(TraceError::too_long()));
     }
     let mut draft = Draft::empty(alloc, Stage::Version, 0, 0);
     let mut rest = bytes;
@@ -44,7 +44,7 @@ fn read_lines(alloc: Global, bytes: &[u8]) -> Result<Draft, ParseRefusal>
     while let Some((text, behind)) = next_line(rest) {
         match take_line(&mut draft, alloc, text) {
             Ok(()) => {}
-            Err(Fault::Bad(reason)) => return Err(ParseRefusal::Bad(TraceError { line, reason })),
+            Err(Fault::Bad(reason)) => return Err(ParseRefusal::Bad(TraceError::at(line, reason))),
             Err(Fault::NoMemory) => return Err(ParseRefusal::NoMemory),
         }
         rest = behind;
@@ -53,14 +53,11 @@ fn read_lines(alloc: Global, bytes: &[u8]) -> Result<Draft, ParseRefusal>
     if matches!(draft.stage, Stage::Over) {
         Ok(draft)
     } else {
-        Err(ParseRefusal::Bad(TraceError {
-            line,
-            reason: ENDS_EARLY,
-        }))
+        Err(ParseRefusal::Bad(TraceError::at(line, Reason::EndsEarly)))
     }
 }
 
-/// The trace that the bytes are, or the first bad line and the reason. Takes at most 16,777,216 bytes.
+/// The trace that the bytes are, or the first bad line and the reason. Takes at most `MAX_BYTES` of them.
 pub fn parse(alloc: Global, bytes: &[u8]) -> Result<Trace, ParseRefusal>
     ensures found { IfOk result (λ trace. script_of bytes.now ≡ Ok trace) }
     ensures refused { IfErr result (IsRefused bytes.now) }

@@ -3,7 +3,7 @@ ghost use Rattle.std.specs.Prelude.{◌≡◌, ◌≤◌, [], ◌++◌, ◌∷�
 ghost use Rattle.std.specs.Fmt.{decimal};
 ghost use Rattle.std.specs.List.{flat_map};
 ghost use Rattle.melt_trace.specs.Grammar.{line, op_line, item_line, program_lines, canonical};
-ghost use Rattle.melt_trace.specs.Language.{script_of};
+ghost use Rattle.melt_trace.specs.Language.{max_bytes, script_of};
 
 use crate::script::Item;
 use crate::trace::{Program, Trace};
@@ -117,7 +117,7 @@ fn push_orders(out: &mut Vec<u8>, orders: &[(u32, u32)]) -> Result<(), NoMemory>
 /// number.
 pub fn print(alloc: Global, trace: &Trace) -> Result<Vec<u8>, NoMemory>
     ensures text { IfOk result (λ text. text.items ≡ canonical trace.now) }
-    ensures read_again { IfOk result (λ text. length text.items ≤ 16777216 → script_of text.items ≡ Ok trace.now) }
+    ensures read_again { IfOk result (λ text. length text.items ≤ max_bytes → script_of text.items ≡ Ok trace.now) }
 {
     let mut out = Vec::new(alloc);
     push_line(&mut out, b"melt", &[1])?;

@@ -64,3 +64,51 @@ fn printed_text(rt: HostRuntime) -> Result<(), Fail> {
     assert_eq!(rt; text.as_slice(), wanted);
     Ok(())
 }
+
+#[test]
+fn the_sentence_of_each_reason(rt: HostRuntime) -> Result<(), Fail> {
+    let sentences = [
+        (1, Reason::TooLong, "the trace has more than 16777216 bytes"),
+        (2, Reason::BadByte, "the line has a byte"),
+        (3, Reason::NoVersion, "the first line"),
+        (4, Reason::NoThreads, "the second line"),
+        (5, Reason::NoGlobals, "the third line"),
+        (6, Reason::OutOfPlace, "the first field is no word"),
+        (
+            7,
+            Reason::FieldCount,
+            "there is a field too few or too many",
+        ),
+        (8, Reason::NoNumber, "a field has to be a number"),
+        (9, Reason::NoRegister, "a register is named above 15"),
+        (10, Reason::OutOfRange, "a number is out of its range"),
+        (11, Reason::TooDeep, "a repeat stands in four open blocks"),
+        (12, Reason::EmptyBlock, "the block that this end closes"),
+        (13, Reason::ManyOperations, "by this done the operations"),
+        (14, Reason::EndsEarly, "the trace ends before the done"),
+    ];
+    for (number, reason, begin) in sentences {
+        assert_eq!(rt; reason.number(), number);
+        assert_eq!(rt; Reason::of_number(number), Some(reason));
+        let text = format!(in rt.alloc(); "{reason}")?;
+        assert!(rt; text.starts_with(begin));
+    }
+    assert_eq!(rt; Reason::of_number(0), None);
+    assert_eq!(rt; Reason::of_number(15), None);
+    Ok(())
+}
+
+#[test]
+fn the_text_of_a_refusal(rt: HostRuntime) -> Result<(), Fail> {
+    let told = TraceError { line: 5, reason: 9 };
+    let text = format!(in rt.alloc(); "{told}")?;
+    let wanted = "line 5, reason 9: a register is named above 15: name one from 0 to 15";
+    assert_eq!(rt; text.as_str(), wanted);
+    let unknown = TraceError {
+        line: 5,
+        reason: 15,
+    };
+    let text = format!(in rt.alloc(); "{unknown}")?;
+    assert_eq!(rt; text.as_str(), "line 5, reason 15");
+    Ok(())
+}

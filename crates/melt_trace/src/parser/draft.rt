@@ -6,22 +6,13 @@ ghost use Rattle.melt_trace.specs.Drafts.{place_of, IsSound, LeadsTo};
 
 use crate::language::Stage;
 use crate::parser::fault::Fault;
+use crate::reason::Reason;
 use crate::script::Item;
 use crate::trace::{Program, Trace};
 use melt_model::Op;
 use std::alloc::Global;
 use std::collections::VecDeque;
 use std::mem;
-
-const OUT_OF_PLACE: u32 = 6;
-
-const MANY_ORDERS: u32 = 10;
-
-const TOO_DEEP: u32 = 11;
-
-const EMPTY_BLOCK: u32 = 12;
-
-const MANY_OPERATIONS: u32 = 13;
 
 const MAX_DEPTH: usize = 4;
 
@@ -114,7 +105,7 @@ impl Draft {
         ensures { LeadsTo result self.new (after_repeat (place_of self.old) (times ∷ [])) }
     {
         if self.blocks.len() >= MAX_DEPTH {
-            return Err(Fault::Bad(TOO_DEEP));
+            return Err(Fault::Bad(Reason::TooDeep));
         }
         self.items.push(Item::Repeat(times))?;
         let before = self.count;
@@ -128,10 +119,10 @@ impl Draft {
         ensures { LeadsTo result self.new (after_end (place_of self.old) (place_of self.old).blocks) }
     {
         let Some(block) = self.blocks.pop_front() else {
-            return Err(Fault::Bad(OUT_OF_PLACE));
+            return Err(Fault::Bad(Reason::OutOfPlace));
         };
         if self.count == 0 {
-            return Err(Fault::Bad(EMPTY_BLOCK));
+            return Err(Fault::Bad(Reason::EmptyBlock));
         }
         self.items.push(Item::End)?;
         let unrolled = block.times.saturating_mul(self.count);
@@ -146,7 +137,7 @@ impl Draft {
     {
         let total = self.total.saturating_add(self.count);
         if total > MAX_OPERATIONS {
-            return Err(Fault::Bad(MANY_OPERATIONS));
+            return Err(Fault::Bad(Reason::ManyOperations));
         }
         let items = mem::replace(&mut self.items, Vec::new(alloc));
         self.programs
@@ -175,7 +166,7 @@ impl Draft {
         ensures { LeadsTo result self.new (after_order (place_of self.old) (thread ∷ events ∷ [])) }
     {
         if self.orders.len() >= MAX_ORDERS {
-            return Err(Fault::Bad(MANY_ORDERS));
+            return Err(Fault::Bad(Reason::OutOfRange));
         }
         self.orders.push((thread, events))?;
         Ok(())

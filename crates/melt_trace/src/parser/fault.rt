@@ -2,19 +2,20 @@
 ghost use Rattle.std.specs.Prelude.{◌≡◌};
 ghost use Rattle.melt_trace.specs.declared.parser.fault.Fault.TheVariants.{Bad, NoMemory};
 
+use crate::reason::Reason;
 use std::alloc::AllocFailed;
 
 /// The reason to refuse the line, or an allocation that was refused.
 #[derive(Clone, Copy, Debug)]
 pub enum Fault {
-    Bad(u32),
+    Bad(Reason),
     NoMemory,
 }
 
-impl From<u32> for Fault {
+impl From<Reason> for Fault {
     ghost from_gives = { λ reason fault. fault ≡ Bad reason };
 
-    fn from(reason: u32) -> Fault {
+    fn from(reason: Reason) -> Fault {
         Fault::Bad(reason)
     }
 }

@@ -11,17 +11,8 @@ use crate::parser::fields::{Arguments, is_printable_line, split_fields};
 use crate::parser::numbers::{Limits, heading, none, one, two};
 use crate::parser::operations::operation;
 use crate::parser::words::word;
+use crate::reason::Reason;
 use std::alloc::Global;
-
-const UNPRINTABLE: u32 = 2;
-
-const NO_VERSION: u32 = 3;
-
-const NO_THREADS: u32 = 4;
-
-const NO_GLOBALS: u32 = 5;
-
-const OUT_OF_PLACE: u32 = 6;
 
 const MAX_THREADS: u64 = 8;
 
@@ -114,7 +105,7 @@ fn take_fields(
             let limits = Limits {
                 low: 1,
                 high: 1,
-                reason: NO_VERSION,
+                reason: Reason::NoVersion,
             };
             let _version = heading(first, arguments, b"melt", limits)?;
             draft.restart(Stage::Threads, 0);
@@ -124,7 +115,7 @@ fn take_fields(
             let limits = Limits {
                 low: 1,
                 high: MAX_THREADS,
-                reason: NO_THREADS,
+                reason: Reason::NoThreads,
             };
             let threads = heading(first, arguments, b"threads", limits)?;
             draft.restart(Stage::Globals, threads as u32);
@@ -134,7 +125,7 @@ fn take_fields(
             let limits = Limits {
                 low: 0,
                 high: MAX_GLOBALS,
-                reason: NO_GLOBALS,
+                reason: Reason::NoGlobals,
             };
             let globals = heading(first, arguments, b"globals", limits)?;
             *draft = Draft::empty(alloc, Stage::Orders, draft.threads, globals as u32);
@@ -142,7 +133,7 @@ fn take_fields(
         }
         _ => match word(first) {
             Some(word) if may_stand(draft, word) => take_word(draft, alloc, word, arguments),
-            _ => Err(Fault::Bad(OUT_OF_PLACE)),
+            _ => Err(Fault::Bad(Reason::OutOfPlace)),
         },
     }
 }
@@ -153,7 +144,7 @@ pub fn take_line(draft: &mut Draft, alloc: Global, line: &[u8]) -> Result<(), Fa
     ensures { LeadsTo result draft.new (after (place_of draft.old) line.now) }
 {
     if !is_printable_line(line) {
-        return Err(Fault::Bad(UNPRINTABLE));
+        return Err(Fault::Bad(Reason::BadByte));
     }
     match split_fields(line) {
         None | Some(([b'#', ..], _)) => Ok(()),

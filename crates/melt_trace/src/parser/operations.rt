@@ -6,10 +6,11 @@ ghost use Rattle.melt_trace.specs.Parsing.{AreArguments, IsOperationOf, IsShort}
 use crate::language::Word;
 use crate::parser::fields::Arguments;
 use crate::parser::numbers::{Limits, none, one, three, two};
+use crate::reason::Reason;
 use melt_model::Op;
 
 /// The operation of a line with two numbers or fewer.
-fn short_operation(word: Word, globals: u32, arguments: &Arguments<'_>) -> Result<Op, u32>
+fn short_operation(word: Word, globals: u32, arguments: &Arguments<'_>) -> Result<Op, Reason>
     requires word { IsShort word }
     requires globals { globals ≤ 64 }
     ensures { (place : Place) (fields : List (List ℕ)) → place.script.globals ≡ globals → AreArguments arguments.now fields → IsOperationOf place word fields result }
@@ -50,7 +51,7 @@ fn short_operation(word: Word, globals: u32, arguments: &Arguments<'_>) -> Resul
 }
 
 /// The operation of a line, among this many globals.
-pub fn operation(word: Word, globals: u32, arguments: &Arguments<'_>) -> Result<Op, u32>
+pub fn operation(word: Word, globals: u32, arguments: &Arguments<'_>) -> Result<Op, Reason>
     requires word { is_operation word ≡ true }
     requires globals { globals ≤ 64 }
     ensures { (place : Place) (fields : List (List ℕ)) → place.script.globals ≡ globals → AreArguments arguments.now fields → IsOperationOf place word fields result }
