@@ -10,4 +10,4 @@ returns c =
     let v : View = view c.args.self.now in
     subst (λ (w : View). Advances v w c.args.thread c.args.op Going) (sym c.set_call.ensures)
     (poll_advances v c.args.thread c.args.op c.args.task c.requires.asks c.requires.first c.requires.shares
-    c.if-self.false)
+    (cc))
