@@ -157,10 +157,10 @@ impl StaleDisk for SteadyDisk {
     fn write_at(&mut self, at: u32, words: &[u64]) -> Result<(), Failed>
         requires some { 0 < length words.now }
         requires in_range { at + length words.now ≤ 2 ^ 32 }
+        ensures full { OnErr result (vec_capacity self.old.image < at + length words.now) }
         ensures written { OnOk result (self.new.image.items ≡ with_words self.old.image.items at words.now) }
         ensures others { OnErr result (self.new.image.items ≡ self.old.image.items) }
         ensures faults { CountsFault result self.old.faults self.new.faults }
-        ensures full { OnErr result (vec_capacity self.old.image < at + length words.now) }
         ensures read_faults { self.new.read_faults ≡ self.old.read_faults }
         ensures lends { self.new.lends ≡ self.old.lends }
         ensures writes { self.new.writes ≡ counted self.old.writes 1 }
