@@ -1,13 +1,7 @@
 -- Homes that follow one another.
 use Rattle.std.proofs.Common.{◌≡◌, ℕ, zero, suc, ◌+◌, ◌≤◌, ◌⊎◌, inl, inr, List, [], ◌∷◌, ◌++◌, Contains, sym, ◌∙◌, ap, subst, arith}
 use Rattle.melt_word.specs.Words.{IsShape, cost_of}
-use Rattle.melt_disk.specs.Homes.{Follow, Home, IsApart, IsReserved, Stale}
-
--- where a home lies that is one of those between two words
-pub record LiesIn (from end : ℕ) (home : Home) : Type 0 where
-  pub begins : from ≤ home.at
-  pub shape : IsShape home.shape
-  pub ends : home.at + cost_of home.shape ≤ end
+use Rattle.melt_disk.specs.Homes.{Follow, Home, LiesIn, IsApart, IsReserved, Stale}
 
 pub Follow-ends : (homes : List Home) (from end : ℕ) → Follow from homes end → from ≤ end
 Follow-ends [] from end follow = omega (arith, follow)
@@ -24,6 +18,7 @@ Follow-lies (first ∷ homes) from end home follow (suc k, below, is) =
     let lies = Follow-lies homes (from + cost_of first.shape) end home follow.2 (k, omega (arith, below), is) in
     record { begins = omega (arith, lies.begins); shape = lies.shape; ends = lies.ends }
 
+-- a home that was reserved lies below the end
 pub reserved_lies : {Disk : Type 0} (space : Stale Disk) (home : Home) → IsReserved space home → LiesIn 1 space.end home
 reserved_lies space home reserved = Follow-lies reserved.homes 1 space.end home reserved.all reserved.one
 

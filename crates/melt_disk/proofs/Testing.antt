@@ -1,8 +1,8 @@
 -- The homes that tests reserve: one or two, each of three words.
-use Rattle.std.proofs.Common.{◌≡◌, ℕ, ◌+◌, [], ◌∷◌, refl, sym, arith}
+use Rattle.std.proofs.Common.{◌≡◌, ℕ, arith}
 use Rattle.melt_word.specs.Words.{IsShape}
 use Rattle.melt_word.specs.declared.header.Shape.{Shape}
-use Rattle.melt_disk.specs.Homes.{Home, IsReserved, Stale}
+use Rattle.melt_disk.specs.Homes.{Home, LiesIn}
 
 -- an object of one number word
 abbrev pub small : Shape
@@ -15,25 +15,12 @@ is_small : IsShape small
 is_small = record { refs = omega arith; nums = omega arith }
 
 -- the one home
-pub reserved_one : {Disk : Type 0} (space : Stale Disk) → space.end ≡ 4 → IsReserved space (home_at 1)
-reserved_one space end = record {
-  homes = home_at 1 ∷ [];
-  all = (refl, is_small, sym end);
-  one = (0, omega arith, refl);
-}
+pub one_lies : (end : ℕ) → end ≡ 4 → LiesIn 1 end (home_at 1)
+one_lies end is = record { begins = omega arith; shape = is_small; ends = omega (arith, is) }
 
--- the first of two
-pub reserved_first : {Disk : Type 0} (space : Stale Disk) → space.end ≡ 7 → IsReserved space (home_at 1)
-reserved_first space end = record {
-  homes = home_at 1 ∷ home_at 4 ∷ [];
-  all = (refl, is_small, (refl, is_small, sym end));
-  one = (0, omega arith, refl);
-}
+-- the first of two, and the second
+pub first_lies : (end : ℕ) → end ≡ 7 → LiesIn 1 end (home_at 1)
+first_lies end is = record { begins = omega arith; shape = is_small; ends = omega (arith, is) }
 
--- and the second
-pub reserved_second : {Disk : Type 0} (space : Stale Disk) → space.end ≡ 7 → IsReserved space (home_at 4)
-reserved_second space end = record {
-  homes = home_at 1 ∷ home_at 4 ∷ [];
-  all = (refl, is_small, (refl, is_small, sym end));
-  one = (1, omega arith, refl);
-}
+pub second_lies : (end : ℕ) → end ≡ 7 → LiesIn 1 end (home_at 4)
+second_lies end is = record { begins = omega arith; shape = is_small; ends = omega (arith, is) }

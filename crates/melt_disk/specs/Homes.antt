@@ -19,6 +19,12 @@ pub record Home : Type 0 where
   pub at : ℕ
   pub shape : Shape
 
+-- where a home lies between two words
+pub record LiesIn (from end : ℕ) (home : Home) : Type 0 where
+  pub begins : from ≤ home.at
+  pub shape : IsShape home.shape
+  pub ends : home.at + cost_of home.shape ≤ end
+
 -- These homes follow one another from a word on, up to the end.
 abbrev pub Follow : ℕ → List Home → ℕ → Type 0
 Follow from [] end = from ≡ end
