@@ -304,8 +304,7 @@ here_step script config v w states t s after table at step due =
                 omega (
                   arith,
                   none,
-                  told_collections script config v w states t s after
-                      (table.each t s at) at due told,
+                  told_collections script config v w states t s after (table.each t s at) at due told,
                 )),
           )
         ]

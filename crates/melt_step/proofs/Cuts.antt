@@ -36,8 +36,9 @@ use Rattle.melt_step.specs.Threads.{ThreadStands, replies_of, GoneIn, LacksNow, 
 pub replies_here : (states : List ThreadState) (u : ℕ) (s : ThreadState) → slice_get states u ≡ Some s
     → replies_of states u ≡ s.replies.items
 replies_here [] u s at = absurd (cc)
-replies_here (x ∷ states) zero s at = let same : x ≡ s =
-    same_Some x s at in ap (λ (y : ThreadState). y.replies.items) same
+replies_here (x ∷ states) zero s at =
+    let same : x ≡ s = same_Some x s at in
+    ap (λ (y : ThreadState). y.replies.items) same
 replies_here (x ∷ states) (suc u) s at = replies_here states u s at
 
 -- a thread that the run lacks has none

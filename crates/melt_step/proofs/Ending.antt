@@ -225,8 +225,7 @@ has_run script config run heap rest report stands ended at_rest finished count t
             arith,
             stands.collected,
             none_owing states ended,
-            collections_same script config (replies_of states)
-                (replies_in report) same (length script.programs),
+            collections_same script config (replies_of states) (replies_in report) same (length script.programs),
             ap length journal,
           ) in
           subst (λ (n : ℕ). collections script config (replies_in report) n ≤ length report.journal)

@@ -77,8 +77,7 @@ awaits_room script config v states t x d table is waits =
     record {
       table = table;
       at = waits.1 ∙ ap Some (sym same);
-      lacking = ap (λ (y : ThreadState). y.mode) same
-          ∙ waits.2;
+      lacking = ap (λ (y : ThreadState). y.mode) same ∙ waits.2;
     }
 
 -- what a thread that lacked room has next

@@ -109,8 +109,7 @@ again_more states after n s x so_far at made = record {
         let here : slice_get states t ≡ Some s =
         ap (slice_get states) same ∙ (sym (so_far.rest n (omega arith)) ∙ at) in (
           x,
-          ap (slice_get (set after n x)) same
-              ∙ get_set_same after n s x at,
+          ap (slice_get (set after n x)) same ∙ get_set_same after n s x at,
           subst (λ (z : ThreadState). MadeAgain z x) (same_Some s y (sym here ∙ there)) made,
         )
     | inr other ↦
@@ -287,10 +286,8 @@ collected_more states after next n so_far within at_n =
                   let here : slice_get states t ≡ Some s =
                   ap (slice_get states) same ∙ (sym (so_far.rest n (omega arith)) ∙ w.2) in (
                     x,
-                    ap (slice_get (set after n x)) same
-                        ∙ get_set_same after n s x w.2,
-                    subst (λ (z : ThreadState). CollectedFor z x)
-                        (same_Some s y (sym here ∙ there)) one.2,
+                    ap (slice_get (set after n x)) same ∙ get_set_same after n s x w.2,
+                    subst (λ (z : ThreadState). CollectedFor z x) (same_Some s y (sym here ∙ there)) one.2,
                   )
               | inr other ↦
                   let z : (z : ThreadState) × (slice_get after t ≡ Some z) × CollectedFor y z =

@@ -166,8 +166,9 @@ step_nearer script config v w states t s after table at goes step same =
 
 -- a thread without a call in flight has few events left before it waits
 turn_few : (mode : Mode) (c : Option Call) → c ≡ None → turn_left mode c ≤ 200
-turn_few Running c none = let few : turn_left Running None ≤ 200 =
-    omega arith in subst (λ (o : Option Call). turn_left Running o ≤ 200) (sym none) few
+turn_few Running c none =
+    let few : turn_left Running None ≤ 200 = omega arith in
+    subst (λ (o : Option Call). turn_left Running o ≤ 200) (sym none) few
 turn_few Due c none = omega arith
 turn_few Silent c none = omega arith
 turn_few Collecting c none = omega arith

@@ -53,8 +53,7 @@ gives orders states old now events left d (inr rest) = elim d.begun [
   | inl same ↦ inl (
     ap (λ (x : Turns). x.line) same,
     (λ e. rest.0 (ap (λ (x : Turns). x.left) same ∙ e)),
-    rest.1
-        ∙ ap (λ (x : Turns). x.left) same,
+    rest.1 ∙ ap (λ (x : Turns). x.left) same,
   )
   | inr later ↦ absurd (rest.0 later.1)
 ]

@@ -31,7 +31,7 @@ fn count_all_registers(all: &[Registers])
     }
 }
 
-/// Collects a heap, and counts no steps.
+/// Collects a heap, and counts no steps. Whoever calls it picks a ledger for them, which is of a type that it names.
 fn collect_uncounted<L: Ledger>(
     alloc: Global,
     heap: &mut Heap,

@@ -25,8 +25,9 @@ returns-then-not-has_ended-clause-goes c = λ no.
         c.state-item.result,
         at,
         λ over.
-            let yes : c.has_ended.result ≡ true = c.has_ended.ensures.1 over in let wrong : false ≡ true =
-            sym c.if-not-has_ended.true ∙ yes in absurd (cc),
+            let yes : c.has_ended.result ≡ true = c.has_ended.ensures.1 over in
+            let wrong : false ≡ true = sym c.if-not-has_ended.true ∙ yes in
+            absurd (cc),
       ),
     )
 
