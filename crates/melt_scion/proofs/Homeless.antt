@@ -1,5 +1,5 @@
 -- States over a disk on which no home was reserved.
-use Rattle.std.proofs.Common.{◌≡◌, ℕ, List, [], ◌∷◌, Option, sym, ◌∙◌, refl}
+use Rattle.std.proofs.Common.{◌≡◌, ℕ, List, [], ◌∷◌, Option, refl}
 use Rattle.std.specs.Prelude.{None, Some, slice_get}
 use Rattle.melt_model.specs.declared.history.Entry.{Entry}
 use Rattle.melt_scion.specs.State.{Home, Scion, State}

@@ -3,7 +3,7 @@ use Rattle.std.proofs.Common.{◌≡◌, ◌≢◌, ℕ, zero, suc, ◌<◌, ref
 use Rattle.std.proofs.Common.{replicate, Bool}
 use Rattle.std.proofs.lemmas.List.{get_or-replicate, get_or_past, length-replicate}
 use Rattle.std.proofs.lemmas.Bool.{cases_lt}
-use Rattle.std.specs.Prelude.{◌^◌, ◌/◌, ◌≤◌, Option, None, Some, Contains, slice_index, slice_index_or}
+use Rattle.std.specs.Prelude.{◌^◌, ◌/◌, Option, None, Some, Contains, slice_index, slice_index_or}
 use Rattle.std.specs.Option.{option_map}
 use Rattle.melt_model.specs.declared.history.Value.TheVariants.{Nil}
 use Rattle.melt_word.specs.declared.header.Shape.{Shape}

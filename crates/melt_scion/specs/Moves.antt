@@ -2,7 +2,7 @@
 -- words become, and what stands on disk. `to` has the new address of each object that stays, and 0 for all others;
 -- `home` the home of each object that has one then, in use or not; and `scion` the scion of each that stays and has a
 -- home. A phase in which nobody leaves gives no home, and is the case with all old homes and scions.
-use Rattle.std.specs.Prelude.{◌≡◌, ◌≢◌, ◌↔◌, ◌⊎◌, ◌^◌, ℕ, zero, suc, ◌+◌, ◌<◌, ◌≤◌, true, false, Option, None, Some}
+use Rattle.std.specs.Prelude.{◌≡◌, ◌≢◌, ◌↔◌, ◌⊎◌, ◌^◌, ℕ, zero, suc, ◌+◌, ◌<◌, ◌≤◌, true, false, Some}
 use Rattle.melt_model.specs.declared.reports.Phase.{Phase}
 use Rattle.melt_model.specs.declared.reports.Phase.TheVariants.{Inactive, Mark, Move}
 use Rattle.melt_word.specs.Words.{IsRef, IsHomeAndScion, ref_word, home_word, cost_of}
@@ -10,7 +10,6 @@ use Rattle.melt_word.specs.declared.header.Shape.{Shape}
 use Rattle.melt_word.specs.declared.header.Header.{Header}
 use Rattle.melt_word.specs.declared.reference.Ref.{Ref}
 use Rattle.melt_word.specs.declared.reference.Ref.TheVariants.{Null, Clean, Stale, Disk}
-use Rattle.melt_record.specs.declared.head.Head.{Head}
 use Rattle.melt_record.specs.declared.head.Kind.TheVariants.{Body, Stub}
 use Rattle.melt_scion.specs.State.{Scion, State, HeaderAt, HoldsAt, Follow, IsReserved, RefersTo, Reached}
 use Rattle.melt_scion.specs.Placed.{Maps, HeadIs}

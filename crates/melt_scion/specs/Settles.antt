@@ -1,9 +1,9 @@
 -- How a forwarded object gets a Stub: first the record is written at its home, while the home still counts as forwarded
 -- and nothing is said of its record; then scion, home word and forwarding word change together.
-use Rattle.std.specs.Prelude.{◌≡◌, ◌≢◌, ◌⊎◌, ◌^◌, ℕ, ◌+◌, ◌<◌, ◌≤◌, Option, None, Some}
+use Rattle.std.specs.Prelude.{◌≡◌, ◌≢◌, ◌⊎◌, ◌^◌, ℕ, ◌+◌, ◌<◌, ◌≤◌, None, Some}
 use Rattle.melt_word.specs.Words.{home_word}
 use Rattle.melt_forward.specs.Forwarding.{Sends}
-use Rattle.melt_scion.specs.State.{Scion, Base, State}
+use Rattle.melt_scion.specs.State.{Base, State}
 
 -- What no write to the disk and no scion changes of what an event leaves.
 pub record SameSizes (b c : Base) : Type 0 where

@@ -1,6 +1,6 @@
 -- Each of the three words stands for one value at most: values in range that have the same word are equal.
-use Rattle.std.proofs.Common.{◌≡◌, ℕ, ◌+◌, ◌*◌, arith}
-use Rattle.std.specs.Prelude.{◌/◌, ◌%◌, ◌^◌, ◌<◌, Option, Some}
+use Rattle.std.proofs.Common.{◌≡◌, ℕ, arith}
+use Rattle.std.specs.Prelude.{◌^◌, ◌<◌, Option, Some}
 use Rattle.melt_word.specs.Words.{IsRef, ref_word, IsHeader, header_word, IsHome, home_word, home_part, scion_part}
 use Rattle.melt_word.specs.declared.reference.Ref.{Ref}
 use Rattle.melt_word.specs.declared.header.Header.{Header}
