@@ -68,9 +68,10 @@ fn three_objects(alloc: Global) -> Result<(Heap, [Registers; 2]), Fail>
     addresses.set(second, 1);
     addresses.set(third, 2);
     let items = vec![in alloc; encode_ref(Ref::Clean(third)); 1]?;
+    let scions = ScionTable::new(alloc, 5)?;
     let heap = Heap {
         space,
-        scions: ScionTable::new(alloc, 5)?,
+        scions,
         globals: Globals { items },
         forward: Forwards {
             items: Vec::new(alloc),
