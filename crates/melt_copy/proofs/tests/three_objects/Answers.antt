@@ -41,6 +41,7 @@ returns-clause-formed c =
       has = refl;
       scions = c.in_ok-scions.ensures.empty;
       forward = c.new-4.ensures.items;
-      globals = c.in_ok-items.ensures.items_if_clones_equal (λ y is. is) ∙ ap (λ (word : ℕ). replicate 1 word) c.encode_ref-2.ensures;
+      globals = c.in_ok-items.ensures.items_if_clones_equal (λ y is. is)
+          ∙ ap (λ (word : ℕ). replicate 1 word) c.encode_ref-2.ensures;
       registers = fourth_held c.in_ok-second.second;
     })
