@@ -25,7 +25,7 @@ use Rattle.melt_scion.proofs.Geometry.{one_header}
 use Rattle.melt_scion.proofs.Starting.{Formed_start, new_heap_empty, nothing_at, no_scion_in}
 
 -- no address has a name, and no scion is live
-none_at : (n k : ℕ) → name_at (replicate n None) k ≡ None
+pub none_at : (n k : ℕ) → name_at (replicate n None) k ≡ None
 none_at n zero = refl
 none_at n (suc k) = elim (cases_lt k n) [
   | inl below ↦ get_or-replicate n k None None below
