@@ -1,5 +1,6 @@
 -- Heaps that are built by hand, for tests: one without objects, and one with three.
-use Rattle.std.proofs.Common.{◌≡◌, ◌≢◌, ℕ, ◌+◌, ◌^◌, ◌<◌, zero, suc, List, [], ◌∷◌, length, replicate, refl, sym, subst, ap, ◌∙◌, arith, lit≤, ◌⊎◌, inl, inr}
+use Rattle.std.proofs.Common.{◌≡◌, ◌≢◌, ℕ, ◌+◌, ◌^◌, ◌<◌, zero, suc, List, [], ◌∷◌, length, replicate, refl, sym, subst}
+use Rattle.std.proofs.Common.{ap, ◌∙◌, arith, lit≤, ◌⊎◌, inl, inr}
 use Rattle.std.specs.Prelude.{◌/◌, Bool, Option, None, Some, true, false, slice_index}
 use Rattle.std.specs.FinMap.{FinMap, empty, get, get-empty}
 use Rattle.std.specs.Ordering.{nat_cmp}
@@ -15,7 +16,8 @@ use Rattle.melt_scion.specs.Placed.{Maps, FormedWords, Formed}
 use Rattle.melt_scion.specs.Names.{name_at, SetsName}
 use Rattle.melt_scion.specs.HomeNames.{NamedHomes}
 use Rattle.melt_scion.specs.Scions.{Scions, empty_table}
-use Rattle.melt_scion.specs.Heaps.{no_homes_on, scion_in, register_in, state_of, IsFormed, IsSettled, IsNewHeap, HasNames, NamesMade}
+use Rattle.melt_scion.specs.Heaps.{no_homes_on, scion_in, register_in, state_of, IsFormed, IsSettled, IsNewHeap}
+use Rattle.melt_scion.specs.Heaps.{HasNames, NamesMade}
 use Rattle.melt_scion.specs.declared.registers.Registers.{Registers}
 use Rattle.melt_scion.specs.declared.heap.Names as heap
 use Rattle.melt_scion.specs.declared.heap.Heap.{Heap}
@@ -23,7 +25,7 @@ use Rattle.melt_scion.proofs.Geometry.{one_header}
 use Rattle.melt_scion.proofs.Starting.{Formed_start, new_heap_empty, nothing_at, no_scion_in}
 
 -- no address has a name, and no scion is live
-none_at : (n k : ℕ) → name_at (replicate n None) k ≡ None
+pub none_at : (n k : ℕ) → name_at (replicate n None) k ≡ None
 none_at n zero = refl
 none_at n (suc k) = elim (cases_lt k n) [
   | inl below ↦ get_or-replicate n k None None below
@@ -68,9 +70,11 @@ none_held (suc t) r = refl
 
 -- one register of the second thread holds an address
 abbrev pub second_holds : ℕ → List Registers
-second_holds address = no_registers ∷ record { regs = 0 ∷ 0 ∷ 0 ∷ address ∷ 0 ∷ 0 ∷ 0 ∷ 0 ∷ 0 ∷ 0 ∷ 0 ∷ 0 ∷ 0 ∷ 0 ∷ 0 ∷ 0 ∷ [] } ∷ []
+second_holds address =
+    no_registers ∷ record { regs = 0 ∷ 0 ∷ 0 ∷ address ∷ 0 ∷ 0 ∷ 0 ∷ 0 ∷ 0 ∷ 0 ∷ 0 ∷ 0 ∷ 0 ∷ 0 ∷ 0 ∷ 0 ∷ [] } ∷ []
 
-pub fourth_held : (address t r : ℕ) → (register_in (second_holds address) t r ≡ 0) ⊎ (register_in (second_holds address) t r ≡ address)
+pub fourth_held : (address t r : ℕ) → (register_in (second_holds address) t r ≡ 0)
+    ⊎ (register_in (second_holds address) t r ≡ address)
 fourth_held address zero r = inl (nothing_at 16 r)
 fourth_held address (suc zero) zero = inl refl
 fourth_held address (suc zero) (suc zero) = inl refl
@@ -137,10 +141,34 @@ module _ (maps : Maps) (s : State) (has : HasWords maps s) where
     first_end = omega (arith, has.end);
     small_end = omega (arith, has.end);
     objects = λ a n is. elim (has.named_at a n is) [
-      | inl one ↦ subst (λ (c : ℕ). (h : Header) × ObjectAt s c h) (sym one) (number_header, record { starts = number_starts; first = omega arith; within = omega (arith, has.size); below = omega (arith, has.free) })
+      | inl one ↦ subst (λ (c : ℕ). (h : Header) × ObjectAt s c h) (sym one) (
+        number_header,
+        record {
+          starts = number_starts;
+          first = omega arith;
+          within = omega (arith, has.size);
+          below = omega (arith, has.free);
+        },
+      )
       | inr more ↦ elim more [
-        | inl four ↦ subst (λ (c : ℕ). (h : Header) × ObjectAt s c h) (sym four) (pair_header, record { starts = pair_starts; first = omega arith; within = omega (arith, has.size); below = omega (arith, has.free) })
-        | inr eight ↦ subst (λ (c : ℕ). (h : Header) × ObjectAt s c h) (sym eight) (leaf_header, record { starts = leaf_starts; first = omega arith; within = omega (arith, has.size); below = omega (arith, has.free) })
+        | inl four ↦ subst (λ (c : ℕ). (h : Header) × ObjectAt s c h) (sym four) (
+          pair_header,
+          record {
+            starts = pair_starts;
+            first = omega arith;
+            within = omega (arith, has.size);
+            below = omega (arith, has.free);
+          },
+        )
+        | inr eight ↦ subst (λ (c : ℕ). (h : Header) × ObjectAt s c h) (sym eight) (
+          leaf_header,
+          record {
+            starts = leaf_starts;
+            first = omega arith;
+            within = omega (arith, has.size);
+            below = omega (arith, has.free);
+          },
+        )
       ]
     ];
     apart = λ a b n m h is other starts less. elim (has.named_at a n is) [
@@ -148,29 +176,46 @@ module _ (maps : Maps) (s : State) (has : HasWords maps s) where
           let cost = costs a 1 h number_header one number_starts starts in
           elim (has.named_at b m other) [
             | inl b_one ↦ omega (arith, one, b_one, cost, less)
-            | inr b_more ↦ elim b_more [ inl b_four ↦ omega (arith, one, b_four, cost, less) | inr b_eight ↦ omega (arith, one, b_eight, cost, less) ]
+            | inr b_more ↦ elim b_more [
+              | inl b_four ↦ omega (arith, one, b_four, cost, less)
+              | inr b_eight ↦ omega (arith, one, b_eight, cost, less)
+            ]
           ]
       | inr more ↦ elim more [
         | inl four ↦
             let cost = costs a 4 h pair_header four pair_starts starts in
             elim (has.named_at b m other) [
               | inl b_one ↦ omega (arith, four, b_one, cost, less)
-              | inr b_more ↦ elim b_more [ inl b_four ↦ omega (arith, four, b_four, cost, less) | inr b_eight ↦ omega (arith, four, b_eight, cost, less) ]
+              | inr b_more ↦ elim b_more [
+                | inl b_four ↦ omega (arith, four, b_four, cost, less)
+                | inr b_eight ↦ omega (arith, four, b_eight, cost, less)
+              ]
             ]
         | inr eight ↦ elim (has.named_at b m other) [
           | inl b_one ↦ omega (arith, eight, b_one, less)
-          | inr b_more ↦ elim b_more [ inl b_four ↦ omega (arith, eight, b_four, less) | inr b_eight ↦ omega (arith, eight, b_eight, less) ]
+          | inr b_more ↦ elim b_more [
+            | inl b_four ↦ omega (arith, eight, b_four, less)
+            | inr b_eight ↦ omega (arith, eight, b_eight, less)
+          ]
         ]
       ]
     ];
     slots = λ a n i h is starts below. elim (has.named_at a n is) [
-      | inl one ↦ absurd (let refs = slots_in a 1 h number_header one number_starts starts in omega (arith, refs, below))
+      | inl one ↦ absurd (let refs = slots_in a 1 h number_header one number_starts starts in
+          omega (arith, refs, below))
       | inr more ↦ elim more [
         | inl four ↦
             let refs = slots_in a 4 h pair_header four pair_starts starts in
             let at : a + 2 + i ≡ 6 = omega (arith, refs, below, four) in
-            record { reference = Stale 8; in_range = record { not_null = lit≤ tt; small = lit≤ tt }; is = ap s.word at ∙ has.slot; stands = (2, has.leaf_named) }
-        | inr eight ↦ absurd (let refs = slots_in a 8 h leaf_header eight leaf_starts starts in omega (arith, refs, below))
+            record {
+              reference = Stale 8;
+              in_range = record { not_null = lit≤ tt; small = lit≤ tt };
+              is = ap s.word at
+                  ∙ has.slot;
+              stands = (2, has.leaf_named);
+            }
+        | inr eight ↦ absurd (let refs = slots_in a 8 h leaf_header eight leaf_starts starts in
+            omega (arith, refs, below))
       ]
     ];
     home_words = λ a n header is starts. inl (elim (has.named_at a n is) [
@@ -180,7 +225,13 @@ module _ (maps : Maps) (s : State) (has : HasWords maps s) where
         | inr eight ↦ ap (λ (c : ℕ). s.word (c + 1)) eight ∙ has.leaf_home
       ]
     ]);
-    globals = λ g below. record { reference = Clean 8; in_range = record { not_null = lit≤ tt; small = lit≤ tt }; is = has.globals g below; stands = ((2, has.leaf_named), fresh_at 8 leaf_header leaf_starts refl) };
+    globals =
+        λ g below. record {
+          reference = Clean 8;
+          in_range = record { not_null = lit≤ tt; small = lit≤ tt };
+          is = has.globals g below;
+          stands = ((2, has.leaf_named), fresh_at 8 leaf_header leaf_starts refl);
+        };
     scions = λ k x live. absurd (let dead = has.scions k in cc);
     forwards = λ p below. absurd (omega (arith, below, has.forwards));
     one_forward = λ p q home a b below. absurd (omega (arith, below, has.forwards));
@@ -191,7 +242,8 @@ module _ (maps : Maps) (s : State) (has : HasWords maps s) where
     words = formed_words;
     registers = λ t r. elim (has.registers t r) [
       | inl nothing ↦ inl nothing
-      | inr four ↦ inr (subst (λ (c : ℕ). ((n : ℕ) × (maps.address c ≡ Some n)) × IsFresh s c) (sym four) ((1, has.pair_named), fresh_at 4 pair_header pair_starts refl))
+      | inr four ↦ inr (subst (λ (c : ℕ). ((n : ℕ) × (maps.address c ≡ Some n)) × IsFresh s c) (sym four)
+          ((1, has.pair_named), fresh_at 4 pair_header pair_starts refl))
     ];
   }
 
@@ -224,7 +276,8 @@ pub record HasThree (h : Heap) (held : List Registers) (names : List (Option ℕ
   pub globals : h.globals ≡ replicate 1 (ref_word (Clean third))
   pub registers : (t r : ℕ) → (register_in held t r ≡ 0) ⊎ (register_in held t r ≡ second)
 
-pub three_formed : (h : Heap) (held : List Registers) (names : List (Option ℕ)) (first second third : ℕ) → HasThree h held names first second third → IsFormed h held
+pub three_formed : (h : Heap) (held : List Registers) (names : List (Option ℕ)) (first second third : ℕ)
+    → HasThree h held names first second third → IsFormed h held
 three_formed h held names first second third is =
     let maps : Maps = record { address = name_at names; home = λ k. None } in
     let s : State = state_of h held no_homes_on in
@@ -235,18 +288,29 @@ three_formed h held names first second third is =
     let at_eight : third ≡ 8 = omega (arith, is.makes_three.place, used_two) in
     let used_three : is.three.used ≡ 9 = omega (arith, is.makes_three.used, used_two) in
     let used : h.space.used ≡ 9 = is.numbered.used ∙ (is.refers.used ∙ used_three) in
-    let size : length h.space.list ≡ 10 = is.numbered.size ∙ (is.refers.size ∙ (is.makes_three.size ∙ (is.makes_two.size ∙ (is.makes_one.size ∙ is.fresh.size)))) in
-    let count : length names ≡ 10 = is.three_named.size ∙ (is.two_named.size ∙ (is.one_named.size ∙ (ap length is.none ∙ length-replicate {A = Option ℕ} 10 None))) in
-    let unset : (k : ℕ) → k ≢ 6 → k ≢ 7 → word_at h.space k ≡ word_at is.three k = λ k six seven. is.numbered.others k seven ∙ is.refers.others k six in
-    let early : (k : ℕ) → k ≢ 6 → k ≢ 7 → k < 8 → word_at h.space k ≡ word_at is.two k = λ k six seven below. unset k six seven ∙ is.makes_three.before k (omega (arith, at_eight, below)) in
-    let at_first : (k : ℕ) → k < 4 → word_at h.space k ≡ word_at is.one k = λ k below. early k (omega (arith, below)) (omega (arith, below)) (omega (arith, below)) ∙ is.makes_two.before k (omega (arith, at_four, below)) in
-    let named_at : (k n : ℕ) → name_at names k ≡ Some n → (k ≡ 1) ⊎ ((k ≡ 4) ⊎ (k ≡ 8)) = λ k n named. elim (eqb_tells k third) [
+    let size : length h.space.list ≡ 10 =
+    is.numbered.size ∙ (is.refers.size
+    ∙ (is.makes_three.size ∙ (is.makes_two.size ∙ (is.makes_one.size ∙ is.fresh.size)))) in
+    let count : length names ≡ 10 = is.three_named.size
+    ∙ (is.two_named.size ∙ (is.one_named.size ∙ (ap length is.none ∙ length-replicate {A = Option ℕ} 10 None))) in
+    let unset : (k : ℕ) → k ≢ 6 → k ≢ 7 → word_at h.space k ≡ word_at is.three k =
+    λ k six seven. is.numbered.others k seven ∙ is.refers.others k six in
+    let early : (k : ℕ) → k ≢ 6 → k ≢ 7 → k < 8 → word_at h.space k ≡ word_at is.two k =
+    λ k six seven below. unset k six seven ∙ is.makes_three.before k (omega (arith, at_eight, below)) in
+    let at_first : (k : ℕ) → k < 4 → word_at h.space k ≡ word_at is.one k =
+    λ k below. early k (omega (arith, below)) (omega (arith, below)) (omega (arith, below))
+    ∙ is.makes_two.before k (omega (arith, at_four, below)) in
+    let named_at : (k n : ℕ) → name_at names k ≡ Some n → (k ≡ 1) ⊎ ((k ≡ 4) ⊎ (k ≡ 8)) =
+    λ k n named. elim (eqb_tells k third) [
       | inl same ↦ inr (inr (same.1 ∙ at_eight))
       | inr not_third ↦ elim (eqb_tells k second) [
         | inl same ↦ inr (inl (same.1 ∙ at_four))
         | inr not_second ↦ elim (eqb_tells k first) [
           | inl same ↦ inl (same.1 ∙ at_one)
-          | inr not_first ↦ absurd (let none : name_at names k ≡ None = is.three_named.others k not_third.1 ∙ (is.two_named.others k not_second.1 ∙ (is.one_named.others k not_first.1 ∙ (ap (λ (l : List (Option ℕ)). name_at l k) is.none ∙ none_at 10 k))) in cc)
+          | inr not_first ↦ absurd (let none : name_at names k ≡ None = is.three_named.others k not_third.1
+              ∙ (is.two_named.others k not_second.1
+              ∙ (is.one_named.others k not_first.1
+              ∙ (ap (λ (l : List (Option ℕ)). name_at l k) is.none ∙ none_at 10 k))) in cc)
         ]
       ]
     ] in
@@ -267,18 +331,27 @@ three_formed h held names first second third is =
         forwards = ap length is.forward;
         free = omega (arith, used);
         named_at = named_at;
-        pair_named = is.three_named.others 4 (omega (arith, at_eight)) ∙ subst (λ (c : ℕ). name_at is.names_two c ≡ Some 1) at_four is.two_named.here;
+        pair_named = is.three_named.others 4 (omega (arith, at_eight))
+            ∙ subst (λ (c : ℕ). name_at is.names_two c ≡ Some 1) at_four is.two_named.here;
         leaf_named = subst (λ (c : ℕ). name_at names c ≡ Some 2) at_eight is.three_named.here;
-        number = at_first 1 (omega arith) ∙ subst (λ (c : ℕ). word_at is.one c ≡ header_word number_header) at_one is.makes_one.header;
+        number = at_first 1 (omega arith)
+            ∙ subst (λ (c : ℕ). word_at is.one c ≡ header_word number_header) at_one is.makes_one.header;
         number_home = at_first 2 (omega arith) ∙ is.makes_one.zeros 2 (omega (arith, at_one)) (omega (arith, at_one));
-        pair = early 4 (omega arith) (omega arith) (omega arith) ∙ subst (λ (c : ℕ). word_at is.two c ≡ header_word pair_header) at_four is.makes_two.header;
-        pair_home = early 5 (omega arith) (omega arith) (omega arith) ∙ is.makes_two.zeros 5 (omega (arith, at_four)) (omega (arith, at_four));
+        pair = early 4 (omega arith) (omega arith) (omega arith)
+            ∙ subst (λ (c : ℕ). word_at is.two c ≡ header_word pair_header) at_four is.makes_two.header;
+        pair_home = early 5 (omega arith) (omega arith) (omega arith)
+            ∙ is.makes_two.zeros 5 (omega (arith, at_four)) (omega (arith, at_four));
         slot = is.numbered.others 6 (omega arith) ∙ (is.refers.here ∙ ap (λ (c : ℕ). ref_word (Stale c)) at_eight);
-        leaf = unset 8 (omega arith) (omega arith) ∙ subst (λ (c : ℕ). word_at is.three c ≡ header_word leaf_header) at_eight is.makes_three.header;
-        leaf_home = unset 9 (omega arith) (omega arith) ∙ is.makes_three.zeros 9 (omega (arith, at_eight)) (omega (arith, at_eight));
+        leaf = unset 8 (omega arith) (omega arith)
+            ∙ subst (λ (c : ℕ). word_at is.three c ≡ header_word leaf_header) at_eight is.makes_three.header;
+        leaf_home = unset 9 (omega arith) (omega arith)
+            ∙ is.makes_three.zeros 9 (omega (arith, at_eight)) (omega (arith, at_eight));
         globals = λ g below.
-            let one : length h.globals ≡ 1 = ap length is.globals ∙ length-replicate {A = ℕ} 1 (ref_word (Clean third)) in
-            ap (λ (gs : List ℕ). slice_index gs g) is.globals ∙ (get_or-replicate 1 g (ref_word (Clean third)) 0 (omega (arith, one, below)) ∙ ap (λ (c : ℕ). ref_word (Clean c)) at_eight);
+            let one : length h.globals ≡ 1 = ap length is.globals
+            ∙ length-replicate {A = ℕ} 1 (ref_word (Clean third)) in
+            ap (λ (gs : List ℕ). slice_index gs g) is.globals
+            ∙ (get_or-replicate 1 g (ref_word (Clean third)) 0 (omega (arith, one, below))
+            ∙ ap (λ (c : ℕ). ref_word (Clean c)) at_eight);
         registers = λ t r. elim (is.registers t r) [ inl nothing ↦ inl nothing | inr holds ↦ inr (holds ∙ at_four) ];
       });
     }

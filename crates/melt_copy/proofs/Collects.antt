@@ -1,5 +1,6 @@
 -- What was copied and put back is a collection.
-use Rattle.std.proofs.Common.{◌≡◌, ℕ, ◌+◌, ◌-◌, ◌<◌, ◌≤◌, zero, suc, List, [], ◌∷◌, length, take, refl, sym, subst, ap, ◌∙◌, arith, inl, inr}
+use Rattle.std.proofs.Common.{◌≡◌, ℕ, ◌+◌, ◌-◌, ◌<◌, ◌≤◌, zero, suc, List, [], ◌∷◌, length, take, refl, sym, subst, ap}
+use Rattle.std.proofs.Common.{◌∙◌, arith, inl, inr}
 use Rattle.std.specs.Option.{option_map}
 use Rattle.std.specs.Prelude.{Bool, Option, None, Some, slice_get, slice_index, if◌then◌else◌, ◌==◌}
 use Rattle.std.proofs.lemmas.Bool.Decides.{eqb_tells}
@@ -20,7 +21,8 @@ use Rattle.melt_scion.specs.declared.heap.Names.{Names}
 use Rattle.melt_scion.specs.declared.heap.Heap.{Heap}
 use Rattle.melt_copy.specs.declared.forwarding.Relocation.{Relocation}
 use Rattle.melt_copy.specs.declared.collect.Copied.{Copied}
-use Rattle.melt_copy.specs.Moving.{Relocates, IsCopy, ObjectMoves, WordMoves, moved_scion, words_in, name_after, maps_after}
+use Rattle.melt_copy.specs.Moving.{Relocates, IsCopy, ObjectMoves, WordMoves, moved_scion, words_in, name_after}
+use Rattle.melt_copy.specs.Moving.{maps_after}
 use Rattle.melt_copy.specs.Tracking.{goes, moved_pair, word_in}
 use Rattle.melt_copy.proofs.Pairs.{pairs_after}
 use Rattle.melt_copy.specs.Copied.{NumbersAre, IsCopied, Copies, PlacesApart, MayRename, AreRenamed, IsPutBack}
@@ -32,13 +34,16 @@ use Rattle.melt_copy.proofs.Moved.{copy_collects}
 use Rattle.melt_copy.proofs.Counted.{live_words, held_words}
 
 -- what was copied fits into the words that were in use
-pub copied_fits : {phase : Phase} (s : State) (names : Option Names) (copied : Copied) → IsCopied phase s names copied → length copied.words.items ≤ s.free - 1
+pub copied_fits : {phase : Phase} (s : State) (names : Option Names) (copied : Copied) → IsCopied phase s names copied
+    → length copied.words.items ≤ s.free - 1
 copied_fits s names copied is =
-    let words = found_words s (goes copied.forwarding) copied.forwarding.moves.items copied.forwarding.next is.whole is.holds in
+    let words = found_words s (goes copied.forwarding) copied.forwarding.moves.items copied.forwarding.next is.whole
+    is.holds in
     omega (arith, words, is.size)
 
 -- no object stands at address 0
-pub nothing_goes : {phase : Phase} (s : State) (names : Option Names) (copied : Copied) → IsCopied phase s names copied → goes copied.forwarding 0 ≡ 0
+pub nothing_goes : {phase : Phase} (s : State) (names : Option Names) (copied : Copied) → IsCopied phase s names copied
+    → goes copied.forwarding 0 ≡ 0
 nothing_goes s names copied is =
     elim (eqb_tells (goes copied.forwarding 0) 0) [
       | inl same ↦ same.1
@@ -55,7 +60,8 @@ none_of (Some n) none = absurd (none n refl)
 -- no object stands behind the words in use
 none_behind : (maps : Maps) (s : State) (k : ℕ) → Formed maps s → s.free ≤ k → maps.address k ≡ None
 none_behind maps s k formed above =
-    none_of (maps.address k) (λ n named. let object = formed.words.objects k n named in let below : k + cost_of object.0.shape ≤ s.free = object.1.below in omega (arith, below, above))
+    none_of (maps.address k) (λ n named. let object = formed.words.objects k n named in
+    let below : k + cost_of object.0.shape ≤ s.free = object.1.below in omega (arith, below, above))
 
 can_rename : (used size : ℕ) (pairs : NamePairs) (maps : Maps) (names : Option Names) (moves : List Relocation)
     (numbers : List (Option ℕ)) → HasNames names pairs maps → NamesMade size names → NumbersAre names moves numbers
@@ -75,7 +81,8 @@ can_rename used size pairs maps (Some names) moves numbers has made are fits beh
 moves_apart : {phase : Phase} (s : State) (names : Option Names) (copied : Copied) → IsCopied phase s names copied
     → PlacesApart copied.forwarding.moves.items
 moves_apart s names copied is i j m n here there same =
-    (same_place s (goes copied.forwarding) copied.forwarding.moves.items copied.forwarding.next i j m n is.holds here there
+    (same_place s (goes copied.forwarding) copied.forwarding.moves.items copied.forwarding.next i j m n is.holds here
+    there
     same).0
 
 pub may_rename : (phase : Phase) (heap : Heap) (held : List Registers) (copied : Copied) → IsFormed heap held
@@ -130,15 +137,19 @@ names_stay None (Some new) pairs pairs_then moves renamed = absurd renamed
 names_stay (Some old) None pairs pairs_then moves renamed = absurd renamed
 
 -- an object in other words that are the same where it stands
-other_words : {phase : Phase} {bit : Bool} (f : ℕ → ℕ) (s : State) (v w : ℕ → ℕ) (m : Relocation) → ((k : ℕ) → m.to ≤ k → k < m.to + cost_of m.shape → w k ≡ v k) → ObjectMoves phase bit f s v m → ObjectMoves phase bit f s w m
+other_words : {phase : Phase} {bit : Bool} (f : ℕ → ℕ) (s : State) (v w : ℕ → ℕ) (m : Relocation)
+    → ((k : ℕ) → m.to ≤ k → k < m.to + cost_of m.shape → w k ≡ v k) → ObjectMoves phase bit f s v m
+    → ObjectMoves phase bit f s w m
 other_words {phase} f s v w m same object = record {
   header = λ header starts. same m.to (omega arith) (omega arith) ∙ object.header header starts;
   home = same (m.to + 1) (omega arith) (omega arith) ∙ object.home;
-  slots = λ i below. subst (WordMoves phase f (s.word (m.from + 2 + i))) (sym (same (m.to + 2 + i) (omega arith) (omega (arith, below)))) (object.slots i below);
+  slots = λ i below. subst (WordMoves phase f (s.word (m.from + 2 + i)))
+      (sym (same (m.to + 2 + i) (omega arith) (omega (arith, below)))) (object.slots i below);
   numbers = λ j below. same (m.to + 2 + m.shape.refs + j) (omega arith) (omega (arith, below)) ∙ object.numbers j below;
 }
 
-replaced_word : (old new : SpaceWords) (words : List ℕ) (k : ℕ) → Replaces old new words → 1 ≤ k → k ≤ length words → word_at new k ≡ word_in words k
+replaced_word : (old new : SpaceWords) (words : List ℕ) (k : ℕ) → Replaces old new words → 1 ≤ k → k ≤ length words
+    → word_at new k ≡ word_in words k
 replaced_word old new words zero replaces first last = absurd (omega (arith, first))
 replaced_word old new words (suc k) replaces first last = replaces.front k (omega (arith, last))
 
@@ -210,7 +221,8 @@ put_collects old new held after copied phase journal copying settled copies put 
         to = f;
         home = old_home s;
         scion = old_scion s;
-        names = has_names maps old.names new.names old.maps new.maps moves (moves_apart s old.names copied is) names put.names;
+        names = has_names maps old.names new.names old.maps new.maps moves
+            (moves_apart s old.names copied is) names put.names;
         collected = copy_collects phase maps s t f moves is.front is.whole copy formed copying;
         live = subst (CountsWords t (IsNamed (maps_after maps moves))) (sym live)
             (live_words phase maps s t f moves is.front is.whole copy formed);

@@ -19,4 +19,5 @@ pub mod Outs
 pub mod Pairs
 pub mod Collects
 pub mod Building
+pub mod BuildingScion
 pub mod Costs

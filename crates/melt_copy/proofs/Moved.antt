@@ -1,28 +1,31 @@
 -- A copy of what can be reached is a collection in which nobody leaves.
-use Rattle.std.proofs.Common.{◌≡◌, ◌≢◌, ◌⊎◌, ℕ, zero, suc, ◌+◌, ◌-◌, ◌*◌, ◌<◌, ◌≤◌, List, refl, sym, ◌∙◌, ap, subst, arith, inl, inr}
-use Rattle.std.specs.Prelude.{◌^◌, nat_lt, Bool, true, false, if◌then◌else◌, slice_get, Option, None, Some, ◌↔◌}
+use Rattle.std.proofs.Common.{◌≡◌, ◌≢◌, ◌⊎◌, ℕ, zero, suc, ◌+◌, ◌-◌, ◌*◌, ◌<◌, ◌≤◌, List, refl, sym, ◌∙◌, ap, subst}
+use Rattle.std.proofs.Common.{arith, inl, inr}
+use Rattle.std.specs.Prelude.{nat_lt, Bool, true, false, if◌then◌else◌, slice_get, Option, None, Some, ◌↔◌}
 use Rattle.std.specs.Option.{option_map}
 use Rattle.std.proofs.lemmas.Bool.{cases_lt, cases_eq, le-ltb, lt-ltb}
 use Rattle.std.proofs.lemmas.Option.{same_Some}
 use Rattle.melt_model.specs.declared.reports.Phase.{Phase}
 use Rattle.melt_model.specs.declared.reports.Phase.TheVariants.{Inactive, Mark, Move}
 use Rattle.melt_word.specs.Words.{cost_of, ref_word, home_word, home_part, IsHomeAndScion}
-use Rattle.melt_word.specs.declared.home.HomeWord.{HomeWord}
 use Rattle.melt_word.specs.declared.header.Shape.{Shape}
 use Rattle.melt_word.specs.declared.header.Header.{Header}
 use Rattle.melt_word.specs.declared.reference.Ref.{Ref}
 use Rattle.melt_word.specs.declared.reference.Ref.TheVariants.{Null, Clean, Stale, Disk}
-use Rattle.melt_forward.specs.Forwarding.{Sends, forward_word}
+use Rattle.melt_forward.specs.Forwarding.{forward_word}
 use Rattle.melt_scion.specs.State.{Scion, State, HeaderAt, HoldsAt, IsFresh, Forwards, Reached, at_scion}
-use Rattle.melt_scion.specs.Placed.{Maps, HasHome, Formed, Tells, Placed}
-use Rattle.melt_scion.specs.Moves.{BitGoes, by_place, moved_ref, WordBecomes, Chooses, Arrives, TakesScion, MovesWords, MovesNames}
+use Rattle.melt_scion.specs.Placed.{Maps, Formed}
+use Rattle.melt_scion.specs.Moves.{BitGoes, by_place, moved_ref, WordBecomes, Chooses, Arrives, TakesScion, MovesWords}
+use Rattle.melt_scion.specs.Moves.{MovesNames}
 use Rattle.melt_scion.specs.Collected.{Taken, Collected}
 use Rattle.melt_scion.proofs.Reaching.{reached_named}
 use Rattle.melt_scion.proofs.Moving.{moves_formed}
 use Rattle.melt_scion.proofs.MovingTells.{moves_placed}
-use Rattle.melt_scion.proofs.NobodyLeaves.{old_home, old_scion, parts_of_word, has_old_homes, names_stay, disk_stays, homes_stay}
+use Rattle.melt_scion.proofs.NobodyLeaves.{old_home, old_scion, parts_of_word, has_old_homes, names_stay, disk_stays}
+use Rattle.melt_scion.proofs.NobodyLeaves.{homes_stay}
 use Rattle.melt_copy.specs.declared.forwarding.Relocation.{Relocation}
-use Rattle.melt_copy.specs.Moving.{IsWhole, IsFound, IsCopy, WordMoves, moved, moved_scion, stale_after, header_after, maps_after}
+use Rattle.melt_copy.specs.Moving.{IsWhole, IsFound, IsCopy, WordMoves, moved, moved_scion, stale_after, header_after}
+use Rattle.melt_copy.specs.Moving.{maps_after}
 use Rattle.melt_copy.specs.Copying.{IsCopying}
 use Rattle.melt_copy.proofs.Places.{takes_word, place_below, place_found, same_place, same_source}
 use Rattle.melt_copy.proofs.Sources.{goes, source_cost, source_shape, source_object, reached_found, found_words}
@@ -77,7 +80,8 @@ scion_before f None x is = absurd (cc)
 scion_before f (Some y) x is = (y, refl, same_Some (moved_scion f y) x is)
 
 module _ (phase : Phase) (maps : Maps) (s t : State) (f : ℕ → ℕ) (moves : List Relocation) (front : ℕ)
-    (whole : IsWhole s) (copy : IsCopy phase s t f moves front) (formed : Formed maps s) (copying : IsCopying phase) where
+    (whole : IsWhole s) (copy : IsCopy phase s t f moves front) (formed : Formed maps s)
+    (copying : IsCopying phase) where
   -- no forwarding word sends a home
   not_sent : {home address : ℕ} → Forwards s home address → ⊥
   not_sent {home} {address} is =
@@ -204,7 +208,8 @@ module _ (phase : Phase) (maps : Maps) (s t : State) (f : ℕ → ℕ) (moves : 
         later = header_after phase (nat_lt x.index front) header;
         starts = x.there;
         shape = refl;
-        marked = bit_goes phase (nat_lt x.index front) s a header (header_after phase (nat_lt x.index front) header) refl
+        marked = bit_goes phase (nat_lt x.index front) s a header
+            (header_after phase (nat_lt x.index front) header) refl
             (λ held.
             let h = copy.held.each x.index x.move x.is (in_front x.index front held) in
             record { thread = h.0; register = h.1; holds = h.2 ∙ x.from })
@@ -224,8 +229,10 @@ module _ (phase : Phase) (maps : Maps) (s t : State) (f : ℕ → ℕ) (moves : 
               ∙ ap (λ (k : ℕ). home_word (Some (record { home = old_home s a; scion = k }))) (sym part.1)))
         ];
         slots = λ i below.
-            subst (λ (b : ℕ). WordBecomes (moved_ref phase f (old_home s)) (s.word (b + 2 + i)) (t.word (f a + 2 + i))) x.from
-            (subst (λ (b : ℕ). WordBecomes (moved_ref phase f (old_home s)) (s.word (x.move.from + 2 + i)) (t.word (b + 2 + i))) x.to
+            subst (λ (b : ℕ). WordBecomes (moved_ref phase f (old_home s)) (s.word (b + 2 + i)) (t.word (f a + 2 + i)))
+            x.from
+            (subst (λ (b : ℕ). WordBecomes (moved_ref phase f (old_home s)) (s.word (x.move.from + 2 + i))
+            (t.word (b + 2 + i))) x.to
             (word_becomes phase f (old_home s) (s.word (x.move.from + 2 + i)) (t.word (x.move.to + 2 + i))
             (object.slots i (omega (arith, refs, below)))));
         numbers = λ j below.
@@ -240,7 +247,8 @@ module _ (phase : Phase) (maps : Maps) (s t : State) (f : ℕ → ℕ) (moves : 
       let x = found_at a header first starts in
       let y = goes s f moves t.free b copy.found second in
       let cost : cost_of header.shape ≡ cost_of x.move.shape = ap cost_of x.shape in
-      let apart = objects_apart phase maps s t f moves front whole copy x.index y.index x.move y.move (cost_of header.shape) x.is y.is cost
+      let apart = objects_apart phase maps s t f moves front whole copy x.index y.index x.move y.move
+      (cost_of header.shape) x.is y.is cost
       (let to = y.to in omega (arith, less, x.to, to)) in
       let to = y.to in omega (arith, apart, x.to, to)
 
@@ -265,8 +273,7 @@ module _ (phase : Phase) (maps : Maps) (s t : State) (f : ℕ → ℕ) (moves : 
   only_scions k x live =
       let y = scion_before f (s.base.scion k) x (sym (copy.scion k) ∙ live) in
       let stands = formed.words.scions k y.0 y.1 in
-      let part = parts_of_word (s.word (y.0.address + 1)) y.0.home k stands.small stands.home_word in
-      (
+      let part = parts_of_word (s.word (y.0.address + 1)) y.0.home k stands.small stands.home_word in (
         y.0.address,
         copy.scions_found k y.0 y.1,
         λ none. elim (home_of y.0.address (at_scion k y.0 y.1)) [
@@ -286,7 +293,9 @@ module _ (phase : Phase) (maps : Maps) (s t : State) (f : ℕ → ℕ) (moves : 
     homes = homes_stay maps s formed phase t f (λ a. none_leaves phase s a copying) copy.homes.end;
     size = copy.sizes.size;
     globals = copy.sizes.globals;
-    free = (let words = found_words s f moves t.free whole copy.found in let behind = copy.found.behind in let size = copy.sizes.size in omega (arith, words, behind, size, whole.inside));
+    free =
+        (let words = found_words s f moves t.free whole copy.found in let behind = copy.found.behind in
+        let size = copy.sizes.size in omega (arith, words, behind, size, whole.inside));
     arrives = arrives;
     order = in_order;
     global = λ g below. word_becomes phase f (old_home s) (s.global g) (t.global g) (copy.global g below);
@@ -312,7 +321,8 @@ module _ (phase : Phase) (maps : Maps) (s t : State) (f : ℕ → ℕ) (moves : 
   -- a copy is a collection
   pub copy_collects : Collected phase maps (maps_after maps moves) s t f (old_home s) (old_scion s)
   copy_collects = record {
-    formed = moves_formed phase maps (maps_after maps moves) s t f (old_home s) (old_scion s) formed copy_moves copy_names;
+    formed = moves_formed phase maps (maps_after maps moves) s t f (old_home s)
+        (old_scion s) formed copy_moves copy_names;
     placed = λ h value placed.
         moves_placed phase maps (maps_after maps moves) s t f (old_home s) (old_scion s) copy_moves copy_names
         (names_stay s (old_home s) (has_old_homes maps s formed) maps (maps_after maps moves) (λ k. refl))
@@ -321,6 +331,7 @@ module _ (phase : Phase) (maps : Maps) (s t : State) (f : ℕ → ℕ) (moves : 
     words = copy_moves;
     names = copy_names;
     homes = λ h tells. names_stay s (old_home s) (has_old_homes maps s formed) maps (maps_after maps moves) (λ k. refl);
-    disk = λ h tells. disk_stays s (old_home s) (has_old_homes maps s formed) phase t f (old_scion s) (λ a. none_leaves phase s a copying) copy.homes copy.image;
+    disk = λ h tells. disk_stays s (old_home s) (has_old_homes maps s formed) phase t f (old_scion s)
+        (λ a. none_leaves phase s a copying) copy.homes copy.image;
     no_gaps = word_taken;
   }

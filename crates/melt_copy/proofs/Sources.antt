@@ -1,6 +1,6 @@
 -- The objects that a collection found, where they were before.
 use Rattle.std.proofs.Common.{◌≡◌, ◌≢◌, ℕ, ◌+◌, ◌-◌, ◌≤◌, List, sym, ◌∙◌, ap, subst, arith, inl, inr}
-use Rattle.std.specs.Prelude.{slice_get, None, Some}
+use Rattle.std.specs.Prelude.{slice_get, Some}
 use Rattle.std.proofs.lemmas.Bool.{cases_order}
 use Rattle.melt_model.specs.declared.reports.Phase.{Phase}
 use Rattle.melt_word.specs.Words.{cost_of}
@@ -9,7 +9,8 @@ use Rattle.melt_word.specs.declared.header.Header.{Header}
 use Rattle.melt_word.specs.declared.reference.Ref.{Ref}
 use Rattle.melt_word.specs.declared.reference.Ref.TheVariants.{Null, Clean, Stale, Disk}
 use Rattle.melt_word.proofs.OneToOne.{same_ref}
-use Rattle.melt_scion.specs.State.{State, HeaderAt, ObjectAt, address_in, RefersTo, Reached, in_register, in_global, at_scion, in_slot}
+use Rattle.melt_scion.specs.State.{State, HeaderAt, ObjectAt, address_in, RefersTo, Reached, in_register, in_global}
+use Rattle.melt_scion.specs.State.{at_scion, in_slot}
 use Rattle.melt_copy.specs.declared.forwarding.Relocation.{Relocation}
 use Rattle.melt_copy.specs.Moving.{IsWhole, words_in, IsRelocation, Relocates, IsFound, WordMoves, IsCopy}
 use Rattle.melt_scion.proofs.Geometry.{one_header}
@@ -27,31 +28,45 @@ pub source_cost : (s : State) (m : Relocation) → (is : IsRelocation s m) → c
 source_cost s m is = ap cost_of is.shape
 
 -- a header at the old address has the shape of the move
-pub source_shape : (s : State) (m : Relocation) (h : Header) → IsRelocation s m → HeaderAt s m.from h → h.shape ≡ m.shape
-source_shape s m h is starts = ap (λ (x : Header). x.shape) (one_header s m.from h is.header starts is.starts) ∙ is.shape
+pub source_shape : (s : State) (m : Relocation) (h : Header) → IsRelocation s m → HeaderAt s m.from h
+    → h.shape ≡ m.shape
+source_shape s m h is starts = ap (λ (x : Header). x.shape) (one_header s m.from h is.header starts is.starts)
+    ∙ is.shape
 
 -- objects that were found do not overlap
-sources_apart : (s : State) (f : ℕ → ℕ) (moves : List Relocation) (free : ℕ) → IsWhole s → Relocates s f moves free → AreApart moves
+sources_apart : (s : State) (f : ℕ → ℕ) (moves : List Relocation) (free : ℕ) → IsWhole s → Relocates s f moves free
+    → AreApart moves
 sources_apart s f moves free whole forwarding i j a b first second before =
     let one = forwarding.whole i a first in
     let other = forwarding.whole j b second in
     elim (cases_order a.from b.from) [
       | inl same ↦ absurd (omega (arith, (same_source s f moves free i j a b forwarding first second same).0))
       | inr differ ↦ elim differ [
-        | inl below ↦ inl (omega (arith, source_cost s a one, whole.apart a.from b.from one.header one.reached other.reached one.starts below))
-        | inr above ↦ inr (omega (arith, source_cost s b other, whole.apart b.from a.from other.header other.reached one.reached other.starts above))
+        | inl below ↦ inl (omega (
+          arith,
+          source_cost s a one,
+          whole.apart a.from b.from one.header one.reached other.reached one.starts below,
+        ))
+        | inr above ↦ inr (omega (
+          arith,
+          source_cost s b other,
+          whole.apart b.from a.from other.header other.reached one.reached other.starts above,
+        ))
       ]
     ]
 
 -- the words of the objects that were found are below the first free place
-pub found_words : (s : State) (f : ℕ → ℕ) (moves : List Relocation) (free : ℕ) → IsWhole s → Relocates s f moves free → words_in moves ≤ s.free - 1
+pub found_words : (s : State) (f : ℕ → ℕ) (moves : List Relocation) (free : ℕ) → IsWhole s → Relocates s f moves free
+    → words_in moves ≤ s.free - 1
 found_words s f moves free whole forwarding =
     packed (s.free - 1) moves (sources_apart s f moves free whole forwarding)
     (λ k m at. (source_object s m whole (forwarding.whole k m at)).first)
-    (λ k m at. let o = source_object s m whole (forwarding.whole k m at) in omega (arith, o.below, o.first, source_cost s m (forwarding.whole k m at)))
+    (λ k m at. let o = source_object s m whole (forwarding.whole k m at) in
+    omega (arith, o.below, o.first, source_cost s m (forwarding.whole k m at)))
 
 -- where there is an object, the new words fit into the old
-pub found_fits : (s : State) (f : ℕ → ℕ) (moves : List Relocation) (free k : ℕ) (m : Relocation) → IsWhole s → Relocates s f moves free → slice_get moves k ≡ Some m → free ≤ s.free
+pub found_fits : (s : State) (f : ℕ → ℕ) (moves : List Relocation) (free k : ℕ) (m : Relocation) → IsWhole s
+    → Relocates s f moves free → slice_get moves k ≡ Some m → free ≤ s.free
 found_fits s f moves free k m whole forwarding at =
     let o = source_object s m whole (forwarding.whole k m at) in
     omega (arith, found_words s f moves free whole forwarding, forwarding.behind, o.below, o.first)
@@ -65,7 +80,8 @@ pub record Goes (f : ℕ → ℕ) (moves : List Relocation) (address : ℕ) : Ty
   pub to : f address ≡ move.to
 
 -- an address that was found has a move
-pub goes : (s : State) (f : ℕ → ℕ) (moves : List Relocation) (free address : ℕ) → Relocates s f moves free → f address ≢ 0 → Goes f moves address
+pub goes : (s : State) (f : ℕ → ℕ) (moves : List Relocation) (free address : ℕ) → Relocates s f moves free
+    → f address ≢ 0 → Goes f moves address
 goes s f moves free address forwarding found =
     let m = forwarding.only address found in
     record { index = m.0; move = m.1; is = m.2; from = m.3; to = ap f (sym m.3) ∙ forwarding.found m.0 m.1 m.2 }
@@ -78,9 +94,11 @@ found_in f (Stale a) address found at = let same : a ≡ address = cc in λ none
 found_in f (Disk home) address found at = absurd (cc)
 
 -- an address in a word that was moved was found
-pub found_in_word : {phase : Phase} (f : ℕ → ℕ) (old new address : ℕ) → WordMoves phase f old new → RefersTo old address → f address ≢ 0
+pub found_in_word : {phase : Phase} (f : ℕ → ℕ) (old new address : ℕ) → WordMoves phase f old new → RefersTo old address
+    → f address ≢ 0
 found_in_word f old new address moves refers =
-    let same : refers.reference ≡ moves.reference = same_ref refers.reference moves.reference refers.in_range moves.in_range (sym refers.is ∙ moves.was) in
+    let same : refers.reference ≡ moves.reference =
+    same_ref refers.reference moves.reference refers.in_range moves.in_range (sym refers.is ∙ moves.was) in
     found_in f moves.reference address moves.found (ap address_in (sym same) ∙ refers.at)
 
 -- what can be reached was found
@@ -90,12 +108,15 @@ reached_found s t f moves front copy address (in_register u r a holds first) =
     let held : s.register u r ≢ 0 = λ none. omega (arith, holds, none, first) in
     let m = copy.held.all u r held in
     λ none. place_found s f moves t.free m.0 m.1 copy.found m.2 (ap f (m.4 ∙ holds) ∙ none)
-reached_found s t f moves front copy address (in_global g a below refers) = found_in_word f (s.global g) (t.global g) a (copy.global g below) refers
+reached_found s t f moves front copy address (in_global g a below refers) =
+    found_in_word f (s.global g) (t.global g) a (copy.global g below) refers
 reached_found s t f moves front copy address (at_scion k x live) = copy.scions_found k x live
 reached_found s t f moves front copy address (in_slot from i a header reached starts below refers) =
     let m = goes s f moves t.free from copy.found (reached_found s t f moves front copy from reached) in
     let starts_there : HeaderAt s m.move.from header = subst (λ (b : ℕ). HeaderAt s b header) (sym m.from) starts in
-    let shape : header.shape.refs ≡ m.move.shape.refs = ap (λ (z : Shape). z.refs) (source_shape s m.move header (copy.found.whole m.index m.move m.is) starts_there) in
+    let shape : header.shape.refs ≡ m.move.shape.refs =
+    ap (λ (z : Shape). z.refs) (source_shape s m.move header (copy.found.whole m.index m.move m.is) starts_there) in
     let slot = (copy.objects m.index m.move m.is).slots i (omega (arith, shape, below)) in
-    let there : RefersTo (s.word (m.move.from + 2 + i)) a = subst (λ (b : ℕ). RefersTo (s.word (b + 2 + i)) a) (sym m.from) refers in
+    let there : RefersTo (s.word (m.move.from + 2 + i)) a =
+    subst (λ (b : ℕ). RefersTo (s.word (b + 2 + i)) a) (sym m.from) refers in
     found_in_word f (s.word (m.move.from + 2 + i)) (t.word (m.move.to + 2 + i)) a slot there

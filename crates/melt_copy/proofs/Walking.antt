@@ -1,5 +1,6 @@
 -- A walk over the live scions of a table, and what is done for each of them.
-use Rattle.std.proofs.Common.{◌≡◌, ◌≢◌, ◌⊎◌, inl, inr, ℕ, ◌+◌, ◌<◌, List, [], ◌∷◌, ◌++◌, length, length-append, append_assoc, refl, sym, ◌∙◌, ap, subst, arith}
+use Rattle.std.proofs.Common.{◌≡◌, ◌≢◌, ◌⊎◌, inl, inr, ℕ, ◌+◌, ◌<◌, List, [], ◌∷◌, ◌++◌, length, length-append}
+use Rattle.std.proofs.Common.{append_assoc, refl, sym, ◌∙◌, ap, subst, arith}
 use Rattle.std.specs.Prelude.{Option, None, Some, is_some, slice_index}
 use Rattle.std.specs.List.{Contains}
 use Rattle.std.specs.Option.{option_map}
@@ -23,7 +24,8 @@ pub record IsWalked (live done : List ℕ) (next : Option ℕ) : Type 0 where
   pub next_is : next ≡ first_of rest
 
 pub walk_start : (live done : List ℕ) (next : Option ℕ) → done ≡ [] → next ≡ first_of live → IsWalked live done next
-walk_start live done next none is = record { rest = live; whole = ap (λ (xs : List ℕ). xs ++ live) (sym none); next_is = is }
+walk_start live done next none is =
+    record { rest = live; whole = ap (λ (xs : List ℕ). xs ++ live) (sym none); next_is = is }
 
 -- the list that begins with a scion
 begins : (rest : List ℕ) (x : ℕ) → Some x ≡ first_of rest → (more : List ℕ) × (rest ≡ x ∷ more)
@@ -126,7 +128,8 @@ module _ (f : ℕ → ℕ) (old new : Scions) (live : List ℕ) (n : ℕ) (once 
       done_more new (is ∙ ap (option_map (moved_pair f)) (sym is ∙ not_moved)) (λ k other. refl) refl
 
 pub moved_start : (f : ℕ → ℕ) (table : Scions) (live : List ℕ) → HasMoved f table table live 0
-moved_start f table live = record { done = λ j below. absurd (omega (arith, below)); rest = λ k free. refl; size = refl }
+moved_start f table live =
+    record { done = λ j below. absurd (omega (arith, below)); rest = λ k free. refl; size = refl }
 
 cases_place : (table : Scions) (live : List ℕ) (k : ℕ) (o : Option (ℕ × ℕ)) → o ≡ scion_at table k → IsTable table
     → live ≡ table.live → (scion_at table k ≡ None) ⊎ IsPlaced live k
@@ -182,7 +185,8 @@ pub tracks_scion : (space : SpaceWords) (s : State) (old new : Forwarding) (tabl
 tracks_scion space s old new table k pair tracks now at = record { tracks = now; reached = tracks.reached k pair at }
 
 -- What stands when the first scions of the list, so many of them, were passed.
-pub record IsFoundSoFar (space : SpaceWords) (old now : Forwarding) (table : Scions) (live : List ℕ) (count : ℕ) : Type 0 where
+pub record IsFoundSoFar (space : SpaceWords) (old now : Forwarding) (table : Scions) (live : List ℕ)
+    (count : ℕ) : Type 0 where
   pub finds : FindsFirst now table live count
   pub grows : Grows old now
   pub tracks : (s : State) → TracksScions space s old table → Tracks space s now

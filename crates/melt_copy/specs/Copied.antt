@@ -1,5 +1,6 @@
 -- What was copied, and what is put back.
-use Rattle.std.specs.Prelude.{◌≡◌, ◌≢◌, ℕ, ◌<◌, ◌≤◌, nat_lt, List, [], ◌∷◌, length, map, take, slice_get, slice_index, Option, None, Some}
+use Rattle.std.specs.Prelude.{◌≡◌, ◌≢◌, ℕ, ◌<◌, ◌≤◌, nat_lt, List, [], ◌∷◌, length, map, take, slice_get, slice_index}
+use Rattle.std.specs.Prelude.{Option, None, Some}
 use Rattle.melt_model.specs.declared.reports.Phase.{Phase}
 use Rattle.melt_space.specs.Space.{Replaces}
 use Rattle.melt_scion.specs.State.{Scion, State}
@@ -27,9 +28,11 @@ pub record IsCopied (phase : Phase) (s : State) (names : Option Names) (copied :
   pub whole : IsWhole s
   pub holds : Relocates s (goes copied.forwarding) copied.forwarding.moves.items copied.forwarding.next
   pub size : length copied.words.items ≡ words_in copied.forwarding.moves.items
-  pub objects : (k : ℕ) (m : Relocation) → slice_get copied.forwarding.moves.items k ≡ Some m → ObjectMoves phase (nat_lt k front) (goes copied.forwarding) s (word_in copied.words.items) m
+  pub objects : (k : ℕ) (m : Relocation) → slice_get copied.forwarding.moves.items k ≡ Some m
+      → ObjectMoves phase (nat_lt k front) (goes copied.forwarding) s (word_in copied.words.items) m
   pub globals_count : length copied.globals.items ≡ s.base.globals
-  pub globals : (g : ℕ) → g < s.base.globals → WordMoves phase (goes copied.forwarding) (s.global g) (slice_index copied.globals.items g)
+  pub globals : (g : ℕ) → g < s.base.globals
+      → WordMoves phase (goes copied.forwarding) (s.global g) (slice_index copied.globals.items g)
   pub held : AreHeld s copied.forwarding.moves.items front
   pub scions : (k : ℕ) (x : Scion) → s.base.scion k ≡ Some x → goes copied.forwarding x.address ≢ 0
   pub held_words : copied.held ≡ words_in (take front copied.forwarding.moves.items)

@@ -24,10 +24,10 @@ pub record Journals (journal : Journal) (phase : Phase) (used : ℕ) : Type 0 wh
   pub no_end : journal.end ≡ 0
 
 -- What was collected, by the maps and the disk with which heap and registers were well formed: the maps after it, where
--- each object went, and which home and which scion it has. Live are the words of all objects after it, and held those of
--- the objects in registers before it.
-pub record HasCollected (maps : Maps) (disk : OnDisk) (old new : Heap) (held held_after : List Registers) (phase : Phase)
-    (journal : Journal) : Type 0 where
+-- each object went, and which home and which scion it has. Live are the words of all objects after it, and held those
+-- of the objects in registers before it.
+pub record HasCollected (maps : Maps) (disk : OnDisk) (old new : Heap) (held held_after : List Registers)
+    (phase : Phase) (journal : Journal) : Type 0 where
   pub after : Maps
   pub to : ℕ → ℕ
   pub home : ℕ → ℕ

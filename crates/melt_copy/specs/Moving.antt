@@ -105,8 +105,8 @@ pub record AreHeld (s : State) (moves : List Relocation) (front : ℕ) : Type 0 
 abbrev pub moved_scion : (ℕ → ℕ) → Scion → Scion
 moved_scion f x = record { home = x.home; address = f x.address }
 
--- The second state is a copy of what can be reached in the first, with the marks that the phase leaves. The disk is as it
--- was, and no forwarding word is filled.
+-- The second state is a copy of what can be reached in the first, with the marks that the phase leaves. The disk is as
+-- it was, and no forwarding word is filled.
 pub record IsCopy (phase : Phase) (s t : State) (f : ℕ → ℕ) (moves : List Relocation) (front : ℕ) : Type 0 where
   pub found : Relocates s f moves t.free
   pub objects : (k : ℕ) (m : Relocation) → slice_get moves k ≡ Some m → ObjectMoves phase (nat_lt k front) f s t.word m

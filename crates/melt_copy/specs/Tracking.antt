@@ -1,5 +1,6 @@
 -- What the parts of a copying collection do, over every state that has the words of the space.
-use Rattle.std.specs.Prelude.{◌≡◌, ◌≢◌, ℕ, zero, suc, ◌+◌, ◌<◌, nat_lt, List, ◌++◌, length, take, slice_get, slice_index, Some, ◌⊎◌}
+use Rattle.std.specs.Prelude.{◌≡◌, ◌≢◌, ℕ, zero, suc, ◌+◌, ◌<◌, nat_lt, List, ◌++◌, length, take, slice_get}
+use Rattle.std.specs.Prelude.{slice_index, Some, ◌⊎◌}
 use Rattle.melt_model.specs.declared.reports.Phase.{Phase}
 use Rattle.melt_space.specs.Space.{SpaceWords, word_at}
 use Rattle.melt_scion.specs.State.{State, RefersTo, Reached}
@@ -46,11 +47,14 @@ abbrev pub word_in : List ℕ → ℕ → ℕ
 word_in words zero = 0
 word_in words (suc k) = slice_index words k
 
--- The first objects of the forwarding, so many of them, were copied in this phase. Registers hold those before the front.
-pub record HasCopied (phase : Phase) (front : ℕ) (space : SpaceWords) (s : State) (forwarding : Forwarding) (words : List ℕ) (count : ℕ) : Type 0 where
+-- The first objects of the forwarding, so many of them, were copied in this phase. Registers hold those before the
+-- front.
+pub record HasCopied (phase : Phase) (front : ℕ) (space : SpaceWords) (s : State) (forwarding : Forwarding)
+    (words : List ℕ) (count : ℕ) : Type 0 where
   pub tracks : Tracks space s forwarding
   pub size : length words ≡ words_in (take count forwarding.moves.items)
-  pub objects : (k : ℕ) (m : Relocation) → k < count → slice_get forwarding.moves.items k ≡ Some m → ObjectMoves phase (nat_lt k front) (goes forwarding) s (word_in words) m
+  pub objects : (k : ℕ) (m : Relocation) → k < count → slice_get forwarding.moves.items k ≡ Some m
+      → ObjectMoves phase (nat_lt k front) (goes forwarding) s (word_in words) m
 
 -- words are put behind those that are there
 pub record Extends (old new : List ℕ) (count : ℕ) : Type 0 where
@@ -76,17 +80,20 @@ pub record TracksHeld (space : SpaceWords) (s : State) (forwarding : Forwarding)
 -- the objects in these registers were found, and no others were
 pub record FindsHeld (old new : Forwarding) (register : ℕ → ℕ) : Type 0 where
   pub all : (r : ℕ) → register r ≢ 0 → goes new (register r) ≢ 0
-  pub each : (k : ℕ) (m : Relocation) → slice_get new.moves.items k ≡ Some m → (slice_get old.moves.items k ≡ Some m) ⊎ ((r : ℕ) × (register r ≡ m.from))
+  pub each : (k : ℕ) (m : Relocation) → slice_get new.moves.items k ≡ Some m → (slice_get old.moves.items k ≡ Some m)
+      ⊎ ((r : ℕ) × (register r ≡ m.from))
 
 -- a state in which the objects in the registers of all threads are found
-pub record TracksThreads (space : SpaceWords) (s : State) (forwarding : Forwarding) (held : List Registers) : Type 0 where
+pub record TracksThreads (space : SpaceWords) (s : State) (forwarding : Forwarding)
+    (held : List Registers) : Type 0 where
   pub tracks : Tracks space s forwarding
   pub reached : (t r : ℕ) → register_in held t r ≢ 0 → Reached s (register_in held t r)
 
 -- the objects in the registers of these threads were found, and no others were
 pub record FindsThreads (old new : Forwarding) (held : List Registers) : Type 0 where
   pub all : (t r : ℕ) → register_in held t r ≢ 0 → goes new (register_in held t r) ≢ 0
-  pub each : (k : ℕ) (m : Relocation) → slice_get new.moves.items k ≡ Some m → (slice_get old.moves.items k ≡ Some m) ⊎ ((t : ℕ) × (r : ℕ) × (register_in held t r ≡ m.from))
+  pub each : (k : ℕ) (m : Relocation) → slice_get new.moves.items k ≡ Some m → (slice_get old.moves.items k ≡ Some m)
+      ⊎ ((t : ℕ) × (r : ℕ) × (register_in held t r ≡ m.from))
 
 -- a state in which the objects of these scions are found
 pub record TracksScions (space : SpaceWords) (s : State) (forwarding : Forwarding) (table : Scions) : Type 0 where

@@ -1,12 +1,13 @@
 //! The copying collection.
 //!
-//! All that is to stay is copied out of the heap before the first change. So want of memory leaves heap and registers as
-//! they were, at whatever moment it comes, and what is left then takes none.
+//! All that is to stay is copied out of the heap before the first change. So want of memory leaves heap and registers
+//! as they were, at whatever moment it comes, and what is left then takes none.
 //!
-//! Objects in registers are found before all others. So they are the first in the list of those that were found, and one
-//! number, the front, tells of each object whether a register holds it, on which its stale bit depends. The words up to
-//! the front are those of the objects in registers, each counted once, however many registers hold it. What globals
-//! refer to comes behind them, then the objects of live scions, to which records on disk refer, and then what slots do.
+//! Objects in registers are found before all others. So they are the first in the list of those that were found, and
+//! one number, the front, tells of each object whether a register holds it, on which its stale bit depends. The words
+//! up to the front are those of the objects in registers, each counted once, however many registers hold it. What
+//! globals refer to comes behind them, then the objects of live scions, to which records on disk refer, and then what
+//! slots do.
 ghost use Rattle.std.specs.Prelude.{◌≡◌, ℕ, ◌<◌, ◌≤◌, length, IfOk, OnErr};
 ghost use Rattle.melt_scion.specs.Heaps.{IsFormed, IsSettled};
 ghost use Rattle.melt_scion.specs.Scions.{IsTable};
@@ -149,9 +150,10 @@ fn put_back<L: Ledger>(
     );
 }
 
-/// Collects a heap: the objects that registers, globals and live scions reach stay in use, packed from word 1 on, and all
-/// others are gone. Nothing is written to a disk or read from one. Phase Inactive keeps all tags and stale bits. Phase Mark makes each object stale that no register holds,
-/// and each direct reference in slots and globals. Counts one step for each turn of a loop.
+/// Collects a heap: the objects that registers, globals and live scions reach stay in use, packed from word 1 on, and
+/// all others are gone. Nothing is written to a disk or read from one. Phase Inactive keeps all tags and stale bits.
+/// Phase Mark makes each object stale that no register holds, and each direct reference in slots and globals. Counts
+/// one step for each turn of a loop.
 ///
 /// Takes all its memory before the first change.
 pub fn collect_copy<L: Ledger>(

@@ -3,10 +3,10 @@
 //! A register holds 0 or the address of an object that was found, and the table of new addresses has 0 at 0. So each
 //! register is looked up there, whatever it holds.
 //!
-//! The names of addresses lie apart from the words, and a heap may have none. An object may move to an address from which
-//! another one is still to take its number away. So the numbers of all objects that stay are read before the first
-//! change, in the order of the moves; then the names of the words in use are cleared, and each object gets its number
-//! again where it stands now.
+//! The names of addresses lie apart from the words, and a heap may have none. An object may move to an address from
+//! which another one is still to take its number away. So the numbers of all objects that stay are read before the
+//! first change, in the order of the moves; then the names of the words in use are cleared, and each object gets its
+//! number again where it stands now.
 ghost use Rattle.std.specs.Prelude.{◌≡◌, ℕ, ◌<◌, ◌≤◌, length, map, slice_get, slice_index, Some, None, IfOk};
 ghost use Rattle.melt_scion.specs.Heaps.{register_in};
 ghost use Rattle.melt_scion.specs.Names.{name_at};
@@ -80,7 +80,8 @@ pub fn rename<L: Ledger>(
     requires behind { (k : ℕ) → used < k → name_at names.old k ≡ None }
     requires numbers { numbers.now ≡ map (λ (m : Relocation). name_at names.old m.from) moves.now }
     requires places { (k : ℕ) (m : Relocation) → slice_get moves.now k ≡ Some m → (1 ≤ m.to) × (m.to ≤ used) }
-    requires apart { (i j : ℕ) (m n : Relocation) → slice_get moves.now i ≡ Some m → slice_get moves.now j ≡ Some n → m.to ≡ n.to → i ≡ j }
+    requires apart { (i j : ℕ) (m n : Relocation) → slice_get moves.now i ≡ Some m → slice_get moves.now j ≡ Some n
+        → m.to ≡ n.to → i ≡ j }
     ensures names { (k : ℕ) → name_at names.new k ≡ name_after (name_at names.old) moves.now k }
     ensures size { length names.new ≡ length names.old }
 {

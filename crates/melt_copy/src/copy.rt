@@ -6,14 +6,15 @@
 //! waits, each reference in the copy is to an object in it: what is reached was copied, and nothing else was.
 //!
 //! All is read from the old words, and none of them changes meanwhile. So an object that was found still has its header
-//! there, from which its shape and its stale bit come, and a slot still refers to an old address. The new addresses stand
-//! in a table beside the words.
+//! there, from which its shape and its stale bit come, and a slot still refers to an old address. The new addresses
+//! stand in a table beside the words.
 ghost use Rattle.std.specs.Prelude.{◌≡◌, ◌≢◌, ℕ, ◌+◌, ◌<◌, ◌≤◌, length, slice_index, IfOk, OnOk};
 ghost use Rattle.melt_word.specs.Words.{IsHeader, IsShape, cost_of, header_word};
 ghost use Rattle.melt_word.specs.declared.header.Header.{Header};
 ghost use Rattle.melt_scion.specs.State.{State};
 ghost use Rattle.melt_copy.specs.Moving.{WordMoves, ObjectMoves, header_after};
-ghost use Rattle.melt_copy.specs.Tracking.{Extends, FindsHeld, FindsThreads, Grows, HasCopied, Tracks, TracksHeld, TracksIn, TracksOf, TracksThreads, goes, word_in};
+ghost use Rattle.melt_copy.specs.Tracking.{Extends, FindsHeld, FindsThreads, Grows, HasCopied, Tracks, TracksHeld};
+ghost use Rattle.melt_copy.specs.Tracking.{TracksIn, TracksOf, TracksThreads, goes, word_in};
 
 use crate::forwarding::{Forwarding, Relocation};
 use melt_model::{NoMemory, Phase, Steps};
@@ -32,7 +33,8 @@ fn find_held<L: Ledger>(
     requires { (s : State) × TracksHeld space.now s forwarding.old (slice_index registers.now.regs) }
     ensures finds { OnOk result (FindsHeld forwarding.old forwarding.new (slice_index registers.now.regs)) }
     ensures grows { Grows forwarding.old forwarding.new }
-    ensures tracks { (s : State) → TracksHeld space.now s forwarding.old (slice_index registers.now.regs) → Tracks space.now s forwarding.new }
+    ensures tracks { (s : State) → TracksHeld space.now s forwarding.old (slice_index registers.now.regs)
+        → Tracks space.now s forwarding.new }
 {
     for address in &registers.regs {
         steps.tick();
@@ -53,7 +55,8 @@ pub fn find_all_held<L: Ledger>(
     requires { (s : State) × TracksThreads space.now s forwarding.old held.now }
     ensures finds { OnOk result (FindsThreads forwarding.old forwarding.new held.now) }
     ensures grows { Grows forwarding.old forwarding.new }
-    ensures tracks { (s : State) → TracksThreads space.now s forwarding.old held.now → Tracks space.now s forwarding.new }
+    ensures tracks { (s : State) → TracksThreads space.now s forwarding.old held.now
+        → Tracks space.now s forwarding.new }
 {
     for registers in held {
         steps.tick();
@@ -74,7 +77,9 @@ pub fn move_words<L: Ledger>(
 ) -> Result<(), NoMemory>
     requires { (s : State) × TracksIn space.now s forwarding.old words.now }
     ensures extends { OnOk result (Extends out.old.items out.new.items (length words.now)) }
-    ensures moves { OnOk result ((i : ℕ) → i < length words.now → WordMoves phase (goes forwarding.new) (slice_index words.now i) (slice_index out.new.items (length out.old.items + i))) }
+    ensures moves { OnOk result ((i : ℕ) → i < length words.now
+        → WordMoves phase (goes forwarding.new) (slice_index words.now i)
+        (slice_index out.new.items (length out.old.items + i))) }
     ensures grows { Grows forwarding.old forwarding.new }
     ensures tracks { (s : State) → TracksIn space.now s forwarding.old words.now → Tracks space.now s forwarding.new }
 {
@@ -88,7 +93,8 @@ pub fn move_words<L: Ledger>(
 /// The word of the header of an object after the move, by the word from before.
 fn move_header(phase: Phase, held: bool, shape: Shape, word: u64) -> u64
     requires { IsShape shape }
-    ensures { (header : Header) → IsHeader header → header.shape ≡ shape → word ≡ header_word header → result ≡ header_word (header_after phase held header) }
+    ensures { (header : Header) → IsHeader header → header.shape ≡ shape → word ≡ header_word header
+        → result ≡ header_word (header_after phase held header) }
 {
     match phase {
         // An object in a register has no stale bit, and so keeps its header.
@@ -109,7 +115,8 @@ fn copy_object<L: Ledger>(
 ) -> Result<(), NoMemory>
     requires { (s : State) × TracksOf space.now s forwarding.old m }
     ensures extends { OnOk result (Extends out.old.items out.new.items (cost_of m.shape)) }
-    ensures object { OnOk result ((s : State) → TracksOf space.now s forwarding.old m → m.to ≡ length out.old.items + 1 → ObjectMoves phase held (goes forwarding.new) s (word_in out.new.items) m) }
+    ensures object { OnOk result ((s : State) → TracksOf space.now s forwarding.old m → m.to ≡ length out.old.items + 1
+        → ObjectMoves phase held (goes forwarding.new) s (word_in out.new.items) m) }
     ensures grows { Grows forwarding.old forwarding.new }
     ensures tracks { (s : State) → TracksOf space.now s forwarding.old m → Tracks space.now s forwarding.new }
 {
@@ -137,7 +144,8 @@ pub fn copy_objects<L: Ledger>(
     steps: &mut Steps<L>,
 ) -> Result<Vec<u64>, NoMemory>
     requires { (s : State) × Tracks space.now s forwarding.old }
-    ensures copied { IfOk result (λ words. (s : State) → Tracks space.now s forwarding.old → HasCopied phase front space.now s forwarding.new words.items (length forwarding.new.moves.items)) }
+    ensures copied { IfOk result (λ words. (s : State) → Tracks space.now s forwarding.old
+        → HasCopied phase front space.now s forwarding.new words.items (length forwarding.new.moves.items)) }
     ensures grows { Grows forwarding.old forwarding.new }
 {
     words.clear();

@@ -1,13 +1,14 @@
 //! Where each object that a collection finds goes.
 //!
-//! The objects that were found stand in a list, in the order in which they are to lie from word 1 on. A table has the new
-//! address of each at its old one, and 0 everywhere else. Both only grow: an object keeps the place that it got when it
-//! was found first, so a reference that was moved stays right while more objects are found, and an object to which many
-//! references are is copied once.
+//! The objects that were found stand in a list, in the order in which they are to lie from word 1 on. A table has the
+//! new address of each at its old one, and 0 everywhere else. Both only grow: an object keeps the place that it got
+//! when it was found first, so a reference that was moved stays right while more objects are found, and an object to
+//! which many references are is copied once.
 //!
 //! Objects lie apart from each other among the words in use. So those that were found take no more words than these,
 //! whatever refers to what: each new address is one of the space, and the copy has room in it.
-ghost use Rattle.std.specs.Prelude.{◌≡◌, ◌≢◌, ℕ, ◌+◌, ◌^◌, ◌<◌, ◌≤◌, ◌⊎◌, [], slice_get, slice_index, length, replicate, Some, IfOk};
+ghost use Rattle.std.specs.Prelude.{◌≡◌, ◌≢◌, ℕ, ◌+◌, ◌^◌, ◌<◌, ◌≤◌, ◌⊎◌, [], slice_get, slice_index, length};
+ghost use Rattle.std.specs.Prelude.{replicate, Some, IfOk};
 ghost use Rattle.melt_word.specs.Words.{IsAddress, IsRef};
 ghost use Rattle.melt_scion.specs.State.{State};
 ghost use Rattle.melt_copy.specs.declared.forwarding.Relocation.{Relocation};
@@ -78,7 +79,8 @@ impl Forwarding {
         ensures found { IfOk result (λ to. (goes self.new address ≡ to) × (to ≢ 0)) }
         ensures small { IfOk result (λ to. to < 2 ^ 30) }
         ensures grows { Grows self.old self.new }
-        ensures only { (k : ℕ) (m : Relocation) → slice_get self.new.moves.items k ≡ Some m → (slice_get self.old.moves.items k ≡ Some m) ⊎ (m.from ≡ address) }
+        ensures only { (k : ℕ) (m : Relocation) → slice_get self.new.moves.items k ≡ Some m
+            → (slice_get self.old.moves.items k ≡ Some m) ⊎ (m.from ≡ address) }
         ensures tracks { (s : State) → TracksAt space.now s self.old address → Tracks space.now s self.new }
     {
         let known = self.addresses[address as usize];

@@ -1,8 +1,8 @@
 //! Copying collections: what registers and globals reach stays, packed from word 1 on, and all else is gone.
 //!
 //! A collection has two halves. The first copies out what is to stay, and may fail for want of memory; `copy` finds the
-//! objects and copies them, and `forwarding` knows where each of them goes. The second puts the copy in the place of what
-//! was there, and cannot fail; `commit` changes the registers and the names. `collect` joins the two.
+//! objects and copies them, and `forwarding` knows where each of them goes. The second puts the copy in the place of
+//! what was there, and cannot fail; `commit` changes the registers and the names. `collect` joins the two.
 #![tactic(auto)]
 
 pub mod collect;

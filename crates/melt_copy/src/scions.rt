@@ -1,7 +1,7 @@
 //! Live scions are roots: a record on disk refers to the object of each, which may have no other reference to it.
 //!
-//! They are listed once, before the first object moves. A scion keeps its number and its home, so its record on disk stays
-//! right, and only the address beside it is that of the object after the collection.
+//! They are listed once, before the first object moves. A scion keeps its number and its home, so its record on disk
+//! stays right, and only the address beside it is that of the object after the collection.
 ghost use Rattle.std.specs.Prelude.{◌≡◌, ℕ, IfOk, OnOk};
 ghost use Rattle.melt_scion.specs.Scions.{IsTable};
 ghost use Rattle.melt_scion.specs.State.{State};
@@ -46,7 +46,8 @@ pub fn find_scions<L: Ledger>(
     requires table { IsTable scions.now }
     ensures finds { OnOk result (FindsScions forwarding.new scions.now) }
     ensures grows { Grows forwarding.old forwarding.new }
-    ensures tracks { (s : State) → TracksScions space.now s forwarding.old scions.now → Tracks space.now s forwarding.new }
+    ensures tracks { (s : State) → TracksScions space.now s forwarding.old scions.now
+        → Tracks space.now s forwarding.new }
 {
     for scion in live {
         steps.tick();

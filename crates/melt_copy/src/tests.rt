@@ -9,7 +9,7 @@ use melt_scion::{
     AddressNames, Forwards, GhostMaps, Globals, Heap, HomeNames, Names, Registers, ScionTable,
 };
 use melt_space::Space;
-use melt_word::{Header, Ref, Shape, encode_header, encode_ref};
+use melt_word::{Header, HomeWord, Ref, Shape, encode_header, encode_home, encode_ref};
 use std::alloc::Global;
 use std::marker::Brand;
 use std::sync::ledger::{Blank, Ledger};
@@ -68,9 +68,10 @@ fn three_objects(alloc: Global) -> Result<(Heap, [Registers; 2]), Fail>
     addresses.set(second, 1);
     addresses.set(third, 2);
     let items = vec![in alloc; encode_ref(Ref::Clean(third)); 1]?;
+    let scions = ScionTable::new(alloc, 5)?;
     let heap = Heap {
         space,
-        scions: ScionTable::new(alloc, 5)?,
+        scions,
         globals: Globals { items },
         forward: Forwards {
             items: Vec::new(alloc),
@@ -84,6 +85,40 @@ fn three_objects(alloc: Global) -> Result<(Heap, [Registers; 2]), Fail>
     let mut regs = [0; 16];
     regs[3] = second;
     Ok((heap, [Registers { regs: [0; 16] }, Registers { regs }]))
+}
+
+/// The home of the object that a scion names.
+const HOME: HomeWord = HomeWord { home: 1, scion: 1 };
+
+/// A heap of 4 words with two leaves, the second of which a live scion names. Nothing refers to the first one.
+fn two_leaves(alloc: Global) -> Result<(Heap, [Registers; 1]), Fail>
+    ensures formed { IfOk result (λ made. IsFormed made.0 made.1) }
+    ensures settled { IfOk result (λ made. IsSettled made.0) }
+{
+    let mut space = Space::new(alloc, 4)?;
+    let _first = space.make(LEAF)?;
+    let second = space.make(LEAF)?;
+    space.set_word(4, encode_home(Some(HOME)));
+    let mut addresses = AddressNames::new(alloc, 4)?;
+    addresses.set(second, 0);
+    let mut scions = ScionTable::new(alloc, 2)?;
+    let _scion = scions.add(HOME.home, second);
+    let heap = Heap {
+        space,
+        scions,
+        globals: Globals {
+            items: Vec::new(alloc),
+        },
+        forward: Forwards {
+            items: Vec::new(alloc),
+        },
+        names: Some(Names {
+            addresses,
+            homes: HomeNames::new(alloc),
+        }),
+        maps: GhostMaps::none(),
+    };
+    Ok((heap, [Registers { regs: [0; 16] }]))
 }
 
 /// The word of a header.
@@ -159,5 +194,28 @@ fn mark_leaves_only_held_objects_without_the_stale_bit(rt: HostRuntime) -> Resul
     );
     assert_eq!(rt; held[0].regs, [0; 16]);
     assert_eq!(rt; held[1].regs[3], 1);
+    Ok(())
+}
+
+#[test]
+fn an_object_that_a_scion_alone_names_stays(rt: HostRuntime) -> Result<(), Fail> {
+    let alloc = rt.alloc();
+    let (mut heap, mut held) = two_leaves(alloc)?;
+    let blank = Blank::new(1);
+    let journal = collect_uncounted::<Brand>(alloc, &mut heap, &mut held, Phase::Inactive, blank)?;
+    assert_eq!(rt; journal, journal_of(Phase::Inactive, 2, 0));
+    assert_eq!(rt; heap.space.words(), 4);
+    assert_eq!(rt; heap.space.used(), 2);
+    assert_eq!(rt; heap.space.word(1), header(LEAF, false));
+    assert_eq!(rt; heap.space.word(2), encode_home(Some(HOME)));
+    assert_eq!(rt; heap.scions.first(), Some(1));
+    assert_eq!(rt; heap.scions.get(1), Some((HOME.home, 1)));
+    assert_eq!(rt; heap.scions.get(2), None);
+    assert!(rt; heap.names.is_some());
+    if let Some(names) = &heap.names {
+        for (address, want) in [(1, Some(0)), (3, None)] {
+            assert_eq!(rt; names.addresses.get(address), want, "at {address}");
+        }
+    }
     Ok(())
 }

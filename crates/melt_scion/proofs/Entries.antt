@@ -21,14 +21,18 @@ pub shape_stays : (h : List Entry) (e : Entry) (n : ℕ) (z : Shape) → shape h
 shape_stays h e n z is = shape-append h (e ∷ []) n (was_made h n z is) ∙ is
 
 -- the shape of an object that the last entry made
-pub made_shape : (h : List Entry) (e : Entry) (refs nums : ℕ) → e.act ≡ Make refs nums → shape (h ++ e ∷ []) (made h) ≡ Some (record { refs = refs; nums = nums })
+pub made_shape : (h : List Entry) (e : Entry) (refs nums : ℕ) → e.act ≡ Make refs nums
+    → shape (h ++ e ∷ []) (made h) ≡ Some (record { refs = refs; nums = nums })
 made_shape h e refs nums act =
-    ap (λ (zs : List Shape). slice_get zs (made h)) (shapes-append h (e ∷ []) ∙ ap (λ (a : Act). shapes h ++ shapes (record { thread = e.thread; act = a } ∷ [])) act)
+    ap (λ (zs : List Shape). slice_get zs (made h))
+    (shapes-append h (e ∷ []) ∙ ap (λ (a : Act). shapes h ++ shapes (record { thread = e.thread; act = a } ∷ [])) act)
     ∙ slice_get-append_seam (shapes h) (record { refs = refs; nums = nums }) []
 
 -- an entry that writes nothing leaves each value
-pub last_quiet : (h : List Entry) (e : Entry) (slot : Slot) → write_of e.act ≡ None → last (h ++ e ∷ []) slot ≡ last h slot
-last_quiet h e slot none = last-push h e slot ∙ ap (λ (w : Option (Slot × Value)). after_write slot w (last h slot)) none
+pub last_quiet : (h : List Entry) (e : Entry) (slot : Slot) → write_of e.act ≡ None
+    → last (h ++ e ∷ []) slot ≡ last h slot
+last_quiet h e slot none = last-push h e slot
+    ∙ ap (λ (w : Option (Slot × Value)). after_write slot w (last h slot)) none
 
 -- a slot is equal to itself
 pub slot_eq_same : (slot : Slot) → slot_eq slot slot ≡ true
@@ -37,14 +41,18 @@ slot_eq_same (Cell n j) = grind (arith, nat_tests)
 slot_eq_same (Global g) = grind (arith, nat_tests)
 
 -- the value of the slot that an entry writes
-pub last_written : (h : List Entry) (e : Entry) (slot : Slot) (v : Value) → e.act ≡ Write slot v → last (h ++ e ∷ []) slot ≡ v
+pub last_written : (h : List Entry) (e : Entry) (slot : Slot) (v : Value) → e.act ≡ Write slot v
+    → last (h ++ e ∷ []) slot ≡ v
 last_written h e slot v act =
-    last-push h e slot ∙ (ap (λ (a : Act). after_write slot (write_of a) (last h slot)) act ∙ ap (λ b. cond b v (last h slot)) (slot_eq_same slot))
+    last-push h e slot ∙ (ap (λ (a : Act). after_write slot (write_of a) (last h slot)) act
+    ∙ ap (λ b. cond b v (last h slot)) (slot_eq_same slot))
 
 -- the value of another slot
-pub last_other : (h : List Entry) (e : Entry) (slot other : Slot) (v : Value) → e.act ≡ Write slot v → slot_eq slot other ≡ false → last (h ++ e ∷ []) other ≡ last h other
+pub last_other : (h : List Entry) (e : Entry) (slot other : Slot) (v : Value) → e.act ≡ Write slot v
+    → slot_eq slot other ≡ false → last (h ++ e ∷ []) other ≡ last h other
 last_other h e slot other v act differ =
-    last-push h e other ∙ (ap (λ (a : Act). after_write other (write_of a) (last h other)) act ∙ ap (λ b. cond b v (last h other)) differ)
+    last-push h e other ∙ (ap (λ (a : Act). after_write other (write_of a) (last h other)) act
+    ∙ ap (λ b. cond b v (last h other)) differ)
 
 -- slots of two objects, or with two numbers, differ
 pub fields_differ : (n m i j : ℕ) → (n ≡ m → i ≡ j → ⊥) → slot_eq (Field n i) (Field m j) ≡ false

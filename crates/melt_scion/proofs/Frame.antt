@@ -54,7 +54,8 @@ module _ (maps new : Maps) (s t : State) (keeps : KeepsObjects maps new s t) whe
               let within : a + cost_of header.shape ≤ s.base.size + 1 = was.within in
               omega arith;
           below =
-              let below : a + cost_of header.shape ≤ t.free = keeps.ends (a + cost_of header.shape) was.below was.within in
+              let below : a + cost_of header.shape ≤ t.free =
+              keeps.ends (a + cost_of header.shape) was.below was.within in
               omega arith;
         },
       )

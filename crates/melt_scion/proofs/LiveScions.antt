@@ -1,10 +1,12 @@
 -- Which scions are live, from the pairs that are kept.
-use Rattle.std.proofs.Common.{◌≡◌, inl, inr, ℕ, zero, suc, ◌+◌, ◌<◌, Bool, true, false, List, [], ◌∷◌, length, drop, Option, None, Some, refl, sym, ◌∙◌, ap, subst, arith, slice_index_or, slice_set}
+use Rattle.std.proofs.Common.{◌≡◌, inl, inr, ℕ, zero, suc, ◌+◌, ◌<◌, Bool, true, false, List, [], ◌∷◌, length, drop}
+use Rattle.std.proofs.Common.{Option, None, Some, refl, sym, ◌∙◌, ap, subst, arith, slice_index_or, slice_set}
 use Rattle.std.specs.Prelude.{IsSome, nat_eq, if◌then◌else◌}
 use Rattle.std.specs.List.{Contains}
 use Rattle.std.proofs.lemmas.Bool.Decides.{nat_tests}
 use Rattle.melt_scion.specs.Scions.{EachOnce, IsPutIn, AreNone, IsFirstSome, first_of, behind, live_from}
-use Rattle.melt_scion.proofs.Numbers.{contains_here, contains_more, contains_cases, once_none, once_more, put_first, put_behind}
+use Rattle.melt_scion.proofs.Numbers.{contains_here, contains_more, contains_cases, once_none, once_more, put_first}
+use Rattle.melt_scion.proofs.Numbers.{put_behind}
 
 abbrev pub Pairs : Type 0
 Pairs = List (Option (ℕ × ℕ))

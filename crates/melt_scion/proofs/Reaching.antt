@@ -1,5 +1,6 @@
 -- What a collection finds in a state are the objects that are alive in the history for which it stands.
-use Rattle.std.proofs.Common.{◌≡◌, ℕ, ◌+◌, ◌<◌, ◌≤◌, zero, suc, List, [], refl, sym, ◌∙◌, ap, subst, arith, ◌⊎◌, inl, inr}
+use Rattle.std.proofs.Common.{◌≡◌, ℕ, ◌+◌, ◌<◌, ◌≤◌, zero, suc, List, [], refl, sym, ◌∙◌, ap, subst, arith, ◌⊎◌, inl}
+use Rattle.std.proofs.Common.{inr}
 use Rattle.std.proofs.lemmas.Bool.{cases_lt}
 use Rattle.std.specs.Prelude.{Option, None, Some}
 use Rattle.std.specs.Option.{option_map}
@@ -16,7 +17,8 @@ use Rattle.melt_word.specs.declared.reference.Ref.TheVariants.{Null, Clean, Stal
 use Rattle.melt_word.specs.declared.header.Header.{Header}
 use Rattle.melt_word.proofs.OneToOne.{same_ref}
 use Rattle.melt_scion.specs.State.{State, Reached, RefersTo, address_in, HeaderAt}
-use Rattle.melt_scion.specs.Placed.{Maps, IsNamed, Formed, Placed, MayStand, MayHold, IsReferenceWord, Stands, value_of, value_at}
+use Rattle.melt_scion.specs.Placed.{Maps, IsNamed, Formed, Placed, MayStand, MayHold, IsReferenceWord, Stands, value_of}
+use Rattle.melt_scion.specs.Placed.{value_at}
 use Rattle.melt_scion.proofs.Homeless.{no_homes}
 
 -- the address of a reference that may stand in a slot is that of an object
@@ -136,7 +138,8 @@ not_nil : (value : Value) (n : ℕ) → value ≡ Nil → value ≡ Ref n → �
 not_nil value n nil ref = cc
 
 module _ (h : List Entry) (value : ℕ → ℕ
-    → Value) (maps : Maps) (s : State) (legal : Legal h s.base.globals) (placed : Placed h value maps s) (none_reserved : s.base.homes ≡ []) where
+    → Value) (maps : Maps) (s : State) (legal : Legal h s.base.globals) (placed : Placed h value maps s)
+    (none_reserved : s.base.homes ≡ []) where
   homeless : (home m : ℕ) → maps.home home ≡ Some m → ⊥
   homeless = no_homes h maps s placed.tells none_reserved
 

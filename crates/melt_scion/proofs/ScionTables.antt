@@ -1,15 +1,22 @@
 -- A table of scions stays one, whatever is added, freed or moved.
-use Rattle.std.proofs.Common.{◌≡◌, ◌≢◌, inl, inr, ℕ, zero, suc, ◌+◌, ◌-◌, ◌<◌, ◌≤◌, List, [], ◌∷◌, ◌++◌, length, reverse, drop, replicate, Option, None, Some, Bool, Result, Vec, Global, if◌then◌else◌, refl, sym, ◌∙◌, ap, subst, arith, slice_index_or, slice_set, get_or, get_or-set_same, get_or-set_other}
+use Rattle.std.proofs.Common.{◌≡◌, ◌≢◌, inl, inr, ℕ, zero, suc, ◌+◌, ◌-◌, ◌<◌, ◌≤◌, List, [], ◌∷◌, ◌++◌, length}
+use Rattle.std.proofs.Common.{reverse, drop, replicate, Option, None, Some, Bool, Result, Vec, Global, if◌then◌else◌}
+use Rattle.std.proofs.Common.{refl, sym, ◌∙◌, ap, subst, arith, slice_index_or, slice_set, get_or, get_or-set_same}
+use Rattle.std.proofs.Common.{get_or-set_other}
 use Rattle.std.specs.Prelude.{IsSome, ◌↔◌, is_some, is_ok, IsOk}
 use Rattle.std.specs.Option.{option_map, option_to_list}
 use Rattle.std.specs.List.{Contains, range_with_len}
 use Rattle.std.specs.Vec.{with_items}
-use Rattle.std.proofs.lemmas.List.{length-set, length-replicate, length-reverse, reverse-append, get_or_default, get_or-reverse, ext_get_or, with_items_is}
+use Rattle.std.proofs.lemmas.List.{length-set, length-replicate, length-reverse, reverse-append, get_or_default}
+use Rattle.std.proofs.lemmas.List.{get_or-reverse, ext_get_or, with_items_is}
 use Rattle.std.proofs.lemmas.List.FromFn.{length-range_with_len, get_or-range_with_len}
 use Rattle.std.proofs.lemmas.Bool.{cases_eq}
-use Rattle.melt_scion.specs.Scions.{Scions, EachOnce, IsPutIn, IsTable, IsUnused, IsLive, IsKept, Adds, Frees, SetsAddress, empty_table, table_of, scion_at, live_from, first_of, behind}
-use Rattle.melt_scion.proofs.Numbers.{contains_here, contains_more, contains_cases, once_none, once_more, once_rest, once_first, put_length}
-use Rattle.melt_scion.proofs.LiveScions.{Pairs, live_has, live_only, live_once, live_put, live_taken, live_same, behind_live}
+use Rattle.melt_scion.specs.Scions.{Scions, EachOnce, IsPutIn, IsTable, IsUnused, IsLive, IsKept, Adds, Frees}
+use Rattle.melt_scion.specs.Scions.{SetsAddress, empty_table, table_of, scion_at, live_from, first_of, behind}
+use Rattle.melt_scion.proofs.Numbers.{contains_here, contains_more, contains_cases, once_none, once_more, once_rest}
+use Rattle.melt_scion.proofs.Numbers.{once_first, put_length}
+use Rattle.melt_scion.proofs.LiveScions.{Pairs, live_has, live_only, live_once, live_put, live_taken, live_same}
+use Rattle.melt_scion.proofs.LiveScions.{behind_live}
 
 -- the live scions are those that the list of them has
 live_are : (pairs : Pairs) (unused : List ℕ) (number : ℕ)

@@ -79,7 +79,8 @@ sends_nothing word home address is sends =
 pub settled_gaps : (s : State) → ((p : ℕ) → s.forward p ≡ 0) → NoGaps s
 settled_gaps s settled = record {
   filled = λ home address k i below sends less gap.
-      sends_nothing (s.forward (probe home s.base.forwards k)) home address (settled (probe home s.base.forwards k)) sends;
+      sends_nothing (s.forward (probe home s.base.forwards k)) home address
+      (settled (probe home s.base.forwards k)) sends;
 }
 
 -- each place that is tried is that of a forwarding word

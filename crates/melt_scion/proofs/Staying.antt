@@ -16,7 +16,8 @@ use Rattle.melt_scion.proofs.Parts.{PartAt, slot_part, number_part, part_outside
 use Rattle.melt_scion.proofs.Following.{SameValues}
 use Rattle.melt_scion.proofs.Homes.{BodyKeeps}
 use Rattle.melt_scion.proofs.Frame.{FormedWords_stay, Tells_stay}
-use Rattle.melt_scion.proofs.Changing.{keeps_words, keeps_free, keeps_ends, keeps_outside, behind_cleared, keeps_cleared}
+use Rattle.melt_scion.proofs.Changing.{keeps_words, keeps_free, keeps_ends, keeps_outside, behind_cleared}
+use Rattle.melt_scion.proofs.Changing.{keeps_cleared}
 
 -- objects are kept, and with them all words behind their home words, globals and forwarding words
 pub record SameParts (maps : Maps) (s t : State) : Type 0 where

@@ -107,7 +107,8 @@ module _ (maps : Maps) (s t : State) (a n i word : ℕ) (h : Header) (formed : F
   pub Formed_number : FormedWords maps t
   Formed_number = FormedWords_stay maps s t
       (keeps_part maps s t x word formed changes a n (2 + h.shape.refs + i) h part_of (omega arith)) formed (record {
-        slots = λ b m j k named_b at_b below. subst (IsReferenceWord maps s) (sym (slot_stays b m j k named_b at_b below))
+        slots = λ b m j k named_b at_b below.
+            subst (IsReferenceWord maps s) (sym (slot_stays b m j k named_b at_b below))
             (formed.slots b m j k named_b at_b below);
         globals = λ g below. subst (IsReferenceWord maps s) (sym (changes.global g)) (formed.globals g below);
         forward = changes.forward;

@@ -19,9 +19,10 @@ pub record Taken (maps : Maps) (s : State) (at : ℕ) : Type 0 where
   pub from : address ≤ at
   pub to : at < address + cost_of header.shape
 
--- What a collection of the phase does with a state, for maps with which it was well formed: who stays and where, who has
--- a home then, and what words become. Those that stay lie from word 1 on without gaps. What is told of histories, of
--- the names of homes and of the disk is said of a state that stands for one: elsewhere two objects may have one home.
+-- What a collection of the phase does with a state, for maps with which it was well formed: who stays and where, who
+-- has a home then, and what words become. Those that stay lie from word 1 on without gaps. What is told of histories,
+-- of the names of homes and of the disk is said of a state that stands for one: elsewhere two objects may have one
+-- home.
 pub record Collected (phase : Phase) (maps new : Maps) (s t : State) (to home scion : ℕ → ℕ) : Type 0 where
   pub formed : Formed new t
   pub placed : (h : List Entry) (value : ℕ → ℕ → Value) → Placed h value maps s → Placed h value new t

@@ -1,5 +1,6 @@
 -- A heap as contracts see it, with the registers over it.
-use Rattle.std.specs.Prelude.{◌≡◌, ℕ, ◌+◌, ◌/◌, Bool, if◌then◌else◌, List, [], length, replicate, Option, None, Some, slice_index, slice_index_or, map}
+use Rattle.std.specs.Prelude.{◌≡◌, ℕ, ◌+◌, ◌/◌, Bool, if◌then◌else◌, List, [], length, replicate, Option, None, Some}
+use Rattle.std.specs.Prelude.{slice_index, slice_index_or, map}
 use Rattle.std.specs.Option.{option_map}
 use Rattle.std.specs.FinMap.{empty}
 use Rattle.melt_space.specs.Space.{word_at, IsFresh}

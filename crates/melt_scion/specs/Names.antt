@@ -1,5 +1,6 @@
 -- The names of addresses: a finite map from addresses to the numbers of objects.
-use Rattle.std.specs.Prelude.{◌≡◌, ◌≢◌, ℕ, ◌<◌, ◌≤◌, suc, zero, Bool, if◌then◌else◌, List, [], ◌∷◌, length, Option, None, Some, slice_index_or}
+use Rattle.std.specs.Prelude.{◌≡◌, ◌≢◌, ℕ, ◌<◌, ◌≤◌, suc, zero, Bool, if◌then◌else◌, List, [], ◌∷◌, length, Option}
+use Rattle.std.specs.Prelude.{None, Some, slice_index_or}
 
 -- the number of the object at an address, of which the list has one for each address from 1 on
 abbrev pub name_at : List (Option ℕ) → ℕ → Option ℕ

@@ -1,5 +1,6 @@
 -- When a state stands for a history, and what is kept of this whatever a disk gives.
-use Rattle.std.specs.Prelude.{◌≡◌, ◌≢◌, ◌↔◌, ◌⊎◌, ◌^◌, ℕ, zero, suc, ◌+◌, ◌<◌, ◌≤◌, Bool, true, List, Option, Some, Contains}
+use Rattle.std.specs.Prelude.{◌≡◌, ◌≢◌, ◌↔◌, ◌⊎◌, ◌^◌, ℕ, zero, suc, ◌+◌, ◌<◌, ◌≤◌, Bool, true, List, Option, Some}
+use Rattle.std.specs.Prelude.{Contains}
 use Rattle.std.specs.Option.{option_map}
 use Rattle.melt_model.specs.History.{shape, last}
 use Rattle.melt_model.specs.declared.history.Entry.{Entry}
@@ -15,7 +16,8 @@ use Rattle.melt_record.specs.declared.head.Head.{Head}
 use Rattle.melt_record.specs.declared.head.Kind.TheVariants.{Body, Stub}
 use Rattle.melt_record.specs.Records.{IsHead, IsSlotWord}
 use Rattle.melt_forward.specs.Forwarding.{Sends}
-use Rattle.melt_scion.specs.State.{Scion, Base, State, HeaderAt, ObjectAt, IsFresh, Forwards, NoGaps, Follow, IsReserved}
+use Rattle.melt_scion.specs.State.{Scion, Base, State, HeaderAt, ObjectAt, IsFresh, Forwards, NoGaps, Follow}
+use Rattle.melt_scion.specs.State.{IsReserved}
 
 -- which object stands at an address, and which has a home on disk
 pub record Maps : Type 0 where
@@ -62,8 +64,8 @@ pub record IsReferenceWord (maps : Maps) (s : State) (word : ℕ) : Type 0 where
 abbrev pub MayHold : Maps → State → ℕ → Type 0
 MayHold maps s address = (address ≡ 0) ⊎ (IsNamed maps address × IsFresh s address)
 
--- The home word of an object of so many words: its home lies before the end. A live scion names both, or, exactly where a
--- forwarding word does, the scion is 0.
+-- The home word of an object of so many words: its home lies before the end. A live scion names both, or, exactly where
+-- a forwarding word does, the scion is 0.
 pub record HasHome (s : State) (address words home scion : ℕ) : Type 0 where
   pub in_range : IsHomeAndScion (record { home = home; scion = scion })
   pub is : s.word (address + 1) ≡ home_word (Some (record { home = home; scion = scion }))
@@ -73,7 +75,8 @@ pub record HasHome (s : State) (address words home scion : ℕ) : Type 0 where
 
 -- no home, or one
 abbrev pub IsHomeWord : State → ℕ → ℕ → Type 0
-IsHomeWord s address words = (s.word (address + 1) ≡ 0) ⊎ ((home : ℕ) × (scion : ℕ) × HasHome s address words home scion)
+IsHomeWord s address words = (s.word (address + 1) ≡ 0)
+    ⊎ ((home : ℕ) × (scion : ℕ) × HasHome s address words home scion)
 
 -- a live scion is that in the home word of the object at its address
 pub record ScionStands (maps : Maps) (s : State) (scion : ℕ) (x : Scion) : Type 0 where
@@ -90,23 +93,28 @@ pub record ForwardStands (maps : Maps) (s : State) (home address : ℕ) : Type 0
 
 -- a forwarding word is 0, or sends a home to an object without the stale bit
 abbrev pub ForwardMayStand : Maps → State → ℕ → Type 0
-ForwardMayStand maps s word = (word ≡ 0) ⊎ ((home : ℕ) × (address : ℕ) × Sends word home address × ForwardStands maps s home address)
+ForwardMayStand maps s word = (word ≡ 0)
+    ⊎ ((home : ℕ) × (address : ℕ) × Sends word home address × ForwardStands maps s home address)
 
 -- What holds of the words whatever a disk gave, registers aside. Objects start at the addresses of the map, and do not
--- overlap; each word that is to be a reference is one; a clean address, and one that a forwarding word names, is that of an
--- object without the stale bit; home words, scions and forwarding words name each other.
+-- overlap; each word that is to be a reference is one; a clean address, and one that a forwarding word names, is that
+-- of an object without the stale bit; home words, scions and forwarding words name each other.
 pub record FormedWords (maps : Maps) (s : State) : Type 0 where
   pub small : s.base.size < 2 ^ 30
   pub first_end : 1 ≤ s.base.end
   pub small_end : s.base.end ≤ 2 ^ 32
   pub objects : (address n : ℕ) → maps.address address ≡ Some n → (header : Header) × ObjectAt s address header
-  pub apart : (a b n m : ℕ) (header : Header) → maps.address a ≡ Some n → maps.address b ≡ Some m → HeaderAt s a header → a < b → a + cost_of header.shape ≤ b
-  pub slots : (address n i : ℕ) (header : Header) → maps.address address ≡ Some n → HeaderAt s address header → i < header.shape.refs → IsReferenceWord maps s (s.word (address + 2 + i))
-  pub home_words : (address n : ℕ) (header : Header) → maps.address address ≡ Some n → HeaderAt s address header → IsHomeWord s address (cost_of header.shape)
+  pub apart : (a b n m : ℕ) (header : Header) → maps.address a ≡ Some n → maps.address b ≡ Some m → HeaderAt s a header
+      → a < b → a + cost_of header.shape ≤ b
+  pub slots : (address n i : ℕ) (header : Header) → maps.address address ≡ Some n → HeaderAt s address header
+      → i < header.shape.refs → IsReferenceWord maps s (s.word (address + 2 + i))
+  pub home_words : (address n : ℕ) (header : Header) → maps.address address ≡ Some n → HeaderAt s address header
+      → IsHomeWord s address (cost_of header.shape)
   pub globals : (g : ℕ) → g < s.base.globals → IsReferenceWord maps s (s.global g)
   pub scions : (k : ℕ) (x : Scion) → s.base.scion k ≡ Some x → ScionStands maps s k x
   pub forwards : (p : ℕ) → p < s.base.forwards → ForwardMayStand maps s (s.forward p)
-  pub one_forward : (p q home a b : ℕ) → p < s.base.forwards → q < s.base.forwards → Sends (s.forward p) home a → Sends (s.forward q) home b → p ≡ q
+  pub one_forward : (p q home a b : ℕ) → p < s.base.forwards → q < s.base.forwards → Sends (s.forward p) home a
+      → Sends (s.forward q) home b → p ≡ q
 
 -- and of the registers
 pub record Formed (maps : Maps) (s : State) : Type 0 where
@@ -133,8 +141,8 @@ pub record IsStub (maps : Maps) (b : Base) (home n : ℕ) (z : Shape) : Type 0 w
   pub live : b.scion scion ≡ Some (record { home = home; address = address })
   pub named : maps.address address ≡ Some n
 
--- It is forwarded: a forwarding word sends it to the address of the object. The home word there has the scion 0, so that
--- no home is two of the three.
+-- It is forwarded: a forwarding word sends it to the address of the object. The home word there has the scion 0, so
+-- that no home is two of the three.
 pub record IsForwarded (maps : Maps) (s : State) (home n : ℕ) : Type 0 where
   pub address : ℕ
   pub forwards : Forwards s home address
@@ -145,7 +153,8 @@ pub record HomeStands (h : List Entry) (maps : Maps) (s : State) (home n : ℕ) 
   pub reserved_for : Shape
   pub reserved : IsReserved s.base.homes home reserved_for
   pub shape_is : shape h n ≡ Some (record { refs = reserved_for.refs; nums = reserved_for.nums })
-  pub is : IsBody h maps s.base home n reserved_for ⊎ (IsStub maps s.base home n reserved_for ⊎ IsForwarded maps s home n)
+  pub is : IsBody h maps s.base home n reserved_for
+      ⊎ (IsStub maps s.base home n reserved_for ⊎ IsForwarded maps s home n)
 
 -- a free home has the head of a record of its cost
 pub record IsFreeHome (b : Base) (home : ℕ) : Type 0 where
@@ -168,17 +177,24 @@ pub record Tells (h : List Entry) (maps : Maps) (s : State) : Type 0 where
   pub homes_follow : Follow 1 s.base.homes s.base.end
   pub taken : (home : ℕ) → HasObject maps home ↔ IsTaken s.base home
   pub free_homes : (home : ℕ) → Contains s.base.free_homes home → IsFreeHome s.base home
-  pub shapes : (address n : ℕ) (header : Header) → maps.address address ≡ Some n → HeaderAt s address header → shape h n ≡ Some (record { refs = header.shape.refs; nums = header.shape.nums })
-  pub slots : (address n i : ℕ) (header : Header) → maps.address address ≡ Some n → HeaderAt s address header → i < header.shape.refs → Stands maps (s.word (address + 2 + i)) (last h (Field n i))
-  pub numbers : (address n j : ℕ) (header : Header) → maps.address address ≡ Some n → HeaderAt s address header → j < header.shape.nums → Num (s.word (address + 2 + header.shape.refs + j)) ≡ last h (Cell n j)
+  pub shapes : (address n : ℕ) (header : Header) → maps.address address ≡ Some n → HeaderAt s address header
+      → shape h n ≡ Some (record { refs = header.shape.refs; nums = header.shape.nums })
+  pub slots : (address n i : ℕ) (header : Header) → maps.address address ≡ Some n → HeaderAt s address header
+      → i < header.shape.refs → Stands maps (s.word (address + 2 + i)) (last h (Field n i))
+  pub numbers : (address n j : ℕ) (header : Header) → maps.address address ≡ Some n → HeaderAt s address header
+      → j < header.shape.nums → Num (s.word (address + 2 + header.shape.refs + j)) ≡ last h (Cell n j)
   pub globals : (g : ℕ) → g < s.base.globals → Stands maps (s.global g) (last h (Global g))
   pub homes : (home n : ℕ) → maps.home home ≡ Some n → HomeStands h maps s home n
-  pub home_words : (address n home : ℕ) → maps.address address ≡ Some n → maps.home home ≡ Some n → (scion : ℕ) × (s.word (address + 1) ≡ home_word (Some (record { home = home; scion = scion })))
-  pub named_homes : (address n home scion : ℕ) → maps.address address ≡ Some n → IsHomeAndScion (record { home = home; scion = scion }) → s.word (address + 1) ≡ home_word (Some (record { home = home; scion = scion })) → maps.home home ≡ Some n
-  pub stubs : (k : ℕ) (x : Scion) → s.base.scion k ≡ Some x → (n : ℕ) × (z : Shape) × (maps.home x.home ≡ Some n) × HeadIs s.base x.home (record { shape = z; kind = Stub k })
+  pub home_words : (address n home : ℕ) → maps.address address ≡ Some n → maps.home home ≡ Some n
+      → (scion : ℕ) × (s.word (address + 1) ≡ home_word (Some (record { home = home; scion = scion })))
+  pub named_homes : (address n home scion : ℕ) → maps.address address ≡ Some n
+      → IsHomeAndScion (record { home = home; scion = scion })
+      → s.word (address + 1) ≡ home_word (Some (record { home = home; scion = scion })) → maps.home home ≡ Some n
+  pub stubs : (k : ℕ) (x : Scion) → s.base.scion k ≡ Some x → (n : ℕ) × (z : Shape) × (maps.home x.home ≡ Some n)
+      × HeadIs s.base x.home (record { shape = z; kind = Stub k })
 
--- Between two events of an epoch: the words are well formed, a search for a home ends at the first empty forwarding word,
--- and where the disk tells its words, all of them stand for the history.
+-- Between two events of an epoch: the words are well formed, a search for a home ends at the first empty forwarding
+-- word, and where the disk tells its words, all of them stand for the history.
 pub record Holds (told : Bool) (h : List Entry) (maps : Maps) (s : State) : Type 0 where
   pub formed : FormedWords maps s
   pub no_gaps : NoGaps s

@@ -24,7 +24,8 @@ pub record Owns (maps : Maps) (s : State) (r : Region) : Type 0 where
   pub first : 1 ≤ r.at
   pub below : r.at + r.words ≤ s.free
   pub within : r.at + r.words ≤ s.base.size + 1
-  pub outside : (b n : ℕ) (header : Header) → maps.address b ≡ Some n → HeaderAt s b header → Apart (record { at = b; words = cost_of header.shape }) r
+  pub outside : (b n : ℕ) (header : Header) → maps.address b ≡ Some n → HeaderAt s b header
+      → Apart (record { at = b; words = cost_of header.shape }) r
 
 -- The words behind its first, so many of them, are those that are to stand there.
 pub record HasStored (maps : Maps) (s : State) (r : Region) (holds : ℕ → ℕ) (stored : ℕ) : Type 0 where

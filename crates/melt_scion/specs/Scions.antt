@@ -1,5 +1,6 @@
 -- The table of scions: a finite map from scions to homes and addresses, and two lists beside it.
-use Rattle.std.specs.Prelude.{◌≡◌, ◌≢◌, ◌↔◌, ℕ, ◌+◌, ◌<◌, ◌≤◌, suc, zero, if◌then◌else◌, List, [], ◌∷◌, ◌++◌, length, replicate, Option, None, Some, IsSome, nat_eq, slice_index_or}
+use Rattle.std.specs.Prelude.{◌≡◌, ◌≢◌, ◌↔◌, ℕ, ◌+◌, ◌<◌, ◌≤◌, suc, zero, if◌then◌else◌, List, [], ◌∷◌, ◌++◌, length}
+use Rattle.std.specs.Prelude.{replicate, Option, None, Some, IsSome, nat_eq, slice_index_or}
 use Rattle.std.specs.List.{AllPairs, Contains, range_with_len}
 use Rattle.std.specs.Option.{option_map}
 

@@ -29,8 +29,8 @@ pub record Base : Type 0 where
   pub free_homes : List ℕ
   pub image : ℕ → ℕ
 
--- Words by their addresses, from 1 to the size; the first free place; globals and forwarding words by their numbers; and
--- what registers hold, by thread and number, where 0 is none.
+-- Words by their addresses, from 1 to the size; the first free place; globals and forwarding words by their numbers;
+-- and what registers hold, by thread and number, where 0 is none.
 pub record State : Type 0 where
   pub base : Base
   pub free : ℕ
@@ -67,10 +67,12 @@ pub record Forwards (s : State) (home address : ℕ) : Type 0 where
   pub within : place < s.base.forwards
   pub sends : Sends (s.forward place) home address
 
--- Within an epoch: before the place of a word that sends a home, in the order in which that home is searched for, no word
--- is empty. So the first empty word ends a search.
+-- Within an epoch: before the place of a word that sends a home, in the order in which that home is searched for, no
+-- word is empty. So the first empty word ends a search.
 pub record NoGaps (s : State) : Type 0 where
-  pub filled : (home address k i : ℕ) → k < s.base.forwards → Sends (s.forward (probe home s.base.forwards k)) home address → i < k → s.forward (probe home s.base.forwards i) ≢ 0
+  pub filled : (home address k i : ℕ) → k < s.base.forwards
+      → Sends (s.forward (probe home s.base.forwards k)) home address → i < k
+      → s.forward (probe home s.base.forwards i) ≢ 0
 
 -- the homes stand one behind the other, from this word on to the end
 abbrev pub Follow : ℕ → List Home → ℕ → Type 0
@@ -102,4 +104,5 @@ pub data Reached (s : State) : ℕ → Type 0 where
   in_register : (t r address : ℕ) → s.register t r ≡ address → 1 ≤ address → Reached s address
   in_global : (g address : ℕ) → g < s.base.globals → RefersTo (s.global g) address → Reached s address
   at_scion : (k : ℕ) → (x : Scion) → s.base.scion k ≡ Some x → Reached s x.address
-  in_slot : (from i address : ℕ) → (header : Header) → Reached s from → HeaderAt s from header → i < header.shape.refs → RefersTo (s.word (from + 2 + i)) address → Reached s address
+  in_slot : (from i address : ℕ) → (header : Header) → Reached s from → HeaderAt s from header → i < header.shape.refs
+      → RefersTo (s.word (from + 2 + i)) address → Reached s address

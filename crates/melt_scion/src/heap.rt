@@ -2,8 +2,8 @@
 //!
 //! The scions of a heap and its forwarding words join it to a disk: a live scion says which object a record on disk
 //! stands for, and a forwarding word which object came back from a home. Both are roots of what is on disk, so both go
-//! with the heap from epoch to epoch. An object takes two words at least, and each live scion is that of another object.
-//! So a table for half as many scions as there are words is never full.
+//! with the heap from epoch to epoch. An object takes two words at least, and each live scion is that of another
+//! object. So a table for half as many scions as there are words is never full.
 ghost use Rattle.std.specs.Prelude.{◌<◌, ◌^◌, IfOk};
 ghost use Rattle.melt_scion.specs.Heaps.{IsNewHeap};
 
@@ -64,8 +64,8 @@ pub struct Heap {
 }
 
 impl Heap {
-    /// A heap of so many words, at most `MAX_ADDRESS`, so many globals and so many forwarding words. It has no object and
-    /// no scion; each global holds nothing, and each forwarding word is empty. It has names where `named` says so.
+    /// A heap of so many words, at most `MAX_ADDRESS`, so many globals and so many forwarding words. It has no object
+    /// and no scion; each global holds nothing, and each forwarding word is empty. It has names where `named` says so.
     pub fn new(
         alloc: Global,
         words: u32,

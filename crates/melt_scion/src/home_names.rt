@@ -1,7 +1,8 @@
 //! The names of homes: which object has a home on disk.
 //!
-//! They stand in a hash map. A home is found there in about the same time however many there are, and a home is put where
-//! room was made before without a call for memory. Two sorted vectors would move half of the homes for each new one.
+//! They stand in a hash map. A home is found there in about the same time however many there are, and a home is put
+//! where room was made before without a call for memory. Two sorted vectors would move half of the homes for each new
+//! one.
 ghost use Rattle.std.specs.Prelude.{◌≡◌, ◌-◌, ◌≤◌, None, if◌then◌else◌, OnOk, OnErr};
 ghost use Rattle.std.specs.Ordering.{nat_cmp};
 ghost use Rattle.std.specs.FinMap.{empty, insert, remove, contains_key};
@@ -70,7 +71,8 @@ impl HomeNames {
     pub fn set(&mut self, home: u32, number: u32)
         requires room { home_name self.old home ≡ None → 1 ≤ self.old.spare }
         ensures names { self.new.names ≡ insert self.old.names home number }
-        ensures spare { self.new.spare ≡ (if contains_key self.old.names home then self.old.spare else self.old.spare - 1) }
+        ensures spare { self.new.spare
+            ≡ (if contains_key self.old.names home then self.old.spare else self.old.spare - 1) }
     {
         if let Some(known) = self.numbers.get_mut(&home) {
             *known = number;

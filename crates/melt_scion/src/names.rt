@@ -1,5 +1,6 @@
 //! The names of addresses: which object stands at an address.
-ghost use Rattle.std.specs.Prelude.{◌≡◌, ◌≤◌, ◌<◌, ◌^◌, ◌++◌, drop, false, length, replicate, slice_index_or, None, IfOk};
+ghost use Rattle.std.specs.Prelude.{◌≡◌, ◌≤◌, ◌<◌, ◌^◌, ◌++◌, drop, false, length, replicate, slice_index_or, None};
+ghost use Rattle.std.specs.Prelude.{IfOk};
 ghost use Rattle.melt_scion.specs.Names.{Clears, SetsName, name_at};
 
 use melt_model::NoMemory;

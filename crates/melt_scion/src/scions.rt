@@ -1,10 +1,12 @@
 //! The table of scions: which home on disk each scion stands for, and at which address its object is.
 //!
-//! The pairs lie at the places of their scions, so a walk goes through the places in ascending order and passes those that
-//! are not live. The unused numbers are a stack, made with room for all, so that a number that is freed finds room.
+//! The pairs lie at the places of their scions, so a walk goes through the places in ascending order and passes those
+//! that are not live. The unused numbers are a stack, made with room for all, so that a number that is freed finds
+//! room.
 ghost use Rattle.std.specs.Prelude.{◌≡◌, ◌+◌, ◌<◌, ◌≤◌, ◌^◌, drop, length, reverse, IfOk, MatchOption};
 ghost use Rattle.std.specs.List.{range_with_len};
-ghost use Rattle.melt_scion.specs.Scions.{IsLive, IsTable, Adds, Frees, SetsAddress, empty_table, scion_at, first_of, behind, live_from, AreNone, IsFirstSome};
+ghost use Rattle.melt_scion.specs.Scions.{IsLive, IsTable, Adds, Frees, SetsAddress, empty_table, scion_at, first_of};
+ghost use Rattle.melt_scion.specs.Scions.{behind, live_from, AreNone, IsFirstSome};
 
 use melt_model::NoMemory;
 use std::alloc::Global;

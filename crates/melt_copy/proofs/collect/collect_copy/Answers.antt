@@ -1,5 +1,5 @@
-use Rattle.std.proofs.Common.{◌-◌, refl, sym, subst, arith}
-use Rattle.melt_scion.specs.Heaps.{IsFormed, IsSettled}
+use Rattle.std.proofs.Common.{refl, sym, subst, arith}
+use Rattle.melt_scion.specs.Heaps.{IsFormed}
 use Rattle.melt_scion.specs.declared.heap.Heap.{Heap}
 use Rattle.melt_copy.specs.Copied.{Copies, IsPutBack}
 use Rattle.melt_copy.proofs.Collects.{copied_fits, nothing_goes, may_rename, put_collects}

@@ -1,4 +1,4 @@
-use Rattle.std.proofs.Common.{ℕ, ◌-◌, length}
+use Rattle.std.proofs.Common.{◌-◌, length}
 use Rattle.melt_scion.specs.Scions.{IsTable}
 use Rattle.melt_copy.proofs.Walking.{IsWalked}
 use Rattle.melt_copy.proofs.scions.live_scions.Given as goal
