@@ -1,7 +1,7 @@
 -- A heap that is built by hand, for a test: two leaves, of which a live scion names the second.
-use Rattle.std.proofs.Common.{◌≡◌, ℕ, ◌+◌, ◌^◌, ◌<◌, List, [], ◌∷◌, length, replicate, refl, sym, subst, ap, ◌∙◌}
+use Rattle.std.proofs.Common.{◌≡◌, ℕ, ◌+◌, List, [], ◌∷◌, length, replicate, refl, sym, subst, ap, ◌∙◌}
 use Rattle.std.proofs.Common.{arith, lit≤, inl, inr}
-use Rattle.std.specs.Prelude.{◌/◌, Option, None, Some, true, false}
+use Rattle.std.specs.Prelude.{◌/◌, Option, None, Some}
 use Rattle.std.specs.Option.{option_map}
 use Rattle.std.specs.FinMap.{FinMap, empty, get, get-empty}
 use Rattle.std.specs.Ordering.{nat_cmp}

@@ -1,16 +1,15 @@
 -- A collection in which nobody leaves: nobody gets a home, so names of homes stay as they were, and so does the disk.
-use Rattle.std.proofs.Common.{◌≡◌, ◌≢◌, ℕ, ◌+◌, ◌*◌, ◌/◌, ◌%◌, ◌<◌, ◌≤◌, refl, sym, ◌∙◌, ap, subst, arith, ◌⊎◌, inl}
+use Rattle.std.proofs.Common.{◌≡◌, ◌≢◌, ℕ, ◌+◌, ◌*◌, ◌<◌, ◌≤◌, sym, ◌∙◌, ap, subst, arith, ◌⊎◌, inl}
 use Rattle.std.proofs.Common.{inr, List}
 use Rattle.std.specs.Prelude.{◌^◌, Some}
 use Rattle.melt_model.specs.declared.reports.Phase.{Phase}
 use Rattle.melt_word.specs.Words.{home_word, home_part, scion_part}
 use Rattle.melt_word.proofs.OneToOne.{home_part_is, scion_part_is}
-use Rattle.melt_word.specs.declared.header.Shape.{Shape}
 use Rattle.melt_scion.specs.State.{Home, State, Follow, IsReserved, Reached}
 use Rattle.melt_scion.specs.Placed.{Maps, Formed}
 use Rattle.melt_scion.specs.Moves.{Leaves}
 use Rattle.melt_scion.specs.Settles.{SameHomes}
-use Rattle.melt_scion.specs.Moves.{IsNamedByLeaving, GetsHome, GivesHomes, NamesHomes, MovesDisk}
+use Rattle.melt_scion.specs.Moves.{GetsHome, GivesHomes, NamesHomes, MovesDisk}
 use Rattle.melt_scion.proofs.Reaching.{reached_named}
 
 -- no object leaves
