@@ -1,0 +1,9 @@
+//! The collections of a run, as a table.
+#![tactic(auto)]
+
+pub mod text;
+
+pub use text::table;
+
+#[cfg(test)]
+mod tests;
