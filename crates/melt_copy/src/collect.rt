@@ -38,7 +38,7 @@ struct Copied {
 }
 
 /// The numbers of the objects that move, where the heap keeps names.
-fn numbers_for<L: Ledger>(
+pub fn numbers_for<L: Ledger>(
     alloc: Global,
     names: &Option<Names>,
     moves: &[Relocation],
@@ -53,7 +53,7 @@ fn numbers_for<L: Ledger>(
 }
 
 /// A vector for what is to be copied.
-fn room_for_copy(alloc: Global, heap: &mut Heap) -> Result<Vec<u64>, NoMemory>
+pub fn room_for_copy(alloc: Global, heap: &mut Heap) -> Result<Vec<u64>, NoMemory>
     ensures { heap.new ≡ heap.old }
 {
     heap.space.room_for_copy(alloc)
@@ -102,7 +102,7 @@ fn copy_out<L: Ledger>(
 
 /// Gives the objects that moved their numbers at their new addresses, where the heap keeps names, and else to contracts
 /// alone.
-fn rename_all<L: Ledger>(
+pub fn rename_all<L: Ledger>(
     names: &mut Option<Names>,
     maps: &mut GhostMaps,
     used: u32,

@@ -91,7 +91,7 @@ pub fn move_words<L: Ledger>(
 }
 
 /// The word of the header of an object after the move, by the word from before.
-fn move_header(phase: Phase, held: bool, shape: Shape, word: u64) -> u64
+pub fn move_header(phase: Phase, held: bool, shape: Shape, word: u64) -> u64
     requires { IsShape shape }
     ensures { (header : Header) → IsHeader header → header.shape ≡ shape → word ≡ header_word header
         → result ≡ header_word (header_after phase held header) }

@@ -6,12 +6,17 @@
 #![tactic(auto)]
 
 pub mod collect;
-mod commit;
-mod copy;
+pub mod commit;
+pub mod copy;
 pub mod forwarding;
+pub mod live;
 mod scions;
 
-pub use collect::collect_copy;
+pub use collect::{collect_copy, numbers_for, rename_all, room_for_copy};
+pub use commit::forward_held;
+pub use copy::move_header;
+pub use forwarding::{Forwarding, Relocation};
+pub use live::{LiveSet, reach};
 
 #[cfg(test)]
 mod tests;
