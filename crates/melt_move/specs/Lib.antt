@@ -1,0 +1,5 @@
+pub mod Plans
+pub mod Staying
+pub mod Bodies
+pub mod GivenScions
+pub mod NamedHomes
