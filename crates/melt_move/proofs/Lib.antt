@@ -1,3 +1,4 @@
 pub mod Needs
 pub mod HomesBy
+pub mod Reserved
 pub mod Moves
