@@ -4,3 +4,4 @@ pub mod Bodies
 pub mod GivenScions
 pub mod NamedHomes
 pub mod Moved
+pub mod Collecting
