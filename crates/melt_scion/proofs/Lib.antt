@@ -3,6 +3,7 @@ pub mod Numbers
 pub mod LiveScions
 pub mod ScionTables
 pub mod Tables
+pub mod Few
 pub mod HomeNumbers
 pub mod Geometry
 pub mod Entries
