@@ -232,7 +232,7 @@ put_collects old new held after copied phase journal copying settled copies put 
         told = told.rest;
       };
   tables = record {
-    scions = put.scions.size;
+    scions = record { is_table = put.scions.is_table; size = put.scions.size };
     forwards = ap length put.forward;
     names = names_stay old.names new.names old.maps new.maps copied.forwarding.moves.items put.names;
   };
