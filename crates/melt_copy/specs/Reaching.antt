@@ -1,31 +1,26 @@
 -- What a collection finds before it decides which objects stay.
 use Rattle.std.specs.Prelude.{◌≡◌, ◌≢◌, ℕ, ◌+◌, ◌<◌, List, length, take, slice_get, slice_index, Some}
-use Rattle.melt_space.specs.Space.{SpaceWords}
 use Rattle.melt_scion.specs.State.{State, RefersTo, Reached}
 use Rattle.melt_scion.specs.Placed.{Maps, Formed}
 use Rattle.melt_scion.specs.Heaps.{OnDisk, state_of}
 use Rattle.melt_scion.specs.declared.registers.Registers.{Registers}
 use Rattle.melt_scion.specs.declared.heap.Heap.{Heap}
-use Rattle.melt_copy.specs.declared.forwarding.Forwarding.{Forwarding}
 use Rattle.melt_copy.specs.declared.forwarding.Relocation.{Relocation}
 use Rattle.melt_copy.specs.declared.live.LiveSet.{LiveSet}
 use Rattle.melt_copy.specs.Moving.{IsWhole, Relocates, AreHeld, words_in}
 use Rattle.melt_copy.specs.Tracking.{goes}
 
 -- the objects to which these words refer were found
-abbrev pub FindsWords : Forwarding → List ℕ → Type 0
-FindsWords forwarding words =
-    (i address : ℕ) → i < length words → RefersTo (slice_index words i) address → goes forwarding address ≢ 0
+abbrev pub FindsWords : (ℕ → ℕ) → List ℕ → Type 0
+FindsWords f words = (i address : ℕ) → i < length words → RefersTo (slice_index words i) address → f address ≢ 0
 
 -- those to which the slots of an object refer
-abbrev pub FindsSlots : State → Forwarding → Relocation → Type 0
-FindsSlots s forwarding m = (i address : ℕ) → i < m.shape.refs → RefersTo (s.word (m.from + 2 + i)) address
-    → goes forwarding address ≢ 0
+abbrev pub FindsSlots : State → (ℕ → ℕ) → Relocation → Type 0
+FindsSlots s f m = (i address : ℕ) → i < m.shape.refs → RefersTo (s.word (m.from + 2 + i)) address → f address ≢ 0
 
--- those to which the slots of all objects that were found refer
-abbrev pub FindsAll : State → Forwarding → Type 0
-FindsAll s forwarding = (k : ℕ) (m : Relocation) → slice_get forwarding.moves.items k ≡ Some m
-    → FindsSlots s forwarding m
+-- those to which the slots of all these objects refer
+abbrev pub FindsAll : State → (ℕ → ℕ) → List Relocation → Type 0
+FindsAll s f moves = (k : ℕ) (m : Relocation) → slice_get moves k ≡ Some m → FindsSlots s f m
 
 -- Each object that can be reached was found, and no other; the first ones are those in registers.
 pub record IsLiveSet (s : State) (live : LiveSet) : Type 0 where

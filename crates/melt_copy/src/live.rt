@@ -8,7 +8,7 @@ ghost use Rattle.std.specs.Prelude.{◌≡◌, ℕ, IfOk, OnOk};
 ghost use Rattle.melt_scion.specs.Heaps.{IsFormed};
 ghost use Rattle.melt_scion.specs.State.{State};
 ghost use Rattle.melt_copy.specs.Reaching.{FindsAll, FindsSlots, FindsWords, Reaches};
-ghost use Rattle.melt_copy.specs.Tracking.{Grows, Tracks, TracksIn, TracksOf};
+ghost use Rattle.melt_copy.specs.Tracking.{Grows, Tracks, TracksIn, TracksOf, goes};
 
 use crate::copy::find_all_held;
 use crate::forwarding::{Forwarding, Relocation};
@@ -38,7 +38,7 @@ fn find_words<L: Ledger>(
     steps: &mut Steps<L>,
 ) -> Result<(), NoMemory>
     requires { (s : State) × TracksIn space.now s forwarding.old words.now }
-    ensures finds { OnOk result (FindsWords forwarding.new words.now) }
+    ensures finds { OnOk result (FindsWords (goes forwarding.new) words.now) }
     ensures grows { Grows forwarding.old forwarding.new }
     ensures tracks { (s : State) → TracksIn space.now s forwarding.old words.now → Tracks space.now s forwarding.new }
 {
@@ -57,7 +57,8 @@ fn find_slots<L: Ledger>(
     steps: &mut Steps<L>,
 ) -> Result<(), NoMemory>
     requires { (s : State) × TracksOf space.now s forwarding.old m }
-    ensures finds { OnOk result ((s : State) → TracksOf space.now s forwarding.old m → FindsSlots s forwarding.new m) }
+    ensures finds { OnOk result ((s : State) → TracksOf space.now s forwarding.old m
+        → FindsSlots s (goes forwarding.new) m) }
     ensures grows { Grows forwarding.old forwarding.new }
     ensures tracks { (s : State) → TracksOf space.now s forwarding.old m → Tracks space.now s forwarding.new }
 {
@@ -73,7 +74,8 @@ fn find_rest<L: Ledger>(
     steps: &mut Steps<L>,
 ) -> Result<(), NoMemory>
     requires { (s : State) × Tracks space.now s forwarding.old }
-    ensures finds { OnOk result ((s : State) → Tracks space.now s forwarding.old → FindsAll s forwarding.new) }
+    ensures finds { OnOk result ((s : State) → Tracks space.now s forwarding.old
+        → FindsAll s (goes forwarding.new) forwarding.new.moves.items) }
     ensures grows { Grows forwarding.old forwarding.new }
     ensures tracks { (s : State) → Tracks space.now s forwarding.old → Tracks space.now s forwarding.new }
 {

@@ -2,7 +2,8 @@ use Rattle.std.proofs.Common.{◌≡◌, ◌-◌, refl, arith}
 use Rattle.melt_space.specs.Space.{IsSpace}
 use Rattle.melt_scion.specs.declared.heap.Heap.{Heap}
 use Rattle.melt_copy.specs.declared.collect.Copied.{Copied}
-use Rattle.melt_copy.proofs.Outs.{Begins, outs_start, outs_held, outs_globals, copies}
+use Rattle.melt_copy.proofs.Roots.{Begins, start_tracked, held_tracked, globals_tracked}
+use Rattle.melt_copy.proofs.Outs.{copies}
 use Rattle.melt_copy.proofs.collect.copy_out.Given.{Over}
 use Rattle.melt_copy.proofs.collect.copy_out.Goals as goal
 use Rattle.melt_copy.proofs.collect.copy_out.Goals.{In_ok-forwarding}
@@ -21,13 +22,13 @@ begins g c old same space used_is = record {
 
 pub find_all_held-requires : goal.find_all_held-requires
 find_all_held-requires g c =
-    outs_start _ c.args.heap.now c.args.held.now c.in_ok-forwarding.forwarding c.used.result
+    start_tracked _ c.args.heap.now c.args.held.now c.in_ok-forwarding.forwarding c.used.result
     (begins g (goal.at.find_all_held-requires g c).In_ok-forwarding _ c.heap.view_is c.used.ensures.within
     c.used.ensures.value) c.requires.formed
 
 pub overflow_sub-held_words : goal.overflow_sub-held_words
 overflow_sub-held_words g c =
-    let start = outs_start _ c.args.heap.now c.args.held.now c.in_ok-forwarding.forwarding c.used.result
+    let start = start_tracked _ c.args.heap.now c.args.held.now c.in_ok-forwarding.forwarding c.used.result
     (begins g (goal.at.overflow_sub-held_words g c).In_ok-forwarding _ c.heap.view_is c.used.ensures.within
     c.used.ensures.value) c.requires.formed in
     let found = c.find_all_held.ensures.tracks start.0 start.1 in
@@ -35,21 +36,21 @@ overflow_sub-held_words g c =
 
 pub move_words-requires : goal.move_words-requires
 move_words-requires g c =
-    outs_held _ c.args.heap.now c.args.held.now c.in_ok-forwarding.forwarding c.used.result
+    held_tracked _ c.args.heap.now c.args.held.now c.in_ok-forwarding.forwarding c.used.result
     (begins g (goal.at.move_words-requires g c).In_ok-forwarding _ c.heap.view_is c.used.ensures.within
     c.used.ensures.value) c.find_all_held.new.forwarding c.find_all_held.ensures.tracks
     c.deref.result.now c.deref.ensures.value c.requires.formed
 
 pub find_scions-requires-clause-tracks : goal.find_scions-requires-clause-tracks
 find_scions-requires-clause-tracks g c =
-    outs_globals _ c.args.heap.now c.args.held.now c.in_ok-forwarding.forwarding c.used.result
+    globals_tracked _ c.args.heap.now c.args.held.now c.in_ok-forwarding.forwarding c.used.result
     (begins g (goal.at.find_scions-requires-clause-tracks g c).In_ok-forwarding _ c.heap.view_is c.used.ensures.within
     c.used.ensures.value) c.find_all_held.new.forwarding c.find_all_held.ensures.tracks
     c.deref.result.now c.deref.ensures.value c.move_words.new.forwarding c.move_words.ensures.tracks c.requires.formed
 
 pub copy_objects-requires : goal.copy_objects-requires
 copy_objects-requires g c =
-    let globals = outs_globals _ c.args.heap.now c.args.held.now c.in_ok-forwarding.forwarding c.used.result
+    let globals = globals_tracked _ c.args.heap.now c.args.held.now c.in_ok-forwarding.forwarding c.used.result
     (begins g (goal.at.copy_objects-requires g c).In_ok-forwarding _ c.heap.view_is c.used.ensures.within
     c.used.ensures.value) c.find_all_held.new.forwarding c.find_all_held.ensures.tracks
     c.deref.result.now c.deref.ensures.value c.move_words.new.forwarding c.move_words.ensures.tracks
