@@ -1,5 +1,6 @@
 -- What a collection finds before it decides which objects stay.
 use Rattle.std.specs.Prelude.{◌≡◌, ◌≢◌, ℕ, ◌+◌, ◌<◌, List, length, take, slice_get, slice_index, Some}
+use Rattle.melt_space.specs.Space.{SpaceWords}
 use Rattle.melt_scion.specs.State.{State, RefersTo, Reached}
 use Rattle.melt_scion.specs.Placed.{Maps, Formed}
 use Rattle.melt_scion.specs.Heaps.{OnDisk, state_of}
@@ -8,7 +9,19 @@ use Rattle.melt_scion.specs.declared.heap.Heap.{Heap}
 use Rattle.melt_copy.specs.declared.forwarding.Relocation.{Relocation}
 use Rattle.melt_copy.specs.declared.live.LiveSet.{LiveSet}
 use Rattle.melt_copy.specs.Moving.{IsWhole, Relocates, AreHeld, words_in}
-use Rattle.melt_copy.specs.Tracking.{goes}
+use Rattle.melt_copy.specs.Tracking.{Tracks, goes}
+
+-- The objects in registers were found, and no others were yet.
+pub record IsFront (space : SpaceWords) (s : State) (live : LiveSet) : Type 0 where
+  pub tracks : Tracks space s live.forwarding
+  pub held : AreHeld s live.forwarding.moves.items live.front
+  pub front : live.front ≡ length live.forwarding.moves.items
+  pub held_words : live.held_words ≡ words_in live.forwarding.moves.items
+
+-- for each map and disk with which the heap is well formed
+abbrev pub FindsFront : Heap → List Registers → LiveSet → Type 0
+FindsFront heap held live = (maps : Maps) (disk : OnDisk) → Formed maps (state_of heap held disk)
+    → IsFront heap.space (state_of heap held disk) live
 
 -- the objects to which these words refer were found
 abbrev pub FindsWords : (ℕ → ℕ) → List ℕ → Type 0

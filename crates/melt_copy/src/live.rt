@@ -4,13 +4,13 @@
 //! home only where one that leaves refers to it. The objects are found in the order in which `collect_copy` finds
 //! them: those in registers first, then what globals refer to, then the objects of live scions, then what slots do. So
 //! the number of those in registers tells of each whether a register holds it.
-ghost use Rattle.std.specs.Prelude.{◌≡◌, ℕ, IfOk, OnOk};
+ghost use Rattle.std.specs.Prelude.{◌≡◌, ◌≢◌, ℕ, slice_index, IfOk, OnOk};
 ghost use Rattle.melt_scion.specs.Heaps.{IsFormed};
 ghost use Rattle.melt_scion.specs.State.{State};
-ghost use Rattle.melt_copy.specs.Reaching.{FindsAll, FindsSlots, FindsWords, Reaches};
-ghost use Rattle.melt_copy.specs.Tracking.{Grows, Tracks, TracksIn, TracksOf, goes};
+ghost use Rattle.melt_copy.specs.Reaching.{FindsAll, FindsFront, FindsSlots, FindsWords, Reaches};
+ghost use Rattle.melt_copy.specs.Tracking.{FindsHeld, FindsThreads, Grows, Tracks, TracksHeld, TracksIn, TracksOf};
+ghost use Rattle.melt_copy.specs.Tracking.{TracksThreads, goes};
 
-use crate::copy::find_all_held;
 use crate::forwarding::{Forwarding, Relocation};
 use crate::scions::{find_scions, live_scions};
 use melt_model::{NoMemory, Steps};
@@ -19,7 +19,7 @@ use melt_space::Space;
 use std::alloc::Global;
 use std::sync::ledger::Ledger;
 
-/// What can be reached in a heap.
+/// What was found of a heap.
 #[derive(Debug, Drop)]
 pub struct LiveSet {
     /// The objects that were found, each with the place that it would have if all of them stayed.
@@ -28,6 +28,69 @@ pub struct LiveSet {
     pub front: usize,
     /// The words of these.
     pub held_words: u32,
+}
+
+/// Finds the objects in the registers of a thread.
+fn find_held<L: Ledger>(
+    forwarding: &mut Forwarding,
+    space: &Space,
+    registers: &Registers,
+    steps: &mut Steps<L>,
+) -> Result<(), NoMemory>
+    requires { (s : State) × TracksHeld space.now s forwarding.old (slice_index registers.now.regs) }
+    ensures finds { OnOk result (FindsHeld forwarding.old forwarding.new (slice_index registers.now.regs)) }
+    ensures grows { Grows forwarding.old forwarding.new }
+    ensures tracks { (s : State) → TracksHeld space.now s forwarding.old (slice_index registers.now.regs)
+        → Tracks space.now s forwarding.new }
+{
+    for address in &registers.regs {
+        steps.tick();
+        if *address != 0 {
+            forwarding.find(space, *address)?;
+        }
+    }
+    Ok(())
+}
+
+/// Finds the objects in the registers of all threads.
+fn find_all_held<L: Ledger>(
+    forwarding: &mut Forwarding,
+    space: &Space,
+    held: &[Registers],
+    steps: &mut Steps<L>,
+) -> Result<(), NoMemory>
+    requires { (s : State) × TracksThreads space.now s forwarding.old held.now }
+    ensures finds { OnOk result (FindsThreads forwarding.old forwarding.new held.now) }
+    ensures grows { Grows forwarding.old forwarding.new }
+    ensures tracks { (s : State) → TracksThreads space.now s forwarding.old held.now
+        → Tracks space.now s forwarding.new }
+{
+    for registers in held {
+        steps.tick();
+        find_held(forwarding, space, registers, steps)?;
+    }
+    Ok(())
+}
+
+/// Finds the objects in registers, before all others.
+pub fn find_front<L: Ledger>(
+    alloc: Global,
+    heap: &Heap,
+    held: &[Registers],
+    steps: &mut Steps<L>,
+) -> Result<LiveSet, NoMemory>
+    requires formed { IsFormed heap.now held.now }
+    ensures { IfOk result (FindsFront heap.now held.now) }
+{
+    let mut forwarding = Forwarding::new(alloc, heap.space.used())?;
+    find_all_held(&mut forwarding, &heap.space, held, steps)?;
+    let front = forwarding.moves.len();
+    let held_words = forwarding.next - 1;
+    Ok(LiveSet {
+        forwarding,
+        front,
+        held_words,
+    })
 }
 
 /// Finds the objects to which these words refer.
@@ -89,7 +152,10 @@ fn find_rest<L: Ledger>(
     Ok(())
 }
 
-/// Finds all that registers, globals and live scions reach in a heap. Nothing changes but what is found.
+/// Finds all that registers, globals and live scions reach in a heap. Counts one step for each turn of a loop.
+///
+/// Takes memory for a number for each word in use, for what is found, and for a list of the live scions, and answers
+/// `NoMemory` where it is wanted.
 pub fn reach<L: Ledger>(
     alloc: Global,
     heap: &Heap,
@@ -99,18 +165,11 @@ pub fn reach<L: Ledger>(
     requires formed { IsFormed heap.now held.now }
     ensures { IfOk result (Reaches heap.now held.now) }
 {
-    let mut forwarding = Forwarding::new(alloc, heap.space.used())?;
-    find_all_held(&mut forwarding, &heap.space, held, steps)?;
-    // Nothing but objects in registers was found yet.
-    let held_words = forwarding.next - 1;
-    let front = forwarding.moves.len();
-    find_words(&mut forwarding, &heap.space, &heap.globals.items, steps)?;
-    let live = live_scions(alloc, &heap.scions, steps)?;
-    find_scions(&mut forwarding, &heap.space, &heap.scions, &live, steps)?;
-    find_rest(&mut forwarding, &heap.space, steps)?;
-    Ok(LiveSet {
-        forwarding,
-        front,
-        held_words,
-    })
+    let mut live = find_front(alloc, heap, held, steps)?;
+    let found = &mut live.forwarding;
+    find_words(found, &heap.space, &heap.globals.items, steps)?;
+    let scions = live_scions(alloc, &heap.scions, steps)?;
+    find_scions(found, &heap.space, &heap.scions, &scions, steps)?;
+    find_rest(found, &heap.space, steps)?;
+    Ok(live)
 }
