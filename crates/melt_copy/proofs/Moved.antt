@@ -26,7 +26,7 @@ use Rattle.melt_copy.specs.declared.forwarding.Relocation.{Relocation}
 use Rattle.melt_copy.specs.Moving.{IsWhole, IsFound, IsCopy, Carries, WordMoves, moved, moved_scion, header_after}
 use Rattle.melt_copy.specs.Moving.{maps_after}
 use Rattle.melt_copy.specs.Copying.{IsCopying}
-use Rattle.melt_copy.proofs.Sources.{goes, reached_found}
+use Rattle.melt_copy.proofs.Sources.{goes, reached_found, copy_closed}
 use Rattle.melt_copy.proofs.Phases.{none_leaves}
 use Rattle.melt_copy.proofs.Carried.{found_at, marked, place_within, in_order, zero_stays, free_within, carried_names}
 use Rattle.melt_copy.proofs.Carried.{word_taken, found_once}
@@ -83,7 +83,7 @@ module _ (phase : Phase) (maps : Maps) (s t : State) (f : ℕ → ℕ) (moves : 
     stay = λ a some.
         let g = goes s f moves t.free a copy.found some in
         (subst (Reached s) g.from (copy.found.whole g.index g.move g.is).reached, none_leaves phase s a copying);
-    go = λ a reached. inl (reached_found s t f moves front copy a reached);
+    go = λ a reached. inl (reached_found s f moves t.free front copy.found (copy_closed s t f moves front copy) a reached);
     once = found_once phase maps s t f moves front copy_carries;
     nothing = zero_stays phase maps s t f moves front copy_carries;
   }

@@ -22,7 +22,7 @@ use melt_word::{Ref, Shape, cost, decode_ref, encode_ref};
 use std::alloc::Global;
 
 /// An object that was found: its address, the address that it gets, and its shape.
-#[derive(Clone, Copy, Debug)]
+#[derive(Clone, Copy, Debug, PartialEq, Eq)]
 pub struct Relocation {
     pub from: u32,
     pub to: u32,

@@ -30,11 +30,6 @@ pub record OnDisk : Type 0 where
 abbrev pub no_homes_on : OnDisk
 no_homes_on = record { end = 1; homes = []; free_homes = []; image = λ k. 0 }
 
--- The words that a disk tells, if it tells any, are those of the image. Past the last word it has zeros.
-abbrev pub Shows : Option (List ℕ) → (ℕ → ℕ) → Type 0
-Shows None image = Unit {0}
-Shows (Some words) image = (k : ℕ) → image k ≡ slice_index words k
-
 -- what a scion of a table names, if it is live
 abbrev pub scion_in : Scions → ℕ → Option Scion
 scion_in table k = option_map (λ (pair : ℕ × ℕ). record { home = pair.0; address = pair.1 }) (scion_at table k)
@@ -51,7 +46,7 @@ base_of heap disk = record {
   image = disk.image;
 }
 
--- the words that a disk tells, if it tells any, are those of the image
+-- The words that a disk tells, if it tells any, are those of the image. Past the last word it has zeros.
 abbrev pub Shows : Option (List ℕ) → (ℕ → ℕ) → Type 0
 Shows None image = Unit {0}
 Shows (Some words) image = (k : ℕ) → image k ≡ slice_index words k
