@@ -2,3 +2,4 @@ pub mod Needs
 pub mod HomesBy
 pub mod Reserved
 pub mod Moves
+pub mod Choosing
