@@ -15,7 +15,7 @@ use Rattle.melt_copy.specs.Moving.{IsRefWord, WordMoves, ObjectMoves, header_aft
 use Rattle.melt_copy.specs.Tracking.{word_in, Extends, TracksIn, TracksOf}
 use Rattle.melt_copy.proofs.Sources.{source_shape}
 
-slots_length : (refs nums : ℕ) (object : List ℕ) → length object ≡ 2 + refs + nums
+pub slots_length : (refs nums : ℕ) (object : List ℕ) → length object ≡ 2 + refs + nums
     → length (take (2 + refs - 2) (drop 2 object)) ≡ refs
 slots_length refs nums object size =
     length-take-le (2 + refs - 2) (drop 2 object) (omega (arith, length-drop 2 object, size)) ∙ omega arith
@@ -25,7 +25,7 @@ slot_in : (refs : ℕ) (object : List ℕ) (i : ℕ) → i < refs
 slot_in refs object i below = get_or-take (2 + refs - 2) (drop 2 object) i 0 (omega (arith, below))
     ∙ get_or-drop 2 object i 0
 
-slot_word : (space : SpaceWords) (s : State) (from refs nums : ℕ) (object : List ℕ) (i : ℕ)
+pub slot_word : (space : SpaceWords) (s : State) (from refs nums : ℕ) (object : List ℕ) (i : ℕ)
     → ((k : ℕ) → s.word k ≡ word_at space k) → AreWords space from (2 + refs + nums) object → i < refs
     → slice_index (take (2 + refs - 2) (drop 2 object)) i ≡ s.word (from + 2 + i)
 slot_word space s from refs nums object i word are below =
@@ -56,7 +56,7 @@ object_slots space s forwarding m object are of =
           (slot_word space s m.from m.shape.refs m.shape.nums object i of.tracks.word are (within i below)) refers);
     }
 
-word_in_at : (words : List ℕ) (n j at : ℕ) → at ≡ n + 1 + j → word_in words at ≡ slice_index words (n + j)
+pub word_in_at : (words : List ℕ) (n j at : ℕ) → at ≡ n + 1 + j → word_in words at ≡ slice_index words (n + j)
 word_in_at words n j zero is = absurd (omega (arith, is))
 word_in_at words n j (suc k) is = ap (slice_index words) (omega (arith, is))
 
