@@ -3,3 +3,7 @@ pub mod HomesBy
 pub mod Reserved
 pub mod Moves
 pub mod Choosing
+pub mod Showing
+pub mod HomeBy
+pub mod KeptWords
+pub mod KeptObjects

@@ -62,10 +62,7 @@ impl Decision {
     {
         match decode_home(space.word(address + 1)) {
             Ok(Some(old)) => old.home,
-            Ok(None) => match self.homes.offsets[address as usize] {
-                0 => 0,
-                offset => self.homes.first + (offset - 1),
-            },
+            Ok(None) => self.homes.new_home(address),
             Err(_) => unreachable!(),
         }
     }

@@ -3,10 +3,10 @@
 //! A Body refers to homes alone. So beside the objects that leave, those that stay and to which they refer get a home.
 //! The new homes lie one behind the other, first those of the objects that leave, then the others, each in the order in
 //! which they were found. Before the disk was asked for room only their distances from the first one are known.
-ghost use Rattle.std.specs.Prelude.{◌≡◌, ℕ, IfOk};
+ghost use Rattle.std.specs.Prelude.{◌≡◌, ℕ, ◌^◌, ◌<◌, slice_index, IfOk};
 ghost use Rattle.melt_scion.specs.State.{State};
 ghost use Rattle.melt_copy.specs.declared.live.LiveSet.{LiveSet};
-ghost use Rattle.melt_move.specs.Plans.{GivesNew, IsChoice, IsSeen};
+ghost use Rattle.melt_move.specs.Plans.{GivesNew, IsChoice, IsSeen, new_home};
 
 use crate::choice::Choice;
 use melt_model::{NoMemory, Steps};
@@ -33,6 +33,19 @@ pub struct NewHomes {
     pub given: Vec<Given>,
     /// How many homes there are of each cost.
     pub counts: [u32; 127],
+}
+
+impl NewHomes {
+    /// The home that the object at an address gets, 0 where it gets none.
+    pub fn new_home(&self, address: u32) -> u32
+        requires { new_home self.now.first (slice_index self.now.offsets.items address) < 2 ^ 32 }
+        ensures { result ≡ new_home self.now.first (slice_index self.now.offsets.items address) }
+    {
+        match self.offsets.get(address as usize).copied().unwrap_or(0) {
+            0 => 0,
+            offset => self.first + (offset - 1),
+        }
+    }
 }
 
 /// Gives a home to each object that leaves and to each that stays and is referred to by one that leaves, where it has
