@@ -1,2 +1,4 @@
 pub mod Showing
 pub mod HomeBy
+pub mod Needs
+pub mod Naming
