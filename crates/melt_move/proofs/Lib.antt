@@ -2,3 +2,4 @@ pub mod Showing
 pub mod HomeBy
 pub mod Needs
 pub mod Naming
+pub mod Freeing
