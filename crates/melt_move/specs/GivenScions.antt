@@ -5,7 +5,7 @@ use Rattle.std.specs.Prelude.{slice_index, filter, nat_lt, None, Some}
 use Rattle.melt_word.specs.Words.{IsHomeAndScion, home_word, cost_of}
 use Rattle.melt_record.specs.Records.{IsHead}
 use Rattle.melt_record.specs.declared.head.Kind.TheVariants.{Stub}
-use Rattle.melt_space.specs.Space.{SpaceWords, word_at}
+use Rattle.melt_space.specs.Space.{word_at}
 use Rattle.melt_scion.specs.State.{State}
 use Rattle.melt_scion.specs.Heaps.{scion_in}
 use Rattle.melt_scion.specs.Scions.{Scions, IsTable, scion_at}
@@ -20,6 +20,10 @@ pub record NamesScion (word : ℕ → ℕ) (at home scion : ℕ) : Type 0 where
   pub in_range : IsHomeAndScion (record { home = home; scion = scion })
   pub some : 1 ≤ scion
   pub is : word (at + 1) ≡ home_word (Some (record { home = home; scion = scion }))
+
+-- the home word at the place is 0, or that of a home with its scion
+abbrev pub MayNameScion : (ℕ → ℕ) → ℕ → Type 0
+MayNameScion word at = (word (at + 1) ≡ 0) ⊎ ((home : ℕ) × (scion : ℕ) × NamesScion word at home scion)
 
 -- each home word of an object that can be reached names a scion of the table, as the state has it
 pub record NamesScionsOf (s : State) (scions : Scions) : Type 0 where

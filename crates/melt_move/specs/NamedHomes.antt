@@ -1,5 +1,5 @@
 -- The names of new homes.
-use Rattle.std.specs.Prelude.{◌≡◌, ◌≢◌, ◌^◌, ℕ, ◌+◌, ◌≤◌, List, length, take, slice_get, Option, None, Some}
+use Rattle.std.specs.Prelude.{◌≡◌, ◌≢◌, ℕ, ◌+◌, ◌≤◌, length, take, slice_get, Option, None, Some}
 use Rattle.melt_scion.specs.Names.{name_at}
 use Rattle.melt_scion.specs.HomeNames.{home_name}
 use Rattle.melt_scion.specs.GhostMaps.{NamePairs, named}

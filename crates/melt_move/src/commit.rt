@@ -6,14 +6,17 @@ ghost use Rattle.std.specs.Prelude.{◌≡◌, ◌≤◌, ◌+◌, ◌^◌, ℕ,
 ghost use Rattle.melt_copy.specs.Copied.{MayRename};
 ghost use Rattle.melt_copy.specs.Tracking.{goes};
 ghost use Rattle.melt_move.specs.Collecting.{IsPutBack};
-ghost use Rattle.melt_move.specs.NamedHomes.{HasSpare, NamesHomesOf};
+ghost use Rattle.melt_scion.specs.HomeNames.{home_name};
+ghost use Rattle.melt_scion.specs.Names.{name_at};
+ghost use Rattle.melt_move.specs.NamedHomes.{HasSpare, NamesGiven, NamesHomesOf};
 ghost use Rattle.melt_move.specs.Plans.{need_for};
 
 use crate::decision::Decision;
 use crate::homes::NewHomes;
 use melt_copy::{forward_held, rename_all};
 use melt_model::Steps;
-use melt_scion::{GhostMaps, Globals, Heap, Names, Registers};
+use melt_scion::{AddressNames, GhostMaps, Globals, Heap, HomeNames, Names, Registers};
+use melt_word::cost;
 use std::sync::ledger::Ledger;
 
 /// What is to stand in the place of the words, the globals and the names of a heap.
@@ -23,6 +26,28 @@ pub struct Copied {
     pub globals: Vec<u64>,
     /// The numbers of the objects that stay, where the heap keeps names.
     pub numbers: Vec<Option<u32>>,
+}
+
+/// Gives each new home the number of its object, which stands at its old address still.
+fn name_each<L: Ledger>(
+    names: &mut HomeNames,
+    addresses: &AddressNames,
+    homes: &NewHomes,
+    steps: &mut Steps<L>,
+)
+    requires spare { length homes.now.given.items ≤ names.old.spare }
+    requires room { homes.now.first + need_for homes.now.given.items ≤ 2 ^ 32 }
+    ensures { NamesGiven homes.now (name_at addresses.now) (home_name names.old) (home_name names.new) }
+{
+    // Behind the last home, this may be one more than a `u32` holds.
+    let mut home = u64::from(homes.first);
+    for g in &homes.given {
+        steps.tick();
+        if let Some(number) = addresses.get(g.from) {
+            names.set(home as u32, number);
+        }
+        home += u64::from(cost(g.shape));
+    }
 }
 
 /// Gives each new home the number of its object, where the heap keeps names, and else to contracts alone.
@@ -36,7 +61,10 @@ pub fn name_homes<L: Ledger>(
     requires room { homes.now.first + need_for homes.now.given.items ≤ 2 ^ 32 }
     ensures { NamesHomesOf homes.now names.old maps.old names.new maps.new }
 {
-    steps.tick();
+    match names {
+        Some(names) => name_each(&mut names.homes, &names.addresses, homes, steps),
+        None => *maps = GhostMaps::pick(&(&*maps, homes)),
+    }
 }
 
 /// Puts what was copied into the place of what was there.

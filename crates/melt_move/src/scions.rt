@@ -3,13 +3,14 @@
 //! A scion goes with its object. Those of the objects that leave are freed first, so that their numbers are given
 //! again; then each object that stays has its scion told where it is now, or, where it has a new home, is given a scion
 //! and gets its Stub there.
-ghost use Rattle.std.specs.Prelude.{◌≡◌, ◌≤◌, ◌+◌, ℕ, OnOk, OnErr, IfOk};
+ghost use Rattle.std.specs.Prelude.{◌≡◌, ◌≤◌, ◌+◌, ◌^◌, ◌<◌, ℕ, OnOk, OnErr, IfOk, MatchOption};
 ghost use Rattle.melt_io.specs.Outside.{Rose, counted};
-ghost use Rattle.melt_space.specs.Space.{word_at};
+ghost use Rattle.melt_space.specs.Space.{IsWord, word_at};
 ghost use Rattle.melt_scion.specs.Heaps.{Shows};
 ghost use Rattle.melt_scion.specs.State.{State};
-ghost use Rattle.melt_scion.specs.Scions.{IsTable, Scions, scion_at};
-ghost use Rattle.melt_move.specs.GivenScions.{AwaitScions, FreesScions, HaveScions, NamesScionsOf, WritesStubs, given_count};
+ghost use Rattle.melt_scion.specs.Scions.{IsTable};
+ghost use Rattle.melt_move.specs.GivenScions.{AwaitScions, FreesScions, HaveScions, MayNameScion, NamesScion, NamesScionsOf};
+ghost use Rattle.melt_move.specs.GivenScions.{WritesStubs, given_count};
 ghost use Rattle.melt_move.specs.Plans.{IsDecision};
 
 use crate::decision::Decision;
@@ -18,7 +19,23 @@ use melt_io::{Failed, StaleDisk};
 use melt_model::Steps;
 use melt_scion::{Heap, ScionTable};
 use melt_space::Space;
+use melt_word::decode_home;
 use std::sync::ledger::Ledger;
+
+/// The scion that the home word of the object at an address names, if the object has a home.
+fn scion_of(space: &Space, address: u32) -> Option<u32>
+    requires small { address + 1 < 2 ^ 32 }
+    requires word { IsWord space.now (address + 1) }
+    requires names { MayNameScion (word_at space.now) address }
+    ensures { MatchOption result (word_at space.now (address + 1) ≡ 0)
+        (λ scion. (home : ℕ) × NamesScion (word_at space.now) address home scion) }
+{
+    match decode_home(space.word(address + 1)) {
+        Ok(Some(old)) => Some(old.scion),
+        Ok(None) => None,
+        Err(_) => unreachable!(),
+    }
+}
 
 /// Frees the scions of the objects that leave.
 pub fn free_scions<L: Ledger>(
@@ -31,7 +48,12 @@ pub fn free_scions<L: Ledger>(
     requires table { IsTable scions.old }
     ensures { FreesScions (word_at space.now) decision.now.choice.leaving.items scions.old scions.new }
 {
-    steps.tick();
+    for d in &decision.choice.leaving {
+        steps.tick();
+        if let Some(scion) = scion_of(space, d.from) {
+            scions.free(scion);
+        }
+    }
 }
 
 /// Gives each object that stays and has a home its scion, with its new address, and writes the Stubs of new homes.
