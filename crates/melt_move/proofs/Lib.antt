@@ -10,3 +10,5 @@ pub mod KeptObjects
 pub mod Needs
 pub mod Naming
 pub mod Freeing
+pub mod LeavingHomes
+pub mod MovesDisk

@@ -41,7 +41,7 @@ module _ (maps : Maps) (s t : State) (live : LiveSet) (decision : Decision) (for
   abbrev moves : List Relocation
   moves = decision.choice.stay.moves.items
 
-  some_first : 1 ≤ decision.homes.first
+  pub some_first : 1 ≤ decision.homes.first
   some_first = let first = is.first in let some = is.first_end in omega (arith, first, some)
 
   -- what stays was carried
@@ -201,7 +201,7 @@ module _ (maps : Maps) (s t : State) (live : LiveSet) (decision : Decision) (for
     | inr none ↦ wants_some s decision is.gives some_first a (record { why = why; had_none = none })
   ]
 
-  named_reached : (a : ℕ) → IsNamedByLeaving Move s a → Reached s a
+  pub named_reached : (a : ℕ) → IsNamedByLeaving Move s a → Reached s a
   named_reached a named = in_slot named.object named.slot a named.header named.leaves.0 named.starts named.below named.refers
 
   new_home_is : (a : ℕ) (header : Header) → GetsHome s (home_by s.word decision) a → HeaderAt s a header
