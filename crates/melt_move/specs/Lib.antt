@@ -3,3 +3,4 @@ pub mod Staying
 pub mod Bodies
 pub mod GivenScions
 pub mod NamedHomes
+pub mod ScionTurns
