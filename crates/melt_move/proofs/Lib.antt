@@ -12,3 +12,5 @@ pub mod Naming
 pub mod Freeing
 pub mod LeavingHomes
 pub mod MovesDisk
+pub mod Stubs
+pub mod Turns

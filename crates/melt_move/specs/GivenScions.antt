@@ -2,7 +2,7 @@
 -- has one, with its new address; the Stubs of new homes.
 use Rattle.std.specs.Prelude.{◌≡◌, ◌≢◌, ◌⊎◌, ◌^◌, ℕ, ◌+◌, ◌/◌, ◌<◌, ◌≤◌, List, length, slice_get}
 use Rattle.std.specs.Prelude.{slice_index, filter, nat_lt, None, Some}
-use Rattle.melt_word.specs.Words.{IsHomeAndScion, home_word, cost_of}
+use Rattle.melt_word.specs.Words.{IsHomeAndScion, IsShape, home_word, cost_of}
 use Rattle.melt_record.specs.Records.{IsHead}
 use Rattle.melt_record.specs.declared.head.Kind.TheVariants.{Stub}
 use Rattle.melt_space.specs.Space.{word_at}
@@ -49,10 +49,12 @@ given_home homes m = new_home homes.first (slice_index homes.offsets.items m.fro
 abbrev pub given_count : NewHomes → List Relocation → ℕ
 given_count homes moves = length (filter (λ (m : Relocation). nat_lt 0 (given_home homes m)) moves)
 
--- What stands when the objects that stay were put into the space: they lie apart in it; the home word of each is 0 or
--- names a live scion with its home, whose address is still the old one; each live scion is one of these; and new homes
--- are those of objects without one, which lie apart before a word.
+-- What stands when the objects that stay were put into the space: each has a shape, and they lie apart; the home word
+-- of each is 0 or names a live scion with its home, whose address is still the old one; each live scion is one of these;
+-- and new homes are those of objects without one, which lie apart before a word.
 pub record AwaitScions (heap : Heap) (homes : NewHomes) (moves : List Relocation) (end : ℕ) : Type 0 where
+  pub small_space : length heap.space.list < 2 ^ 30
+  pub shapes : (k : ℕ) (m : Relocation) → slice_get moves k ≡ Some m → IsShape m.shape
   pub placed : (k : ℕ) (m : Relocation) → slice_get moves k ≡ Some m
       → (1 ≤ m.to) × (m.to + cost_of m.shape ≤ length heap.space.list + 1)
   pub apart : (i j : ℕ) (m n : Relocation) → slice_get moves i ≡ Some m → slice_get moves j ≡ Some n → i < j

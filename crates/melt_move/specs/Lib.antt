@@ -5,3 +5,4 @@ pub mod GivenScions
 pub mod NamedHomes
 pub mod Moved
 pub mod Collecting
+pub mod ScionTurns
