@@ -21,7 +21,7 @@ use Rattle.melt_copy.specs.Reaching.{IsLiveSet}
 use Rattle.melt_copy.specs.Tracking.{goes, Tracks, TracksAt, Grows}
 use Rattle.melt_copy.proofs.Counting.{slice_get-take, slice_get_in_front}
 use Rattle.melt_copy.proofs.Held.{still_known}
-use Rattle.melt_copy.proofs.Outs.{no_moves}
+use Rattle.melt_copy.proofs.Roots.{no_moves}
 use Rattle.melt_copy.proofs.Places.{same_place, same_source}
 use Rattle.melt_copy.proofs.Sources.{source_shape}
 use Rattle.melt_move.specs.declared.choice.Departure.{Departure}

@@ -7,7 +7,6 @@ pub mod Showing
 pub mod HomeBy
 pub mod KeptWords
 pub mod KeptObjects
-pub mod Needs
 pub mod Naming
 pub mod Freeing
 pub mod LeavingHomes
