@@ -13,3 +13,6 @@ pub mod LeavingHomes
 pub mod MovesDisk
 pub mod Stubs
 pub mod Turns
+pub mod Deciding
+pub mod Nothing
+pub mod Prepared
