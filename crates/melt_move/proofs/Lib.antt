@@ -1,1 +1,4 @@
 pub mod Choosing
+pub mod Marking
+pub mod Needs
+pub mod Giving
