@@ -16,3 +16,7 @@ pub mod Turns
 pub mod Deciding
 pub mod Nothing
 pub mod Prepared
+pub mod Marking
+pub mod Needs
+pub mod Giving
+pub mod TwoObjects
