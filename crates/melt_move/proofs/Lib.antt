@@ -13,3 +13,5 @@ pub mod LeavingHomes
 pub mod MovesDisk
 pub mod Stubs
 pub mod Turns
+pub mod Encoding
+pub mod Written
