@@ -15,3 +15,4 @@ pub mod Stubs
 pub mod Turns
 pub mod Encoding
 pub mod Written
+pub mod BuildingTwo
