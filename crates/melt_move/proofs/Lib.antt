@@ -20,3 +20,6 @@ pub mod Marking
 pub mod Needs
 pub mod Giving
 pub mod TwoObjects
+pub mod Encoding
+pub mod Written
+pub mod BuildingTwo

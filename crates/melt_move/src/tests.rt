@@ -1,3 +1,4 @@
 use super::*;
 
 mod choice;
+mod moved;
