@@ -35,3 +35,4 @@ pub mod WritingHome
 pub mod Settling
 pub mod SettlingTells
 pub mod NobodyLeaves
+pub mod Few
