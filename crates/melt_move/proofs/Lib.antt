@@ -1,7 +1,10 @@
 pub mod Showing
 pub mod HomeBy
 pub mod Needs
+pub mod Elements
 pub mod Naming
 pub mod Freeing
 pub mod Stubs
 pub mod Turns
+pub mod ScionRoom
+pub mod Giving
