@@ -7,15 +7,15 @@ use Rattle.melt_model.specs.declared.reports.Phase.{Phase}
 use Rattle.melt_word.specs.Words.{IsHeader, header_word, cost_of}
 use Rattle.melt_word.specs.declared.header.Header.{Header}
 use Rattle.melt_space.specs.Space.{SpaceWords, word_at, AreWords}
-use Rattle.melt_scion.specs.State.{State, RefersTo}
-use Rattle.melt_scion.specs.State.Reached.{in_slot}
+use Rattle.melt_scion.specs.State.{State}
 use Rattle.melt_copy.specs.declared.forwarding.Relocation.{Relocation}
 use Rattle.melt_copy.specs.declared.forwarding.Forwarding.{Forwarding}
-use Rattle.melt_copy.specs.Moving.{IsRefWord, WordMoves, ObjectMoves, header_after}
+use Rattle.melt_copy.specs.Moving.{WordMoves, ObjectMoves, header_after}
 use Rattle.melt_copy.specs.Tracking.{word_in, Extends, TracksIn, TracksOf}
 use Rattle.melt_copy.proofs.Sources.{source_shape}
+use Rattle.melt_copy.proofs.Following.{slot_word, slots_tracked}
 
-slots_length : (refs nums : ℕ) (object : List ℕ) → length object ≡ 2 + refs + nums
+pub slots_length : (refs nums : ℕ) (object : List ℕ) → length object ≡ 2 + refs + nums
     → length (take (2 + refs - 2) (drop 2 object)) ≡ refs
 slots_length refs nums object size =
     length-take-le (2 + refs - 2) (drop 2 object) (omega (arith, length-drop 2 object, size)) ∙ omega arith
@@ -25,38 +25,33 @@ slot_in : (refs : ℕ) (object : List ℕ) (i : ℕ) → i < refs
 slot_in refs object i below = get_or-take (2 + refs - 2) (drop 2 object) i 0 (omega (arith, below))
     ∙ get_or-drop 2 object i 0
 
-slot_word : (space : SpaceWords) (s : State) (from refs nums : ℕ) (object : List ℕ) (i : ℕ)
+-- the words of the slots are those from the third on
+pub slots_are : (space : SpaceWords) (from refs nums : ℕ) (object : List ℕ) → AreWords space from (2 + refs + nums) object
+    → AreWords space (from + 2) refs (take (2 + refs - 2) (drop 2 object))
+slots_are space from refs nums object are = record {
+  count_is = slots_length refs nums object are.count_is;
+  each = λ i below.
+      slot_in refs object i below
+      ∙ (are.each (2 + i) (omega (arith, below))
+      ∙ ap (word_at space) (let sum : from + (2 + i) ≡ from + 2 + i = omega arith in sum));
+}
+
+-- the word of a slot, as a state has it
+pub object_slot : (space : SpaceWords) (s : State) (from refs nums : ℕ) (object : List ℕ) (i : ℕ)
     → ((k : ℕ) → s.word k ≡ word_at space k) → AreWords space from (2 + refs + nums) object → i < refs
     → slice_index (take (2 + refs - 2) (drop 2 object)) i ≡ s.word (from + 2 + i)
-slot_word space s from refs nums object i word are below =
-    slot_in refs object i below
-    ∙ (are.each (2 + i) (omega (arith, below))
-    ∙ (ap (word_at space) (let sum : from + (2 + i) ≡ from + 2 + i = omega arith in sum) ∙ sym (word (from + 2 + i))))
+object_slot space s from refs nums object i word are below =
+    slot_word space s from refs (take (2 + refs - 2) (drop 2 object)) i word (slots_are space from refs nums object are) below
 
 -- what the slots of an object refer to is found
 pub object_slots : (space : SpaceWords) (s : State) (forwarding : Forwarding) (m : Relocation) (object : List ℕ)
     → AreWords space m.from (cost_of m.shape) object → TracksOf space s forwarding m
     → TracksIn space s forwarding (take (2 + m.shape.refs - 2) (drop 2 object))
 object_slots space s forwarding m object are of =
-    let move = of.move in
-    let count : length (take (2 + m.shape.refs - 2) (drop 2 object)) ≡ m.shape.refs =
-    slots_length m.shape.refs m.shape.nums object are.count_is in
-    let within : (i : ℕ) → i < length (take (2 + m.shape.refs - 2) (drop 2 object)) → i < m.shape.refs =
-    λ i below. omega (arith, below, count) in
-    let in_header : (i : ℕ) → i < m.shape.refs → i < move.header.shape.refs =
-    λ i below. subst (λ shape. i < shape.refs) (sym move.shape) below in
-    record {
-      tracks = of.tracks;
-      references = λ i below. subst IsRefWord
-          (sym (slot_word space s m.from m.shape.refs m.shape.nums object i of.tracks.word are (within i below)))
-          (of.tracks.whole.slots m.from i move.header move.reached move.starts (in_header i (within i below)));
-      reached = λ i at below refers. in_slot m.from i at move.header move.reached move.starts
-          (in_header i (within i below))
-          (subst (λ (w : ℕ). RefersTo w at)
-          (slot_word space s m.from m.shape.refs m.shape.nums object i of.tracks.word are (within i below)) refers);
-    }
+    slots_tracked space s forwarding m (take (2 + m.shape.refs - 2) (drop 2 object))
+    (slots_are space m.from m.shape.refs m.shape.nums object are) of
 
-word_in_at : (words : List ℕ) (n j at : ℕ) → at ≡ n + 1 + j → word_in words at ≡ slice_index words (n + j)
+pub word_in_at : (words : List ℕ) (n j at : ℕ) → at ≡ n + 1 + j → word_in words at ≡ slice_index words (n + j)
 word_in_at words n j zero is = absurd (omega (arith, is))
 word_in_at words n j (suc k) is = ap (slice_index words) (omega (arith, is))
 
@@ -107,7 +102,8 @@ object_copied phase held space s forwarding f m object out first then_ last befo
           sum)) in
           subst (WordMoves phase f (s.word (m.from + 2 + i))) (sym place)
           (subst (λ (w : ℕ). WordMoves phase f w (slice_index then_ (length first + i)))
-          (slot_word space s m.from refs nums object i of.tracks.word are below)
+          (slot_word space s m.from refs (take (2 + refs - 2) (drop 2 object)) i of.tracks.word
+          (slots_are space m.from refs nums object are) below)
           (moves i (omega (arith, below, slots))));
       numbers = λ j below.
           word_in_at last (length out) (2 + refs + j) (m.to + 2 + refs + j) (omega (arith, to))

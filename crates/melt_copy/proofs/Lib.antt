@@ -11,11 +11,14 @@ pub mod Counted
 pub mod Moved
 pub mod Finding
 pub mod Growth
+pub mod Following
 pub mod Copies
 pub mod Queue
 pub mod Held
 pub mod Walking
+pub mod Roots
 pub mod Outs
+pub mod LiveSets
 pub mod Pairs
 pub mod Collects
 pub mod Building

@@ -32,7 +32,7 @@ count_fits space s forwarding tracks =
     let words = found_words s (goes forwarding) forwarding.moves.items forwarding.next tracks.whole tracks.holds in
     omega (arith, words, tracks.free, count_words forwarding.moves.items)
 
-words_in-next : (moves : List Relocation) (k : ℕ) (m : Relocation) → slice_get moves k ≡ Some m
+pub words_in-next : (moves : List Relocation) (k : ℕ) (m : Relocation) → slice_get moves k ≡ Some m
     → words_in (take (k + 1) moves) ≡ words_in (take k moves) + cost_of m.shape
 words_in-next moves k m at =
     let below : k < length moves = slice_get_within moves k m at in
@@ -58,13 +58,12 @@ longer a b grows = let sum : length b.moves.items ≡ length a.moves.items + len
     ap length grows.moves ∙ length-append a.moves.items grows.rest in omega (arith, sum)
 
 -- the next object of the queue, which was found
-pub next_object : {phase : Phase} {front : ℕ} (space : SpaceWords) (s : State) (forwarding : Forwarding)
-    (words : List ℕ) (done : ℕ) (m : Relocation) → HasCopied phase front space s forwarding words done
-    → done < length forwarding.moves.items → m ≡ get_or forwarding.moves.items done m
+pub next_object : (space : SpaceWords) (s : State) (forwarding : Forwarding) (done : ℕ) (m : Relocation)
+    → Tracks space s forwarding → done < length forwarding.moves.items → m ≡ get_or forwarding.moves.items done m
     → TracksOf space s forwarding m
-next_object space s forwarding words done m copied below is = record {
-  tracks = copied.tracks;
-  move = copied.tracks.holds.whole done m
+next_object space s forwarding done m tracks below is = record {
+  tracks = tracks;
+  move = tracks.holds.whole done m
       (slice_get_read forwarding.moves.items (length forwarding.moves.items) done m refl below is);
 }
 

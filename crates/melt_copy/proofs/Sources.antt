@@ -1,5 +1,5 @@
 -- The objects that a collection found, where they were before.
-use Rattle.std.proofs.Common.{◌≡◌, ◌≢◌, ℕ, ◌+◌, ◌-◌, ◌≤◌, List, sym, ◌∙◌, ap, subst, arith, inl, inr}
+use Rattle.std.proofs.Common.{◌≡◌, ◌≢◌, ℕ, ◌+◌, ◌-◌, ◌<◌, ◌≤◌, List, sym, ◌∙◌, ap, subst, arith, inl, inr}
 use Rattle.std.specs.Prelude.{slice_get, Some}
 use Rattle.std.proofs.lemmas.Bool.{cases_order}
 use Rattle.melt_model.specs.declared.reports.Phase.{Phase}
@@ -9,10 +9,11 @@ use Rattle.melt_word.specs.declared.header.Header.{Header}
 use Rattle.melt_word.specs.declared.reference.Ref.{Ref}
 use Rattle.melt_word.specs.declared.reference.Ref.TheVariants.{Null, Clean, Stale, Disk}
 use Rattle.melt_word.proofs.OneToOne.{same_ref}
-use Rattle.melt_scion.specs.State.{State, HeaderAt, ObjectAt, address_in, RefersTo, Reached, in_register, in_global}
+use Rattle.melt_scion.specs.State.{Scion, State, HeaderAt, ObjectAt, address_in, RefersTo, Reached, in_register, in_global}
 use Rattle.melt_scion.specs.State.{at_scion, in_slot}
 use Rattle.melt_copy.specs.declared.forwarding.Relocation.{Relocation}
-use Rattle.melt_copy.specs.Moving.{IsWhole, words_in, IsRelocation, Relocates, IsFound, WordMoves, IsCopy}
+use Rattle.melt_copy.specs.Moving.{IsWhole, words_in, IsRelocation, Relocates, IsFound, WordMoves, AreHeld, IsCopy}
+use Rattle.melt_copy.specs.Reaching.{FindsAll}
 use Rattle.melt_scion.proofs.Geometry.{one_header}
 use Rattle.melt_copy.proofs.Places.{place_found, same_source}
 use Rattle.melt_copy.proofs.Packing.{AreApart, packed}
@@ -101,22 +102,41 @@ found_in_word f old new address moves refers =
     same_ref refers.reference moves.reference refers.in_range moves.in_range (sym refers.is ∙ moves.was) in
     found_in f moves.reference address moves.found (ap address_in (sym same) ∙ refers.at)
 
--- what can be reached was found
-pub reached_found : {phase : Phase} (s t : State) (f : ℕ → ℕ) (moves : List Relocation) (front : ℕ)
-    → IsCopy phase s t f moves front → (address : ℕ) → Reached s address → f address ≢ 0
-reached_found s t f moves front copy address (in_register u r a holds first) =
+-- Nothing is left to find: the objects in registers were found, those of live scions, and those to which globals refer
+-- and the slots of all that were found.
+pub record IsClosed (s : State) (f : ℕ → ℕ) (moves : List Relocation) (front : ℕ) : Type 0 where
+  pub held : AreHeld s moves front
+  pub globals : (g address : ℕ) → g < s.base.globals → RefersTo (s.global g) address → f address ≢ 0
+  pub scions : (k : ℕ) (x : Scion) → s.base.scion k ≡ Some x → f x.address ≢ 0
+  pub slots : FindsAll s f moves
+
+-- so what can be reached was found
+pub reached_found : (s : State) (f : ℕ → ℕ) (moves : List Relocation) (free front : ℕ) → Relocates s f moves free
+    → IsClosed s f moves front → (address : ℕ) → Reached s address → f address ≢ 0
+reached_found s f moves free front forwarding closed address (in_register u r a holds first) =
     let held : s.register u r ≢ 0 = λ none. omega (arith, holds, none, first) in
-    let m = copy.held.all u r held in
-    λ none. place_found s f moves t.free m.0 m.1 copy.found m.2 (ap f (m.4 ∙ holds) ∙ none)
-reached_found s t f moves front copy address (in_global g a below refers) =
-    found_in_word f (s.global g) (t.global g) a (copy.global g below) refers
-reached_found s t f moves front copy address (at_scion k x live) = copy.scions_found k x live
-reached_found s t f moves front copy address (in_slot from i a header reached starts below refers) =
-    let m = goes s f moves t.free from copy.found (reached_found s t f moves front copy from reached) in
+    let m = closed.held.all u r held in
+    λ none. place_found s f moves free m.0 m.1 forwarding m.2 (ap f (m.4 ∙ holds) ∙ none)
+reached_found s f moves free front forwarding closed address (in_global g a below refers) =
+    closed.globals g a below refers
+reached_found s f moves free front forwarding closed address (at_scion k x live) = closed.scions k x live
+reached_found s f moves free front forwarding closed address (in_slot from i a header reached starts below refers) =
+    let m = goes s f moves free from forwarding (reached_found s f moves free front forwarding closed from reached) in
     let starts_there : HeaderAt s m.move.from header = subst (λ (b : ℕ). HeaderAt s b header) (sym m.from) starts in
     let shape : header.shape.refs ≡ m.move.shape.refs =
-    ap (λ (z : Shape). z.refs) (source_shape s m.move header (copy.found.whole m.index m.move m.is) starts_there) in
-    let slot = (copy.objects m.index m.move m.is).slots i (omega (arith, shape, below)) in
-    let there : RefersTo (s.word (m.move.from + 2 + i)) a =
-    subst (λ (b : ℕ). RefersTo (s.word (b + 2 + i)) a) (sym m.from) refers in
-    found_in_word f (s.word (m.move.from + 2 + i)) (t.word (m.move.to + 2 + i)) a slot there
+    ap (λ (z : Shape). z.refs) (source_shape s m.move header (forwarding.whole m.index m.move m.is) starts_there) in
+    closed.slots m.index m.move m.is i a (omega (arith, shape, below))
+    (subst (λ (b : ℕ). RefersTo (s.word (b + 2 + i)) a) (sym m.from) refers)
+
+-- a copy leaves nothing to find
+pub copy_closed : {phase : Phase} (s t : State) (f : ℕ → ℕ) (moves : List Relocation) (front : ℕ)
+    → IsCopy phase s t f moves front → IsClosed s f moves front
+copy_closed s t f moves front copy = record {
+  held = copy.held;
+  globals = λ g address below refers.
+      found_in_word f (s.global g) (t.global g) address (copy.global g below) refers;
+  scions = copy.scions_found;
+  slots = λ k m at i address below refers.
+      found_in_word f (s.word (m.from + 2 + i)) (t.word (m.to + 2 + i)) address
+      ((copy.objects k m at).slots i below) refers;
+}

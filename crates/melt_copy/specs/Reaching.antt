@@ -6,26 +6,34 @@ use Rattle.melt_scion.specs.Placed.{Maps, Formed}
 use Rattle.melt_scion.specs.Heaps.{OnDisk, state_of}
 use Rattle.melt_scion.specs.declared.registers.Registers.{Registers}
 use Rattle.melt_scion.specs.declared.heap.Heap.{Heap}
-use Rattle.melt_copy.specs.declared.forwarding.Forwarding.{Forwarding}
 use Rattle.melt_copy.specs.declared.forwarding.Relocation.{Relocation}
 use Rattle.melt_copy.specs.declared.live.LiveSet.{LiveSet}
 use Rattle.melt_copy.specs.Moving.{IsWhole, Relocates, AreHeld, words_in}
-use Rattle.melt_copy.specs.Tracking.{goes}
+use Rattle.melt_copy.specs.Tracking.{Tracks, goes}
+
+-- The objects in registers were found, and no others were yet.
+pub record IsFront (space : SpaceWords) (s : State) (live : LiveSet) : Type 0 where
+  pub tracks : Tracks space s live.forwarding
+  pub held : AreHeld s live.forwarding.moves.items live.front
+  pub front : live.front ≡ length live.forwarding.moves.items
+  pub held_words : live.held_words ≡ words_in live.forwarding.moves.items
+
+-- for each map and disk with which the heap is well formed
+abbrev pub FindsFront : Heap → List Registers → LiveSet → Type 0
+FindsFront heap held live = (maps : Maps) (disk : OnDisk) → Formed maps (state_of heap held disk)
+    → IsFront heap.space (state_of heap held disk) live
 
 -- the objects to which these words refer were found
-abbrev pub FindsWords : Forwarding → List ℕ → Type 0
-FindsWords forwarding words =
-    (i address : ℕ) → i < length words → RefersTo (slice_index words i) address → goes forwarding address ≢ 0
+abbrev pub FindsWords : (ℕ → ℕ) → List ℕ → Type 0
+FindsWords f words = (i address : ℕ) → i < length words → RefersTo (slice_index words i) address → f address ≢ 0
 
 -- those to which the slots of an object refer
-abbrev pub FindsSlots : State → Forwarding → Relocation → Type 0
-FindsSlots s forwarding m = (i address : ℕ) → i < m.shape.refs → RefersTo (s.word (m.from + 2 + i)) address
-    → goes forwarding address ≢ 0
+abbrev pub FindsSlots : State → (ℕ → ℕ) → Relocation → Type 0
+FindsSlots s f m = (i address : ℕ) → i < m.shape.refs → RefersTo (s.word (m.from + 2 + i)) address → f address ≢ 0
 
--- those to which the slots of all objects that were found refer
-abbrev pub FindsAll : State → Forwarding → Type 0
-FindsAll s forwarding = (k : ℕ) (m : Relocation) → slice_get forwarding.moves.items k ≡ Some m
-    → FindsSlots s forwarding m
+-- those to which the slots of all these objects refer
+abbrev pub FindsAll : State → (ℕ → ℕ) → List Relocation → Type 0
+FindsAll s f moves = (k : ℕ) (m : Relocation) → slice_get moves k ≡ Some m → FindsSlots s f m
 
 -- Each object that can be reached was found, and no other; the first ones are those in registers.
 pub record IsLiveSet (s : State) (live : LiveSet) : Type 0 where

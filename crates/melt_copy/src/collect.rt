@@ -16,8 +16,9 @@ ghost use Rattle.melt_copy.specs.Copied.{AreRenamed, Copies, IsPutBack, MayRenam
 ghost use Rattle.melt_copy.specs.Tracking.{goes};
 
 use crate::commit::{forward_held, numbers_of, rename};
-use crate::copy::{copy_objects, find_all_held, move_words};
+use crate::copy::{copy_objects, move_words};
 use crate::forwarding::{Forwarding, Relocation};
+use crate::live::{LiveSet, find_front};
 use crate::scions::{find_scions, live_scions, move_scions};
 use melt_model::{Journal, NoMemory, Phase, Steps};
 use melt_scion::{GhostMaps, Globals, Heap, Names, Registers};
@@ -72,11 +73,11 @@ fn copy_out<L: Ledger>(
     requires formed { IsFormed heap.now held.now }
     ensures { IfOk result (Copies phase heap.now held.now) }
 {
-    let mut forwarding = Forwarding::new(alloc, heap.space.used())?;
-    find_all_held(&mut forwarding, &heap.space, held, steps)?;
-    // Nothing but objects in registers was found yet.
-    let held_words = forwarding.next - 1;
-    let front = forwarding.moves.len();
+    let LiveSet {
+        mut forwarding,
+        front,
+        held_words,
+    } = find_front(alloc, heap, held, steps)?;
     let mut globals = Vec::with_capacity(alloc, heap.globals.items.len())?;
     move_words(
         &mut globals,

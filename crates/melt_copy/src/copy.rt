@@ -1,4 +1,4 @@
-//! Finds what can be reached, and copies it.
+//! Copies what was found, and what is found meanwhile.
 //!
 //! An object gets its new address when it is found, which is before it is copied. Objects are copied in the order in
 //! which they were found, so each begins where the last one ended, and the words of the copy are written from the front
@@ -13,57 +13,13 @@ ghost use Rattle.melt_word.specs.Words.{IsHeader, IsShape, cost_of, header_word}
 ghost use Rattle.melt_word.specs.declared.header.Header.{Header};
 ghost use Rattle.melt_scion.specs.State.{State};
 ghost use Rattle.melt_copy.specs.Moving.{WordMoves, ObjectMoves, header_after};
-ghost use Rattle.melt_copy.specs.Tracking.{Extends, FindsHeld, FindsThreads, Grows, HasCopied, Tracks, TracksHeld};
-ghost use Rattle.melt_copy.specs.Tracking.{TracksIn, TracksOf, TracksThreads, goes, word_in};
+ghost use Rattle.melt_copy.specs.Tracking.{Extends, Grows, HasCopied, Tracks, TracksIn, TracksOf, goes, word_in};
 
 use crate::forwarding::{Forwarding, Relocation};
 use melt_model::{NoMemory, Phase, Steps};
-use melt_scion::Registers;
 use melt_space::Space;
 use melt_word::{Header, Shape, cost, encode_header};
 use std::sync::ledger::Ledger;
-
-/// Finds the objects in the registers of a thread.
-fn find_held<L: Ledger>(
-    forwarding: &mut Forwarding,
-    space: &Space,
-    registers: &Registers,
-    steps: &mut Steps<L>,
-) -> Result<(), NoMemory>
-    requires { (s : State) × TracksHeld space.now s forwarding.old (slice_index registers.now.regs) }
-    ensures finds { OnOk result (FindsHeld forwarding.old forwarding.new (slice_index registers.now.regs)) }
-    ensures grows { Grows forwarding.old forwarding.new }
-    ensures tracks { (s : State) → TracksHeld space.now s forwarding.old (slice_index registers.now.regs)
-        → Tracks space.now s forwarding.new }
-{
-    for address in &registers.regs {
-        steps.tick();
-        if *address != 0 {
-            forwarding.find(space, *address)?;
-        }
-    }
-    Ok(())
-}
-
-/// Finds the objects in the registers of all threads.
-pub fn find_all_held<L: Ledger>(
-    forwarding: &mut Forwarding,
-    space: &Space,
-    held: &[Registers],
-    steps: &mut Steps<L>,
-) -> Result<(), NoMemory>
-    requires { (s : State) × TracksThreads space.now s forwarding.old held.now }
-    ensures finds { OnOk result (FindsThreads forwarding.old forwarding.new held.now) }
-    ensures grows { Grows forwarding.old forwarding.new }
-    ensures tracks { (s : State) → TracksThreads space.now s forwarding.old held.now
-        → Tracks space.now s forwarding.new }
-{
-    for registers in held {
-        steps.tick();
-        find_held(forwarding, space, registers, steps)?;
-    }
-    Ok(())
-}
 
 /// Puts the words of references behind those that are there, each after the move. Finds the objects to which they
 /// refer.

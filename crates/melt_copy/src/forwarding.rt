@@ -8,9 +8,9 @@
 //! Objects lie apart from each other among the words in use. So those that were found take no more words than these,
 //! whatever refers to what: each new address is one of the space, and the copy has room in it.
 ghost use Rattle.std.specs.Prelude.{◌≡◌, ◌≢◌, ℕ, ◌+◌, ◌^◌, ◌<◌, ◌≤◌, ◌⊎◌, [], slice_get, slice_index, length};
-ghost use Rattle.std.specs.Prelude.{replicate, Some, IfOk};
+ghost use Rattle.std.specs.Prelude.{replicate, Some, IfOk, OnOk};
 ghost use Rattle.melt_word.specs.Words.{IsAddress, IsRef};
-ghost use Rattle.melt_scion.specs.State.{State};
+ghost use Rattle.melt_scion.specs.State.{State, RefersTo};
 ghost use Rattle.melt_copy.specs.declared.forwarding.Relocation.{Relocation};
 ghost use Rattle.melt_scion.specs.Moves.{kept_tag};
 ghost use Rattle.melt_copy.specs.Moving.{WordMoves};
@@ -22,7 +22,7 @@ use melt_word::{Ref, Shape, cost, decode_ref, encode_ref};
 use std::alloc::Global;
 
 /// An object that was found: its address, the address that it gets, and its shape.
-#[derive(Clone, Copy, Debug)]
+#[derive(Clone, Copy, Debug, PartialEq, Eq)]
 pub struct Relocation {
     pub from: u32,
     pub to: u32,
@@ -97,6 +97,19 @@ impl Forwarding {
         self.addresses[address as usize] = to;
         self.next += cost(shape);
         Ok(to)
+    }
+
+    /// Finds the object to which the word of a reference refers, if it refers to one.
+    pub fn find_word(&mut self, space: &Space, word: u64) -> Result<(), NoMemory>
+        requires { (s : State) × TracksFor space.now s self.old word }
+        ensures found { OnOk result ((address : ℕ) → RefersTo word address → goes self.new address ≢ 0) }
+        ensures grows { Grows self.old self.new }
+        ensures tracks { (s : State) → TracksFor space.now s self.old word → Tracks space.now s self.new }
+    {
+        if let Ok(Ref::Clean(address) | Ref::Stale(address)) = decode_ref(word) {
+            self.find(space, address)?;
+        }
+        Ok(())
     }
 
     /// The word of a reference after the move. Finds the object to which it refers.

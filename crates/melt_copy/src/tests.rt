@@ -34,6 +34,22 @@ fn collect_uncounted<L: Ledger>(
     collect_copy(alloc, heap, held, phase, &mut steps)
 }
 
+/// Finds what can be reached in a heap, and counts no steps.
+fn reach_uncounted<L: Ledger>(
+    alloc: Global,
+    heap: &Heap,
+    held: &[Registers],
+    blank: Blank,
+) -> Result<LiveSet, NoMemory>
+    requires name { blank.name ≡ L.name }
+    requires parts { blank.parts ≡ L.parts }
+    requires some { 0 < blank.parts }
+    requires formed { IsFormed heap.now held.now }
+{
+    let mut steps = Steps::<L>::new(blank);
+    reach(alloc, heap, held, &mut steps)
+}
+
 /// The journal of a collection after which so many words are in use, and so many of these are those of objects in
 /// registers.
 fn journal_of(phase: Phase, live: u32, held: u32) -> Journal {
@@ -216,6 +232,51 @@ fn an_object_that_a_scion_alone_names_stays(rt: HostRuntime) -> Result<(), Fail>
         for (address, want) in [(1, Some(0)), (3, None)] {
             assert_eq!(rt; names.addresses.get(address), want, "at {address}");
         }
+    }
+    Ok(())
+}
+
+#[test]
+fn what_is_reached_is_found_once_and_the_held_first(rt: HostRuntime) -> Result<(), Fail> {
+    let alloc = rt.alloc();
+    let (heap, held) = three_objects(alloc)?;
+    let live = reach_uncounted::<Brand>(alloc, &heap, &held, Blank::new(1))?;
+    let pair = Relocation {
+        from: 4,
+        to: 1,
+        shape: PAIR,
+    };
+    let leaf = Relocation {
+        from: 8,
+        to: 5,
+        shape: LEAF,
+    };
+    assert_eq!(rt; live.forwarding.moves.as_slice(), [pair, leaf].as_slice());
+    assert_eq!(rt; live.forwarding.next, 7);
+    assert_eq!(rt; live.front, 1);
+    assert_eq!(rt; live.held_words, 4);
+    for (address, want) in [(0, 0), (1, 0), (4, 1), (8, 5), (10, 0)] {
+        assert_eq!(rt; live.forwarding.forwarded(address), want, "at {address}");
+    }
+    Ok(())
+}
+
+#[test]
+fn an_object_that_a_scion_alone_names_is_found(rt: HostRuntime) -> Result<(), Fail> {
+    let alloc = rt.alloc();
+    let (heap, held) = two_leaves(alloc)?;
+    let live = reach_uncounted::<Brand>(alloc, &heap, &held, Blank::new(1))?;
+    let leaf = Relocation {
+        from: 3,
+        to: 1,
+        shape: LEAF,
+    };
+    assert_eq!(rt; live.forwarding.moves.as_slice(), [leaf].as_slice());
+    assert_eq!(rt; live.forwarding.next, 3);
+    assert_eq!(rt; live.front, 0);
+    assert_eq!(rt; live.held_words, 0);
+    for (address, want) in [(1, 0), (3, 1)] {
+        assert_eq!(rt; live.forwarding.forwarded(address), want, "at {address}");
     }
     Ok(())
 }

@@ -1,5 +1,5 @@
 -- The homes that a decision gives to objects, from before and new.
-use Rattle.std.proofs.Common.{◌≡◌, ◌≢◌, ℕ, zero, suc, ◌+◌, ◌<◌, ◌≤◌, ◌^◌, ◌⊎◌, List, [], ◌∷◌, take, refl, sym, ap, ◌∙◌}
+use Rattle.std.proofs.Common.{◌≡◌, ℕ, zero, suc, ◌+◌, ◌<◌, ◌≤◌, ◌^◌, List, [], ◌∷◌, take, refl, sym, ap, ◌∙◌}
 use Rattle.std.proofs.Common.{subst, arith, inl, inr}
 use Rattle.std.specs.Prelude.{map, slice_get, slice_index, Option, None, Some}
 use Rattle.std.proofs.lemmas.Bool.Decides.{eqb_tells}
@@ -8,12 +8,12 @@ use Rattle.melt_word.specs.Words.{IsHome, IsHomeAndScion, home_word, home_part, 
 use Rattle.melt_word.specs.declared.header.Header.{Header}
 use Rattle.melt_word.specs.declared.home.HomeWord.{HomeWord}
 use Rattle.melt_word.proofs.OneToOne.{home_part_is}
-use Rattle.melt_space.specs.Space.{SpaceWords, IsWord, word_at}
+use Rattle.melt_space.specs.Space.{SpaceWords, word_at}
 use Rattle.melt_scion.specs.State.{State, HeaderAt, Reached}
 use Rattle.melt_scion.proofs.Geometry.{one_header}
 use Rattle.melt_move.specs.declared.homes.Given.{Given}
 use Rattle.melt_move.specs.declared.decision.Decision.{Decision}
-use Rattle.melt_move.specs.Plans.{need_for, new_home, home_or, home_by, HasOldHome, WantsHome, IsDecision, IsSeen, HasRoom}
+use Rattle.melt_move.specs.Plans.{need_for, new_home, home_or, home_by, WantsHome, IsDecision, HasRoom}
 
 -- the words of one home more
 pub need_for-cons : (g : Given) (given : List Given) → need_for (g ∷ given) ≡ cost_of g.shape + need_for given

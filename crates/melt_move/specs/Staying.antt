@@ -7,10 +7,16 @@ use Rattle.melt_space.specs.Space.{SpaceWords}
 use Rattle.melt_scion.specs.State.{State, HeaderAt, RefersTo, Reached}
 use Rattle.melt_scion.specs.Moves.{WordBecomes, moved_ref}
 use Rattle.melt_copy.specs.declared.forwarding.Relocation.{Relocation}
-use Rattle.melt_copy.specs.Moving.{IsRefWord, words_in, header_after}
+use Rattle.melt_copy.specs.Moving.{IsRefWord, IsRelocation, words_in, header_after}
 use Rattle.melt_copy.specs.Tracking.{goes, word_in}
 use Rattle.melt_move.specs.declared.decision.Decision.{Decision}
 use Rattle.melt_move.specs.Plans.{IsDecision, HasRoom, home_by}
+
+-- an object that can be reached, where all was decided
+pub record Follows (space : SpaceWords) (s : State) (decision : Decision) (address : ℕ) : Type 0 where
+  pub decided : IsDecision space s decision
+  pub room : HasRoom decision
+  pub reached : Reached s address
 
 -- a reference that can be reached, where all was decided
 pub record IsSource (space : SpaceWords) (s : State) (decision : Decision) (word : ℕ) : Type 0 where
@@ -25,6 +31,12 @@ pub record AreSources (space : SpaceWords) (s : State) (decision : Decision) (wo
   pub room : HasRoom decision
   pub references : (i : ℕ) → i < length words → IsRefWord (slice_index words i)
   pub reached : (i address : ℕ) → i < length words → RefersTo (slice_index words i) address → Reached s address
+
+-- an object that stays, where all was decided
+pub record Stays (space : SpaceWords) (s : State) (decision : Decision) (m : Relocation) : Type 0 where
+  pub decided : IsDecision space s decision
+  pub room : HasRoom decision
+  pub move : IsRelocation s m
 
 -- the word of a reference in what stays
 abbrev pub StaysAs : State → Decision → ℕ → ℕ → Type 0

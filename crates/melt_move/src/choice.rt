@@ -53,7 +53,8 @@ pub fn choose<L: Ledger>(
     steps: &mut Steps<L>,
 ) -> Result<Choice, NoMemory>
     requires { (s : State) × IsSeen space.now s × IsLiveSet s live.now }
-    ensures { IfOk result (λ choice. (s : State) → IsSeen space.now s → IsLiveSet s live.now → IsChoice s live.now choice) }
+    ensures { IfOk result (λ choice. (s : State) → IsSeen space.now s → IsLiveSet s live.now
+        → IsChoice s live.now choice) }
 {
     let mut stay = Forwarding::new(alloc, space.used())?;
     let mut leaving = Vec::new(alloc);

@@ -9,6 +9,7 @@
 
 pub mod bodies;
 pub mod choice;
+pub mod collect;
 pub mod commit;
 pub mod decision;
 pub mod homes;

@@ -1,60 +1,26 @@
-use Rattle.std.proofs.Common.{◌≡◌, ◌-◌, refl, arith}
-use Rattle.melt_space.specs.Space.{IsSpace}
-use Rattle.melt_scion.specs.declared.heap.Heap.{Heap}
+use Rattle.std.proofs.Common.{refl}
 use Rattle.melt_copy.specs.declared.collect.Copied.{Copied}
-use Rattle.melt_copy.proofs.Outs.{Begins, outs_start, outs_held, outs_globals, copies}
-use Rattle.melt_copy.proofs.collect.copy_out.Given.{Over}
+use Rattle.melt_copy.proofs.Roots.{may_find_globals, may_find_scions}
+use Rattle.melt_copy.proofs.Outs.{copies}
 use Rattle.melt_copy.proofs.collect.copy_out.Goals as goal
-use Rattle.melt_copy.proofs.collect.copy_out.Goals.{In_ok-forwarding}
-
--- the heap as it is, and a forwarding that has found nothing
-begins : (g : Over) (c : In_ok-forwarding g) (old : Heap) → old ≡ c.args.heap.now → IsSpace old.space
-    → c.used.result ≡ old.space.used → Begins old c.args.heap.now c.in_ok-forwarding.forwarding c.used.result
-begins g c old same space used_is = record {
-  same = same;
-  space = space;
-  used_is = used_is;
-  addresses = c.in_ok-forwarding.ensures.addresses;
-  moves = c.in_ok-forwarding.ensures.moves;
-  next = c.in_ok-forwarding.ensures.next;
-}
-
-pub find_all_held-requires : goal.find_all_held-requires
-find_all_held-requires g c =
-    outs_start _ c.args.heap.now c.args.held.now c.in_ok-forwarding.forwarding c.used.result
-    (begins g (goal.at.find_all_held-requires g c).In_ok-forwarding _ c.heap.view_is c.used.ensures.within
-    c.used.ensures.value) c.requires.formed
-
-pub overflow_sub-held_words : goal.overflow_sub-held_words
-overflow_sub-held_words g c =
-    let start = outs_start _ c.args.heap.now c.args.held.now c.in_ok-forwarding.forwarding c.used.result
-    (begins g (goal.at.overflow_sub-held_words g c).In_ok-forwarding _ c.heap.view_is c.used.ensures.within
-    c.used.ensures.value) c.requires.formed in
-    let found = c.find_all_held.ensures.tracks start.0 start.1 in
-    omega (arith, found.holds.behind)
 
 pub move_words-requires : goal.move_words-requires
 move_words-requires g c =
-    outs_held _ c.args.heap.now c.args.held.now c.in_ok-forwarding.forwarding c.used.result
-    (begins g (goal.at.move_words-requires g c).In_ok-forwarding _ c.heap.view_is c.used.ensures.within
-    c.used.ensures.value) c.find_all_held.new.forwarding c.find_all_held.ensures.tracks
-    c.deref.result.now c.deref.ensures.value c.requires.formed
+    may_find_globals _ c.args.heap.now c.args.held.now c.heap.view_is c.in_ok-forwarding.field-0
+    c.in_ok-forwarding.ensures c.deref.result.now c.deref.ensures.value c.requires.formed
 
 pub find_scions-requires-clause-tracks : goal.find_scions-requires-clause-tracks
 find_scions-requires-clause-tracks g c =
-    outs_globals _ c.args.heap.now c.args.held.now c.in_ok-forwarding.forwarding c.used.result
-    (begins g (goal.at.find_scions-requires-clause-tracks g c).In_ok-forwarding _ c.heap.view_is c.used.ensures.within
-    c.used.ensures.value) c.find_all_held.new.forwarding c.find_all_held.ensures.tracks
-    c.deref.result.now c.deref.ensures.value c.move_words.new.forwarding c.move_words.ensures.tracks c.requires.formed
+    may_find_scions _ c.args.heap.now c.args.held.now c.heap.view_is c.in_ok-forwarding.field-0
+    c.in_ok-forwarding.ensures c.deref.result.now c.deref.ensures.value c.move_words.new.forwarding
+    c.move_words.ensures.tracks c.requires.formed
 
 pub copy_objects-requires : goal.copy_objects-requires
 copy_objects-requires g c =
-    let globals = outs_globals _ c.args.heap.now c.args.held.now c.in_ok-forwarding.forwarding c.used.result
-    (begins g (goal.at.copy_objects-requires g c).In_ok-forwarding _ c.heap.view_is c.used.ensures.within
-    c.used.ensures.value) c.find_all_held.new.forwarding c.find_all_held.ensures.tracks
-    c.deref.result.now c.deref.ensures.value c.move_words.new.forwarding c.move_words.ensures.tracks
-    c.requires.formed in
-    (globals.0, c.find_scions.ensures.tracks globals.0 globals.1)
+    let scions = may_find_scions _ c.args.heap.now c.args.held.now c.heap.view_is c.in_ok-forwarding.field-0
+    c.in_ok-forwarding.ensures c.deref.result.now c.deref.ensures.value c.move_words.new.forwarding
+    c.move_words.ensures.tracks c.requires.formed in
+    (scions.0, c.find_scions.ensures.tracks scions.0 scions.1)
 
 pub returns : goal.returns
 returns g c =
@@ -64,18 +30,13 @@ returns g c =
       globals = c.move_words.new.out;
       numbers = c.in_ok-numbers.numbers;
       live = c.in_ok-live.live;
-      held = c.find_all_held.new.forwarding.next - 1;
+      held = c.in_ok-forwarding.field-0.held_words;
     } in
-    copies _ c.args.heap.now c.args.held.now c.in_ok-forwarding.forwarding c.used.result
-    (begins g (goal.at.returns g c).In_ok-forwarding _ c.heap.view_is c.used.ensures.within c.used.ensures.value)
-    c.find_all_held.new.forwarding c.find_all_held.ensures.tracks
-    c.deref.result.now c.deref.ensures.value c.move_words.new.forwarding c.move_words.ensures.tracks
-    c.args.phase c.find_scions.new.forwarding c.copy_objects.new.forwarding c.len-front.result
-    c.in_ok-globals.globals.items c.move_words.new.out.items copied
-    (omega (arith, c.len-front.ensures, c.find_all_held.new.forwarding.moves.ok.0)) c.in_ok-find_all_held.ensures.finds
-    c.move_words.ensures.grows c.in_ok-globals.ensures.items c.in_ok-move_words.ensures.extends
-    c.in_ok-move_words.ensures.moves
-    c.find_scions.ensures.grows c.in_ok-find_scions.ensures.finds c.find_scions.ensures.tracks
-    c.copy_objects.ensures.grows
-    c.in_ok-words.ensures.copied c.deref-3.result.now c.deref-3.ensures.value c.in_ok-numbers.ensures refl refl refl
+    copies _ c.args.heap.now c.args.held.now c.heap.view_is c.in_ok-forwarding.field-0 c.in_ok-forwarding.ensures
+    c.deref.result.now c.deref.ensures.value c.move_words.new.forwarding c.move_words.ensures.tracks c.args.phase
+    c.find_scions.new.forwarding c.copy_objects.new.forwarding c.in_ok-globals.globals.items c.move_words.new.out.items
+    copied c.move_words.ensures.grows c.in_ok-globals.ensures.items c.in_ok-move_words.ensures.extends
+    c.in_ok-move_words.ensures.moves c.find_scions.ensures.grows c.in_ok-find_scions.ensures.finds
+    c.find_scions.ensures.tracks c.copy_objects.ensures.grows c.in_ok-words.ensures.copied
+    c.deref-3.result.now c.deref-3.ensures.value c.in_ok-numbers.ensures refl refl refl
     c.in_ok-live.ensures.live c.live_scions.ensures.table

@@ -9,8 +9,7 @@ copy_object-requires g c =
     let s = c.requires.0 in
     let copied = c.loop-done.invariant.copied s c.requires.1 in (
       s,
-      next_object c.args.space.now s c.loop-done.forwarding c.loop-done.words.items c.loop-done.done
-          c.index-m.result.now copied (omega
+      next_object c.args.space.now s c.loop-done.forwarding c.loop-done.done c.index-m.result.now copied.tracks (omega
           (arith, c.loop-done-test.true, c.len.ensures, c.loop-done.forwarding.moves.ok.0))
           c.index-m.ensures,
     )
@@ -32,8 +31,8 @@ loop-done-preserved g c = record {
       c.copy_object.ensures.grows;
   copied = λ s tracks.
       let copied = c.loop-done.invariant.copied s tracks in
-      let of = next_object c.args.space.now s c.loop-done.forwarding c.loop-done.words.items c.loop-done.done
-      c.index-m.result.now copied (omega
+      let of = next_object c.args.space.now s c.loop-done.forwarding c.loop-done.done
+      c.index-m.result.now copied.tracks (omega
       (arith, c.loop-done-test.true, c.len.ensures, c.loop-done.forwarding.moves.ok.0)) c.index-m.ensures in
       copied_more c.args.phase c.args.front c.args.space.now s c.loop-done.forwarding c.copy_object.new.forwarding
       c.loop-done.words.items _ c.loop-done.done c.index-m.result.now copied

@@ -1,4 +1,4 @@
-use Rattle.std.proofs.Common.{sym, ◌∙◌}
+use Rattle.std.proofs.Common.{◌∙◌}
 use Rattle.melt_move.proofs.HomeBy.{home_decodes, new_home_small}
 use Rattle.melt_move.proofs.decision.Decision.home_of.Goals as goal
 

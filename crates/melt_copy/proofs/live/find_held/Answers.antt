@@ -2,8 +2,8 @@ use Rattle.std.proofs.Common.{◌+◌, sym, subst}
 use Rattle.std.specs.Prelude.{slice_index}
 use Rattle.melt_copy.specs.declared.forwarding.Forwarding.{Forwarding}
 use Rattle.melt_copy.proofs.Held.{tracks_register, HoldsSoFar, holds_found, holds_empty}
-use Rattle.melt_copy.proofs.copy.find_held.Goals as goal
-use Rattle.melt_copy.proofs.copy.find_held.Goals.{then-address-ne0+in_ok-find, else-address-ne0}
+use Rattle.melt_copy.proofs.live.find_held.Goals as goal
+use Rattle.melt_copy.proofs.live.find_held.Goals.{then-address-ne0+in_ok-find, else-address-ne0}
 
 pub returns-in_err-find-clause-tracks : goal.returns-in_err-find-clause-tracks
 returns-in_err-find-clause-tracks g c =

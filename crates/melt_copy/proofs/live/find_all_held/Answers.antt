@@ -2,7 +2,7 @@ use Rattle.std.proofs.Common.{arith}
 use Rattle.std.proofs.lemmas.List.{get_or_default}
 use Rattle.melt_copy.proofs.Growth.{Grows-more}
 use Rattle.melt_copy.proofs.Held.{tracks_thread, threads_more, each_thread_more}
-use Rattle.melt_copy.proofs.copy.find_all_held.Goals as goal
+use Rattle.melt_copy.proofs.live.find_all_held.Goals as goal
 
 pub find_held-requires : goal.find_held-requires
 find_held-requires g c =

@@ -4,7 +4,7 @@ use Rattle.melt_scion.specs.State.{State}
 use Rattle.melt_scion.specs.Heaps.{register_in}
 use Rattle.melt_copy.specs.declared.forwarding.Relocation.{Relocation}
 use Rattle.melt_copy.specs.Tracking.{Grows, Tracks, TracksThreads, goes}
-use Rattle.melt_copy.proofs.copy.find_all_held.Given as goal
+use Rattle.melt_copy.proofs.live.find_all_held.Given as goal
 
 abbrev pub invariant-loop-registers : goal.invariant-loop-registers
 invariant-loop-registers g l = record {

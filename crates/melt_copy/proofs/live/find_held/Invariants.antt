@@ -3,7 +3,7 @@ use Rattle.std.specs.Prelude.{slice_index, slice_get, Some, ◌⊎◌}
 use Rattle.melt_scion.specs.State.{State}
 use Rattle.melt_copy.specs.declared.forwarding.Relocation.{Relocation}
 use Rattle.melt_copy.specs.Tracking.{Grows, Tracks, TracksHeld, goes}
-use Rattle.melt_copy.proofs.copy.find_held.Given as goal
+use Rattle.melt_copy.proofs.live.find_held.Given as goal
 
 abbrev pub invariant-loop-address : goal.invariant-loop-address
 invariant-loop-address g l = record {
