@@ -5,6 +5,7 @@ pub mod Moves
 pub mod Choosing
 pub mod Showing
 pub mod HomeBy
+pub mod Elements
 pub mod KeptWords
 pub mod KeptObjects
 pub mod Naming
@@ -17,9 +18,10 @@ pub mod Deciding
 pub mod Nothing
 pub mod Prepared
 pub mod Marking
-pub mod Needs
 pub mod Giving
 pub mod TwoObjects
 pub mod Encoding
 pub mod Written
 pub mod BuildingTwo
+pub mod ScionRoom
+pub mod GivingScions

@@ -1,9 +1,9 @@
 -- The names of new homes, one after the other.
 use Rattle.std.proofs.Common.{◌≡◌, ◌≢◌, ℕ, zero, suc, ◌+◌, ◌-◌, ◌<◌, ◌≤◌, List, [], ◌∷◌, length, take, eqb, refl}
 use Rattle.std.proofs.Common.{sym, ◌∙◌, ap, subst, arith, inl, inr}
-use Rattle.std.specs.Prelude.{slice_get, slice_index_or, Option, None, Some, Bool, true, false, if◌then◌else◌}
+use Rattle.std.specs.Prelude.{slice_get, Option, None, Some, Bool, true, false, if◌then◌else◌}
 use Rattle.std.proofs.lemmas.Bool.{cases_eq, eq-eqb, ne_eqb, cond-true, cond-false}
-use Rattle.std.proofs.lemmas.Option.{same_Some, slice_get_within, slice_get-get_or}
+use Rattle.std.proofs.lemmas.Option.{same_Some, slice_get_within}
 use Rattle.melt_word.specs.Words.{cost_of}
 use Rattle.melt_scion.specs.GhostMaps.{NamePairs, named}
 use Rattle.melt_scion.specs.declared.heap.Names.{Names}
@@ -27,12 +27,6 @@ need-next (x ∷ given) (suc i) g at =
 pub home_at-before : (homes : NewHomes) (i j : ℕ) (g : Given) → slice_get homes.given.items i ≡ Some g → i < j
     → home_at homes i < home_at homes j
 home_at-before homes i j g at before = omega (arith, need-before homes.given.items i j g at before)
-
--- an element of a list that is read by its index
-pub read_at : {X : Type 0} (items all : List X) (i : ℕ) (d : X) → items ≡ all → i < length items
-    → slice_get all i ≡ Some (slice_index_or items i d)
-read_at {X = X} items all i d same below =
-    ap (λ (l : List X). slice_get l i) (sym same) ∙ slice_get-get_or items i d below
 
 -- where a home ends
 pub home_at-next : (homes : NewHomes) (i : ℕ) (g : Given) → slice_get homes.given.items i ≡ Some g

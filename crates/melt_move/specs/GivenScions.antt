@@ -50,8 +50,8 @@ abbrev pub given_count : NewHomes → List Relocation → ℕ
 given_count homes moves = length (filter (λ (m : Relocation). nat_lt 0 (given_home homes m)) moves)
 
 -- What stands when the objects that stay were put into the space: each has a shape, and they lie apart; the home word
--- of each is 0 or names a live scion with its home, whose address is still the old one; each live scion is one of these;
--- and new homes are those of objects without one, which lie apart before a word.
+-- of each is 0 or names a live scion with its home, whose address is still the old one; each live scion is one of
+-- these; and new homes are those of objects without one, which lie apart before a word.
 pub record AwaitScions (heap : Heap) (homes : NewHomes) (moves : List Relocation) (end : ℕ) : Type 0 where
   pub small_space : length heap.space.list < 2 ^ 30
   pub shapes : (k : ℕ) (m : Relocation) → slice_get moves k ≡ Some m → IsShape m.shape
@@ -82,8 +82,8 @@ pub record HasScion (heap : Heap) (m : Relocation) (home : ℕ) : Type 0 where
   pub names : NamesScion (word_at heap.space) m.to home scion
   pub live : scion_at heap.scions scion ≡ Some (home, m.to)
 
--- Each object that stays and has a home, from before or new, has its scion, and there are no others. Only the home words
--- of the objects with new homes changed.
+-- Each object that stays and has a home, from before or new, has its scion, and there are no others. Only the home
+-- words of the objects with new homes changed.
 pub record HaveScions (homes : NewHomes) (moves : List Relocation) (old new : Heap) : Type 0 where
   pub new_homes : (k : ℕ) (m : Relocation) → slice_get moves k ≡ Some m → given_home homes m ≢ 0
       → HasScion new m (given_home homes m)
@@ -91,7 +91,8 @@ pub record HaveScions (homes : NewHomes) (moves : List Relocation) (old new : He
       → NamesScion (word_at old.space) m.to home scion → scion_at new.scions scion ≡ Some (home, m.to)
   pub only : (scion : ℕ) (pair : ℕ × ℕ) → scion_at new.scions scion ≡ Some pair → (k : ℕ) × (m : Relocation)
       × (slice_get moves k ≡ Some m) × (pair.1 ≡ m.to) × NamesScion (word_at new.space) m.to pair.0 scion
-  pub words : (at : ℕ) → ((k : ℕ) (m : Relocation) → slice_get moves k ≡ Some m → given_home homes m ≢ 0 → at ≢ m.to + 1)
+  pub words : (at : ℕ)
+      → ((k : ℕ) (m : Relocation) → slice_get moves k ≡ Some m → given_home homes m ≢ 0 → at ≢ m.to + 1)
       → word_at new.space at ≡ word_at old.space at
   pub space_size : length new.space.list ≡ length old.space.list
   pub used : new.space.used ≡ old.space.used

@@ -9,8 +9,8 @@ ghost use Rattle.melt_space.specs.Space.{IsWord, word_at};
 ghost use Rattle.melt_scion.specs.Heaps.{Shows};
 ghost use Rattle.melt_scion.specs.State.{State};
 ghost use Rattle.melt_scion.specs.Scions.{IsTable};
-ghost use Rattle.melt_move.specs.GivenScions.{AwaitScions, FreesScions, HaveScions, MayNameScion, NamesScion, NamesScionsOf};
-ghost use Rattle.melt_move.specs.GivenScions.{WritesStubs, given_count};
+ghost use Rattle.melt_move.specs.GivenScions.{AwaitScions, FreesScions, HaveScions, MayNameScion, NamesScion};
+ghost use Rattle.melt_move.specs.GivenScions.{NamesScionsOf, WritesStubs, given_count};
 ghost use Rattle.melt_move.specs.Plans.{IsDecision};
 ghost use Rattle.melt_move.specs.ScionTurns.{AwaitsTurn, GivesScion, LiesAt, TakesTurn, WantsScion, WritesStub};
 
@@ -136,7 +136,8 @@ pub fn give_scions<D: StaleDisk, L: Ledger>(
     steps: &mut Steps<L>,
 ) -> Result<u32, Failed>
     requires { AwaitScions heap.old decision.now.homes decision.now.choice.stay.moves.items disk.old.end }
-    ensures scions { OnOk result (HaveScions decision.now.homes decision.now.choice.stay.moves.items heap.old heap.new) }
+    ensures scions { OnOk result
+        (HaveScions decision.now.homes decision.now.choice.stay.moves.items heap.old heap.new) }
     ensures written { OnOk result ((image : ℕ → ℕ) → Shows (D.image disk.old.disk.now) image → (after : ℕ → ℕ)
         × Shows (D.image disk.new.disk.now) after
         × WritesStubs decision.now.homes decision.now.choice.stay.moves.items heap.new disk.old.end image after) }
@@ -151,5 +152,10 @@ pub fn give_scions<D: StaleDisk, L: Ledger>(
     ensures limit { disk.new.limit ≡ disk.old.limit }
     ensures same_disk { disk.new.disk.ghost_name ≡ disk.old.disk.ghost_name }
 {
-    Ok(0)
+    let mut stubs = 0;
+    for m in &decision.choice.stay.moves {
+        steps.tick();
+        stubs += update_scion(heap, disk, &decision.homes, *m)?;
+    }
+    Ok(stubs)
 }

@@ -4,7 +4,8 @@ use Rattle.melt_scion.specs.HomeNames.{NamedHomes, home_name}
 use Rattle.melt_scion.specs.Names.{name_at}
 use Rattle.melt_scion.proofs.HomeNumbers.{home_set, home_set_others}
 use Rattle.melt_move.specs.NamedHomes.{home_at}
-use Rattle.melt_move.proofs.Naming.{read_at, home_at-next, spare_falls, NamesFirst, names_more, names_same, names_all}
+use Rattle.melt_move.proofs.Elements.{read_at}
+use Rattle.melt_move.proofs.Naming.{home_at-next, spare_falls, NamesFirst, names_more, names_same, names_all}
 use Rattle.melt_move.proofs.Needs.{need-front}
 use Rattle.melt_move.proofs.commit.name_each.Given.{Over}
 use Rattle.melt_move.proofs.commit.name_each.Goals as goal

@@ -2,7 +2,7 @@ use Rattle.std.proofs.Common.{◌≡◌, ◌+◌, sym, ap, subst, arith, length}
 use Rattle.std.specs.Prelude.{slice_get, slice_index_or, Some}
 use Rattle.melt_space.specs.Space.{word_at}
 use Rattle.melt_scion.specs.Scions.{Scions}
-use Rattle.melt_move.proofs.Naming.{read_at}
+use Rattle.melt_move.proofs.Elements.{read_at}
 use Rattle.melt_move.proofs.Freeing.{DepartureIs, FreesFirst, departure_is, frees_all, frees_more, frees_none}
 use Rattle.melt_move.proofs.Freeing.{still_live}
 use Rattle.melt_move.proofs.scions.free_scions.Given.{Over}
@@ -42,12 +42,7 @@ pub free-requires : goal.free-requires
 free-requires g c =
     still_live c.args.space.now c.requires.decided.0 c.args.decision.now c.args.scions.now c.requires.decided.1
     c.requires.decided.2 c.loop-d.d-index _ c.loop-d.scions c.in-Some.ensures.0 c.in-Some.scion
-    (turn_is g (goal.at.free-requires g c).After-tick) (record {
-      gone = c.loop-d.invariant.gone;
-      others = c.loop-d.invariant.others;
-      is_table = c.loop-d.invariant.is_table;
-      size = c.loop-d.invariant.size;
-    }) c.in-Some.ensures.1
+    (turn_is g (goal.at.free-requires g c).After-tick) c.loop-d.invariant c.in-Some.ensures.1
 
 pub loop-d-preserved : goal.loop-d-preserved
 loop-d-preserved g c =
@@ -56,29 +51,18 @@ loop-d-preserved g c =
     let i = c.loop-d.d-index in
     let old = c.args.scions.now in
     let at = turn_is g (goal.at.loop-d-preserved g c).After-tick in
-    let before : FreesFirst word leaving i old c.loop-d.scions = record {
-      gone = c.loop-d.invariant.gone;
-      others = c.loop-d.invariant.others;
-      is_table = c.loop-d.invariant.is_table;
-      size = c.loop-d.invariant.size;
-    } in
     elim c.match-scion_of.branch [
       | in-Some w ↦
           subst (λ (now : Scions). FreesFirst word leaving (i + 1) old now) (sym w.scions-is)
-          (frees_more word leaving i _ old c.loop-d.scions at before w.free.new.self _ w.in-Some.scion
+          (frees_more word leaving i _ old c.loop-d.scions at c.loop-d.invariant w.free.new.self _ w.in-Some.scion
           w.in-Some.ensures.1 w.free.ensures.frees w.free.ensures.table)
       | in_default w ↦
           subst (λ (now : Scions). FreesFirst word leaving (i + 1) old now) (sym w.scions-is)
-          (frees_none word leaving i _ old c.loop-d.scions at before w.in_default.ensures)
+          (frees_none word leaving i _ old c.loop-d.scions at c.loop-d.invariant w.in_default.ensures)
     ]
 
 pub returns : goal.returns
 returns g c =
     let whole = ap length c.deref-d-items.ensures.value in
     frees_all (word_at c.args.space.now) c.args.decision.now.choice.leaving.items c.loop-d.d-index c.args.scions.now
-    c.loop-d.scions (omega (arith, whole, c.loop-d-test.false, c.loop-d.auto.d-index-end)) (record {
-      gone = c.loop-d.invariant.gone;
-      others = c.loop-d.invariant.others;
-      is_table = c.loop-d.invariant.is_table;
-      size = c.loop-d.invariant.size;
-    })
+    c.loop-d.scions (omega (arith, whole, c.loop-d-test.false, c.loop-d.auto.d-index-end)) c.loop-d.invariant
