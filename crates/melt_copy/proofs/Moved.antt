@@ -28,7 +28,8 @@ use Rattle.melt_copy.specs.Moving.{IsWhole, IsFound, IsCopy, WordMoves, moved, m
 use Rattle.melt_copy.specs.Moving.{maps_after}
 use Rattle.melt_copy.specs.Copying.{IsCopying}
 use Rattle.melt_copy.proofs.Places.{takes_word, place_below, place_found, same_place, same_source}
-use Rattle.melt_copy.proofs.Sources.{goes, source_cost, source_shape, source_object, reached_found, copy_closed, found_words}
+use Rattle.melt_copy.proofs.Sources.{goes, source_cost, source_shape, source_object, reached_found, copy_closed}
+use Rattle.melt_copy.proofs.Sources.{found_words}
 use Rattle.melt_copy.proofs.Phases.{none_leaves}
 use Rattle.melt_copy.proofs.Renaming.{comes}
 use Rattle.melt_copy.proofs.Carried.{copy_name, objects_apart, zero_stays}
@@ -166,7 +167,8 @@ module _ (phase : Phase) (maps : Maps) (s t : State) (f : ℕ → ℕ) (moves : 
     stay = λ a some.
         let g = goes s f moves t.free a copy.found some in
         (subst (Reached s) g.from (copy.found.whole g.index g.move g.is).reached, none_leaves phase s a copying);
-    go = λ a reached. inl (reached_found s f moves t.free front copy.found (copy_closed s t f moves front copy) a reached);
+    go = λ a reached.
+        inl (reached_found s f moves t.free front copy.found (copy_closed s t f moves front copy) a reached);
     once = found_once;
     nothing = zero_stays phase maps s t f moves front whole copy;
   }
