@@ -1,7 +1,7 @@
 -- Heaps that are built by hand, for tests: one without objects, and one with three.
 use Rattle.std.proofs.Common.{◌≡◌, ◌≢◌, ℕ, ◌+◌, ◌^◌, ◌<◌, zero, suc, List, [], ◌∷◌, length, replicate, refl, sym, subst}
 use Rattle.std.proofs.Common.{ap, ◌∙◌, arith, lit≤, ◌⊎◌, inl, inr}
-use Rattle.std.specs.Prelude.{◌/◌, Bool, Option, None, Some, true, false, slice_index}
+use Rattle.std.specs.Prelude.{Bool, Option, None, Some, true, false, slice_index}
 use Rattle.std.specs.FinMap.{FinMap, empty, get, get-empty}
 use Rattle.std.specs.Ordering.{nat_cmp}
 use Rattle.std.proofs.lemmas.List.{length-replicate, get_or-replicate, get_or_past}
@@ -17,11 +17,12 @@ use Rattle.melt_scion.specs.Names.{name_at, SetsName}
 use Rattle.melt_scion.specs.HomeNames.{NamedHomes}
 use Rattle.melt_scion.specs.Scions.{Scions, empty_table}
 use Rattle.melt_scion.specs.Heaps.{no_homes_on, scion_in, register_in, state_of, IsFormed, IsSettled, IsNewHeap}
-use Rattle.melt_scion.specs.Heaps.{HasNames, NamesMade}
+use Rattle.melt_scion.specs.Heaps.{AreScionsFor, HasNames, NamesMade}
 use Rattle.melt_scion.specs.declared.registers.Registers.{Registers}
 use Rattle.melt_scion.specs.declared.heap.Names as heap
 use Rattle.melt_scion.specs.declared.heap.Heap.{Heap}
 use Rattle.melt_scion.proofs.Geometry.{one_header}
+use Rattle.melt_scion.proofs.Tables.{scions_made}
 use Rattle.melt_scion.proofs.Starting.{Formed_start, new_heap_empty, nothing_at, no_scion_in}
 
 -- no address has a name, and no scion is live
@@ -45,9 +46,8 @@ new_formed words globals forward h held small new registers =
       names = subst (λ (o : Option heap.Names). HasNames o h.maps maps) (sym new.names)
           (λ k. sym (none_at words k), λ k. sym (get-empty {X = ℕ} nat_cmp k));
       made = record {
-        scions = ap (λ (table : Scions). length table.pairs) new.scions
-            ∙ (length-replicate {A = Option (ℕ × ℕ)} (words / 2) None
-            ∙ ap (λ (n : ℕ). n / 2) (sym new.space.size));
+        scions = subst (λ (n : ℕ). AreScionsFor n h.scions) (sym new.space.size)
+            (scions_made words h.scions new.scions);
         names = subst (NamesMade (length h.space.list)) (sym new.names)
             (length-replicate {A = Option ℕ} words None ∙ sym new.space.size);
       };
@@ -320,8 +320,7 @@ three_formed h held names first second third is =
       names = subst (λ (o : Option heap.Names). HasNames o h.maps maps) (sym is.has)
           (λ k. refl, λ k. sym (ap (λ (m : FinMap nat_cmp ℕ). get m k) is.no_homes ∙ get-empty {X = ℕ} nat_cmp k));
       made = record {
-        scions = ap (λ (table : Scions). length table.pairs) is.scions
-            ∙ (length-replicate {A = Option (ℕ × ℕ)} 5 None ∙ ap (λ (n : ℕ). n / 2) (sym size));
+        scions = subst (λ (n : ℕ). AreScionsFor n h.scions) (sym size) (scions_made 10 h.scions is.scions);
         names = subst (NamesMade (length h.space.list)) (sym is.has) (count ∙ sym size);
       };
       formed = words_formed maps s (record {

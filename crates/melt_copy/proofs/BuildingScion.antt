@@ -1,7 +1,7 @@
 -- A heap that is built by hand, for a test: two leaves, of which a live scion names the second.
 use Rattle.std.proofs.Common.{◌≡◌, ℕ, ◌+◌, List, [], ◌∷◌, length, replicate, refl, sym, subst, ap, ◌∙◌}
 use Rattle.std.proofs.Common.{arith, lit≤, inl, inr}
-use Rattle.std.specs.Prelude.{◌/◌, Option, None, Some}
+use Rattle.std.specs.Prelude.{Option, None, Some}
 use Rattle.std.specs.Option.{option_map}
 use Rattle.std.specs.FinMap.{FinMap, empty, get, get-empty}
 use Rattle.std.specs.Ordering.{nat_cmp}
@@ -15,12 +15,13 @@ use Rattle.melt_scion.specs.State.{Scion, State, HeaderAt, ObjectAt}
 use Rattle.melt_scion.specs.Placed.{Maps, ScionStands, FormedWords, Formed}
 use Rattle.melt_scion.specs.Names.{name_at, SetsName}
 use Rattle.melt_scion.specs.HomeNames.{NamedHomes}
-use Rattle.melt_scion.specs.Scions.{Scions, Adds, empty_table, scion_at}
+use Rattle.melt_scion.specs.Scions.{Scions, Adds, IsTable, empty_table, scion_at}
 use Rattle.melt_scion.specs.Heaps.{OnDisk, scion_in, register_in, state_of, IsFormed, HasNames, NamesMade}
 use Rattle.melt_scion.specs.declared.registers.Registers.{Registers}
 use Rattle.melt_scion.specs.declared.heap.Names as heap
 use Rattle.melt_scion.specs.declared.heap.Heap.{Heap}
 use Rattle.melt_scion.proofs.Geometry.{one_header}
+use Rattle.melt_scion.proofs.Tables.{scions_made, scions_kept}
 use Rattle.melt_scion.proofs.Starting.{no_scion_in}
 use Rattle.melt_copy.proofs.Building.{leaf_header, none_at}
 
@@ -137,6 +138,7 @@ pub record HasScion (h : Heap) (held : List Registers) (names : List (Option ℕ
   pub table : Scions
   pub no_scions : table ≡ empty_table 2
   pub adds : Adds table h.scions 1 second scion
+  pub is_table : IsTable h.scions
   pub forward : h.forward ≡ []
   pub globals : h.globals ≡ []
   pub registers : (t r : ℕ) → register_in held t r ≡ 0
@@ -165,8 +167,8 @@ scion_formed h held names first second scion is =
       names = subst (λ (o : Option heap.Names). HasNames o h.maps maps) (sym is.has)
           (λ k. refl, λ k. sym (ap (λ (m : FinMap nat_cmp ℕ). get m k) is.no_homes ∙ get-empty {X = ℕ} nat_cmp k));
       made = record {
-        scions = is.adds.size ∙ (ap (λ (table : Scions). length table.pairs) is.no_scions
-            ∙ (length-replicate {A = Option (ℕ × ℕ)} 2 None ∙ ap (λ (n : ℕ). n / 2) (sym size)));
+        scions = scions_kept 4 (length h.space.list) is.table h.scions
+            (record { is_table = is.is_table; size = is.adds.size }) size (scions_made 4 is.table is.no_scions);
         names = subst (NamesMade (length h.space.list)) (sym is.has) (count ∙ sym size);
       };
       formed = words_formed maps s (record {

@@ -30,7 +30,7 @@ use Rattle.melt_copy.specs.Copying.{IsCopying, Journals, Collects}
 use Rattle.melt_scion.proofs.NobodyLeaves.{old_home, old_scion}
 use Rattle.melt_copy.proofs.Places.{place_below, same_place}
 use Rattle.melt_copy.proofs.Sources.{found_words}
-use Rattle.melt_copy.proofs.Moved.{copy_collects}
+use Rattle.melt_copy.proofs.Moved.{copy_carries, copy_collects}
 use Rattle.melt_copy.proofs.Counted.{live_words, held_words}
 
 -- what was copied fits into the words that were in use
@@ -214,6 +214,7 @@ put_collects old new held after copied phase journal copying settled copies put 
       let moves = copied.forwarding.moves.items in
       let is = copies.is maps disk formed in
       let copy = put_copy phase old new held after disk copied settled is put in
+      let carries = copy_carries phase maps s t f moves is.front is.whole copy formed copying in
       let live : journal.live ≡ words_in moves = told.rest.live_words ∙ (put.space.used ∙ is.size) in
       let held_is : journal.held ≡ words_in (take is.front moves) = told.held ∙ is.held_words in
       record {
@@ -225,13 +226,13 @@ put_collects old new held after copied phase journal copying settled copies put 
             (moves_apart s old.names copied is) names put.names;
         collected = copy_collects phase maps s t f moves is.front is.whole copy formed copying;
         live = subst (CountsWords t (IsNamed (maps_after maps moves))) (sym live)
-            (live_words phase maps s t f moves is.front is.whole copy formed);
+            (live_words phase maps s t f moves is.front carries formed);
         held_words = subst (CountsWords s (HeldAt s)) (sym held_is)
-            (held_words phase maps s t f moves is.front is.whole copy);
+            (held_words phase maps s t f moves is.front carries);
         told = told.rest;
       };
   tables = record {
-    scions = put.scions.size;
+    scions = record { is_table = put.scions.is_table; size = put.scions.size };
     forwards = ap length put.forward;
     names = names_stay old.names new.names old.maps new.maps copied.forwarding.moves.items put.names;
   };

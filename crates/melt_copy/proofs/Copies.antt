@@ -15,7 +15,7 @@ use Rattle.melt_copy.specs.Tracking.{word_in, Extends, TracksIn, TracksOf}
 use Rattle.melt_copy.proofs.Sources.{source_shape}
 use Rattle.melt_copy.proofs.Following.{slot_word, slots_tracked}
 
-slots_length : (refs nums : ℕ) (object : List ℕ) → length object ≡ 2 + refs + nums
+pub slots_length : (refs nums : ℕ) (object : List ℕ) → length object ≡ 2 + refs + nums
     → length (take (2 + refs - 2) (drop 2 object)) ≡ refs
 slots_length refs nums object size =
     length-take-le (2 + refs - 2) (drop 2 object) (omega (arith, length-drop 2 object, size)) ∙ omega arith
@@ -26,7 +26,7 @@ slot_in refs object i below = get_or-take (2 + refs - 2) (drop 2 object) i 0 (om
     ∙ get_or-drop 2 object i 0
 
 -- the words of the slots are those from the third on
-slots_are : (space : SpaceWords) (from refs nums : ℕ) (object : List ℕ) → AreWords space from (2 + refs + nums) object
+pub slots_are : (space : SpaceWords) (from refs nums : ℕ) (object : List ℕ) → AreWords space from (2 + refs + nums) object
     → AreWords space (from + 2) refs (take (2 + refs - 2) (drop 2 object))
 slots_are space from refs nums object are = record {
   count_is = slots_length refs nums object are.count_is;
@@ -36,6 +36,13 @@ slots_are space from refs nums object are = record {
       ∙ ap (word_at space) (let sum : from + (2 + i) ≡ from + 2 + i = omega arith in sum));
 }
 
+-- the word of a slot, as a state has it
+pub object_slot : (space : SpaceWords) (s : State) (from refs nums : ℕ) (object : List ℕ) (i : ℕ)
+    → ((k : ℕ) → s.word k ≡ word_at space k) → AreWords space from (2 + refs + nums) object → i < refs
+    → slice_index (take (2 + refs - 2) (drop 2 object)) i ≡ s.word (from + 2 + i)
+object_slot space s from refs nums object i word are below =
+    slot_word space s from refs (take (2 + refs - 2) (drop 2 object)) i word (slots_are space from refs nums object are) below
+
 -- what the slots of an object refer to is found
 pub object_slots : (space : SpaceWords) (s : State) (forwarding : Forwarding) (m : Relocation) (object : List ℕ)
     → AreWords space m.from (cost_of m.shape) object → TracksOf space s forwarding m
@@ -44,7 +51,7 @@ object_slots space s forwarding m object are of =
     slots_tracked space s forwarding m (take (2 + m.shape.refs - 2) (drop 2 object))
     (slots_are space m.from m.shape.refs m.shape.nums object are) of
 
-word_in_at : (words : List ℕ) (n j at : ℕ) → at ≡ n + 1 + j → word_in words at ≡ slice_index words (n + j)
+pub word_in_at : (words : List ℕ) (n j at : ℕ) → at ≡ n + 1 + j → word_in words at ≡ slice_index words (n + j)
 word_in_at words n j zero is = absurd (omega (arith, is))
 word_in_at words n j (suc k) is = ap (slice_index words) (omega (arith, is))
 

@@ -10,11 +10,11 @@ use Rattle.melt_scion.specs.Placed.{Maps, IsNamed, Formed}
 use Rattle.melt_scion.specs.Collected.{WordsAt, CountsWords, HeldAt}
 use Rattle.melt_scion.proofs.Reaching.{reached_named}
 use Rattle.melt_copy.specs.declared.forwarding.Relocation.{Relocation}
-use Rattle.melt_copy.specs.Moving.{IsWhole, words_in, IsCopy, maps_after}
+use Rattle.melt_copy.specs.Moving.{Carries, words_in, maps_after}
 use Rattle.melt_copy.proofs.Places.{same_place, same_source}
 use Rattle.melt_copy.proofs.Sources.{source_object, source_cost}
 use Rattle.melt_copy.proofs.Renaming.{comes}
-use Rattle.melt_copy.proofs.Carried.{copy_name, object_there, shape_before}
+use Rattle.melt_copy.proofs.Carried.{carried_name, object_there, shape_before}
 use Rattle.melt_copy.proofs.Counting.{slice_get-take, slice_get_in_front, counts_moves}
 
 -- the words of the object whose header has this word
@@ -48,21 +48,21 @@ counts_words s Is total sums = record {
 }
 
 module _ (phase : Phase) (maps : Maps) (s t : State) (f : ℕ → ℕ) (moves : List Relocation) (front : ℕ)
-    (whole : IsWhole s) (copy : IsCopy phase s t f moves front) where
+    (carries : Carries phase s t f moves front) where
   -- those of all objects, where they are after the move
   pub live_words : Formed maps s → CountsWords t (IsNamed (maps_after maps moves)) (words_in moves)
   live_words formed = counts_words t (IsNamed (maps_after maps moves)) (words_in moves) (
       counts_moves (cost_at t) (IsNamed (maps_after maps moves)) (λ (m : Relocation). m.to) moves
       (λ i j a b first second before same. let one =
-      (same_place s f moves t.free i j a b copy.found first second same).0 in omega (arith, one, before))
+      (same_place s f moves t.free i j a b carries.found first second same).0 in omega (arith, one, before))
       (λ k m at.
-      let o = object_there phase maps s t f moves front whole copy k m at in
+      let o = object_there phase maps s t f moves front carries k m at in
       (costs_at t).is m.to o.0 o.1.starts
-      ∙ ap cost_of (shape_before phase maps s t f moves front whole copy k m m.to o.0 at refl o.1.starts))
+      ∙ ap cost_of (shape_before phase maps s t f moves front carries k m m.to o.0 at refl o.1.starts))
       (λ b named. let c = comes maps.address moves b named.0 named.1 in (c.index, c.move, c.is, c.to))
       (λ k m at.
-      let n = reached_named maps s m.from formed (copy.found.whole k m at).reached in
-      (n.0, copy_name phase maps s t f moves front whole copy k m at ∙ n.1))
+      let n = reached_named maps s m.from formed (carries.found.whole k m at).reached in
+      (n.0, carried_name phase maps s t f moves front carries k m at ∙ n.1))
       )
 
   -- those of the objects in registers, where they were before
@@ -72,18 +72,18 @@ module _ (phase : Phase) (maps : Maps) (s t : State) (f : ℕ → ℕ) (moves : 
       (λ i j a b first second before same.
       let x = (slice_get-take moves front i a first).1 in
       let y = (slice_get-take moves front j b second).1 in
-      let one = (same_source s f moves t.free i j a b copy.found x y same).0 in
+      let one = (same_source s f moves t.free i j a b carries.found x y same).0 in
       omega (arith, one, before))
       (λ k m at.
-      let is = copy.found.whole k m (slice_get-take moves front k m at).1 in
+      let is = carries.found.whole k m (slice_get-take moves front k m at).1 in
       (costs_at s).is m.from is.header is.starts ∙ source_cost s m is)
       (λ a held.
       let full : s.register held.0.thread held.0.register ≢ 0 = λ nought. held.1 (sym held.0.holds ∙ nought) in
-      let m = copy.held.all held.0.thread held.0.register full in
+      let m = carries.held.all held.0.thread held.0.register full in
       (m.0, m.1, slice_get_in_front moves front m.0 m.1 m.3 m.2, m.4 ∙ held.0.holds))
       (λ k m at.
       let old = slice_get-take moves front k m at in
-      let held = copy.held.each k m old.1 old.0 in
-      let first = (source_object s m whole (copy.found.whole k m old.1)).first in
+      let held = carries.held.each k m old.1 old.0 in
+      let first = (source_object s m carries.whole (carries.found.whole k m old.1)).first in
       (record { thread = held.0; register = held.1; holds = held.2 }, λ nought. omega (arith, nought, first)))
       )

@@ -70,7 +70,7 @@ Extends-more a b c m n first then_ = record {
   before = λ k below. then_.before k (omega (arith, below, first.size)) ∙ first.before k below;
 }
 
-word_in_before : (a b : List ℕ) (n at : ℕ) → Extends a b n → at ≤ length a → word_in b at ≡ word_in a at
+pub word_in_before : (a b : List ℕ) (n at : ℕ) → Extends a b n → at ≤ length a → word_in b at ≡ word_in a at
 word_in_before a b n zero extends below = refl
 word_in_before a b n (suc k) extends below = extends.before k (omega (arith, below))
 

@@ -32,7 +32,7 @@ count_fits space s forwarding tracks =
     let words = found_words s (goes forwarding) forwarding.moves.items forwarding.next tracks.whole tracks.holds in
     omega (arith, words, tracks.free, count_words forwarding.moves.items)
 
-words_in-next : (moves : List Relocation) (k : ℕ) (m : Relocation) → slice_get moves k ≡ Some m
+pub words_in-next : (moves : List Relocation) (k : ℕ) (m : Relocation) → slice_get moves k ≡ Some m
     → words_in (take (k + 1) moves) ≡ words_in (take k moves) + cost_of m.shape
 words_in-next moves k m at =
     let below : k < length moves = slice_get_within moves k m at in

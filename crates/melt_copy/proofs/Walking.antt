@@ -83,6 +83,7 @@ live_place table live k pair is same at =
 
 -- The first scions of the list, so many of them, have the new addresses of their objects, and all others are as before.
 pub record HasMoved (f : ℕ → ℕ) (old new : Scions) (live : List ℕ) (count : ℕ) : Type 0 where
+  pub is_table : IsTable new
   pub done : (j : ℕ) → j < count
       → scion_at new (slice_index live j) ≡ option_map (moved_pair f) (scion_at old (slice_index live j))
   pub rest : (k : ℕ) → ((j : ℕ) → j < count → slice_index live j ≢ k) → scion_at new k ≡ scion_at old k
@@ -102,8 +103,9 @@ module _ (f : ℕ → ℕ) (old new : Scions) (live : List ℕ) (n : ℕ) (once 
   done_more : (after : Scions)
       → scion_at after (slice_index live n) ≡ option_map (moved_pair f) (scion_at old (slice_index live n))
       → ((k : ℕ) → k ≢ slice_index live n → scion_at after k ≡ scion_at new k)
-      → length after.pairs ≡ length new.pairs → HasMoved f old after live (n + 1)
-  done_more after here others size = record {
+      → IsTable after → length after.pairs ≡ length new.pairs → HasMoved f old after live (n + 1)
+  done_more after here others table size = record {
+    is_table = table;
     done = λ j lower. elim (cases_eq j n) [
       | inl same ↦
           subst (λ (i : ℕ). scion_at after (slice_index live i)
@@ -118,18 +120,22 @@ module _ (f : ℕ → ℕ) (old new : Scions) (live : List ℕ) (n : ℕ) (once 
   }
 
   pub moved_more : (after : Scions) (pair : ℕ × ℕ) → scion_at new (slice_index live n) ≡ Some pair
-      → SetsAddress new after (slice_index live n) (f pair.1) → HasMoved f old after live (n + 1)
-  moved_more after pair is sets =
+      → SetsAddress new after (slice_index live n) (f pair.1) → IsTable after → HasMoved f old after live (n + 1)
+  moved_more after pair is sets table =
       done_more after (sets.here ∙ (ap (option_map (λ (p : ℕ × ℕ). (p.0, f pair.1))) is
-      ∙ ap (option_map (moved_pair f)) (sym is ∙ not_moved))) sets.others sets.size
+      ∙ ap (option_map (moved_pair f)) (sym is ∙ not_moved))) sets.others table sets.size
 
   pub moved_none : scion_at new (slice_index live n) ≡ None → HasMoved f old new live (n + 1)
   moved_none is =
-      done_more new (is ∙ ap (option_map (moved_pair f)) (sym is ∙ not_moved)) (λ k other. refl) refl
+      done_more new (is ∙ ap (option_map (moved_pair f)) (sym is ∙ not_moved)) (λ k other. refl) moved.is_table refl
 
-pub moved_start : (f : ℕ → ℕ) (table : Scions) (live : List ℕ) → HasMoved f table table live 0
-moved_start f table live =
-    record { done = λ j below. absurd (omega (arith, below)); rest = λ k free. refl; size = refl }
+pub moved_start : (f : ℕ → ℕ) (table : Scions) (live : List ℕ) → IsTable table → HasMoved f table table live 0
+moved_start f table live is = record {
+  is_table = is;
+  done = λ j below. absurd (omega (arith, below));
+  rest = λ k free. refl;
+  size = refl;
+}
 
 cases_place : (table : Scions) (live : List ℕ) (k : ℕ) (o : Option (ℕ × ℕ)) → o ≡ scion_at table k → IsTable table
     → live ≡ table.live → (scion_at table k ≡ None) ⊎ IsPlaced live k
@@ -143,6 +149,7 @@ contains_at xs j k below is = (j, below, get_or_default xs j k 0 below ∙ is)
 pub moved_all : (f : ℕ → ℕ) (old new : Scions) (live : List ℕ) (n : ℕ) → IsTable old → live ≡ old.live
     → length live ≡ n → HasMoved f old new live n → MovesScions f old new
 moved_all f old new live n table same whole moved = record {
+  is_table = moved.is_table;
   each = λ k. elim (cases_place old live k (scion_at old k) refl table same) [
     | inl none ↦
         moved.rest k (λ j below is.

@@ -101,6 +101,16 @@ pub record AreHeld (s : State) (moves : List Relocation) (front : ℕ) : Type 0 
   pub all : (t r : ℕ) → s.register t r ≢ 0 → (k : ℕ) × (m : Relocation) × (slice_get moves k ≡ Some m) × (k < front)
       × (m.from ≡ s.register t r)
 
+-- The objects that were found stand at their places in the second state, with the headers that the phase leaves. The
+-- first ones are those in registers.
+pub record Carries (phase : Phase) (s t : State) (f : ℕ → ℕ) (moves : List Relocation) (front : ℕ) : Type 0 where
+  pub whole : IsWhole s
+  pub found : Relocates s f moves t.free
+  pub header : (k : ℕ) (m : Relocation) (header : Header) → slice_get moves k ≡ Some m → HeaderAt s m.from header
+      → t.word m.to ≡ header_word (header_after phase (nat_lt k front) header)
+  pub held : AreHeld s moves front
+  pub size : t.base.size ≡ s.base.size
+
 -- a scion whose object moved
 abbrev pub moved_scion : (ℕ → ℕ) → Scion → Scion
 moved_scion f x = record { home = x.home; address = f x.address }

@@ -6,7 +6,7 @@ use Rattle.melt_space.specs.Space.{SpaceWords, word_at}
 use Rattle.melt_scion.specs.State.{State, RefersTo, Reached}
 use Rattle.std.specs.Option.{option_map}
 use Rattle.melt_scion.specs.Heaps.{register_in}
-use Rattle.melt_scion.specs.Scions.{Scions, scion_at}
+use Rattle.melt_scion.specs.Scions.{Scions, IsTable, scion_at}
 use Rattle.melt_scion.specs.declared.registers.Registers.{Registers}
 use Rattle.melt_copy.specs.declared.forwarding.Relocation.{Relocation}
 use Rattle.melt_copy.specs.declared.forwarding.Forwarding.{Forwarding}
@@ -110,5 +110,6 @@ moved_pair f pair = (pair.0, f pair.1)
 
 -- each scion has the new address of its object
 pub record MovesScions (f : ℕ → ℕ) (old new : Scions) : Type 0 where
+  pub is_table : IsTable new
   pub each : (k : ℕ) → scion_at new k ≡ option_map (moved_pair f) (scion_at old k)
   pub size : length new.pairs ≡ length old.pairs

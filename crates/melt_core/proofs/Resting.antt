@@ -15,9 +15,10 @@ use Rattle.melt_scion.specs.Placed.{Maps, MayHold, FormedWords, Holds}
 use Rattle.std.specs.FinMap.{get-empty}
 use Rattle.std.specs.Ordering.{nat_cmp}
 use Rattle.melt_scion.specs.Scions.{empty_table}
-use Rattle.melt_scion.specs.Heaps.{register_in, no_names, IsNewHeap}
+use Rattle.melt_scion.specs.Heaps.{AreScionsFor, register_in, no_names, IsNewHeap}
 use Rattle.melt_scion.specs.Names.{name_at}
 use Rattle.melt_scion.specs.declared.heap.Heap.{Heap}
+use Rattle.melt_scion.proofs.Tables.{scions_made}
 use Rattle.melt_core.specs.declared.call.Call.{Call}
 use Rattle.melt_core.specs.declared.machine.Rest.{Rest}
 use Rattle.melt_core.specs.declared.call.Stage.{Stage}
@@ -85,7 +86,7 @@ stands_finish told v space s still words used =
     record {
       named = s.named;
       room = s.room ∙ sym size;
-      scions_made = s.scions_made ∙ ap (λ (n : ℕ). n / 2) (sym size);
+      scions_made = subst (λ (n : ℕ). AreScionsFor n v.scions) (sym size) s.scions_made;
       settled = s.settled;
       few = s.few;
       each = s.each;
@@ -237,7 +238,7 @@ stands_new told space words globals forward threads capacity size unused small f
     record {
       named = refl;
       room = length-replicate words None ∙ sym size;
-      scions_made = length-replicate {A = Option (ℕ × ℕ)} (words / 2) None ∙ ap (λ (n : ℕ). n / 2) (sym size);
+      scions_made = subst (λ (n : ℕ). AreScionsFor n v.scions) (sym size) (scions_made words v.scions refl);
       settled = nothing_at forward;
       few = omega (arith, length-replicate threads no_registers, few);
       each = length-replicate threads None ∙ sym (length-replicate threads no_registers);

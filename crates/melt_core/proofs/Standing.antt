@@ -3,8 +3,7 @@ use Rattle.std.proofs.Common.{◌≡◌, ◌≢◌, ℕ, ◌<◌, ◌≤◌, ◌
 use Rattle.std.proofs.Math.ListN.{set, length-set}
 use Rattle.std.proofs.lemmas.Bool.{cases_eq, cases_lt}
 use Rattle.std.proofs.lemmas.List.{get_or-set_same, get_or-set_other, get_or_past}
-use Rattle.std.specs.Prelude.{◌/◌, Bool, true, false, Option, None, Some, IsSome, slice_index}
-use Rattle.melt_scion.specs.Scions.{Scions}
+use Rattle.std.specs.Prelude.{Bool, true, false, Option, None, Some, IsSome, slice_index}
 use Rattle.melt_model.specs.History.{made as makes, Legal}
 use Rattle.melt_model.specs.declared.history.Entry.{Entry}
 use Rattle.melt_model.specs.Thread.{value_in}
@@ -14,7 +13,7 @@ use Rattle.melt_model.specs.declared.operations.Op.{Op}
 use Rattle.melt_scion.specs.State.{Base}
 use Rattle.melt_scion.specs.Placed.{MayHold, Holds, value_at}
 use Rattle.melt_scion.specs.Regions.{Region, Apart}
-use Rattle.melt_scion.specs.Heaps.{register_in}
+use Rattle.melt_scion.specs.Heaps.{AreScionsFor, register_in}
 use Rattle.melt_core.specs.declared.call.Call.{Call}
 use Rattle.melt_core.specs.declared.answer.StepResult.{StepResult}
 use Rattle.melt_core.specs.Answering.{with_entry}
@@ -120,8 +119,8 @@ stands_behind told v w t mine cleared act after s e =
     record {
       named = e.kept.named;
       room = e.kept.room ∙ (s.room ∙ sym size);
-      scions_made = ap (λ (table : Scions). length table.pairs) e.kept.scions
-          ∙ (s.scions_made ∙ ap (λ (n : ℕ). n / 2) (sym size));
+      scions_made = subst (AreScionsFor (length w.space.list)) (sym e.kept.scions)
+          (subst (λ (n : ℕ). AreScionsFor n v.scions) (sym size) s.scions_made);
       settled = λ p. ap (λ (words : List ℕ). slice_index words p) e.kept.forward ∙ s.settled p;
       few = omega (arith, s.few, e.kept.threads);
       each = ap length e.kept.calls ∙ (length-set v.calls t after ∙ (s.each ∙ sym e.kept.threads));

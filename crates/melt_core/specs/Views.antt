@@ -1,5 +1,5 @@
 -- What a core shows, and when it stands for its history.
-use Rattle.std.specs.Prelude.{◌≡◌, ◌≢◌, ◌⊎◌, ℕ, ◌+◌, ◌*◌, ◌/◌, ◌≤◌, Bool, true, List, [], length, map}
+use Rattle.std.specs.Prelude.{◌≡◌, ◌≢◌, ◌⊎◌, ℕ, ◌+◌, ◌*◌, ◌≤◌, Bool, true, List, [], length, map}
 use Rattle.std.specs.Prelude.{sum, slice_index, slice_index_or, vec_capacity}
 use Rattle.std.specs.Prelude.{Option, None, Some, IsSome, unwrap_or, if◌then◌else◌}
 use Rattle.std.specs.FinMap.{empty}
@@ -16,7 +16,7 @@ use Rattle.melt_scion.specs.Regions.{Apart}
 use Rattle.melt_scion.specs.Names.{name_at}
 use Rattle.melt_scion.specs.HomeNames.{NamedHomes, home_name}
 use Rattle.melt_scion.specs.Scions.{Scions}
-use Rattle.melt_scion.specs.Heaps.{no_homes_on, scion_in, register_in}
+use Rattle.melt_scion.specs.Heaps.{AreScionsFor, no_homes_on, scion_in, register_in}
 use Rattle.melt_scion.specs.declared.registers.Registers.{Registers}
 use Rattle.melt_scion.specs.declared.heap.Names as heap
 use Rattle.melt_core.specs.declared.call.Stage.{Stage}
@@ -172,7 +172,7 @@ Bounded v = (v.free ≤ length v.space.list + 1)
 pub record Standing (told : Bool) (v : View) : Type 0 where
   pub named : IsSome v.names
   pub room : length (numbers_of v.names) ≡ length v.space.list
-  pub scions_made : length v.scions.pairs ≡ length v.space.list / 2
+  pub scions_made : AreScionsFor (length v.space.list) v.scions
   pub settled : (p : ℕ) → slice_index v.forward p ≡ 0
   pub few : length v.held ≤ 8
   pub each : length v.calls ≡ length v.held

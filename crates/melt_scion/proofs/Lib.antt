@@ -2,6 +2,8 @@ pub mod Named
 pub mod Numbers
 pub mod LiveScions
 pub mod ScionTables
+pub mod Tables
+pub mod Few
 pub mod HomeNumbers
 pub mod Geometry
 pub mod Entries

@@ -9,7 +9,7 @@ use Rattle.melt_scion.specs.Placed.{Maps, Formed}
 use Rattle.melt_scion.specs.Names.{name_at}
 use Rattle.melt_scion.specs.HomeNames.{home_name}
 use Rattle.melt_scion.specs.GhostMaps.{NamePairs, named, no_pairs}
-use Rattle.melt_scion.specs.Scions.{Scions, scion_at, empty_table}
+use Rattle.melt_scion.specs.Scions.{Scions, IsTable, scion_at, empty_table}
 use Rattle.melt_scion.specs.declared.registers.Registers.{Registers}
 use Rattle.melt_scion.specs.declared.heap.Names as heap
 use Rattle.melt_scion.specs.declared.heap.Heap.{Heap}
@@ -30,11 +30,6 @@ pub record OnDisk : Type 0 where
 abbrev pub no_homes_on : OnDisk
 no_homes_on = record { end = 1; homes = []; free_homes = []; image = λ k. 0 }
 
--- The words that a disk tells, if it tells any, are those of the image. Past the last word it has zeros.
-abbrev pub Shows : Option (List ℕ) → (ℕ → ℕ) → Type 0
-Shows None image = Unit {0}
-Shows (Some words) image = (k : ℕ) → image k ≡ slice_index words k
-
 -- what a scion of a table names, if it is live
 abbrev pub scion_in : Scions → ℕ → Option Scion
 scion_in table k = option_map (λ (pair : ℕ × ℕ). record { home = pair.0; address = pair.1 }) (scion_at table k)
@@ -50,6 +45,11 @@ base_of heap disk = record {
   free_homes = disk.free_homes;
   image = disk.image;
 }
+
+-- The words that a disk tells, if it tells any, are those of the image. Past the last word it has zeros.
+abbrev pub Shows : Option (List ℕ) → (ℕ → ℕ) → Type 0
+Shows None image = Unit {0}
+Shows (Some words) image = (k : ℕ) → image k ≡ slice_index words k
 
 -- the state that a heap and the registers of all threads show over a disk
 abbrev pub state_of : Heap → List Registers → OnDisk → State
@@ -88,9 +88,19 @@ KeepsNames (Some old) (Some new) = length new.addresses ≡ length old.addresses
 KeepsNames None (Some new) = ⊥
 KeepsNames (Some old) None = ⊥
 
+-- a table of scions for half as many as there are words
+pub record AreScionsFor (words : ℕ) (scions : Scions) : Type 0 where
+  pub is_table : IsTable scions
+  pub size : length scions.pairs ≡ words / 2
+
+-- the scions are a table for as many as they were
+pub record KeepsScions (old new : Scions) : Type 0 where
+  pub is_table : IsTable new
+  pub size : length new.pairs ≡ length old.pairs
+
 -- the tables beside the words are for as many as they were
 pub record KeepsTables (old new : Heap) : Type 0 where
-  pub scions : length new.scions.pairs ≡ length old.scions.pairs
+  pub scions : KeepsScions old.scions new.scions
   pub forwards : length new.forward ≡ length old.forward
   pub names : KeepsNames old.names new.names
 
@@ -109,7 +119,7 @@ pub record IsNewHeap (words globals forward : ℕ) (keeps_names : Bool) (heap : 
 
 -- The tables beside the words were made for as many as there are: the scions for half of them, the names for all.
 pub record TablesMade (heap : Heap) : Type 0 where
-  pub scions : length heap.scions.pairs ≡ length heap.space.list / 2
+  pub scions : AreScionsFor (length heap.space.list) heap.scions
   pub names : NamesMade (length heap.space.list) heap.names
 
 -- the heap and the registers are well formed, with some maps and over some disk

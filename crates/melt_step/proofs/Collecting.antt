@@ -5,7 +5,7 @@ use Rattle.std.proofs.Math.Path.{fun_ext}
 use Rattle.std.proofs.Math.ListN.{get_or-map}
 use Rattle.std.proofs.lemmas.Bool.{cases_lt}
 use Rattle.std.proofs.lemmas.List.{get_or_past}
-use Rattle.std.specs.Prelude.{◌≢◌, ◌/◌, All, Option, None, Some, IsSome}
+use Rattle.std.specs.Prelude.{◌≢◌, All, Option, None, Some, IsSome}
 use Rattle.std.proofs.lemmas.List.Sums.{sum-map, sum_by-cons}
 use Rattle.std.proofs.lemmas.List.Elements.{All-append, All-from_recursion}
 use Rattle.melt_model.specs.History.{Legal}
@@ -27,6 +27,7 @@ use Rattle.melt_scion.specs.Heaps.{no_homes_on, HasNames, KeepsNames, NamesMade,
 use Rattle.melt_scion.specs.declared.heap.Names as heap
 use Rattle.melt_scion.specs.declared.heap.Heap.{Heap}
 use Rattle.melt_scion.specs.declared.registers.Registers.{Registers}
+use Rattle.melt_scion.proofs.Tables.{scions_kept}
 use Rattle.melt_scion.proofs.Starting.{settled_gaps}
 use Rattle.melt_scion.proofs.Numbered.{counts_numbers}
 use Rattle.melt_scion.proofs.Totals.{held_costs, live_costs}
@@ -165,7 +166,8 @@ collected_stands heap new rest registers phase journal at_rest copying collects 
         stands = record {
           named = keeps_some heap.names new.names s.named collects.tables.names;
           room = keeps_room heap.names new.names collects.tables.names ∙ (s.room ∙ sym size);
-          scions_made = collects.tables.scions ∙ (s.scions_made ∙ ap (λ (n : ℕ). n / 2) (sym size));
+          scions_made = scions_kept (length heap.space.list) (length new.space.list) heap.scions new.scions
+              collects.tables.scions size s.scions_made;
           settled = collects.settled;
           few = subst (λ (n : ℕ). n ≤ 8) (sym threads) s.few;
           each = s.each ∙ sym threads;

@@ -35,6 +35,7 @@ returns-clause-formed c =
       table = c.in_ok-scions.scions;
       no_scions = c.in_ok-scions.ensures.empty;
       adds = c.add-scion.ensures.adds;
+      is_table = c.add-scion.ensures.table;
       forward = c.new-5.ensures.items;
       globals = c.new-4.ensures.items;
       registers = none_held;

@@ -1,0 +1,15 @@
+pub mod Needs
+pub mod HomesBy
+pub mod Reserved
+pub mod Moves
+pub mod Choosing
+pub mod Showing
+pub mod HomeBy
+pub mod KeptWords
+pub mod KeptObjects
+pub mod Naming
+pub mod Freeing
+pub mod LeavingHomes
+pub mod MovesDisk
+pub mod Stubs
+pub mod Turns

@@ -1,0 +1,29 @@
+use Rattle.std.proofs.Common.{arith}
+use Rattle.melt_copy.proofs.Growth.{Extends-push}
+use Rattle.melt_move.specs.Staying.{StaysAs}
+use Rattle.melt_move.proofs.KeptWords.{source_at, related_push}
+use Rattle.melt_move.proofs.staying.append_words.Goals as goal
+
+pub stays_as-requires : goal.stays_as-requires
+stays_as-requires g c = (
+  c.requires.0,
+  source_at c.args.space.now c.requires.0 c.args.decision.now c.args.words.now c.loop-word.word-index c.requires.1
+      (omega arith),
+)
+
+pub loop-word-preserved : goal.loop-word-preserved
+loop-word-preserved g c = record {
+  extends =
+      Extends-push c.args.out.now.items c.loop-word.out.items _ c.loop-word.word-index _ c.loop-word.invariant.extends
+      c.in_ok-push.ensures.items;
+  stay = λ s sources.
+      related_push (StaysAs s c.args.decision.now) c.args.words.now c.args.out.now.items c.loop-word.out.items _
+      c.loop-word.word-index _ c.loop-word.invariant.extends c.in_ok-push.ensures.items
+      (c.loop-word.invariant.stay s sources)
+      (c.stays_as.ensures s (source_at c.args.space.now s c.args.decision.now c.args.words.now c.loop-word.word-index
+      sources (omega arith)));
+}
+
+pub returns-clause-stay : goal.returns-clause-stay
+returns-clause-stay g c = λ s sources i below.
+    c.loop-word.invariant.stay s sources i (omega (arith, below))

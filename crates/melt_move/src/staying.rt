@@ -1,0 +1,130 @@
+//! Copies what stays, with the marks of the phase.
+//!
+//! An object that stays keeps its home word. A reference to one that stays becomes stale, and one to an object that
+//! leaves becomes that object's home.
+ghost use Rattle.std.specs.Prelude.{◌≡◌, ℕ, ◌+◌, ◌<◌, [], length, slice_index, IfOk, OnOk};
+ghost use Rattle.melt_word.specs.Words.{IsRef, cost_of};
+ghost use Rattle.melt_word.specs.declared.reference.Ref.TheVariants.{Disk, Stale};
+ghost use Rattle.melt_space.specs.Space.{word_at};
+ghost use Rattle.melt_scion.specs.State.{State};
+ghost use Rattle.melt_scion.specs.Moves.{by_place};
+ghost use Rattle.melt_copy.specs.Tracking.{Extends, goes, word_in};
+ghost use Rattle.melt_move.specs.Plans.{HasRoom, IsDecision, home_by};
+ghost use Rattle.melt_move.specs.Staying.{AreSources, Follows, IsSource, ObjectStays, StandIn, Stays, StaysAs};
+ghost use Rattle.melt_move.specs.Staying.{WordsStay};
+
+use crate::decision::Decision;
+use melt_copy::{Relocation, move_header};
+use melt_model::{NoMemory, Phase, Steps};
+use melt_space::Space;
+use melt_word::{Ref, cost, decode_ref, encode_ref};
+use std::sync::ledger::Ledger;
+
+/// A reference to an object that can be reached, as it stays: stale, or the home of an object that leaves.
+fn refer_to(decision: &Decision, space: &Space, address: u32) -> Ref
+    requires { (s : State) × Follows space.now s decision.now address }
+    ensures in_range { IsRef result }
+    ensures value { result ≡ by_place (goes decision.now.choice.stay address)
+        (Stale (goes decision.now.choice.stay address)) (Disk (home_by (word_at space.now) decision.now address)) }
+{
+    match decision.choice.stay.forwarded(address) {
+        0 => Ref::Disk(decision.home_of(space, address)),
+        to => Ref::Stale(to),
+    }
+}
+
+/// The word of a reference that can be reached, as it stays.
+fn stays_as(decision: &Decision, space: &Space, word: u64) -> u64
+    requires { (s : State) × IsSource space.now s decision.now word }
+    ensures { (s : State) → IsSource space.now s decision.now word → StaysAs s decision.now word result }
+{
+    match decode_ref(word) {
+        Ok(Ref::Clean(address) | Ref::Stale(address)) => {
+            encode_ref(refer_to(decision, space, address))
+        }
+        Ok(Ref::Null | Ref::Disk(_)) => word,
+        // A slot or a global always has the word of a reference.
+        Err(_) => unreachable!(),
+    }
+}
+
+/// Puts the words of references, each as it stays, behind those that are there.
+fn append_words<L: Ledger>(
+    out: &mut Vec<u64>,
+    decision: &Decision,
+    space: &Space,
+    words: &[u64],
+    steps: &mut Steps<L>,
+) -> Result<(), NoMemory>
+    requires { (s : State) × AreSources space.now s decision.now words.now }
+    ensures extends { OnOk result (Extends out.old.items out.new.items (length words.now)) }
+    ensures stay { OnOk result ((s : State) → AreSources space.now s decision.now words.now
+        → (i : ℕ) → i < length words.now
+        → StaysAs s decision.now (slice_index words.now i) (slice_index out.new.items (length out.old.items + i))) }
+{
+    for word in words {
+        steps.tick();
+        out.push(stays_as(decision, space, *word))?;
+    }
+    Ok(())
+}
+
+/// Puts the words of references, each as it stays, into `out`, which is empty.
+pub fn copy_words<L: Ledger>(
+    mut out: Vec<u64>,
+    decision: &Decision,
+    space: &Space,
+    words: &[u64],
+    steps: &mut Steps<L>,
+) -> Result<Vec<u64>, NoMemory>
+    requires empty { out.items ≡ [] }
+    requires sources { (s : State) × AreSources space.now s decision.now words.now }
+    ensures { IfOk result (λ out. (s : State) → AreSources space.now s decision.now words.now
+        → WordsStay s decision.now words.now out.items) }
+{
+    append_words(&mut out, decision, space, words, steps)?;
+    Ok(out)
+}
+
+/// Puts an object that stays behind the words that are there.
+fn append_object<L: Ledger>(
+    out: &mut Vec<u64>,
+    decision: &Decision,
+    space: &Space,
+    m: Relocation,
+    held: bool,
+    steps: &mut Steps<L>,
+) -> Result<(), NoMemory>
+    requires { (s : State) × Stays space.now s decision.now m }
+    ensures extends { OnOk result (Extends out.old.items out.new.items (cost_of m.shape)) }
+    ensures object { OnOk result ((s : State) → Stays space.now s decision.now m → m.to ≡ length out.old.items + 1
+        → ObjectStays s decision.now held (word_in out.new.items) m) }
+{
+    let object = space.words_at(m.from, cost(m.shape));
+    // Before the slots stand the header and the home word.
+    let numbers = 2 + m.shape.refs as usize;
+    let header = move_header(Phase::Move, held, m.shape, object[0]);
+    out.extend_from_slice(&[header, object[1]])?;
+    append_words(out, decision, space, &object[2..numbers], steps)?;
+    out.extend_from_slice(&object[numbers..])?;
+    Ok(())
+}
+
+/// Puts the objects that stay into `out`, which is empty, one behind the other.
+pub fn copy_staying<L: Ledger>(
+    mut out: Vec<u64>,
+    decision: &Decision,
+    space: &Space,
+    steps: &mut Steps<L>,
+) -> Result<Vec<u64>, NoMemory>
+    requires empty { out.items ≡ [] }
+    requires room { HasRoom decision.now }
+    requires decided { (s : State) × IsDecision space.now s decision.now }
+    ensures { IfOk result (λ out. (s : State) → IsDecision space.now s decision.now → StandIn s decision.now out.items) }
+{
+    for (k, m) in decision.choice.stay.moves.iter().enumerate() {
+        steps.tick();
+        append_object(&mut out, decision, space, *m, k < decision.front, steps)?;
+    }
+    Ok(out)
+}
