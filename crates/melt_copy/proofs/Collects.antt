@@ -58,12 +58,12 @@ none_of None none = refl
 none_of (Some n) none = absurd (none n refl)
 
 -- no object stands behind the words in use
-none_behind : (maps : Maps) (s : State) (k : ℕ) → Formed maps s → s.free ≤ k → maps.address k ≡ None
+pub none_behind : (maps : Maps) (s : State) (k : ℕ) → Formed maps s → s.free ≤ k → maps.address k ≡ None
 none_behind maps s k formed above =
     none_of (maps.address k) (λ n named. let object = formed.words.objects k n named in
     let below : k + cost_of object.0.shape ≤ s.free = object.1.below in omega (arith, below, above))
 
-can_rename : (used size : ℕ) (pairs : NamePairs) (maps : Maps) (names : Option Names) (moves : List Relocation)
+pub can_rename : (used size : ℕ) (pairs : NamePairs) (maps : Maps) (names : Option Names) (moves : List Relocation)
     (numbers : List (Option ℕ)) → HasNames names pairs maps → NamesMade size names → NumbersAre names moves numbers
     → used ≤ size → ((k : ℕ) → used < k → maps.address k ≡ None)
     → ((k : ℕ) (m : Relocation) → slice_get moves k ≡ Some m → (1 ≤ m.to) × (m.to ≤ used)) → PlacesApart moves
@@ -112,7 +112,7 @@ name_after_same a b (m ∷ moves) k same =
     ap (λ (o : Option ℕ). if m.to == k then o else name_after a moves k) (same m.from)
     ∙ ap (λ (o : Option ℕ). if m.to == k then b m.from else o) (name_after_same a b moves k same)
 
-has_names : (maps : Maps) (old new : Option Names) (pairs pairs_then : NamePairs) (moves : List Relocation)
+pub has_names : (maps : Maps) (old new : Option Names) (pairs pairs_then : NamePairs) (moves : List Relocation)
     → PlacesApart moves → HasNames old pairs maps → AreRenamed old pairs new pairs_then moves
     → HasNames new pairs_then (maps_after maps moves)
 has_names maps None None pairs pairs_then moves apart has renamed = (

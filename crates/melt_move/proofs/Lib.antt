@@ -25,3 +25,4 @@ pub mod Written
 pub mod BuildingTwo
 pub mod ScionRoom
 pub mod GivingScions
+pub mod Awaiting

@@ -78,7 +78,8 @@ fn prepare<L: Ledger>(
 /// Why the new homes have no room on the disk, if they have none.
 fn lacks_room<D: StaleDisk>(disk: &StaleSpace<'_, D>, homes: &NewHomes) -> Option<DiskFull>
     requires small { need_of homes.now.counts < 2 ^ 30 }
-    ensures { MatchOption result (disk.now.end + need_of homes.now.counts ≤ disk.now.limit) (λ full.
+    ensures limit { disk.now.limit < 2 ^ 32 }
+    ensures room { MatchOption result (disk.now.end + need_of homes.now.counts ≤ disk.now.limit) (λ full.
         (full ≡ record { end = disk.now.end; need = need_of homes.now.counts; limit = disk.now.limit })
         × (disk.now.limit < disk.now.end + need_of homes.now.counts)) }
 {
@@ -156,6 +157,7 @@ fn carry_out<D: StaleDisk, L: Ledger>(
     requires numbers { NumbersAre heap.old.names decision.now.choice.stay.moves.items copied.numbers.items }
     requires spare { HasSpare decision.now.homes heap.old.names }
     requires room { disk.old.end + need_for decision.now.homes.given.items ≤ disk.old.limit }
+    requires small { HasRoom decision.now }
     ensures carries { OnOk result ((maps : Maps) (later : OnDisk) → later.end ≡ disk.old.end
         → Shows (D.image disk.old.disk.now) later.image → HasMaps heap.old maps → Formed maps (state_of heap.old held.old later)
         → CarriesOut maps later heap.old heap.new held.old held.new decision.now disk.new.end (D.image disk.new.disk.now)) }

@@ -1,9 +1,10 @@
-use Rattle.std.proofs.Common.{◌≡◌, ℕ, ◌+◌, arith, ◌∙◌, ap, refl}
+use Rattle.std.proofs.Common.{◌≡◌, ℕ, suc, ◌+◌, arith, ◌∙◌, ap, refl}
 use Rattle.std.specs.Prelude.{slice_index_or, take}
 use Rattle.melt_move.specs.Plans.{need_for}
 use Rattle.melt_word.specs.Words.{cost_of}
 use Rattle.melt_move.specs.declared.homes.Given.{Given}
-use Rattle.melt_move.proofs.Naming.{read_at, need-next}
+use Rattle.melt_move.proofs.Elements.{read_at}
+use Rattle.melt_move.proofs.Naming.{need-next}
 use Rattle.melt_move.proofs.Needs.{need-front}
 use Rattle.melt_move.proofs.Nothing.{when_ok}
 use Rattle.melt_move.proofs.collect.reserve_homes.Goals as goal
@@ -24,7 +25,7 @@ loop-g-preserved g c =
       end =
           (let end = before.end in
           let next : need_for (take (i + 1) given) ≡ need_for (take i given) + cost_of is.shape =
-          ap (λ (n : ℕ). need_for (take n given)) (omega arith) ∙ need-next given i is at in
+          (let same : i + 1 ≡ suc i = omega arith in ap (λ (n : ℕ). need_for (take n given)) same) ∙ need-next given i is at in
           omega (arith, raised, end, next));
       limit = c.reserve_home-home.ensures.limit ∙ before.limit;
       same_disk = c.reserve_home-home.ensures.same_disk ∙ before.same_disk;
