@@ -91,10 +91,22 @@ ObjectMoves-more {phase} a b s words more n m grows extends within object = reco
 }
 
 -- what one of the words refers to is found
-pub words_for : (space : SpaceWords) (s : State) (a b : Forwarding) (words : List ℕ) (i : ℕ) → TracksIn space s a words
+words_for : (space : SpaceWords) (s : State) (a b : Forwarding) (words : List ℕ) (i : ℕ) → TracksIn space s a words
     → Tracks space s b → i < length words → TracksFor space s b (slice_index words i)
 words_for space s a b words i in_ tracks below =
     record { tracks = tracks; reference = in_.references i below; reached = λ at refers. in_.reached i at below refers }
+
+module _ (space : SpaceWords) (old now : Forwarding) (words : List ℕ) (i : ℕ)
+    (tracks : (s : State) → TracksIn space s old words → Tracks space s now) (below : i < length words) where
+  -- a state in which what the next word refers to can be found
+  pub may_find_word : (s : State) × TracksIn space s old words
+      → (s : State) × TracksFor space s now (slice_index words i)
+  may_find_word (s, in_) = (s, words_for space s old now words i in_ (tracks s in_) below)
+
+  -- and that it was found
+  pub word_tracked : (new : Forwarding) → ((s : State) → TracksFor space s now (slice_index words i)
+      → Tracks space s new) → (s : State) → TracksIn space s old words → Tracks space s new
+  word_tracked new finds s in_ = finds s (words_for space s old now words i in_ (tracks s in_) below)
 
 -- one word more behind those that are there
 pub Extends-push : (a b c : List ℕ) (n w : ℕ) → Extends a b n → c ≡ b ++ w ∷ [] → Extends a c (n + 1)

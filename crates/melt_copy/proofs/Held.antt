@@ -113,7 +113,7 @@ each_thread_more old a b held n thread below is finds before k m at =
     ]
 
 -- past the last thread no register holds anything
-past_threads : (held : List Registers) (t r : ℕ) → length held ≤ t → register_in held t r ≡ 0
+pub past_threads : (held : List Registers) (t r : ℕ) → length held ≤ t → register_in held t r ≡ 0
 past_threads [] t r above = refl
 past_threads (x ∷ held) zero r above = absurd (omega (arith, above))
 past_threads (x ∷ held) (suc t) r above = past_threads held t r (omega (arith, above))

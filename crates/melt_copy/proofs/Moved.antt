@@ -83,7 +83,8 @@ module _ (phase : Phase) (maps : Maps) (s t : State) (f : ℕ → ℕ) (moves : 
     stay = λ a some.
         let g = goes s f moves t.free a copy.found some in
         (subst (Reached s) g.from (copy.found.whole g.index g.move g.is).reached, none_leaves phase s a copying);
-    go = λ a reached. inl (reached_found s f moves t.free front copy.found (copy_closed s t f moves front copy) a reached);
+    go = λ a reached.
+        inl (reached_found s f moves t.free front copy.found (copy_closed s t f moves front copy) a reached);
     once = found_once phase maps s t f moves front copy_carries;
     nothing = zero_stays phase maps s t f moves front copy_carries;
   }

@@ -9,8 +9,8 @@ use Rattle.melt_word.specs.declared.header.Header.{Header}
 use Rattle.melt_word.specs.declared.reference.Ref.{Ref}
 use Rattle.melt_word.specs.declared.reference.Ref.TheVariants.{Null, Clean, Stale, Disk}
 use Rattle.melt_word.proofs.OneToOne.{same_ref}
-use Rattle.melt_scion.specs.State.{Scion, State, HeaderAt, ObjectAt, address_in, RefersTo, Reached, in_register, in_global}
-use Rattle.melt_scion.specs.State.{at_scion, in_slot}
+use Rattle.melt_scion.specs.State.{Scion, State, HeaderAt, ObjectAt, address_in, RefersTo, Reached, in_register}
+use Rattle.melt_scion.specs.State.{in_global, at_scion, in_slot}
 use Rattle.melt_copy.specs.declared.forwarding.Relocation.{Relocation}
 use Rattle.melt_copy.specs.Moving.{IsWhole, words_in, IsRelocation, Relocates, IsFound, WordMoves, AreHeld, IsCopy}
 use Rattle.melt_copy.specs.Reaching.{FindsAll}

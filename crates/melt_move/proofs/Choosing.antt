@@ -52,7 +52,8 @@ pub record HasChosen (space : SpaceWords) (s : State) (live : LiveSet) (stay : F
   pub first : live.front ≤ count
       → take live.front stay.moves.items ≡ take live.front live.forwarding.moves.items
 
-none_there : {A : Type 0} (xs : List A) (k : ℕ) (x : A) → xs ≡ [] → slice_get xs k ≡ Some x → ⊥
+-- nothing stands in an empty list
+pub none_there : {A : Type 0} (xs : List A) (k : ℕ) (x : A) → xs ≡ [] → slice_get xs k ≡ Some x → ⊥
 none_there xs k x empty at = let below = slice_get_within xs k x at in let nought =
     ap length empty in omega (arith, below, nought)
 

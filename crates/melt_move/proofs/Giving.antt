@@ -1,241 +1,406 @@
--- What stands of heap and disk while the objects that stay get their scions, one after the other.
-use Rattle.std.proofs.Common.{◌≡◌, ◌≢◌, ℕ, ◌+◌, ◌<◌, List, length, refl, sym, ◌∙◌, ap, subst, arith}
-use Rattle.std.proofs.Common.{inl, inr}
-use Rattle.std.specs.Prelude.{slice_get, is_some, Some}
-use Rattle.std.proofs.lemmas.Bool.{cases_eq, cases_order}
+-- New homes, given one behind the other.
+use Rattle.std.proofs.Common.{◌≡◌, ◌≢◌, ◌⊎◌, inl, inr, ℕ, ◌+◌, ◌<◌, ◌^◌, List, [], ◌∷◌, ◌++◌, length, take}
+use Rattle.std.proofs.Common.{set, replicate, refl, sym, ap, subst, ◌∙◌, arith, get_or-set_same, get_or-set_other}
+use Rattle.std.specs.Prelude.{Bool, slice_get, slice_index, Some}
+use Rattle.std.proofs.lemmas.Bool.{cases_eq, cases_lt}
+use Rattle.std.proofs.lemmas.List.{length-set, length-replicate, get_or-replicate, get_or_past, take-append-le}
 use Rattle.std.proofs.lemmas.Option.{same_Some, slice_get_within}
+use Rattle.std.proofs.Math.Seq.{take-append_seam}
+use Rattle.melt_model.proofs.Histories.{slice_get-append_left, slice_get-append_seam, last_place}
+use Rattle.melt_model.specs.declared.reports.Phase.TheVariants.{Move}
+use Rattle.melt_word.specs.Words.{cost_of}
+use Rattle.melt_word.specs.declared.header.Shape.{Shape}
 use Rattle.melt_space.specs.Space.{SpaceWords, word_at}
-use Rattle.melt_scion.specs.Scions.{Scions, IsTable, scion_at}
-use Rattle.melt_scion.specs.declared.heap.Heap.{Heap}
+use Rattle.melt_scion.specs.State.{State, Reached, in_slot}
+use Rattle.melt_scion.specs.Moves.{Leaves, IsNamedByLeaving}
+use Rattle.melt_disk.specs.Homes.{need_of}
 use Rattle.melt_copy.specs.declared.forwarding.Relocation.{Relocation}
+use Rattle.melt_copy.specs.Moving.{IsWhole}
+use Rattle.melt_copy.specs.Tracking.{goes}
+use Rattle.melt_copy.proofs.Places.{same_source, place_found}
+use Rattle.melt_move.specs.declared.choice.Choice.{Choice}
+use Rattle.melt_move.specs.declared.choice.Departure.{Departure}
+use Rattle.melt_move.specs.declared.homes.Given.{Given}
+use Rattle.melt_move.specs.declared.homes.Giving.{Giving}
 use Rattle.melt_move.specs.declared.homes.NewHomes.{NewHomes}
-use Rattle.melt_move.specs.GivenScions.{AwaitScions, HaveScions, MayNameScion, NamesScion, given_home}
-use Rattle.melt_move.specs.ScionTurns.{AwaitsTurn, SameBeside, TakesTurn}
-use Rattle.melt_move.proofs.Freeing.{named_not_none, one_name}
-use Rattle.melt_move.proofs.ScionRoom.{LieApart, few_moves, scions_few}
-use Rattle.melt_move.proofs.Turns.{ScionsFirst, same_name, none_more, told_more, given_more}
+use Rattle.melt_move.specs.GivingHomes.{IsMarked, HasMarks, WasChosen, IsOffered, offset_at, HasGiven, GivesTo, IsAmong}
+use Rattle.melt_move.specs.GivingHomes.{IsAmongMarked}
+use Rattle.melt_move.specs.Plans.{IsSeen, IsShaped, WantsHome, GivesNew, need_for}
+use Rattle.melt_move.proofs.Choosing.{none_there}
+use Rattle.melt_move.proofs.Marking.{IsPlaced, shaped_placed}
+use Rattle.melt_move.proofs.Needs.{need_push, needs_small}
 
--- The turns of the first objects, so many of them, have come.
-pub record HaveFirst (homes : NewHomes) (moves : List Relocation) (count : ℕ) (old new : Heap) : Type 0 where
-  pub scions : ScionsFirst homes moves count (word_at old.space) (word_at new.space) new.scions
-  pub space_size : length new.space.list ≡ length old.space.list
-  pub used : new.space.used ≡ old.space.used
-  pub is_table : IsTable new.scions
-  pub size : length new.scions.pairs ≡ length old.scions.pairs
-  pub beside : SameBeside old new
+-- an object that is to have a home can be reached
+pub is_reached : (s : State) (a : ℕ) → Leaves Move s a ⊎ IsNamedByLeaving Move s a → Reached s a
+is_reached s a why = elim why [
+  | inl leaves ↦ leaves.0
+  | inr named ↦
+      in_slot named.object named.slot a named.header named.leaves.0 named.starts named.below named.refers
+]
 
-module _ (homes : NewHomes) (moves : List Relocation) (end : ℕ) (old : Heap)
-    (await : AwaitScions old homes moves end) where
-  lie : LieApart (length old.space.list) moves
-  lie = record { placed = await.placed; apart = await.apart }
+-- and stands among the words
+pub offered_placed : (space : SpaceWords) (s : State) (giving : Giving) (from : ℕ) (shape : Shape)
+    → HasGiven space s giving → IsOffered s from shape → IsPlaced s from shape
+offered_placed space s giving from shape has offered =
+    shaped_placed s from shape has.seen.whole (is_reached s from offered.why) offered.shaped
 
-  -- there are fewer than words
-  pub moves_few : length moves < 1073741824
-  moves_few = omega (arith, few_moves (length old.space.list) moves lie, await.small_space)
+pub offered_within : (space : SpaceWords) (s : State) (giving : Giving) (from : ℕ) (shape : Shape)
+    → HasGiven space s giving → IsOffered s from shape → from < length giving.homes.offsets.items
+offered_within space s giving from shape has offered =
+    let below = (offered_placed space s giving from shape has offered).below in
+    let table = has.table in
+    let free = has.seen.free in
+    omega (arith, below, table, free)
 
-  -- two objects have two home words
-  pub other_place : (i j : ℕ) (x y : Relocation) → slice_get moves i ≡ Some x → slice_get moves j ≡ Some y → i ≢ j
-      → x.to + 1 ≢ y.to + 1
-  other_place i j x y first second other same = elim (cases_order i j) [
-    | inl one ↦ other one
-    | inr (inl before) ↦ (let far = await.apart i j x y first second before in omega (arith, far, same))
-    | inr (inr behind) ↦ (let far = await.apart j i y x second first behind in omega (arith, far, same))
+-- one more gets a home
+module _ (space : SpaceWords) (s : State) (a : Giving) (from : ℕ) (shape : Shape) (has : HasGiven space s a)
+    (offered : IsOffered s from shape) (not_yet : offset_at a.homes from ≡ 0)
+    (none : word_at space (from + 1) ≡ 0) where
+  next : Given
+  next = record { from = from; shape = shape }
+
+  wants : WantsHome s from
+  wants = record { why = offered.why; had_none = has.seen.word (from + 1) ∙ none }
+
+  -- those that had a new home are others
+  is_other : (k : ℕ) (g : Given) → slice_get a.homes.given.items k ≡ Some g → g.from ≢ from
+  is_other k g at same =
+      let offset = has.offset k g at in
+      let nought = ap (offset_at a.homes) same in
+      omega (arith, offset, nought, not_yet)
+
+  each_more : (k : ℕ) (g : Given) → slice_get (a.homes.given.items ++ next ∷ []) k ≡ Some g
+      → WantsHome s g.from × IsShaped s g.from g.shape
+  unfolding next
+  each_more k g at = elim (last_place a.homes.given.items next k g at) [
+    | inl old ↦ has.each k g old.1
+    | inr new ↦ subst (λ (x : Given). WantsHome s x.from × IsShaped s x.from x.shape) new.1 (wants, offered.shaped)
   ]
 
-  -- a home word before the first turn
-  named_before : (k : ℕ) (m : Relocation) (home scion : ℕ) → slice_get moves k ≡ Some m
-      → NamesScion (word_at old.space) m.to home scion → scion_at old.scions scion ≡ Some (home, m.from)
-  named_before k m home scion at names = elim (await.old_homes k m at) [
-    | inl none ↦ absurd (named_not_none (word_at old.space) m.to home scion names none)
-    | inr has ↦
-        let one = one_name (word_at old.space) m.to home scion has.0 has.1 names has.2 in
-        ap (scion_at old.scions) one.1 ∙ (has.3 ∙ ap (λ (h : ℕ). Some (h, m.from)) (sym one.0))
-  ]
-
-  pub have_none : HaveFirst homes moves 0 old old
-  have_none = record {
-    scions = record {
-      given = λ k m below. absurd (omega (arith, below));
-      live = λ k m home scion at names. record {
-        address = m.from;
-        is = named_before k m home scion at names;
-        told = λ below. absurd (omega (arith, below));
-      };
-      own = λ i j m n home other scion first second a b.
-          let both : Some (home, m.from) ≡ Some (other, n.from) =
-          sym (named_before i m home scion first a) ∙ named_before j n other scion second b in
-          let one : (home, m.from) ≡ (other, n.from) = same_Some (home, m.from) (other, n.from) both in
-          await.once i j m n first second (ap (λ (p : ℕ × ℕ). p.1) one);
-      only = λ scion pair live.
-          let is = await.live scion pair live in
-          record {
-            index = is.0;
-            move = is.1;
-            is = is.2;
-            names = is.4;
-            told = λ below. absurd (omega (arith, below));
-          };
-      words = λ at free. refl;
-    };
-    space_size = refl;
-    used = refl;
-    is_table = await.is_table;
-    size = refl;
-    beside = record { globals = refl; forward = refl; names = refl; maps = refl };
-  }
-
-  module _ (count : ℕ) (m : Relocation) (now : Heap) (at : slice_get moves count ≡ Some m)
-      (first : HaveFirst homes moves count old now) where
-    word_here : word_at now.space (m.to + 1) ≡ word_at old.space (m.to + 1)
-    word_here = first.scions.words (m.to + 1) (λ k x below there some same.
-        other_place k count x m there at (λ one. omega (arith, one, below)) (sym same))
-
-    names_here : MayNameScion (word_at now.space) m.to
-    names_here = elim (await.old_homes count m at) [
-      | inl none ↦ inl (word_here ∙ none)
-      | inr has ↦ inr (has.0, has.1, same_name (word_at old.space) (word_at now.space) m.to has.0 has.1 word_here has.2)
+  once_more : (i j : ℕ) (g h : Given) → slice_get (a.homes.given.items ++ next ∷ []) i ≡ Some g
+      → slice_get (a.homes.given.items ++ next ∷ []) j ≡ Some h → g.from ≡ h.from → i ≡ j
+  unfolding next
+  once_more i j g h first second same = elim (last_place a.homes.given.items next i g first) [
+    | inl i_old ↦ elim (last_place a.homes.given.items next j h second) [
+      | inl j_old ↦ has.once i j g h i_old.1 j_old.1 same
+      | inr j_new ↦ absurd (is_other i g i_old.1 (same ∙ ap (λ (x : Given). x.from) (sym j_new.1)))
     ]
+    | inr i_new ↦ elim (last_place a.homes.given.items next j h second) [
+      | inl j_old ↦ absurd (is_other j h j_old.1 (sym same ∙ ap (λ (x : Given). x.from) (sym i_new.1)))
+      | inr j_new ↦ i_new.0 ∙ sym j_new.0
+    ]
+  ]
 
-    -- the turn of the next object may come
-    pub awaits : AwaitsTurn now homes m end
-    awaits = record {
-      lies = record {
-        small = omega (arith, await.small_space, first.space_size);
-        shape = await.shapes count m at;
-        first = (await.placed count m at).0;
-        last = (let last = (await.placed count m at).1 in omega (arith, last, first.space_size));
-      };
-      names = names_here;
-      live = λ home scion names. ap is_some (first.scions.live count m home scion at names).is;
-      wants = λ some.
-          let new = await.new_homes count m at some in
-          let few = scions_few (length old.space.list) moves count (word_at now.space) now.scions count m at
-          (word_here ∙ new.0) lie first.scions.only first.is_table in
-          record {
-            no_home = word_here ∙ new.0;
-            within = new.2;
-            room = omega (arith, few, first.size, await.size);
-            few = omega (arith, first.size, await.size, await.small_space);
-          };
-      small_end = await.small_end;
-      is_table = first.is_table;
+  -- the next home fits
+  pub next_fits : a.need + cost_of shape < 2 ^ 30
+  unfolding next
+  next_fits =
+      let small = needs_small s (a.homes.given.items ++ next ∷ []) has.seen.whole
+      (λ k g at. let one = each_more k g at in (is_reached s g.from one.0.why, one.1)) once_more in
+      let need = has.need in
+      omega (arith, small, need, need_push a.homes.given.items next)
+
+  -- what holds when it was given
+  pub given_more : (b : Giving)
+      → b.homes.given.items ≡ a.homes.given.items ++ (record { from = from; shape = shape }) ∷ []
+      → b.homes.offsets.items ≡ set a.homes.offsets.items from (a.need + 1)
+      → need_of b.homes.counts ≡ need_of a.homes.counts + cost_of shape → b.need ≡ a.need + cost_of shape
+      → HasGiven space s b
+  unfolding next
+  given_more b given offsets counts need =
+      let within = offered_within space s a from shape has offered in
+      let place = length a.homes.given.items in
+      let here : offset_at b.homes from ≡ a.need + 1 = ap (λ (xs : List ℕ). slice_index xs from) offsets
+      ∙ get_or-set_same a.homes.offsets.items from (a.need + 1) 0 within in
+      let others : (x : ℕ) → x ≢ from → offset_at b.homes x ≡ offset_at a.homes x =
+      λ x other. ap (λ (xs : List ℕ). slice_index xs x) offsets
+      ∙ get_or-set_other a.homes.offsets.items from x (a.need + 1) 0 other in
+      let needs : need_for b.homes.given.items ≡ need_for a.homes.given.items + cost_of shape =
+      ap need_for given ∙ need_push a.homes.given.items next in
+      let old_need = has.need in
+      let old_counts = has.counts in
+      record {
+        seen = has.seen;
+        table = ap length offsets ∙ (length-set a.homes.offsets.items from (a.need + 1) ∙ has.table);
+        each = subst (λ (gs : List Given). (k : ℕ) (g : Given) → slice_get gs k ≡ Some g
+            → WantsHome s g.from × IsShaped s g.from g.shape) (sym given) each_more;
+        once = subst (λ (gs : List Given). (i j : ℕ) (g h : Given) → slice_get gs i ≡ Some g → slice_get gs j ≡ Some h
+            → g.from ≡ h.from → i ≡ j) (sym given) once_more;
+        offset = λ k g at.
+            elim (last_place a.homes.given.items next k g (ap (λ (gs : List Given). slice_get gs k) (sym given) ∙ at)) [
+              | inl old ↦
+                  let below = old.0 in
+                  others g.from (is_other k g old.1) ∙ (has.offset k g old.1
+                  ∙ ap (λ (gs : List Given). 1 + need_for gs)
+                  (sym (ap (take k) given ∙ take-append-le k a.homes.given.items (next ∷ []) (omega (arith, below)))))
+              | inr new ↦
+                  let front : take k b.homes.given.items ≡ a.homes.given.items =
+                  ap (take k) given ∙ (ap (λ (n : ℕ). take n (a.homes.given.items ++ next ∷ [])) new.0
+                  ∙ take-append_seam a.homes.given.items (next ∷ [])) in
+                  let same : g.from ≡ from = ap (λ (x : Given). x.from) (sym new.1) in
+                  ap (offset_at b.homes) same ∙ (here ∙ (let words = ap need_for front in
+                  omega (arith, words, old_need)))
+            ];
+        only = λ x some. elim (cases_eq x from) [
+          | inl same ↦ (
+            place,
+            next,
+            ap (λ (gs : List Given). slice_get gs place) given ∙ slice_get-append_seam a.homes.given.items next [],
+            sym same,
+          )
+          | inr other ↦
+              let old = has.only x (λ (nought : offset_at a.homes x ≡ 0). some (others x other ∙ nought)) in (
+                old.0,
+                old.1,
+                ap (λ (gs : List Given). slice_get gs old.0) given
+                    ∙ (slice_get-append_left a.homes.given.items (next ∷ []) old.0
+                    (slice_get_within a.homes.given.items old.0 old.1 old.2) ∙ old.2),
+                old.3,
+              )
+        ];
+        counts = omega (arith, counts, needs, old_counts);
+        need = omega (arith, need, needs, old_need);
+      }
+
+-- one object is offered a home, and gets it
+pub gives_one : (word : ℕ → ℕ) (old new : NewHomes) (from offset : ℕ) → from < length old.offsets.items
+    → new.offsets.items ≡ set old.offsets.items from (offset + 1) → new.first ≡ old.first
+    → GivesTo word (λ x. x ≡ from) old new
+gives_one word old new from offset within is first =
+    let here : offset_at new from ≡ offset + 1 = ap (λ (xs : List ℕ). slice_index xs from) is
+    ∙ get_or-set_same old.offsets.items from (offset + 1) 0 within in
+    let others : (x : ℕ) → x ≢ from → offset_at new x ≡ offset_at old x =
+    λ x other. ap (λ (xs : List ℕ). slice_index xs x) is
+    ∙ get_or-set_other old.offsets.items from x (offset + 1) 0 other in
+    record {
+      all = λ x same none nought. let there = ap (offset_at new) same in omega (arith, there, here, nought);
+      only = λ x some. elim (cases_eq x from) [
+        | inl same ↦ inr same
+        | inr other ↦ inl (λ (nought : offset_at old x ≡ 0). some (others x other ∙ nought))
+      ];
+      keeps = λ x some. elim (cases_eq x from) [
+        | inl same ↦ λ nought. let there = ap (offset_at new) same in omega (arith, there, here, nought)
+        | inr other ↦ λ (nought : offset_at new x ≡ 0). some (sym (others x other) ∙ nought)
+      ];
+      first = first;
     }
 
-    -- an object with a home word from before gets no new home
-    no_new_home : (home scion : ℕ) → NamesScion (word_at now.space) m.to home scion → given_home homes m ≡ 0
-    no_new_home home scion names = elim (cases_eq (given_home homes m) 0) [
-      | inl none ↦ none
-      | inr some ↦ absurd (named_not_none (word_at now.space) m.to home scion names
-          (word_here ∙ (await.new_homes count m at some).0))
+-- one that has a home gets none
+pub gives_nothing : (word : ℕ → ℕ) (homes : NewHomes) (from : ℕ) → word (from + 1) ≢ 0
+    → GivesTo word (λ x. x ≡ from) homes homes
+gives_nothing word homes from some = record {
+  all = λ x same none. absurd (some (ap (λ (y : ℕ). word (y + 1)) (sym same) ∙ none));
+  only = λ x known. inl known;
+  keeps = λ x known. known;
+  first = refl;
+}
+
+-- nobody is offered one
+pub gives_nobody : (word : ℕ → ℕ) (P : ℕ → Type 0) (homes : NewHomes) → ((x : ℕ) → P x → ⊥) → GivesTo word P homes homes
+gives_nobody word P homes nobody = record {
+  all = λ x offered. absurd (nobody x offered);
+  only = λ x known. inl known;
+  keeps = λ x known. known;
+  first = refl;
+}
+
+-- first some are, then others
+pub gives_then : (word : ℕ → ℕ) (P Q R : ℕ → Type 0) (a b c : NewHomes) → GivesTo word P a b → GivesTo word Q b c
+    → ((x : ℕ) → R x → P x ⊎ Q x) → ((x : ℕ) → P x → R x) → ((x : ℕ) → Q x → R x) → GivesTo word R a c
+gives_then word P Q R a b c one two split left right = record {
+  all = λ x offered none. elim (split x offered) [
+    | inl before ↦ two.keeps x (one.all x before none)
+    | inr after ↦ two.all x after none
+  ];
+  only = λ x known. elim (two.only x known) [
+    | inl before ↦ elim (one.only x before) [ inl old ↦ inl old | inr offered ↦ inr (left x offered) ]
+    | inr offered ↦ inr (right x offered)
+  ];
+  keeps = λ x known. two.keeps x (one.keeps x known);
+  first = two.first ∙ one.first;
+}
+
+-- the same are
+gives_as : (word : ℕ → ℕ) (P R : ℕ → Type 0) (a b : NewHomes) → GivesTo word P a b → ((x : ℕ) → R x → P x)
+    → ((x : ℕ) → P x → R x) → GivesTo word R a b
+gives_as word P R a b gives from to =
+    gives_then word P (λ x. ⊥) R a b b gives (gives_nobody word (λ x. ⊥) b (λ x none. none))
+    (λ x is. inl (from x is)) to (λ x none. absurd none)
+
+-- nobody has a new home
+pub given_start : (space : SpaceWords) (s : State) (giving : Giving) → IsSeen space s
+    → giving.homes.offsets.items ≡ replicate (space.used + 1) 0 → giving.homes.given.items ≡ []
+    → giving.homes.counts ≡ replicate 127 0 → giving.need ≡ 0 → HasGiven space s giving
+given_start space s giving seen offsets nobody counts need =
+    let nothing : need_for giving.homes.given.items ≡ 0 = ap need_for nobody in
+    record {
+      seen = seen;
+      table = ap length offsets ∙ length-replicate {A = ℕ} (space.used + 1) 0;
+      each = λ k g at. absurd (none_there giving.homes.given.items k g nobody at);
+      once = λ i j g h first second same. absurd (none_there giving.homes.given.items i g nobody first);
+      offset = λ k g at. absurd (none_there giving.homes.given.items k g nobody at);
+      only = λ a some. absurd (some (ap (λ (xs : List ℕ). slice_index xs a) offsets ∙ all_zero (space.used + 1) a));
+      counts = ap need_of counts ∙ sym nothing;
+      need = need ∙ sym nothing;
+    }
+  where
+    all_zero : (n i : ℕ) → slice_index (replicate n 0) i ≡ 0
+    all_zero n i = elim (cases_lt i n) [
+      | inl below ↦ get_or-replicate n i 0 0 below
+      | inr past ↦
+          let size = length-replicate {A = ℕ} n 0 in
+          get_or_past (replicate n 0) i 0 (omega (arith, size, past))
     ]
 
-    module _ (new : Heap) (turn : TakesTurn homes m now new) where
-      beside_more : SameBeside old new
-      beside_more = record {
-        globals = turn.beside.globals ∙ first.beside.globals;
-        forward = turn.beside.forward ∙ first.beside.forward;
-        names = turn.beside.names ∙ first.beside.names;
-        maps = turn.beside.maps ∙ first.beside.maps;
-      }
+-- where nobody had a new home, it is the first objects that leave that have one
+pub only_leaving : (space : SpaceWords) (s : State) (word : ℕ → ℕ) (leaving : List Departure) (k : ℕ) (a : Giving)
+    (b : NewHomes) → HasGiven space s a → a.homes.given.items ≡ [] → GivesTo word (IsAmong leaving k) a.homes b
+    → (x : ℕ) → offset_at b x ≢ 0 → IsAmong leaving k x
+only_leaving space s word leaving k a b has nobody gives x some = elim (gives.only x some) [
+  | inl before ↦ let g = has.only x before in absurd (none_there a.homes.given.items g.0 g.1 nobody g.2)
+  | inr among ↦ among
+]
 
-      -- the scions and the space, where the space is as before
-      Stands : SpaceWords → Scions → Type 0
-      Stands space scions = ScionsFirst homes moves (count + 1) (word_at old.space) (word_at space) scions
+-- the objects that leave
+module _ (s : State) (choice : Choice) (chosen : WasChosen s choice) (k : ℕ) (d : Departure)
+    (at : slice_get choice.leaving.items k ≡ Some d) where
+  pub leaving_offered : IsOffered s d.from d.shape
+  leaving_offered = let one = chosen.1.leave.each k d at in record { why = inl one.0; shaped = one.1 }
 
-      stays : Stands now.space new.scions → new.space ≡ now.space → length new.scions.pairs ≡ length now.scions.pairs
-          → HaveFirst homes moves (count + 1) old new
-      unfolding Stands
-      stays scions same size = record {
-        scions = subst (λ (space : SpaceWords). Stands space new.scions) (sym same) scions;
-        space_size = ap (λ (space : SpaceWords). length space.list) same ∙ first.space_size;
-        used = ap (λ (space : SpaceWords). space.used) same ∙ first.used;
-        is_table = turn.is_table;
-        size = size ∙ first.size;
-        beside = beside_more;
-      }
+  pub leaving_not_yet : (space : SpaceWords) (word : ℕ → ℕ) (old now : Giving) → HasGiven space s old
+      → old.homes.given.items ≡ [] → GivesTo word (IsAmong choice.leaving.items k) old.homes now.homes
+      → offset_at now.homes d.from ≡ 0
+  leaving_not_yet space word old now has nobody gives = elim (cases_eq (offset_at now.homes d.from) 0) [
+    | inl none ↦ none
+    | inr some ↦
+        let among = only_leaving space s word choice.leaving.items k old now.homes has nobody gives d.from some in
+        let same = chosen.1.leave.once among.0 k among.1 d among.3 at among.4 in
+        let below = among.2 in
+        absurd (omega (arith, same, below))
+  ]
 
-      -- what stands once its turn has come
-      pub have_more : HaveFirst homes moves (count + 1) old new
-      unfolding Stands
-      have_more = elim turn.is [
-        | inl none ↦
-            stays (subst (λ (scions : Scions). Stands now.space scions) (sym none.scions)
-            (none_more homes moves count (word_at old.space) (word_at now.space) now.scions m at first.scions
-            none.no_home none.no_new_home))
-            none.space (ap (λ (scions : Scions). length scions.pairs) none.scions)
-        | inr (inl told) ↦
-            stays (told_more homes moves count (word_at old.space) (word_at now.space) now.scions m at first.scions
-            new.scions told.home told.scion (no_new_home told.home told.scion told.names) told.names told.sets)
-            told.space told.sets.size
-        | inr (inr gives) ↦
-            let given = gives.gives in
-            let is = await.new_homes count m at gives.new_home in
-            let names : NamesScion (word_at new.space) m.to (given_home homes m) given.scion = record {
-              in_range = record {
-                home = record { not_null = omega (arith, is.1); small = omega (arith, is.2, await.small_end) };
-                scion = given.in_range.small;
-              };
-              some = omega (arith, given.in_range.not_null);
-              is = given.sets.here;
-            } in
-            record {
-              scions = given_more homes moves count (word_at old.space) (word_at now.space) now.scions m at first.scions
-                  (word_at new.space) new.scions given.scion gives.no_home gives.new_home given.adds names
-                  (λ k x there other. other_place k count x m there at other) given.sets.others;
-              space_size = given.sets.size ∙ first.space_size;
-              used = given.sets.used ∙ first.used;
-              is_table = turn.is_table;
-              size = given.adds.size ∙ first.size;
-              beside = beside_more;
-            }
-      ]
+pub leaving_more : (word : ℕ → ℕ) (leaving : List Departure) (k : ℕ) (d : Departure) (a b c : NewHomes)
+    → slice_get leaving k ≡ Some d → GivesTo word (IsAmong leaving k) a b → GivesTo word (λ x. x ≡ d.from) b c
+    → GivesTo word (IsAmong leaving (k + 1)) a c
+leaving_more word leaving k d a b c at before gives =
+    gives_then word (IsAmong leaving k) (λ x. x ≡ d.from) (IsAmong leaving (k + 1)) a b c before gives
+    (λ x among. elim (cases_eq among.0 k) [
+      | inl same ↦
+          let one : among.1 ≡ d = same_Some among.1 d (sym among.3 ∙ (ap (slice_get leaving) same ∙ at)) in
+          inr (sym among.4 ∙ ap (λ (e : Departure). e.from) one)
+      | inr other ↦ let below = among.2 in inl (among.0, among.1, omega (arith, below, other), among.3, among.4)
+    ])
+    (λ x among. let below = among.2 in (among.0, among.1, omega (arith, below), among.3, among.4))
+    (λ x same. (k, d, omega arith, at, sym same))
 
-      -- the home words of all other objects stay
-      pub others_stay : (k : ℕ) (x : Relocation) → slice_get moves k ≡ Some x → k ≢ count
-          → word_at new.space (x.to + 1) ≡ word_at now.space (x.to + 1)
-      others_stay k x there other = elim turn.is [
-        | inl none ↦ ap (λ (space : SpaceWords). word_at space (x.to + 1)) none.space
-        | inr (inl told) ↦ ap (λ (space : SpaceWords). word_at space (x.to + 1)) told.space
-        | inr (inr gives) ↦ gives.gives.sets.others (x.to + 1) (other_place k count x m there at other)
-      ]
+pub leaving_start : (word : ℕ → ℕ) (leaving : List Departure) (homes : NewHomes)
+    → GivesTo word (IsAmong leaving 0) homes homes
+leaving_start word leaving homes =
+    gives_nobody word (IsAmong leaving 0) homes (λ x among. let below = among.2 in omega (arith, below))
 
-  -- once the turns of all have come
-  pub have_all : (count : ℕ) (new : Heap) → length moves ≡ count → HaveFirst homes moves count old new
-      → HaveScions homes moves old new
-  have_all count new whole first =
-      let below : (k : ℕ) (m : Relocation) → slice_get moves k ≡ Some m → k < count =
-      λ k m at. omega (arith, slice_get_within moves k m at, whole) in
+-- the objects that stay and have a mark
+module _ (s : State) (choice : Choice) (chosen : WasChosen s choice) (marks : List Bool) (has_marks : HasMarks s marks)
+    (k : ℕ) (m : Relocation) (at : slice_get choice.stay.moves.items k ≡ Some m) where
+  pub mark_within : IsWhole s → m.from < length marks
+  mark_within whole =
+      let below = (whole.objects m.from (chosen.1.stay.whole k m at).reached).1.below in
+      let size = has_marks.size in
+      omega (arith, below, size)
+
+  pub named_offered : IsMarked marks m.from → IsOffered s m.from m.shape
+  named_offered marked =
+      let is = chosen.1.stay.whole k m at in
       record {
-        new_homes = λ k m at some.
-            let given = first.scions.given k m (below k m at) at some in
-            let is = first.scions.live k m (given_home homes m) given.0 at given.1 in
-            record {
-              scion = given.0;
-              names = given.1;
-              live = is.is ∙ ap (λ (a : ℕ). Some (given_home homes m, a)) (is.told (below k m at));
-            };
-        old_homes = λ k m home scion at names.
-            let same : word_at new.space (m.to + 1) ≡ word_at old.space (m.to + 1) =
-            first.scions.words (m.to + 1) (λ i x before there some. elim (cases_eq k i) [
-              | inl one ↦
-                  let mine : x ≡ m = same_Some x m (sym there ∙ (ap (slice_get moves) (sym one) ∙ at)) in
-                  absurd (named_not_none (word_at old.space) m.to home scion names (await.new_homes k m at
-                  (λ none. some (ap (given_home homes) mine ∙ none))).0)
-              | inr other ↦ other_place k i m x at there other
-            ]) in
-            let is = first.scions.live k m home scion at
-            (same_name (word_at old.space) (word_at new.space) m.to home scion same names) in
-            is.is ∙ ap (λ (a : ℕ). Some (home, a)) (is.told (below k m at));
-        only = λ scion pair live.
-            let is = first.scions.only scion pair live in
-            (is.index, is.move, is.is, is.told (below is.index is.move is.is), is.names);
-        words = λ at free. first.scions.words at (λ k m before. free k m);
-        space_size = first.space_size;
-        used = first.used;
-        is_table = first.is_table;
-        size = first.size;
-        globals = first.beside.globals;
-        forward = first.beside.forward;
-        names = first.beside.names;
-        maps = first.beside.maps;
+        why = inr ((has_marks.marked m.from).0 marked);
+        shaped = record { header = is.header; starts = is.starts; is = is.shape };
       }
+
+  pub named_not_yet : (word : ℕ → ℕ) (old now : Giving)
+      → ((a : ℕ) → offset_at old.homes a ≢ 0 → IsAmong choice.leaving.items (length choice.leaving.items) a)
+      → GivesTo word (IsAmongMarked choice.stay.moves.items marks k) old.homes now.homes
+      → offset_at now.homes m.from ≡ 0
+  named_not_yet word old now leaving gives = elim (cases_eq (offset_at now.homes m.from) 0) [
+    | inl none ↦ none
+    | inr some ↦ absurd (elim (gives.only m.from some) [
+      | inl before ↦
+          let among = leaving m.from before in
+          let goes_away = (chosen.1.leave.each among.0 among.1 among.3).0 in
+          (chosen.1.chooses.stay m.from (place_found s (goes choice.stay) choice.stay.moves.items choice.stay.next k m
+          chosen.1.stay at)).1 (subst (Leaves Move s) among.4 goes_away)
+      | inr among ↦
+          let same = same_source s (goes choice.stay) choice.stay.moves.items choice.stay.next among.1.0 k among.1.1 m
+          chosen.1.stay among.1.3 at among.1.4 in
+          let below = among.1.2 in
+          omega (arith, same.0, below)
+    ])
+  ]
+
+module _ (word : ℕ → ℕ) (moves : List Relocation) (marks : List Bool) where
+  next_marked : (k : ℕ) (m : Relocation) (x : ℕ) → slice_get moves k ≡ Some m → IsAmongMarked moves marks (k + 1) x
+      → IsAmongMarked moves marks k x ⊎ (IsMarked marks m.from × (x ≡ m.from))
+  next_marked k m x at among = elim (cases_eq among.1.0 k) [
+    | inl same ↦
+        let one : among.1.1 ≡ m = same_Some among.1.1 m (sym among.1.3 ∙ (ap (slice_get moves) same ∙ at)) in
+        let from : x ≡ m.from = sym among.1.4 ∙ ap (λ (y : Relocation). y.from) one in
+        inr (subst (IsMarked marks) from among.0, from)
+    | inr other ↦
+        let below = among.1.2 in
+        inl (among.0, (among.1.0, among.1.1, omega (arith, below, other), among.1.3, among.1.4))
+  ]
+
+  was_marked : (k x : ℕ) → IsAmongMarked moves marks k x → IsAmongMarked moves marks (k + 1) x
+  was_marked k x among =
+      let below = among.1.2 in
+      (among.0, (among.1.0, among.1.1, omega (arith, below), among.1.3, among.1.4))
+
+  pub named_more : (k : ℕ) (m : Relocation) (a b c : NewHomes) → slice_get moves k ≡ Some m → IsMarked marks m.from
+      → GivesTo word (IsAmongMarked moves marks k) a b → GivesTo word (λ x. x ≡ m.from) b c
+      → GivesTo word (IsAmongMarked moves marks (k + 1)) a c
+  named_more k m a b c at marked before gives =
+      gives_then word (IsAmongMarked moves marks k) (λ x. x ≡ m.from) (IsAmongMarked moves marks (k + 1)) a b c before
+      gives
+      (λ x among. elim (next_marked k m x at among) [ inl old ↦ inl old | inr new ↦ inr new.1 ])
+      (was_marked k)
+      (λ x same. (subst (IsMarked marks) (sym same) marked, (k, m, omega arith, at, sym same)))
+
+  pub named_none : (k : ℕ) (m : Relocation) (a b : NewHomes) → slice_get moves k ≡ Some m → (IsMarked marks m.from → ⊥)
+      → GivesTo word (IsAmongMarked moves marks k) a b → GivesTo word (IsAmongMarked moves marks (k + 1)) a b
+  named_none k m a b at clean before =
+      gives_as word (IsAmongMarked moves marks k) (IsAmongMarked moves marks (k + 1)) a b before
+      (λ x among. elim (next_marked k m x at among) [ inl old ↦ old | inr new ↦ absurd (clean new.0) ]) (was_marked k)
+
+  pub named_start : (homes : NewHomes) → GivesTo word (IsAmongMarked moves marks 0) homes homes
+  named_start homes =
+      gives_nobody word (IsAmongMarked moves marks 0) homes
+      (λ x among. let below = among.1.2 in omega (arith, below))
+
+-- the homes, when all were offered one who are to have one
+pub gives_new : (space : SpaceWords) (s : State) (choice : Choice) (marks : List Bool) (a b : NewHomes) (c : Giving)
+    → HasGiven space s c → WasChosen s choice → HasMarks s marks
+    → GivesTo (word_at space) (IsAmong choice.leaving.items (length choice.leaving.items)) a b
+    → GivesTo (word_at space) (IsAmongMarked choice.stay.moves.items marks (length choice.stay.moves.items)) b c.homes
+    → GivesNew s c.homes
+gives_new space s choice marks a b c has chosen has_marks first second = record {
+  each = has.each;
+  all = λ x wants.
+      let none : word_at space (x + 1) ≡ 0 = sym (has.seen.word (x + 1)) ∙ wants.had_none in
+      let leaves : Leaves Move s x → offset_at c.homes x ≢ 0 = λ leaves.
+      let d = chosen.1.leave.all x leaves in
+      let below = slice_get_within choice.leaving.items d.0 d.1 d.2 in
+      second.keeps x (first.all x (d.0, d.1, below, d.2, d.3) none) in
+      has.only x (elim wants.why [
+        | inl goes_away ↦ leaves goes_away
+        | inr named ↦ elim (chosen.1.chooses.go x (is_reached s x (inr named))) [
+          | inl stays ↦
+              let m = chosen.1.stay.only x stays in
+              let below = slice_get_within choice.stay.moves.items m.0 m.1 m.2 in
+              second.all x ((has_marks.marked x).1 named, (m.0, m.1, below, m.2, m.3)) none
+          | inr goes_away ↦ leaves goes_away
+        ]
+      ]);
+  offset = has.offset;
+  only = has.only;
+  counts = has.counts;
+  small = needs_small s c.homes.given.items has.seen.whole
+      (λ k g at. let one = has.each k g at in (is_reached s g.from one.0.why, one.1)) has.once;
+}

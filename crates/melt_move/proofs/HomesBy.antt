@@ -25,7 +25,7 @@ home-none s decision a none =
     (slice_index decision.homes.offsets.items a))) none
 
 -- the home behind so many words
-new_behind : (first before offset : ℕ) → offset ≡ 1 + before → new_home first offset ≡ first + before
+pub new_behind : (first before offset : ℕ) → offset ≡ 1 + before → new_home first offset ≡ first + before
 new_behind first before zero is = absurd (omega (arith, is))
 new_behind first before (suc x) is = let same : x ≡ before = omega (arith, is) in ap (λ (n : ℕ). first + n) same
 

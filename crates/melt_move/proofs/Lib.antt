@@ -14,5 +14,14 @@ pub mod LeavingHomes
 pub mod MovesDisk
 pub mod Stubs
 pub mod Turns
-pub mod ScionRoom
+pub mod Deciding
+pub mod Nothing
+pub mod Prepared
+pub mod Marking
 pub mod Giving
+pub mod TwoObjects
+pub mod Encoding
+pub mod Written
+pub mod BuildingTwo
+pub mod ScionRoom
+pub mod GivingScions

@@ -15,7 +15,7 @@ use Rattle.melt_move.specs.NamedHomes.{NamesGiven, NamesHomesOf, home_at}
 use Rattle.melt_move.proofs.Needs.{need-cons, need-before}
 
 -- the words of the first homes and one more
-need-next : (given : List Given) (i : ℕ) (g : Given) → slice_get given i ≡ Some g
+pub need-next : (given : List Given) (i : ℕ) (g : Given) → slice_get given i ≡ Some g
     → need_for (take (suc i) given) ≡ need_for (take i given) + cost_of g.shape
 need-next [] i g at = absurd (cc)
 need-next (x ∷ given) zero g at =

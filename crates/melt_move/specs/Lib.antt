@@ -1,4 +1,5 @@
 pub mod Plans
+pub mod GivingHomes
 pub mod Staying
 pub mod Bodies
 pub mod GivenScions

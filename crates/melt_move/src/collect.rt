@@ -22,7 +22,7 @@ use crate::decision::{Decision, decide};
 use crate::homes::{Given, NewHomes};
 use crate::scions::{free_scions, give_scions};
 use crate::staying::{copy_staying, copy_words};
-use melt_copy::{numbers_for, room_for_copy};
+use melt_copy::numbers_for;
 use melt_disk::{DiskFull, StaleSpace};
 use melt_io::{Failed, StaleDisk};
 use melt_model::{Journal, NoMemory, Phase, Steps};
@@ -70,7 +70,7 @@ fn prepare<L: Ledger>(
     ensures spare { IfOk result (λ prepared. HasSpare prepared.0.homes heap.new.names) }
 {
     let decision = decide(alloc, heap, held, first, steps)?;
-    let room = room_for_copy(alloc, heap)?;
+    let room = heap.space.room_for_copy(alloc)?;
     reserve_names(&mut heap.names, decision.homes.given.len())?;
     Ok((decision, room))
 }

@@ -37,7 +37,8 @@ pub fn decide<L: Ledger>(
 ) -> Result<Decision, NoMemory>
     requires formed { IsFormed heap.now held.now }
     requires settled { IsSettled heap.now }
-    ensures { IfOk result (λ decision. (maps : Maps) (disk : OnDisk) → disk.end ≡ first
+    ensures first { IfOk result (λ decision. decision.homes.first ≡ first) }
+    ensures decides { IfOk result (λ decision. (maps : Maps) (disk : OnDisk) → disk.end ≡ first
         → Formed maps (state_of heap.now held.now disk)
         → IsDecision heap.now.space (state_of heap.now held.now disk) decision) }
 {

@@ -3,15 +3,19 @@
 //! A Body refers to homes alone. So beside the objects that leave, those that stay and to which they refer get a home.
 //! The new homes lie one behind the other, first those of the objects that leave, then the others, each in the order in
 //! which they were found. Before the disk was asked for room only their distances from the first one are known.
-ghost use Rattle.std.specs.Prelude.{◌≡◌, ℕ, ◌^◌, ◌<◌, slice_index, IfOk};
-ghost use Rattle.melt_scion.specs.State.{State};
+ghost use Rattle.std.specs.Prelude.{◌≡◌, ◌≢◌, ◌↔◌, ◌^◌, ◌<◌, ℕ, [], length, slice_index, Some, IfOk, OnOk};
+ghost use Rattle.melt_space.specs.Space.{word_at};
+ghost use Rattle.melt_scion.specs.State.{State, RefersTo};
+ghost use Rattle.melt_copy.specs.Moving.{IsRefWord};
 ghost use Rattle.melt_copy.specs.declared.live.LiveSet.{LiveSet};
-ghost use Rattle.melt_move.specs.Plans.{GivesNew, IsChoice, IsSeen, new_home};
+ghost use Rattle.melt_move.specs.GivingHomes.{AreSlots, GivesTo, HasGiven, HasMarks, IsAmong, IsAmongMarked, IsOffered};
+ghost use Rattle.melt_move.specs.GivingHomes.{MarksSlots, WasChosen, offset_at};
+ghost use Rattle.melt_move.specs.Plans.{AreDepartures, GivesNew, IsChoice, IsSeen, new_home};
 
-use crate::choice::Choice;
+use crate::choice::{Choice, Departure};
 use melt_model::{NoMemory, Steps};
 use melt_space::Space;
-use melt_word::Shape;
+use melt_word::{Ref, Shape, cost, decode_ref};
 use std::alloc::Global;
 use std::sync::ledger::Ledger;
 
@@ -48,6 +52,142 @@ impl NewHomes {
     }
 }
 
+/// Homes that are being given, and the words that they take so far.
+#[derive(Drop)]
+struct Giving {
+    homes: NewHomes,
+    need: u32,
+}
+
+/// The address in the word of a reference, if it has one.
+fn address_in(word: u64) -> Option<u32>
+    requires { IsRefWord word }
+    ensures { (address : ℕ) → (result ≡ Some address) ↔ RefersTo word address }
+{
+    match decode_ref(word) {
+        Ok(Ref::Clean(address) | Ref::Stale(address)) => Some(address),
+        Ok(Ref::Null | Ref::Disk(_)) => None,
+        // A slot always has the word of a reference.
+        Err(_) => unreachable!(),
+    }
+}
+
+/// Marks the objects to which the slots of an object refer.
+fn mark_slots<L: Ledger>(marks: &mut [bool], slots: &[u64], steps: &mut Steps<L>)
+    requires { AreSlots slots.now (length marks.old) }
+    ensures { MarksSlots slots.now (length slots.now) marks.old marks.new }
+{
+    for slot in slots {
+        steps.tick();
+        if let Some(address) = address_in(*slot) {
+            marks[address as usize] = true;
+        }
+    }
+}
+
+/// Marks, by address, the objects to which those that leave refer.
+fn mark_named<L: Ledger>(
+    alloc: Global,
+    space: &Space,
+    leaving: &[Departure],
+    steps: &mut Steps<L>,
+) -> Result<Vec<bool>, NoMemory>
+    requires { (s : State) × IsSeen space.now s × AreDepartures s leaving.now }
+    ensures { IfOk result (λ marks. (s : State) → IsSeen space.now s → AreDepartures s leaving.now
+        → HasMarks s marks.items) }
+{
+    let mut marks = vec![in alloc; false; space.used() as usize + 1]?;
+    for d in leaving {
+        steps.tick();
+        let slots = space.words_at(d.from + 2, u32::from(d.shape.refs));
+        mark_slots(&mut marks, slots, steps);
+    }
+    Ok(marks)
+}
+
+impl Giving {
+    /// Homes of which none was given yet. They are to begin at the word `first`.
+    fn new(alloc: Global, space: &Space, first: u32) -> Result<Giving, NoMemory>
+        ensures all { IfOk result (λ giving. (s : State) → IsSeen space.now s → HasGiven space.now s giving) }
+        ensures nobody { IfOk result (λ giving. giving.homes.given.items ≡ []) }
+        ensures first { IfOk result (λ giving. giving.homes.first ≡ first) }
+    {
+        let homes = NewHomes {
+            first,
+            offsets: vec![in alloc; 0; space.used() as usize + 1]?,
+            given: Vec::new(alloc),
+            counts: [0; 127],
+        };
+        Ok(Giving { homes, need: 0 })
+    }
+
+    /// Gives the next home to an object, where it has none.
+    fn give_missing(&mut self, space: &Space, from: u32, shape: Shape) -> Result<(), NoMemory>
+        requires offered { (s : State) × HasGiven space.now s self.old × IsOffered s from shape }
+        requires not_yet { offset_at self.old.homes from ≡ 0 }
+        ensures gives { OnOk result (GivesTo (word_at space.now) (λ a. a ≡ from) self.old.homes self.new.homes) }
+        ensures all { OnOk result ((s : State) → HasGiven space.now s self.old → IsOffered s from shape
+            → HasGiven space.now s self.new) }
+    {
+        if space.word(from + 1) != 0 {
+            return Ok(());
+        }
+        let need = cost(shape);
+        self.homes.given.push(Given { from, shape })?;
+        self.homes.offsets[from as usize] = self.need + 1;
+        self.homes.counts[need as usize] += 1;
+        self.need += need;
+        Ok(())
+    }
+
+    /// Gives homes to the objects that leave. Nobody has a new one yet.
+    fn give_leaving<L: Ledger>(
+        &mut self,
+        space: &Space,
+        choice: &Choice,
+        steps: &mut Steps<L>,
+    ) -> Result<(), NoMemory>
+        requires chosen { (s : State) × HasGiven space.now s self.old × WasChosen s choice.now }
+        requires nobody { self.old.homes.given.items ≡ [] }
+        ensures gives { OnOk result (GivesTo (word_at space.now)
+            (IsAmong choice.now.leaving.items (length choice.now.leaving.items)) self.old.homes self.new.homes) }
+        ensures all { OnOk result ((s : State) → HasGiven space.now s self.old → WasChosen s choice.now
+            → HasGiven space.now s self.new) }
+    {
+        for d in &choice.leaving {
+            steps.tick();
+            self.give_missing(space, d.from, d.shape)?;
+        }
+        Ok(())
+    }
+
+    /// Gives homes to the objects that stay and were marked. Only objects that leave have a new one yet.
+    fn give_named<L: Ledger>(
+        &mut self,
+        space: &Space,
+        choice: &Choice,
+        marks: &[bool],
+        steps: &mut Steps<L>,
+    ) -> Result<(), NoMemory>
+        requires chosen { (s : State) × HasGiven space.now s self.old × WasChosen s choice.now × HasMarks s marks.now }
+        requires leaving { (a : ℕ) → offset_at self.old.homes a ≢ 0
+            → IsAmong choice.now.leaving.items (length choice.now.leaving.items) a }
+        ensures gives { OnOk result (GivesTo (word_at space.now)
+            (IsAmongMarked choice.now.stay.moves.items marks.now (length choice.now.stay.moves.items))
+            self.old.homes self.new.homes) }
+        ensures all { OnOk result ((s : State) → HasGiven space.now s self.old → WasChosen s choice.now
+            → HasMarks s marks.now → HasGiven space.now s self.new) }
+    {
+        for m in &choice.stay.moves {
+            steps.tick();
+            if marks[m.from as usize] {
+                self.give_missing(space, m.from, m.shape)?;
+            }
+        }
+        Ok(())
+    }
+}
+
 /// Gives a home to each object that leaves and to each that stays and is referred to by one that leaves, where it has
 /// none. The homes begin at the word `first` of the disk.
 pub fn give_homes<L: Ledger>(
@@ -62,10 +202,9 @@ pub fn give_homes<L: Ledger>(
     ensures gives { IfOk result (λ homes. (s : State) (live : LiveSet) → IsSeen space.now s → IsChoice s live choice.now
         → GivesNew s homes) }
 {
-    Ok(NewHomes {
-        first,
-        offsets: vec![in alloc; 0; space.used() as usize + 1]?,
-        given: Vec::new(alloc),
-        counts: [0; 127],
-    })
+    let marks = mark_named(alloc, space, &choice.leaving, steps)?;
+    let mut giving = Giving::new(alloc, space, first)?;
+    giving.give_leaving(space, choice, steps)?;
+    giving.give_named(space, choice, &marks, steps)?;
+    Ok(giving.homes)
 }

@@ -1,3 +1,5 @@
 use super::*;
 
+mod choice;
 mod given;
+mod moved;

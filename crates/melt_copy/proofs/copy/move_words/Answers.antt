@@ -1,26 +1,21 @@
 use Rattle.std.proofs.Common.{arith}
-use Rattle.melt_copy.proofs.Growth.{words_for, Grows-more, Extends-push, moves_push}
+use Rattle.melt_copy.proofs.Growth.{may_find_word, word_tracked, Grows-more, Extends-push, moves_push}
 use Rattle.melt_copy.proofs.copy.move_words.Goals as goal
 
 pub move_word-requires : goal.move_word-requires
 move_word-requires g c =
-    let s = c.requires.0 in (
-      s,
-      words_for c.args.space.now s c.args.forwarding.now c.loop-word.forwarding c.args.words.now
-          c.loop-word.word-index c.requires.1 (c.loop-word.invariant.tracks s c.requires.1) (omega arith),
-    )
+    may_find_word c.args.space.now c.args.forwarding.now c.loop-word.forwarding c.args.words.now c.loop-word.word-index
+    c.loop-word.invariant.tracks (omega arith) c.requires
 
 pub returns-in_err-move_word-clause-tracks : goal.returns-in_err-move_word-clause-tracks
 returns-in_err-move_word-clause-tracks g c =
-    λ s in_. c.move_word.ensures.tracks s
-    (words_for c.args.space.now s c.args.forwarding.now c.loop-word.forwarding c.args.words.now c.loop-word.word-index
-    in_ (c.loop-word.invariant.tracks s in_) (omega arith))
+    word_tracked c.args.space.now c.args.forwarding.now c.loop-word.forwarding c.args.words.now c.loop-word.word-index
+    c.loop-word.invariant.tracks (omega arith) c.move_word.new.self c.move_word.ensures.tracks
 
 pub returns-in_err-push-clause-tracks : goal.returns-in_err-push-clause-tracks
 returns-in_err-push-clause-tracks g c =
-    λ s in_. c.move_word.ensures.tracks s
-    (words_for c.args.space.now s c.args.forwarding.now c.loop-word.forwarding c.args.words.now c.loop-word.word-index
-    in_ (c.loop-word.invariant.tracks s in_) (omega arith))
+    word_tracked c.args.space.now c.args.forwarding.now c.loop-word.forwarding c.args.words.now c.loop-word.word-index
+    c.loop-word.invariant.tracks (omega arith) c.move_word.new.self c.move_word.ensures.tracks
 
 pub loop-word-preserved : goal.loop-word-preserved
 loop-word-preserved g c = record {
@@ -33,7 +28,6 @@ loop-word-preserved g c = record {
       c.loop-word.invariant.moves c.in_ok-move_word.ensures.moves;
   grows = Grows-more c.args.forwarding.now c.loop-word.forwarding c.move_word.new.self c.loop-word.invariant.grows
       c.move_word.ensures.grows;
-  tracks = λ s in_. c.move_word.ensures.tracks s
-      (words_for c.args.space.now s c.args.forwarding.now c.loop-word.forwarding c.args.words.now c.loop-word.word-index
-      in_ (c.loop-word.invariant.tracks s in_) (omega arith));
+  tracks = word_tracked c.args.space.now c.args.forwarding.now c.loop-word.forwarding c.args.words.now
+      c.loop-word.word-index c.loop-word.invariant.tracks (omega arith) c.move_word.new.self c.move_word.ensures.tracks;
 }

@@ -4,7 +4,7 @@ use Rattle.melt_copy.specs.declared.forwarding.Relocation.{Relocation}
 use Rattle.melt_move.specs.ScionTurns.{AwaitsTurn}
 use Rattle.melt_move.specs.GivenScions.{WritesStubs, given_count}
 use Rattle.melt_move.proofs.Elements.{read_at}
-use Rattle.melt_move.proofs.Giving.{moves_few, have_none, awaits, have_more, others_stay, have_all}
+use Rattle.melt_move.proofs.GivingScions.{moves_few, have_none, awaits, have_more, others_stay, have_all}
 use Rattle.melt_move.proofs.Stubs.{stubs_start, stubs_more, count_more, count_few}
 use Rattle.melt_move.proofs.scions.give_scions.Given.{Over}
 use Rattle.melt_move.proofs.scions.give_scions.Goals as goal

@@ -2,7 +2,7 @@ use Rattle.std.proofs.Common.{◌≡◌, ◌<◌, ◌≤◌, ◌^◌, ℕ, take}
 use Rattle.melt_io.specs.Outside.{counted}
 use Rattle.melt_scion.specs.Heaps.{Shows}
 use Rattle.melt_move.specs.GivenScions.{WritesStubs, given_count}
-use Rattle.melt_move.proofs.Giving.{HaveFirst}
+use Rattle.melt_move.proofs.GivingScions.{HaveFirst}
 use Rattle.melt_move.proofs.scions.give_scions.Given as goal
 
 abbrev pub invariant-loop-m : goal.invariant-loop-m

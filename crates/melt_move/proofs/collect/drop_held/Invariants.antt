@@ -1,0 +1,5 @@
+use Rattle.melt_copy.proofs.Committing.{Forwards}
+use Rattle.melt_move.proofs.collect.drop_held.Given as goal
+
+abbrev pub invariant-loop-registers : goal.invariant-loop-registers
+invariant-loop-registers g l = Forwards (λ address. 0) l.fn.held l.held l.registers-index
