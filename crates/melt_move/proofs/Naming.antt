@@ -54,16 +54,18 @@ names_start homes number old =
     record { each = λ k n g below. absurd (omega (arith, below)); others = λ home free. refl }
 
 -- one home more, where its object has a number
-pub names_more : (homes : NewHomes) (count m : ℕ) (g : Given) (number old before after : ℕ → Option ℕ)
-    → slice_get homes.given.items count ≡ Some g → NamesFirst homes count number old before → number g.from ≡ Some m
+pub names_more : (homes : NewHomes) (count m : ℕ) (g : Given) (found : Option ℕ)
+    (number old before after : ℕ → Option ℕ) → slice_get homes.given.items count ≡ Some g
+    → NamesFirst homes count number old before → found ≡ number g.from → found ≡ Some m
     → after (home_at homes count) ≡ Some m
     → ((q : ℕ) → q ≢ home_at homes count → after q ≡ before q) → NamesFirst homes (count + 1) number old after
-names_more homes count m g number old before after at names is here others = record {
+names_more homes count m g found number old before after at names found_is some here others = record {
   each = λ k n x below there numbered. elim (cases_eq k count) [
     | inl same ↦
         let both : Some x ≡ Some g = sym there ∙ (ap (slice_get homes.given.items) same ∙ at) in
         let one : x ≡ g = same_Some x g both in
-        let number_is : Some m ≡ Some n = sym is ∙ (ap (λ (y : Given). number y.from) (sym one) ∙ numbered) in
+        let is : number g.from ≡ Some n = ap (λ (y : Given). number y.from) (sym one) ∙ numbered in
+        let number_is : Some m ≡ Some n = sym some ∙ (found_is ∙ is) in
         ap (λ (i : ℕ). after (home_at homes i)) same ∙ (here ∙ number_is)
     | inr other ↦
         let less : k < count = omega (arith, below, other) in
@@ -76,15 +78,16 @@ names_more homes count m g number old before after at names is here others = rec
 }
 
 -- and where it has none
-pub names_same : (homes : NewHomes) (count : ℕ) (g : Given) (number old now : ℕ → Option ℕ)
-    → slice_get homes.given.items count ≡ Some g → NamesFirst homes count number old now → number g.from ≡ None
-    → NamesFirst homes (count + 1) number old now
-names_same homes count g number old now at names none = record {
+pub names_same : (homes : NewHomes) (count : ℕ) (g : Given) (found : Option ℕ) (number old now : ℕ → Option ℕ)
+    → slice_get homes.given.items count ≡ Some g → NamesFirst homes count number old now → found ≡ number g.from
+    → found ≡ None → NamesFirst homes (count + 1) number old now
+names_same homes count g found number old now at names found_is none = record {
   each = λ k n x below there numbered. elim (cases_eq k count) [
     | inl same ↦
         let both : Some x ≡ Some g = sym there ∙ (ap (slice_get homes.given.items) same ∙ at) in
         let one : x ≡ g = same_Some x g both in
-        let number_is : None ≡ Some n = sym none ∙ (ap (λ (y : Given). number y.from) (sym one) ∙ numbered) in
+        let is : number g.from ≡ Some n = ap (λ (y : Given). number y.from) (sym one) ∙ numbered in
+        let number_is : None ≡ Some n = sym none ∙ (found_is ∙ is) in
         absurd (cc)
     | inr other ↦ names.each k n x (omega (arith, below, other)) there numbered
   ];

@@ -1,4 +1,5 @@
 use super::*;
 
 mod choice;
+mod given;
 mod moved;
