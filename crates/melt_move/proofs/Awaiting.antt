@@ -171,7 +171,7 @@ module _ (heap : Heap) (held : List Registers) (disk : OnDisk) (decision : Decis
     some_first = let first = decided.first in let some = decided.first_end in omega (arith, first, some)
 
     -- who is given a home, where it stays
-    record GivenTo (m : Relocation) : Type 0 where
+    pub record GivenTo (m : Relocation) : Type 0 where
       pub index : ℕ
       pub given : Given
       pub is : slice_get decision.homes.given.items index ≡ Some given
@@ -180,7 +180,7 @@ module _ (heap : Heap) (held : List Registers) (disk : OnDisk) (decision : Decis
       pub none : s.word (m.from + 1) ≡ 0
       pub home : given_home decision.homes m ≡ home_by s.word decision given.from
 
-    given_to : (k : ℕ) (m : Relocation) → slice_get decision.choice.stay.moves.items k ≡ Some m
+    pub given_to : (k : ℕ) (m : Relocation) → slice_get decision.choice.stay.moves.items k ≡ Some m
         → given_home decision.homes m ≢ 0 → GivenTo m
     given_to k m at some =
         let offset : slice_index decision.homes.offsets.items m.from ≢ 0 =

@@ -26,3 +26,5 @@ pub mod BuildingTwo
 pub mod ScionRoom
 pub mod GivingScions
 pub mod Awaiting
+pub mod NamedOut
+pub mod CarriedOut

@@ -3,6 +3,7 @@ use Rattle.melt_scion.specs.Heaps.{state_of}
 use Rattle.melt_move.specs.declared.homes.Given.{Given}
 use Rattle.melt_move.specs.Collecting.{AreShapes}
 use Rattle.melt_move.proofs.Awaiting.{given_shapes, stays_within, await_scions}
+use Rattle.melt_move.proofs.CarriedOut.{carries_out}
 use Rattle.melt_move.proofs.collect.carry_out.Goals as goal
 
 pub reserve_homes-requires-clause-shapes : goal.reserve_homes-requires-clause-shapes
