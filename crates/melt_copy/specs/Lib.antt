@@ -2,3 +2,4 @@ pub mod Moving
 pub mod Copying
 pub mod Tracking
 pub mod Copied
+pub mod Settling

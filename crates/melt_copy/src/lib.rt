@@ -10,8 +10,10 @@ mod commit;
 mod copy;
 pub mod forwarding;
 mod scions;
+pub mod settling;
 
 pub use collect::collect_copy;
+pub use settling::settle;
 
 #[cfg(test)]
 mod tests;
