@@ -1,6 +1,7 @@
--- One object after the other is settled: what is said of the first forwarding words, and how what the heap stands for is
--- kept from one to the next.
-use Rattle.std.proofs.Common.{◌≡◌, ◌≢◌, ◌⊎◌, inl, inr, ℕ, zero, suc, ◌+◌, ◌*◌, ◌<◌, ◌≤◌, List, [], length, refl, sym, ◌∙◌}
+-- One object after the other is settled: what is said of the first forwarding words, and how what the heap stands for
+-- is kept from one to the next.
+use Rattle.std.proofs.Common.{◌≡◌, ◌≢◌, ◌⊎◌, inl, inr, ℕ, zero, suc, ◌+◌, ◌*◌, ◌<◌, ◌≤◌, List, [], length}
+use Rattle.std.proofs.Common.{refl, sym, ◌∙◌}
 use Rattle.std.proofs.Common.{ap, subst, arith, add-one}
 use Rattle.std.proofs.Math.ListN.{length-set}
 use Rattle.std.proofs.lemmas.Bool.{cases_eq, cases_lt}
@@ -40,8 +41,8 @@ keeps_none heap end image maps disk held is shows names formed = record {
 }
 
 -- and while one thing happens after the other
-pub keeps_both : (old now new : Heap) (end : ℕ) (before between after : Option (List ℕ)) → Keeps old now end before between
-    → Keeps now new end between after → Keeps old new end before after
+pub keeps_both : (old now new : Heap) (end : ℕ) (before between after : Option (List ℕ))
+    → Keeps old now end before between → Keeps now new end between after → Keeps old new end before after
 keeps_both old now new end before between after first second maps disk held is shows names formed =
     let one : HasKept maps disk held old now between = first maps disk held is shows names formed in
     let two : HasKept maps (with_image disk one.image) held now new after =
@@ -162,8 +163,8 @@ module _ (old now : Heap) (place : ℕ) (so_far : SettlesBelow old now place) wh
         maps = so_far.maps;
       }
 
-  module _ (new : Heap) (home address : ℕ) (maps : Maps) (disk : OnDisk) (formed : FormedWords maps (state_of now [] disk))
-      (within : place < length now.forward) (sends : Sends (slice_index now.forward place) home address)
+  module _ (new : Heap) (home address : ℕ) (maps : Maps) (disk : OnDisk)
+      (formed : FormedWords maps (state_of now [] disk)) (within : place < length now.forward) (sends : Sends (slice_index now.forward place) home address)
       (settles : SettlesAt now new place home address) where
     it_stands : ForwardStands maps (state_of now [] disk) home address
     it_stands = stands maps now [] disk place home address formed within sends
@@ -218,7 +219,8 @@ module _ (old now : Heap) (place : ℕ) (so_far : SettlesBelow old now place) wh
       ];
       settled = λ k a sent. elim (last_or_before old place k a sent) [
         | inl here ↦
-            let same = one_pair (slice_index old.forward place) home address k a (here_before home address sends) here in
+            let was = here_before home address sends in
+            let same = one_pair (slice_index old.forward place) home address k a was here in
             subst (λ (j : ℕ). HasScion new j a) same.0
             (subst (λ (b : ℕ). HasScion new home b) same.1
             (record { scion = settles.scion; live = settles.adds.here; word = settles.space.here }))
@@ -374,7 +376,8 @@ kept_formed maps disk held old new after kept formed = record {
 -- And what they stood for they stand for, with the same values in registers.
 pub kept_placed : (maps : Maps) (disk : OnDisk) (held : List Registers) (old new : Heap) (after : Option (List ℕ))
     → (kept : HasKept maps disk held old new after) → (h : List Entry) (value : ℕ → ℕ → Value)
-    → Placed h value maps (state_of old held disk) → Placed h value maps (state_of new held (with_image disk kept.image))
+    → Placed h value maps (state_of old held disk)
+    → Placed h value maps (state_of new held (with_image disk kept.image))
 kept_placed maps disk held old new after kept h value placed = record {
   formed = kept_formed maps disk held old new after kept placed.formed;
   tells = kept.tells h placed.tells;

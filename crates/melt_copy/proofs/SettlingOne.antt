@@ -1,5 +1,5 @@
 -- One object is settled: what the heap stood for it still stands for, whether the Stub could be written or not.
-use Rattle.std.proofs.Common.{◌≡◌, ◌≢◌, inl, inr, ℕ, ◌+◌, ◌*◌, ◌<◌, ◌≤◌, List, length, refl, sym, ◌∙◌}
+use Rattle.std.proofs.Common.{◌≡◌, ◌≢◌, inl, inr, ℕ, ◌+◌, ◌*◌, ◌<◌, ◌≤◌, List, ◌∷◌, length, refl, sym, ◌∙◌}
 use Rattle.std.proofs.Common.{ap, subst, arith}
 use Rattle.std.proofs.Math.ListN.{length-set}
 use Rattle.std.proofs.lemmas.List.{get_or-set_same, get_or-set_other}
@@ -153,7 +153,8 @@ keeps_failed heap end place home address before after within sends others maps d
 pub given_unused : (old new : Scions) (home address scion : ℕ) → IsTable old → Adds old new home address scion
     → IsUnused old scion
 given_unused old new home address scion table adds =
-    (table.unused scion).0 (subst (λ (xs : List ℕ). Contains xs scion) (sym adds.given) (contains_here scion new.unused))
+    let first : Contains (scion ∷ new.unused) scion = contains_here scion new.unused in
+    (table.unused scion).0 (subst (λ (xs : List ℕ). Contains xs scion) (sym adds.given) first)
 
 -- the heap keeps its maps
 pub maps_kept : (old new : Heap) (maps : Maps) → new.names ≡ old.names → new.maps ≡ old.maps → HasMaps old maps
@@ -218,8 +219,8 @@ module _ (maps : Maps) (old new : Heap) (held : List Registers) (disk : OnDisk) 
   pub header_was_there : (a n : ℕ) (header : Header) → maps.address a ≡ Some n → HeaderAt is_now a header
       → HeaderAt was a header
   header_was_there a n header named starts =
-      header_was maps was is_now formed (settle_same maps was is_now place home address settles.scion settles_one formed)
-      a n header named starts
+      header_was maps was is_now formed
+      (settle_same maps was is_now place home address settles.scion settles_one formed) a n header named starts
 
   -- no header is the home word of the object
   pub header_stays : (a n : ℕ) (header : Header) → maps.address a ≡ Some n → HeaderAt was a header
@@ -244,8 +245,8 @@ pub keeps_settled : (old new : Heap) (end place home address : ℕ) (z : Shape) 
     → ((header : Header) → IsHeader header → word_at old.space address ≡ header_word header → z ≡ header.shape)
     → (settles : SettlesAt old new place home address) → Writes before home (stub_words home z settles.scion) after
     → Keeps old new end before after
-keeps_settled old new end place home address z before after table within sends shape settles writes maps disk held is shows
-    names formed =
+keeps_settled old new end place home address z before after table within sends shape settles writes maps disk held is
+    shows names formed =
     let puts : PutsTwo disk.image after home (head_word 2 z home) settles.scion =
     puts_two before disk.image after home (head_word 2 z home) settles.scion shows writes in
     let changes : ChangesTwo disk.image after home = puts.changes in

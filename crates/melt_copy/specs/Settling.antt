@@ -28,8 +28,8 @@ pub record IsFormedTo (heap : Heap) (end : ℕ) : Type 0 where
 abbrev pub with_image : OnDisk → (ℕ → ℕ) → OnDisk
 with_image disk image = record disk { image = image }
 
--- With these maps, the new heap stands over the disk, with the words that it has then, for what the old one stood for: it
--- is well formed, registers may hold what they held, objects keep their headers, and what was told still is.
+-- With these maps, the new heap stands over the disk, with the words that it has then, for what the old one stood for:
+-- it is well formed, registers may hold what they held, objects keep their headers, and what was told still is.
 pub record HasKept (maps : Maps) (disk : OnDisk) (held : List Registers) (old new : Heap)
     (after : Option (List ℕ)) : Type 0 where
   pub image : ℕ → ℕ
@@ -44,8 +44,8 @@ pub record HasKept (maps : Maps) (disk : OnDisk) (held : List Registers) (old ne
   pub tells : (h : List Entry) → Tells h maps (state_of old held disk)
       → Tells h maps (state_of new held (with_image disk image))
 
--- Whatever the heap stood for over a disk with these words before and after, and with this first word past all homes, it
--- stands for that still.
+-- Whatever the heap stood for over a disk with these words before and after, and with this first word past all homes,
+-- it stands for that still.
 abbrev pub Keeps : Heap → Heap → ℕ → Option (List ℕ) → Option (List ℕ) → Type 0
 Keeps old new end before after = (maps : Maps) (disk : OnDisk) (held : List Registers) → disk.end ≡ end
     → Shows before disk.image → HasMaps old maps → FormedWords maps (state_of old held disk)

@@ -1,8 +1,8 @@
 //! Settles the objects that came back from a disk, before a collection.
 //!
-//! While an epoch runs, an object that came back is known to other records by a forwarding word alone, and its record on
-//! disk is still the Body that was read. A collection is to move the object, so a record must stand there that finds it: a
-//! Stub, whose scion names the object wherever it goes.
+//! While an epoch runs, an object that came back is known to other records by a forwarding word alone, and its record
+//! on disk is still the Body that was read. A collection is to move the object, so a record must stand there that
+//! finds it: a Stub, whose scion names the object wherever it goes.
 //!
 //! The Stub is written before anything in the heap names its scion. Until the home word does, the home counts as
 //! forwarded, and nothing is said of the words that stand at it. So a write that fails leaves a heap that stands for
@@ -64,8 +64,8 @@ fn settle_one<D: StaleDisk>(
     Ok(())
 }
 
-/// Settles all objects that came back from the disk in this epoch, by ascending place of their forwarding words, with one
-/// write each, and answers how many these were. Takes no memory.
+/// Settles all objects that came back from the disk in this epoch, by ascending place of their forwarding words, with
+/// one write each, and answers how many these were. Takes no memory.
 ///
 /// At the first write that fails it stops: the objects before it are settled, and it and those behind it are forwarded
 /// as before, so that a later call goes on with it, by the same scion.

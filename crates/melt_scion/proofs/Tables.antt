@@ -79,6 +79,7 @@ taken_back old more new home address scion adds table frees =
     ∙ (without_place scion frees.order.front frees.order.back adds.order.front adds.order.back
     (subst EachOnce frees.order.more_is table.live_once) (sym frees.order.more_is ∙ adds.order.more_is)
     ∙ sym adds.order.less_is) in
-    ap (λ (xs : List (Option (ℕ × ℕ))). let t : Scions = record { pairs = xs; unused = new.unused; live = new.live } in t) pairs
+    ap (λ (xs : List (Option (ℕ × ℕ))).
+    let t : Scions = record { pairs = xs; unused = new.unused; live = new.live } in t) pairs
     ∙ (ap (λ (xs : List ℕ). let t : Scions = record { pairs = old.pairs; unused = xs; live = new.live } in t) unused
     ∙ ap (λ (xs : List ℕ). let t : Scions = record { pairs = old.pairs; unused = old.unused; live = xs } in t) live)

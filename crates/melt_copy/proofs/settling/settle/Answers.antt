@@ -49,8 +49,8 @@ returns-in_err-settle_one-clause-keeps g c =
     let new : Heap = c.settle_one.new.heap in
     let between = g.D.StaleDisk.image c.loop-place.space.disk.now in
     let after = g.D.StaleDisk.image c.settle_one.new.space.disk.now in
-    keeps_both c.args.heap.now now new c.args.space.now.end (g.D.StaleDisk.image c.args.space.now.disk.now) between after
-    c.loop-place.invariant.so_far.keeps
+    keeps_both c.args.heap.now now new c.args.space.now.end (g.D.StaleDisk.image c.args.space.now.disk.now) between
+    after c.loop-place.invariant.so_far.keeps
     (subst (λ (end : ℕ). Keeps now new end between after) c.loop-place.invariant.end c.settle_one.ensures.keeps)
 
 pub returns-in_err-settle_one-clause-stopped : goal.returns-in_err-settle_one-clause-stopped
@@ -104,8 +104,8 @@ loop-place-preserved g c =
           let rises = rises_more c.loop-place.settled writes (g.D.StaleDisk.writes c.loop-place.space.disk.now)
           (g.D.StaleDisk.writes w.settle_one.new.space.disk.now) inv.writes w.settle_one.ensures.one_write in
           record {
-            so_far = subst (λ (h : Heap). IsSettledSoFar old h end before (g.D.StaleDisk.image then.disk.now) (place + 1)
-                c.match-sent_at.settled) (sym w.heap-is)
+            so_far = subst (λ (h : Heap). IsSettledSoFar old h end before (g.D.StaleDisk.image then.disk.now)
+                (place + 1) c.match-sent_at.settled) (sym w.heap-is)
                 (subst (λ (s : Space). IsSettledSoFar old w.settle_one.new.heap end before
                 (g.D.StaleDisk.image s.disk.now) (place + 1) c.match-sent_at.settled) (sym w.space-is)
                 (subst (λ (n : ℕ). IsSettledSoFar old w.settle_one.new.heap end before after (place + 1) n)
@@ -130,8 +130,8 @@ loop-place-preserved g c =
           let past : IsSettledSoFar old now end before between (place + 1) c.loop-place.settled =
           so_far_past old now end before between place c.loop-place.settled so_far within w.in_default.ensures in
           record {
-            so_far = subst (λ (h : Heap). IsSettledSoFar old h end before (g.D.StaleDisk.image then.disk.now) (place + 1)
-                c.match-sent_at.settled) (sym w.heap-is)
+            so_far = subst (λ (h : Heap). IsSettledSoFar old h end before (g.D.StaleDisk.image then.disk.now)
+                (place + 1) c.match-sent_at.settled) (sym w.heap-is)
                 (subst (λ (s : Space). IsSettledSoFar old now end before (g.D.StaleDisk.image s.disk.now) (place + 1)
                 c.match-sent_at.settled) (sym w.space-is)
                 (subst (λ (n : ℕ). IsSettledSoFar old now end before between (place + 1) n) (sym w.settled-is) past));
