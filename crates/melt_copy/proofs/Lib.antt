@@ -24,3 +24,6 @@ pub mod Collects
 pub mod Building
 pub mod BuildingScion
 pub mod Costs
+pub mod Stubs
+pub mod SettlingOne
+pub mod Settled

@@ -3,3 +3,4 @@ pub mod Copying
 pub mod Tracking
 pub mod Copied
 pub mod Reaching
+pub mod Settling

@@ -11,12 +11,14 @@ pub mod copy;
 pub mod forwarding;
 pub mod live;
 mod scions;
+pub mod settling;
 
-pub use collect::{collect_copy, numbers_for, rename_all, room_for_copy};
+pub use collect::{collect_copy, numbers_for, rename_all};
 pub use commit::forward_held;
 pub use copy::move_header;
 pub use forwarding::{Forwarding, Relocation};
 pub use live::{LiveSet, reach};
+pub use settling::settle;
 
 #[cfg(test)]
 mod tests;

@@ -1,7 +1,7 @@
 -- Words of a disk that a write leaves as they are, and those that it wrote.
-use Rattle.std.proofs.Common.{◌≡◌, ℕ, ◌+◌, ◌<◌, List, ◌++◌, length, take, drop, replicate, get_or, Option, None, Some, Result, Ok, Err, OnOk, OnErr, IfSome, inl, inr, sym, ◌∙◌, ap, subst, arith, length-append}
-use Rattle.std.proofs.lemmas.List.{ext_get_or, get_or-append-add, get_or-drop, get_or-take, get_or_append_left, length-replicate, length-take}
-use Rattle.melt_io.proofs.Images.{length-front, with_words-outside}
+use Rattle.std.proofs.Common.{◌≡◌, ℕ, ◌+◌, ◌<◌, List, ◌++◌, length, drop, replicate, get_or, Option, None, Some, Result, Ok, Err, OnOk, OnErr, IfSome, inl, inr, sym, ◌∙◌, ap, subst, arith, length-append}
+use Rattle.std.proofs.lemmas.List.{ext_get_or, get_or-drop, get_or-take, length-replicate, length-take}
+use Rattle.melt_io.proofs.Images.{with_words-inside, with_words-outside}
 use Rattle.melt_io.proofs.WordBytes.{get_or-padded}
 use Rattle.melt_io.specs.Outside.{KeepsOthers, SameOutside, Writes, with_words, words_at}
 use Rattle.melt_disk.specs.Homes.{IsApart, KeepsApart}
@@ -46,17 +46,10 @@ write_apart (Err failed) old at n words new len written others = KeepsOthers-apa
 words_at-with_words : (image : List ℕ) (at : ℕ) (words : List ℕ) → words_at (with_words image at words) at (length words) ≡ words
 words_at-with_words image at words =
     let written : List ℕ = with_words image at words in
-    let front : List ℕ = take at (image ++ replicate at 0) in
-    let rest : List ℕ = drop (at + length words) image in
-    let len : length (front ++ words) ≡ at + length words = length-append front words ∙ ap (λ n. n + length words) (length-front image at) in
     ext_get_or 0 (words_at written at (length words)) words (length-words_at written at (length words))
     (λ i h.
     let within : i < length words = rw (← length-words_at written at (length words)) h in
-    let in_both : at + i < length (front ++ words) = omega (arith, len) in
-    let place : at + i ≡ length front + i = ap (λ n. n + i) (sym (length-front image at)) in
-    get_or-words_at written at (length words) i within
-    ∙ get_or_append_left (front ++ words) rest 0 (at + i) in_both
-    ∙ ap (λ n. get_or (front ++ words) n 0) place ∙ get_or-append-add front words i 0)
+    get_or-words_at written at (length words) i within ∙ with_words-inside image at words i within)
 
 -- a write of n words that ends well
 pub write_read : {E : Type 0} (result : Result Unit E) (old : Option (List ℕ)) (at n : ℕ) (words : List ℕ) (new : Option (List ℕ)) → length words ≡ n → OnOk result (Writes old at words new) → OnOk result (IfSome new (λ image. words_at image at n ≡ words))

@@ -1,9 +1,7 @@
 -- What a search knows on its way through the words.
-use Rattle.std.proofs.Common.{◌≡◌, ◌≢◌, inl, inr, ℕ, ◌+◌, ◌/◌, ◌<◌, List, length, Option, None, Some, sym, ◌∙◌, subst, arith, below_more}
-use Rattle.std.specs.Prelude.{slice_index, bit_and}
+use Rattle.std.proofs.Common.{◌≡◌, ◌≢◌, inl, inr, ℕ, ◌+◌, ◌<◌, List, length, Option, None, Some, sym, subst, arith, below_more}
+use Rattle.std.specs.Prelude.{slice_index}
 use Rattle.std.specs.Option.{option_or}
-use Rattle.std.proofs.lemmas.Nat.{and_mask}
-use Rattle.melt_word.specs.Words.{IsDiskHome}
 use Rattle.melt_forward.specs.Forwarding.{Sends, SendsNot, SendsAnother, IsForwarding, AreForwarding, SentTo, FirstEmpty, Finds}
 use Rattle.melt_forward.specs.declared.forwarding.Found.TheVariants.{Empty, Full}
 use Rattle.melt_forward.proofs.Probing.{probe_is}
@@ -19,27 +17,7 @@ pub record Searched (words : List ℕ) (home : ℕ) (empty : Option ℕ) (n : �
   pub unsent : (k : ℕ) → k < n → SendsNot (slice_index words k) home
   pub first : EmptyBefore words n empty
 
--- the parts of a word that sends a home
-pub home_part : (word home address : ℕ) → Sends word home address → word / 4294967296 ≡ home
-home_part word home address sends = grind arith
-
-pub address_part : (word home address : ℕ) → Sends word home address → bit_and (word / 4) 1073741823 ≡ address
-address_part word home address sends =
-    let low = and_mask (word / 4) 30 in grind arith
-
--- a forwarding word with this home in its upper half sends it to the address in its lower half
-pub sends_by_parts : (word home : ℕ) → IsDiskHome home → IsForwarding word → word / 4294967296 ≡ home
-    → Sends word home (bit_and (word / 4) 1073741823)
-sends_by_parts word home in_range (inl empty) is = absurd (grind arith)
-sends_by_parts word home in_range (inr (other, address, sends)) is =
-    let same_home : other ≡ home = sym (home_part word other address sends) ∙ is in
-    let same_address : address ≡ bit_and (word / 4) 1073741823 = sym (address_part word other address sends) in
-    subst (λ (a : ℕ). Sends word home a) same_address (subst (λ (h : ℕ). Sends word h address) same_home sends)
-
--- a word with another home there sends not this one
-pub sends_not : (word home : ℕ) → (word / 4294967296 ≢ home) → SendsNot word home
-sends_not word home differ = λ address sends. differ (home_part word home address sends)
-
+-- an empty word sends none
 pub empty_sends_not : (word home : ℕ) → word ≡ 0 → SendsNot word home
 empty_sends_not word home empty = λ address sends. grind arith
 

@@ -1,8 +1,8 @@
 //! Forwarding words, and the search for the word of a home. No two pairs of a home and an address have the same word,
 //! so a word tells its pair by its parts alone; and the search goes on past an empty place, so it misses no word.
-ghost use Rattle.std.specs.Prelude.{◌≡◌, ◌<◌, ◌^◌, length};
+ghost use Rattle.std.specs.Prelude.{◌≡◌, ◌<◌, ◌^◌, length, MatchOption};
 ghost use Rattle.melt_word.specs.Words.{IsAddress, IsDiskHome};
-ghost use Rattle.melt_forward.specs.Forwarding.{AreForwarding, Finds, forward_word};
+ghost use Rattle.melt_forward.specs.Forwarding.{AreForwarding, Finds, IsForwarding, Sends, forward_word};
 
 use melt_word::MAX_ADDRESS;
 
@@ -32,6 +32,18 @@ pub fn pack(home: u32, address: u32) -> u64
     (u64::from(home) << HOME_SHIFT) | (u64::from(address) << ADDRESS_SHIFT)
 }
 
+/// The home and the address that a word sends, which is 0 or made by `pack`. One that is 0 sends none.
+pub fn unpack(word: u64) -> Option<(u32, u32)>
+    requires { IsForwarding word }
+    ensures { MatchOption result (word ≡ 0) (λ pair. Sends word pair.0 pair.1) }
+{
+    if word == 0 {
+        return None;
+    }
+    let address = (word >> ADDRESS_SHIFT) & ADDRESS_MASK;
+    Some(((word >> HOME_SHIFT) as u32, address as u32))
+}
+
 /// Searches a home, from 1 on, among fewer than 2^32 words, each 0 or made by `pack`. Where two of them send the home, it
 /// is found at the address of the first.
 pub fn find(words: &[u64], home: u32) -> Found
@@ -42,10 +54,10 @@ pub fn find(words: &[u64], home: u32) -> Found
 {
     let mut empty = None;
     for (place, word) in words.iter().enumerate() {
-        if *word == 0 {
-            empty = empty.or(Some(place as u32));
-        } else if (*word >> HOME_SHIFT) as u32 == home {
-            return Found::At(((*word >> ADDRESS_SHIFT) & ADDRESS_MASK) as u32);
+        match unpack(*word) {
+            None => empty = empty.or(Some(place as u32)),
+            Some((sent, address)) if sent == home => return Found::At(address),
+            Some(_) => {}
         }
     }
     match empty {

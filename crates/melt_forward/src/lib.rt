@@ -3,7 +3,7 @@
 
 pub mod forwarding;
 
-pub use forwarding::{Found, find, pack};
+pub use forwarding::{Found, find, pack, unpack};
 
 #[cfg(test)]
 mod tests;

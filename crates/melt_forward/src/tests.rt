@@ -14,6 +14,17 @@ fn words_of_pairs(rt: HostRuntime) {
 }
 
 #[test]
+fn pairs_of_words(rt: HostRuntime) {
+    assert_eq!(rt; unpack(0), None);
+    assert_eq!(rt; unpack(4_294_967_300), Some((1, 1)));
+    assert_eq!(rt; unpack(8_589_934_588), Some((1, 1_073_741_823)));
+    assert_eq!(rt;
+        unpack(18_446_744_069_414_584_324),
+        Some((4_294_967_295, 1))
+    );
+}
+
+#[test]
 fn a_home_is_found_at_its_address(rt: HostRuntime) {
     let words = [4_294_967_304, 17_179_869_196, 0];
     for (home, want) in [

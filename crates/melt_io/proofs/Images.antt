@@ -1,6 +1,6 @@
 -- A disk's words, with zeros past their end, and items written over others.
 use Rattle.std.proofs.Common.{◌≡◌, ℕ, ◌+◌, ◌-◌, ◌<◌, ◌≤◌, List, ◌++◌, length, min, take, drop, replicate, get_or, arith, inl, inr, sym, ◌∙◌, ap, length-drop, length-append}
-use Rattle.std.proofs.lemmas.List.{drop_all, take_all, take-append-le, take-replicate, drop-replicate, length-replicate, length-take, append-nil, get_or-append_right, get_or-drop, get_or-take, get_or_append_left}
+use Rattle.std.proofs.lemmas.List.{drop_all, take_all, take-append-le, take-replicate, drop-replicate, length-replicate, length-take, append-nil, get_or-append_right, get_or-append-add, get_or-drop, get_or-take, get_or_append_left}
 use Rattle.std.proofs.lemmas.Bool.{cases_lt}
 use Rattle.std.proofs.Math.Seq.{take-append-add, take-append_seam}
 use Rattle.melt_io.proofs.Fronts.{drop-min, take-rest}
@@ -96,3 +96,14 @@ with_words-outside image at words =
           ∙ get_or-drop (at + length words) image (k - (at + length words)) 0
           ∙ ap (λ n. get_or image n 0) place;
     }
+
+-- and what was written stands there
+pub with_words-inside : (image : List ℕ) (at : ℕ) (words : List ℕ) (i : ℕ) → i < length words → get_or (with_words image at words) (at + i) 0 ≡ get_or words i 0
+with_words-inside image at words i within =
+    let front : List ℕ = take at (image ++ replicate at 0) in
+    let rest : List ℕ = drop (at + length words) image in
+    let len : length (front ++ words) ≡ at + length words = length-append front words ∙ ap (λ n. n + length words) (length-front image at) in
+    let in_both : at + i < length (front ++ words) = omega (arith, len) in
+    let place : at + i ≡ length front + i = ap (λ n. n + i) (sym (length-front image at)) in
+    get_or_append_left (front ++ words) rest 0 (at + i) in_both
+    ∙ ap (λ n. get_or (front ++ words) n 0) place ∙ get_or-append-add front words i 0

@@ -12,15 +12,17 @@ use Rattle.melt_space.specs.Space.{word_at, Replaces}
 use Rattle.melt_scion.specs.State.{Scion, State, HeaderAt, Reached}
 use Rattle.melt_scion.specs.Scions.{Scions, IsTable, scion_at}
 use Rattle.melt_scion.specs.Placed.{Maps, Formed}
-use Rattle.melt_scion.specs.Heaps.{OnDisk, TablesMade, state_of}
+use Rattle.melt_scion.specs.Heaps.{OnDisk, HasMaps, TablesMade, state_of}
 use Rattle.melt_scion.specs.Moves.{Leaves}
 use Rattle.melt_scion.specs.declared.registers.Registers.{Registers}
 use Rattle.melt_scion.specs.declared.heap.Heap.{Heap}
 use Rattle.melt_scion.proofs.NobodyLeaves.{parts_of_word}
 use Rattle.melt_copy.specs.declared.forwarding.Relocation.{Relocation}
 use Rattle.melt_copy.specs.Tracking.{goes, word_in}
+use Rattle.melt_copy.specs.Copied.{MayRename, NumbersAre}
 use Rattle.melt_copy.specs.Moving.{words_in}
-use Rattle.melt_copy.proofs.Places.{place_behind, place_below, place_found, same_source}
+use Rattle.melt_copy.proofs.Collects.{can_rename, none_behind}
+use Rattle.melt_copy.proofs.Places.{place_behind, place_below, place_found, same_place, same_source}
 use Rattle.melt_copy.proofs.Sources.{found_words, source_shape, goes as goes_to}
 use Rattle.melt_move.specs.declared.choice.Departure.{Departure}
 use Rattle.melt_move.specs.declared.commit.Copied.{Copied}
@@ -259,3 +261,24 @@ module _ (heap : Heap) (held : List Registers) (disk : OnDisk) (decision : Decis
           ∙ ap (λ (n : ℕ). n / 2) (sym put.space.size))));
       small_end = small;
     }
+
+-- the names of what stays may go with it
+pub names_may_go : (heap : Heap) (held : List Registers) (disk : OnDisk) (decision : Decision)
+    → IsDecision heap.space (state_of heap held disk) decision → (maps : Maps) → Formed maps (state_of heap held disk)
+    → TablesMade heap → HasMaps heap maps → (numbers : List (Option ℕ))
+    → NumbersAre heap.names decision.choice.stay.moves.items numbers
+    → MayRename heap.space.used heap.names decision.choice.stay.moves.items numbers
+names_may_go heap held disk decision decided maps formed made names numbers are =
+    let s : State = state_of heap held disk in
+    let stay = decided.choice.stay in
+    let moves = decision.choice.stay.moves.items in
+    let inside = decided.seen.whole.inside in
+    let words = stays_within heap held disk decision decided in
+    can_rename heap.space.used (length heap.space.list) heap.maps maps heap.names moves numbers names made.names are
+    (omega (arith, inside))
+    (λ k above. none_behind maps s k formed (omega (arith, above)))
+    (λ k m at.
+    let place = place_below s (goes decision.choice.stay) moves decision.choice.stay.next k m stay at in
+    (place.0, (let below = place.1 in let behind = stay.behind in omega (arith, below, behind, words))))
+    (λ i j m n here there same.
+    (same_place s (goes decision.choice.stay) moves decision.choice.stay.next i j m n stay here there same).0)

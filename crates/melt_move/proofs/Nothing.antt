@@ -19,3 +19,9 @@ nothing_held old new n t r forwards all = elim (cases_lt t n) [
 pub when_ok : {A E : Type 0} (result : Result A E) (P : Type 0) → OnOk result P → (IsErr result → ⊥) → P
 when_ok (Ok a) P on never = on
 when_ok (Err e) P on never = absurd (never refl)
+
+-- two facts of a call that ends well, and what follows from both
+pub on_ok_both : {A E : Type 0} (result : Result A E) (P Q R : Type 0) → OnOk result P → OnOk result Q → (P → Q → R)
+    → OnOk result R
+on_ok_both (Ok a) P Q R one other both = both one other
+on_ok_both (Err e) P Q R one other both = tt

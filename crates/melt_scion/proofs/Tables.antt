@@ -1,11 +1,15 @@
 -- The tables beside the words of a heap: those of a new one, and of one that kept them.
-use Rattle.std.proofs.Common.{◌≡◌, ℕ, length, ◌∙◌, ap, sym, subst}
-use Rattle.std.proofs.lemmas.List.{length-replicate}
+use Rattle.std.proofs.Common.{◌≡◌, ℕ, suc, List, [], ◌∷◌, ◌++◌, length, inl, inr, ◌∙◌, ap, sym, subst}
+use Rattle.std.proofs.lemmas.Bool.{cases_eq}
+use Rattle.std.proofs.lemmas.List.{length-replicate, ext_get_or}
+use Rattle.std.proofs.lemmas.List.Elements.{Contains-append_right}
 use Rattle.std.specs.Prelude.{◌/◌, Option, None, Some}
-use Rattle.melt_scion.specs.Scions.{Scions, empty_table}
+use Rattle.std.specs.List.{Contains}
+use Rattle.melt_scion.specs.Scions.{Scions, IsTable, EachOnce, Adds, Frees, scion_at, empty_table}
 use Rattle.melt_scion.specs.Heaps.{AreScionsFor, KeepsScions, KeepsNames, KeepsTables, NamesMade, TablesMade}
 use Rattle.melt_scion.specs.declared.heap.Names as heap
 use Rattle.melt_scion.specs.declared.heap.Heap.{Heap}
+use Rattle.melt_scion.proofs.Numbers.{contains_here, once_first, once_rest}
 use Rattle.melt_scion.proofs.ScionTables.{empty_is_table}
 
 -- a table without live scions that was made for so many words
@@ -39,3 +43,43 @@ tables_kept old new keeps same made = record {
       made.scions;
   names = names_kept (length old.space.list) (length new.space.list) old.names new.names keeps.names same made.names;
 }
+
+-- a list from which the one place of a number is taken is one list
+without_place : (x : ℕ) (front back other rest : List ℕ) → EachOnce (front ++ x ∷ back)
+    → front ++ x ∷ back ≡ other ++ x ∷ rest → front ++ back ≡ other ++ rest
+without_place x [] back [] rest once same = cc
+without_place x [] back (y ∷ other) rest once same =
+    let tail : back ≡ other ++ x ∷ rest = cc in
+    absurd (once_first x back once (subst (λ (xs : List ℕ). Contains xs x) (sym tail)
+    (Contains-append_right other (x ∷ rest) x (contains_here x rest))))
+without_place x (y ∷ front) back [] rest once same =
+    let head : y ≡ x = cc in
+    absurd (once_first y (front ++ x ∷ back) once (subst (Contains (front ++ x ∷ back)) (sym head)
+    (Contains-append_right front (x ∷ back) x (contains_here x back))))
+without_place x (y ∷ front) back (z ∷ other) rest once same =
+    let head : y ≡ z = cc in
+    let tail : front ++ x ∷ back ≡ other ++ x ∷ rest = cc in
+    let less : front ++ back ≡ other ++ rest =
+    without_place x front back other rest (once_rest y (front ++ x ∷ back) once) tail in
+    cc
+
+-- A number that is given and taken back leaves the table as it was.
+pub taken_back : (old more new : Scions) (home address scion : ℕ) → Adds old more home address scion → IsTable more
+    → Frees more new scion → new ≡ old
+taken_back old more new home address scion adds table frees =
+    let at : (k : ℕ) → scion_at new k ≡ scion_at old k = λ k. elim (cases_eq k scion) [
+      | inl same ↦ ap (scion_at new) same ∙ (frees.gone ∙ (sym adds.was_unused ∙ ap (scion_at old) (sym same)))
+      | inr other ↦ frees.others k other ∙ adds.others k other
+    ] in
+    let pairs : new.pairs ≡ old.pairs =
+    ext_get_or None new.pairs old.pairs (frees.size ∙ adds.size) (λ i below. at (suc i)) in
+    let unused : new.unused ≡ old.unused = frees.taken ∙ sym adds.given in
+    let live : new.live ≡ old.live =
+    frees.order.less_is
+    ∙ (without_place scion frees.order.front frees.order.back adds.order.front adds.order.back
+    (subst EachOnce frees.order.more_is table.live_once) (sym frees.order.more_is ∙ adds.order.more_is)
+    ∙ sym adds.order.less_is) in
+    ap (λ (xs : List (Option (ℕ × ℕ))).
+    let t : Scions = record { pairs = xs; unused = new.unused; live = new.live } in t) pairs
+    ∙ (ap (λ (xs : List ℕ). let t : Scions = record { pairs = old.pairs; unused = xs; live = new.live } in t) unused
+    ∙ ap (λ (xs : List ℕ). let t : Scions = record { pairs = old.pairs; unused = old.unused; live = xs } in t) live)

@@ -1,8 +1,9 @@
 use Rattle.std.proofs.Common.{◌≡◌, ◌+◌, arith, refl, sym, ap, subst, ◌∙◌, List}
-use Rattle.melt_scion.specs.Heaps.{state_of}
 use Rattle.melt_move.specs.declared.homes.Given.{Given}
 use Rattle.melt_move.specs.Collecting.{AreShapes}
-use Rattle.melt_move.proofs.Awaiting.{given_shapes, stays_within, await_scions}
+use Rattle.melt_scion.specs.Heaps.{Shows, state_of}
+use Rattle.melt_move.proofs.Awaiting.{given_shapes, stays_within, await_scions, names_may_go}
+use Rattle.melt_move.proofs.Nothing.{on_ok_both}
 use Rattle.melt_move.proofs.CarriedOut.{carries_out}
 use Rattle.melt_move.proofs.collect.carry_out.Goals as goal
 
@@ -27,3 +28,57 @@ free_scions-requires-clause-decided g c =
       c.requires.decides formed.maps formed.disk (formed.end_is ∙ sym c.requires.first) formed.formed,
       record { is = λ k. refl },
     )
+
+pub put_back-requires-clause-fits : goal.put_back-requires-clause-fits
+put_back-requires-clause-fits g c =
+    let formed = c.requires.formed in
+    let end = formed.end_is ∙ sym c.requires.first in
+    let decided = c.requires.decides formed.maps formed.disk end formed.formed in
+    let stand = c.requires.copies.words formed.maps formed.disk end formed.formed in
+    let words = stays_within c.args.heap.now c.args.held.now formed.disk c.args.decision.now decided in
+    let inside = decided.seen.whole.inside in
+    omega (arith, stand.size, words, inside)
+
+pub put_back-requires-clause-names : goal.put_back-requires-clause-names
+put_back-requires-clause-names g c =
+    let formed = c.requires.formed in
+    let decided = c.requires.decides formed.maps formed.disk (formed.end_is ∙ sym c.requires.first) formed.formed in
+    names_may_go c.args.heap.now c.args.held.now formed.disk c.args.decision.now decided formed.maps formed.formed
+    formed.made formed.names c.args.copied.numbers.items c.requires.numbers
+
+pub put_back-requires-clause-room : goal.put_back-requires-clause-room
+put_back-requires-clause-room g c = c.requires.small
+
+pub give_scions-requires-after_bounds : goal.give_scions-requires-after_bounds
+give_scions-requires-after_bounds g c = λ κs within.
+    let formed = c.requires.formed in
+    let end = formed.end_is ∙ sym c.requires.first in
+    let decided = c.requires.decides formed.maps formed.disk end formed.formed in
+    let stand = c.requires.copies.words formed.maps formed.disk end formed.formed in
+    let first = c.requires.first in
+    let grown = c.reserve_homes.ensures.end in
+    let kept = c.write_bodies.ensures.end in
+    await_scions c.args.heap.now c.args.held.now formed.disk c.args.decision.now decided formed.maps formed.formed
+    formed.made c.free_scions.new.scions c.free_scions.ensures c.put_back.new.heap c.put_back.new.held c.args.copied stand
+    c.put_back.ensures c.write_bodies.new.disk.end (omega (arith, first, grown, kept))
+    (let small = c.requires.small in omega (arith, first, grown, kept, small))
+
+pub returns-clause-carries : goal.returns-clause-carries
+returns-clause-carries g c =
+    on_ok_both c.give_scions.result _ _ _ c.give_scions.ensures.scions c.give_scions.ensures.written
+    (λ have written maps disk end shows names formed.
+    let first = c.requires.first in
+    let decided = c.requires.decides maps disk (end ∙ sym first) formed in
+    let stand = c.requires.copies.words maps disk (end ∙ sym first) formed in
+    let stay = c.requires.copies.globals maps disk (end ∙ sym first) formed in
+    let grown = c.reserve_homes.ensures.end in
+    let kept = c.write_bodies.ensures.end in
+    let last = c.give_scions.ensures.end in
+    let bodies = c.in_ok-write_bodies.ensures.written (state_of c.args.heap.now c.args.held.now disk) disk.image decided
+    (subst (λ d. Shows (g.D.StaleDisk.image d) disk.image) (sym c.reserve_homes.ensures.disk) shows) in
+    let stubs = written bodies.0 bodies.1 in
+    carries_out maps c.args.heap.now c.args.held.now disk c.args.decision.now decided formed c.requires.formed.made
+    c.requires.settled c.free_scions.new.scions c.free_scions.ensures c.put_back.new.heap c.put_back.new.held
+    c.args.copied stand stay c.put_back.ensures c.give_scions.new.heap have c.give_scions.new.disk.end
+    (omega (arith, first, grown, kept, last)) (let small = c.requires.small in omega (arith, first, grown, kept, last, small))
+    disk.image bodies.0 stubs.0 (λ k. refl) ? ? _ stubs.1 names)
