@@ -1,5 +1,9 @@
-use Rattle.std.proofs.Common.{◌≡◌, ◌+◌, arith, refl, sym, ap, subst, ◌∙◌, List}
+use Rattle.std.proofs.Common.{◌≡◌, ◌+◌, arith, refl, sym, ap, subst, ◌∙◌, List, length}
+use Rattle.melt_space.specs.Space.{word_at}
 use Rattle.melt_move.specs.declared.homes.Given.{Given}
+use Rattle.melt_move.specs.Plans.{home_by, need_for}
+use Rattle.melt_move.specs.Bodies.{WritesBodies}
+use Rattle.melt_move.specs.GivenScions.{WritesStubs}
 use Rattle.melt_move.specs.Collecting.{AreShapes}
 use Rattle.melt_scion.specs.Heaps.{Shows, state_of}
 use Rattle.melt_move.proofs.Awaiting.{given_shapes, stays_within, await_scions, names_may_go}
@@ -56,7 +60,8 @@ give_scions-requires-after_bounds g c = λ κs within.
     let decided = c.requires.decides formed.maps formed.disk end formed.formed in
     let stand = c.requires.copies.words formed.maps formed.disk end formed.formed in
     let first = c.requires.first in
-    let grown = c.reserve_homes.ensures.end in
+    let grown : c.reserve_homes.new.disk.end ≡ c.args.disk.now.end + need_for c.args.decision.now.homes.given.items =
+    c.reserve_homes.ensures.end ∙ ap (λ (l : List Given). c.args.disk.now.end + need_for l) c.deref.ensures.value in
     let kept = c.write_bodies.ensures.end in
     await_scions c.args.heap.now c.args.held.now formed.disk c.args.decision.now decided formed.maps formed.formed
     formed.made c.free_scions.new.scions c.free_scions.ensures c.put_back.new.heap c.put_back.new.held c.args.copied stand
@@ -71,7 +76,8 @@ returns-clause-carries g c =
     let decided = c.requires.decides maps disk (end ∙ sym first) formed in
     let stand = c.requires.copies.words maps disk (end ∙ sym first) formed in
     let stay = c.requires.copies.globals maps disk (end ∙ sym first) formed in
-    let grown = c.reserve_homes.ensures.end in
+    let grown : c.reserve_homes.new.disk.end ≡ c.args.disk.now.end + need_for c.args.decision.now.homes.given.items =
+    c.reserve_homes.ensures.end ∙ ap (λ (l : List Given). c.args.disk.now.end + need_for l) c.deref.ensures.value in
     let kept = c.write_bodies.ensures.end in
     let last = c.give_scions.ensures.end in
     let bodies = c.in_ok-write_bodies.ensures.written (state_of c.args.heap.now c.args.held.now disk) disk.image decided
@@ -81,4 +87,9 @@ returns-clause-carries g c =
     c.requires.settled c.free_scions.new.scions c.free_scions.ensures c.put_back.new.heap c.put_back.new.held
     c.args.copied stand stay c.put_back.ensures c.give_scions.new.heap have c.give_scions.new.disk.end
     (omega (arith, first, grown, kept, last)) (let small = c.requires.small in omega (arith, first, grown, kept, last, small))
-    disk.image bodies.0 stubs.0 (λ k. refl) ? ? _ stubs.1 names)
+    disk.image bodies.0 stubs.0 (λ k. refl)
+    (subst (λ e. WritesBodies (state_of c.args.heap.now c.args.held.now disk)
+    (home_by (word_at c.args.heap.now.space) c.args.decision.now) e c.args.decision.now.choice.leaving.items
+    (length c.args.decision.now.choice.leaving.items) disk.image bodies.0) (sym (last ∙ kept)) bodies.2)
+    (subst (λ e. WritesStubs c.args.decision.now.homes c.args.decision.now.choice.stay.moves.items
+    c.give_scions.new.heap e bodies.0 stubs.0) (sym last) stubs.2) _ stubs.1 names)
