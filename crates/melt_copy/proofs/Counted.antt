@@ -30,14 +30,14 @@ cost_in_word refs nums true few small = omega (arith, few, small)
 cost_in_header : (header : Header) → IsHeader header → cost_in (header_word header) ≡ cost_of header.shape
 cost_in_header header is = cost_in_word header.shape.refs header.shape.nums header.stale is.refs is.nums
 
-cost_at : State → ℕ → ℕ
+pub cost_at : State → ℕ → ℕ
 cost_at s a = cost_in (s.word a)
 
-costs_at : (s : State) → WordsAt s (cost_at s)
+pub costs_at : (s : State) → WordsAt s (cost_at s)
 unfolding cost_at
 costs_at s = record { is = λ a header starts. ap cost_in starts.word ∙ cost_in_header header starts.in_range }
 
-counts_words : (s : State) (Is : ℕ → Type 0) (total : ℕ) → CostsSum (cost_at s) Is total → CountsWords s Is total
+pub counts_words : (s : State) (Is : ℕ → Type 0) (total : ℕ) → CostsSum (cost_at s) Is total → CountsWords s Is total
 counts_words s Is total sums = record {
   members = sums.members;
   cost = cost_at s;

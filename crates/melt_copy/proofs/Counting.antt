@@ -35,7 +35,7 @@ none_equal number n [] differ = tt
 none_equal number n (m ∷ moves) differ =
     (ne_eqb n (number m) (differ 0 m refl), none_equal number n moves (λ k x at. differ (suc k) x at))
 
-distinct_numbers : (number : Relocation → ℕ) (moves : List Relocation)
+pub distinct_numbers : (number : Relocation → ℕ) (moves : List Relocation)
     → ((i j : ℕ) (a b : Relocation) → slice_get moves i ≡ Some a → slice_get moves j ≡ Some b → i < j
     → number a ≢ number b) → IsDistinct (λ a b. a == b) (map number moves)
 unfolding IsDistinct
@@ -45,13 +45,13 @@ distinct_numbers number (m ∷ moves) differ = (
   distinct_numbers number moves (λ i j a b first second before. differ (suc i) (suc j) a b first second (omega arith)),
 )
 
-number_at : (number : Relocation → ℕ) (moves : List Relocation) (k n : ℕ) → k < length (map number moves)
+pub number_at : (number : Relocation → ℕ) (moves : List Relocation) (k n : ℕ) → k < length (map number moves)
     → get_or (map number moves) k n ≡ n → (m : Relocation) × (slice_get moves k ≡ Some m) × (number m ≡ n)
 number_at number [] k n below is = absurd (omega arith)
 number_at number (m ∷ moves) zero n below is = (m, refl, is)
 number_at number (m ∷ moves) (suc k) n below is = number_at number moves k n (omega arith) is
 
-number_there : (number : Relocation → ℕ) (moves : List Relocation) (k n : ℕ) (m : Relocation)
+pub number_there : (number : Relocation → ℕ) (moves : List Relocation) (k n : ℕ) (m : Relocation)
     → slice_get moves k ≡ Some m → number m ≡ n → (k < length (map number moves)) × (get_or (map number moves) k n ≡ n)
 number_there number [] k n m at is = absurd (cc)
 number_there number (x ∷ moves) zero n m at is = let same : number x ≡ number m = cc in (omega arith, same ∙ is)

@@ -28,3 +28,7 @@ pub mod GivingScions
 pub mod Awaiting
 pub mod NamedOut
 pub mod CarriedOut
+pub mod Counts
+pub mod Numbers
+pub mod Collected
+pub mod AsBefore

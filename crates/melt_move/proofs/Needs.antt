@@ -88,15 +88,14 @@ count_within counts cost some below =
     omega (arith, need_below-le counts cost below, mul-le-mul_left (get_or counts cost 0) some)
 
 -- an object with a new home as one that was found
-as_move : Given → Relocation
+abbrev pub as_move : Given → Relocation
 as_move g = record { from = g.from; to = 0; shape = g.shape }
 
-move_words : (gs : List Given) → words_in (map as_move gs) ≡ need_for gs
-unfolding as_move
+pub move_words : (gs : List Given) → words_in (map as_move gs) ≡ need_for gs
 move_words [] = refl
 move_words (g ∷ gs) = omega (arith, words_in-cons (as_move g) (map as_move gs), need-cons g gs, move_words gs)
 
-move_at : (gs : List Given) (k : ℕ) (m : Relocation) → slice_get (map as_move gs) k ≡ Some m
+pub move_at : (gs : List Given) (k : ℕ) (m : Relocation) → slice_get (map as_move gs) k ≡ Some m
     → (g : Given) × (slice_get gs k ≡ Some g) × (as_move g ≡ m)
 move_at [] k m at = absurd (cc)
 move_at (g ∷ gs) zero m at = (g, refl, same_Some (as_move g) m at)
@@ -114,7 +113,6 @@ module _ (s : State) (gs : List Given) (whole : IsWhole s)
       omega (arith, cost, apart)
 
   are_apart : AreApart (map as_move gs)
-  unfolding as_move
   are_apart i j a b first second earlier =
       let g = move_at gs i a first in
       let h = move_at gs j b second in
@@ -132,7 +130,6 @@ module _ (s : State) (gs : List Given) (whole : IsWhole s)
 
   -- homes of objects that can be reached take no more words than these objects
   pub needs_fit : need_for gs ≤ s.free - 1
-  unfolding as_move
   needs_fit = let fits = packed (s.free - 1) (map as_move gs) are_apart
       (λ k m at.
       let g = move_at gs k m at in

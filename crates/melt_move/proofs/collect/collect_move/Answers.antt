@@ -1,0 +1,132 @@
+use Rattle.std.proofs.Common.{◌≡◌, ◌+◌, ◌≤◌, ℕ, arith, refl, sym, ap, subst, ◌∙◌, List, length}
+use Rattle.melt_scion.specs.State.{State}
+use Rattle.melt_scion.specs.Placed.{Maps, Formed}
+use Rattle.melt_scion.specs.Heaps.{OnDisk, state_of}
+use Rattle.melt_disk.specs.declared.space.DiskFull.{DiskFull}
+use Rattle.melt_scion.specs.Collected.{CountsWords}
+use Rattle.melt_disk.specs.Homes.{need_of}
+use Rattle.melt_move.specs.Plans.{IsDecision, WantsHome}
+use Rattle.melt_move.specs.Collecting.{IsFormedOn}
+use Rattle.melt_move.proofs.AsBefore.{formed_on, formed_same, maps_same, moved_same, state_same, tables_same}
+use Rattle.melt_move.proofs.Collected.{has_moved}
+use Rattle.melt_move.proofs.Numbers.{leaving_few, needs_counted}
+use Rattle.melt_move.proofs.collect.collect_move.Given.{Over}
+use Rattle.melt_move.proofs.collect.collect_move.Goals as goal
+use Rattle.melt_move.proofs.collect.collect_move.Goals.{In-Ok}
+
+-- all was decided, for the maps and the disk with which the heap is well formed
+decided_for : (g : Over) (c : In-Ok g) → (maps : Maps) (disk : OnDisk) → disk.end ≡ c.args.disk.now.end
+    → Formed maps (state_of c.args.heap c.args.held.now disk)
+    → IsDecision c.prepare.new.heap.space (state_of c.prepare.new.heap c.args.held.now disk) c.in-Ok.prepared.0
+decided_for g c maps disk end formed =
+    c.in-Ok.ensures.decides maps disk (end ∙ (sym c.end.ensures ∙ sym c.in-Ok.ensures.first))
+    (formed_same c.args.heap c.prepare.new.heap c.in-Ok.ensures.as_before maps c.args.held.now disk formed)
+
+decided_some : (g : Over) (c : In-Ok g)
+    → IsDecision c.prepare.new.heap.space (state_of c.prepare.new.heap c.args.held.now c.requires.formed.disk)
+    c.in-Ok.prepared.0
+decided_some g c =
+    let formed = c.requires.formed in decided_for g c formed.maps formed.disk formed.end_is formed.formed
+
+pub lacks_room-requires-clause-small : goal.lacks_room-requires-clause-small
+lacks_room-requires-clause-small g c = λ κs within.
+    let formed = formed_on c.args.heap c.prepare.new.heap c.in-Ok.ensures.as_before c.args.held.now _ c.requires.formed in
+    let first = c.in-Ok.ensures.first in
+    let end = c.end.ensures in
+    let decided = c.in-Ok.ensures.decides formed.maps formed.disk (formed.end_is ∙ (sym end ∙ sym first)) formed.formed in
+    let counts = decided.homes.counts in
+    let small = decided.homes.small in
+    omega (arith, counts, small)
+
+pub copy_out-requires-clause-formed : goal.copy_out-requires-clause-formed
+copy_out-requires-clause-formed g c =
+    subst (IsFormedOn c.prepare.new.heap c.args.held.now) (sym (c.in-Ok.ensures.first ∙ c.end.ensures))
+    (formed_on c.args.heap c.prepare.new.heap c.in-Ok.ensures.as_before c.args.held.now _ c.requires.formed)
+
+pub carry_out-requires-clause-formed : goal.carry_out-requires-clause-formed
+carry_out-requires-clause-formed g c = λ κs within.
+    formed_on c.args.heap c.prepare.new.heap c.in-Ok.ensures.as_before c.args.held.now _ c.requires.formed
+
+pub returns-in-Some-clause-refused : goal.returns-in-Some-clause-refused
+returns-in-Some-clause-refused g c =
+    let full = c.in-Some.ensures.room.0 in
+    let lacks = c.in-Some.ensures.room.1 in
+    let need = ap (λ (f : DiskFull). f.need) full in (
+      c.in-Ok.ensures.as_before,
+      refl,
+      refl,
+      refl,
+      record {
+        end_is = ap (λ (f : DiskFull). f.end) full;
+        limit_is = ap (λ (f : DiskFull). f.limit) full;
+        above = omega (arith, lacks, need);
+        needs = λ maps disk end formed.
+            let decided = decided_for g (goal.at.returns-in-Some-clause-refused g c).In-Ok maps disk end formed in
+            let s : State = state_of c.prepare.new.heap c.args.held.now disk in
+            let first = decided.first in
+            let some = decided.first_end in
+            subst (λ (state : State). CountsWords state (WantsHome state) c.in-Some.full.need)
+            (state_same c.args.heap c.prepare.new.heap c.in-Ok.ensures.as_before c.args.held.now disk)
+            (subst (CountsWords s (WantsHome s)) (sym (need ∙ decided.homes.counts))
+            (needs_counted s c.in-Ok.prepared.0 decided.homes (omega (arith, first, some))));
+      },
+    )
+
+pub copy_out-requires-clause-room : goal.copy_out-requires-clause-room
+copy_out-requires-clause-room g c =
+    let counts = (decided_some g (goal.at.copy_out-requires-clause-room g c).In-Ok).homes.counts in
+    let room = c.in_default.ensures.room in
+    let limit = c.in_default.ensures.limit in
+    let first = c.in-Ok.ensures.first in
+    let end = c.end.ensures in
+    omega (arith, counts, room, limit, first, end)
+
+pub carry_out-requires-clause-room : goal.carry_out-requires-clause-room
+carry_out-requires-clause-room g c = λ κs within.
+    let at = goal.at.carry_out-requires-clause-room g c in
+    let counts = (decided_some g at.In-Ok).homes.counts in
+    let room = c.in_default.ensures.room in
+    omega (arith, counts, room)
+
+pub carry_out-requires-clause-small : goal.carry_out-requires-clause-small
+carry_out-requires-clause-small g c = λ κs within.
+    let counts = (decided_some g (goal.at.carry_out-requires-clause-small g c).In-Ok).homes.counts in
+    let room = c.in_default.ensures.room in
+    let limit = c.in_default.ensures.limit in
+    let first = c.in-Ok.ensures.first in
+    let end = c.end.ensures in
+    omega (arith, counts, room, limit, first, end)
+
+pub overflow_cast-journal : goal.overflow_cast-journal
+overflow_cast-journal g c =
+    let decided = decided_some g (goal.at.overflow_cast-journal g c).In-Ok in
+    let few = leaving_few _ c.in-Ok.prepared.0.choice.leaving.items decided.seen.whole decided.choice.leave in
+    let inside = decided.seen.whole.inside in
+    let small = decided.seen.whole.small in
+    omega (arith, few, inside, small, c.len.ensures)
+
+pub returns-clause-moves : goal.returns-clause-moves
+returns-clause-moves g c =
+    let before = c.in-Ok.ensures.as_before in
+    record {
+      each = λ maps disk end shows names formed.
+          let decided = decided_for g (goal.at.returns-clause-moves g c).In-Ok maps disk end formed in
+          let there = formed_same c.args.heap c.prepare.new.heap before maps c.args.held.now disk formed in
+          let out = c.in-Ok-carry_out.ensures.carries maps disk end shows
+          (maps_same c.args.heap c.prepare.new.heap before maps names) there in
+          moved_same c.args.heap c.prepare.new.heap before maps disk _ c.args.held.now c.carry_out.new.held _ _ _
+          (has_moved maps disk c.prepare.new.heap _ c.args.held.now c.carry_out.new.held c.in-Ok.prepared.0 _ _ decided there
+          out _ c.used.ensures.value refl (let len = c.len.ensures in let ok = c.in-Ok.prepared.0.choice.leaving.ok.0 in
+          omega (arith, len, ok)) c.in-Ok-carry_out.ensures.stubs
+          (let grows = c.carry_out.ensures.grows in omega (arith, grows, end)));
+      journal_is = record { of_phase = refl; live_words = c.used.ensures.value; end_is = c.end-2.ensures };
+      tables = tables_same c.args.heap c.prepare.new.heap before _ c.in-Ok-carry_out.ensures.tables;
+      settled = c.in-Ok-carry_out.ensures.settled;
+    }
+
+pub returns-clause-fits : goal.returns-clause-fits
+returns-clause-fits g c =
+    let counts = (decided_some g (goal.at.returns-clause-fits g c).In-Ok).homes.counts in
+    let room = c.in_default.ensures.room in
+    let grows = c.carry_out.ensures.grows in
+    omega (arith, counts, room, grows)
