@@ -1,2 +1,3 @@
+mod Clapping
+mod Parsing
 pub mod TopLaws
-pub mod WordLaws

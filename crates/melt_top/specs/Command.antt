@@ -1,5 +1,6 @@
 -- What the words after the program's name mean, and the status of a report.
-use Rattle.std.specs.Prelude.{ℕ, nat_le, ◌≤◌, IfSome, Bool, true, false, ◌||◌, ◌&&◌, if◌then◌else◌, List, [], ◌∷◌, Option, None, Some, option_and_then, unwrap_or, codes}
+use Rattle.std.specs.Prelude.{ℕ, nat_le, ◌≤◌, Bool, true, false, ◌||◌, ◌&&◌, if◌then◌else◌, List, [], ◌∷◌}
+use Rattle.std.specs.Prelude.{Option, None, Some, option_and_then, codes}
 use Rattle.std.specs.Option.{option_map}
 use Rattle.std.specs.List.{list_any}
 use Rattle.std.specs.Str.{bytes_eq}
@@ -13,8 +14,12 @@ use Rattle.melt_model.specs.declared.reports.Halt.TheVariants as halt
 use Rattle.melt_model.specs.declared.reports.ThreadReport.{ThreadReport}
 use Rattle.melt_model.specs.declared.reports.Report.{Report}
 use Rattle.melt_top.specs.declared.command.Command.{Command}
-use Rattle.melt_top.specs.declared.command.Given.{Given}
-use Rattle.melt_top.specs.declared.command.Command.TheVariants.{Step}
+use Rattle.melt_top.specs.declared.command.Command.TheVariants.{Gen, Step}
+use Rattle.melt_top.specs.declared.command.Recipe.{Recipe}
+use Rattle.melt_gen.specs.declared.workload.Workload.{Workload}
+use Rattle.melt_gen.specs.declared.workload.Workload.TheVariants as workload
+use Rattle.melt_top.specs.Parses.{gen_names, step_names}
+use Rattle.melt_top.specs.Words.{Given, given_of, value_of}
 use Rattle.melt_top.specs.declared.status.Status.{Status}
 use Rattle.melt_top.specs.declared.status.Status.TheVariants as status
 
@@ -23,69 +28,63 @@ abbrev pub between : ℕ → ℕ → Option ℕ → Option ℕ
 between low high None = None
 between low high (Some n) = if nat_le low n && nat_le n high then Some n else None
 
--- an option that was not given before takes its value
-abbrev pub once : Option ℕ → Option ℕ → Option ℕ
-once None value = value
-once (Some before) value = None
+-- the number that an option gives, or another where it was not given
+abbrev pub number_or : (low : ℕ) → (high : ℕ) → (otherwise : ℕ) → Option (List ℕ) → Option ℕ
+number_or low high otherwise None = Some otherwise
+number_or low high otherwise (Some value) = between low high (number_spelled value)
 
--- one option more, with the word behind it
-abbrev pub with_option : Given → List ℕ → List ℕ → Option Given
-with_option given name value =
-    if bytes_eq name (codes "--heap")
-    then option_map (λ n. record given { heap = Some n }) (once given.heap (between 16 4194304 (number_spelled value)))
-    else if bytes_eq name (codes "--mark")
-    then option_map (λ n. record given { mark = Some n }) (once given.mark (between 0 100 (number_spelled value)))
-    else if bytes_eq name (codes "--move")
-    then option_map (λ n. record given { move_ = Some n }) (once given.move_ (between 0 100 (number_spelled value)))
-    else if bytes_eq name (codes "--every")
-    then option_map (λ n. record given { every = Some n }) (once given.every (between 1 1048576 (number_spelled value)))
-    else None
-
--- Options stand in any order, each at most once, and each is two words: its name and its value.
-abbrev pub options : Given → List (List ℕ) → Option Given
-options given [] = Some given
-options given (name ∷ []) = None
-options given (name ∷ value ∷ words) = option_and_then (λ g. options g words) (with_option given name value)
-
--- no option was given
-abbrev pub nothing_given : Given
-nothing_given = record { heap = None; mark = None; move_ = None; every = None }
-
--- what a run is given where no option says otherwise
-abbrev pub chosen : Given → Config
-chosen given =
-    record {
-      heap = unwrap_or given.heap 65536;
-      forward = 1024;
-      disk = 16777216;
-      mark = unwrap_or given.mark 50;
-      move_ = unwrap_or given.move_ 80;
-      every = unwrap_or given.every 0;
-    }
+infixl 10 ◌>>=◌
+abbrev pub ◌>>=◌ : {A B : Type 0} → Option A → (A → Option B) → Option B
+o >>= f = option_and_then f o
 
 -- These numbers go together: the part from which objects are marked is not above that from which they are moved.
 abbrev pub configured : Config → Option Config
 configured config = if nat_le config.mark config.move_ then Some config else None
 
+-- what a run is given
+abbrev pub config_of : Given → Option Config
+config_of given = do
+  heap ← number_or 16 4194304 65536 (value_of given (codes "heap"))
+  mark ← number_or 0 100 50 (value_of given (codes "mark"))
+  move_ ← number_or 0 100 80 (value_of given (codes "move"))
+  every ← number_or 1 1048576 0 (value_of given (codes "every"))
+  configured (record { heap = heap; forward = 1024; disk = 16777216; mark = mark; move_ = move_; every = every })
+
+-- the number that an option has to give
+abbrev pub number_given : (low : ℕ) → (high : ℕ) → Option (List ℕ) → Option ℕ
+number_given low high None = None
+number_given low high (Some value) = between low high (number_spelled value)
+
+-- the kind of work of this name
+abbrev pub kind_named : List ℕ → Option Workload
+kind_named name =
+    if bytes_eq name (codes "list") then Some workload.List
+    else if bytes_eq name (codes "queue") then Some workload.Queue
+    else if bytes_eq name (codes "table") then Some workload.Table
+    else if bytes_eq name (codes "tree") then Some workload.Tree
+    else None
+
+-- what a trace is made of, which each option has to say
+abbrev pub recipe_of : Given → Option Recipe
+recipe_of given = do
+  kind ← option_and_then kind_named (value_of given (codes "kind"))
+  seed ← option_and_then number_spelled (value_of given (codes "seed"))
+  size ← number_given 1 100000 (value_of given (codes "size"))
+  threads ← number_given 1 8 (value_of given (codes "threads"))
+  Some (record { kind = kind; seed = seed; size = size; threads = threads })
+
 -- the command that the words mean, or none
 abbrev pub meant : List (List ℕ) → Option Command
 meant [] = None
 meant (word ∷ words) =
-    if bytes_eq word (codes "step")
-    then option_map Step (option_and_then (λ given. configured (chosen given)) (options nothing_given words))
+    if bytes_eq word (codes "step") then option_map Step (option_and_then config_of (given_of step_names words))
+    else if bytes_eq word (codes "gen") then option_map Gen (option_and_then recipe_of (given_of gen_names words))
     else None
-
--- the numbers that options gave are in their ranges
-abbrev pub IsGiven : Given → Type 0
-IsGiven given =
-    IfSome given.heap (λ n. (16 ≤ n) × (n ≤ 4194304))
-    × IfSome given.mark (λ n. n ≤ 100)
-    × IfSome given.move_ (λ n. n ≤ 100)
-    × IfSome given.every (λ n. n ≤ 1048576)
 
 -- the numbers of a command are in their ranges
 abbrev pub HasRanges : Command → Type 0
 HasRanges (Step config) = InRanges config
+HasRanges (Gen recipe) = (1 ≤ recipe.size) × (recipe.size ≤ 100000) × (1 ≤ recipe.threads) × (recipe.threads ≤ 8)
 
 abbrev pub is_disk_fault : ThreadEnd → Bool
 is_disk_fault end.DiskFault = true

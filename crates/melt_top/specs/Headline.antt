@@ -1,16 +1,19 @@
 -- What a call of the program does, from the words and the bytes read to the bytes written.
-use Rattle.std.specs.Prelude.{◌≡◌, ℕ, ◌+◌, ◌<◌, ◌≤◌, List, [], length, take, Option, None, Some, IfSome, IfNone, ◌⊎◌, Ok, Err}
+use Rattle.std.specs.Prelude.{◌≡◌, ℕ, ◌+◌, ◌<◌, ◌≤◌, List, [], length, take, Option, None, Some, IfSome, ◌⊎◌, Ok, Err}
 use Rattle.melt_io.specs.Outside.{Rose, TakesFront, Appends}
 use Rattle.melt_model.specs.declared.config.Config.{Config}
 use Rattle.melt_model.specs.declared.reports.Report.{Report}
 use Rattle.melt_scion.specs.declared.heap.Heap.{Heap}
 use Rattle.melt_trace.specs.Script.{Script}
-use Rattle.melt_trace.specs.Language.{max_bytes, script_of}
+use Rattle.melt_trace.specs.Language.{max_bytes, operation_count, script_of}
 use Rattle.melt_top.specs.Text.{text, usage_text, read_fault_text, refused_text}
 use Rattle.melt_top.specs.Command.{status_of}
 use Rattle.melt_step.specs.Run.{HasRun}
 use Rattle.melt_top.specs.declared.command.Command.{Command}
-use Rattle.melt_top.specs.declared.command.Command.TheVariants.{Step}
+use Rattle.melt_top.specs.declared.command.Command.TheVariants.{Gen, Step}
+use Rattle.melt_top.specs.declared.command.Recipe.{Recipe}
+use Rattle.melt_gen.specs.Workloads.{generated}
+use Rattle.melt_trace.specs.Grammar.{canonical}
 use Rattle.melt_top.specs.declared.status.Status.{Status}
 use Rattle.melt_top.specs.declared.status.Status.TheVariants as status
 
@@ -90,10 +93,47 @@ pub record NotUnderstood (input : Change) (due : Status) (output : List ℕ) : T
   pub status : due ≡ status.Usage
   pub told : output ≡ usage_text
 
+-- the script that is made
+abbrev pub made : Recipe → Script
+made recipe = generated recipe.kind recipe.seed recipe.size recipe.threads
+
+-- it would have more operations than a trace may have
+abbrev pub IsTooLong : Recipe → Type 0
+IsTooLong recipe = 1048576 < operation_count (made recipe).programs
+
+-- a trace that would be too long is refused as words that mean nothing are
+pub record MadeNone (recipe : Recipe) (due : Status) (output : List ℕ) : Type 0 where
+  pub many : IsTooLong recipe
+  pub status : due ≡ status.Usage
+  pub told : output ≡ usage_text
+
+-- the trace is written
+pub record MadeTrace (recipe : Recipe) (due : Status) (output : List ℕ) : Type 0 where
+  pub status : due ≡ status.Done
+  pub told : output ≡ canonical (made recipe)
+
+-- what `gen` has to write and to answer, and it reads nothing
+pub record GenDue (recipe : Recipe) (input : Change) (due : Status) (output : List ℕ) : Type 0 where
+  pub untouched : IsUntouched input
+  pub done : MadeNone recipe due output ⊎ MadeTrace recipe due output
+
 -- What a command has to write and to answer.
 abbrev pub Due : Option Command → Change → Status → List ℕ → Type 0
 Due None input due output = NotUnderstood input due output
 Due (Some (Step config)) input due output = StepDue config input due output
+Due (Some (Gen recipe)) input due output = GenDue recipe input due output
+
+-- the words mean nothing, or a trace that would be too long
+abbrev pub IsRefused : Option Command → Type 0
+IsRefused None = Unit {0}
+IsRefused (Some (Step config)) = ⊥
+IsRefused (Some (Gen recipe)) = IsTooLong recipe
+
+-- what was read at most: only `step` reads
+abbrev pub ReadAtMost : Option Command → Change → Type 0
+ReadAtMost None input = IsUntouched input
+ReadAtMost (Some (Step config)) input = ReadAFront input
+ReadAtMost (Some (Gen recipe)) input = IsUntouched input
 
 -- everything that was due was written
 pub record WroteAll (command : Option Command) (input out : Change) (answered : Status) : Type 0 where
@@ -111,11 +151,10 @@ pub record WrotePart (command : Option Command) (input out : Change) : Type 0 wh
   pub written : Appends out.before (take count output) out.after
   pub fault : Rose out.faults_before out.faults_after
 
--- Memory was wanted: nothing was written. A command read a front of the input, and words that mean nothing read nothing.
+-- Memory was wanted: nothing was written. `step` read a front of the input, and others read nothing.
 pub record GaveUp (command : Option Command) (input out : Change) : Type 0 where
   pub written : Appends out.before [] out.after
-  pub read : IfSome command (λ c. ReadAFront input)
-  pub unread : IfNone command (IsUntouched input)
+  pub read : ReadAtMost command input
 
 -- What a call did, by the status that it answered.
 abbrev pub Outcome : Option Command → Change → Change → Status → Type 0

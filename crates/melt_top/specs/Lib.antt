@@ -1,3 +1,5 @@
 pub mod Text
+pub mod Words
+pub mod Parses
 pub mod Command
 pub mod Headline

@@ -1,11 +1,18 @@
 //! What the words after the program's name mean.
-ghost use Rattle.std.specs.Prelude.{◌≡◌, ◌≤◌, map, string_bytes, IfSome, option_and_then};
+ghost use Rattle.std.specs.Prelude.{◌≡◌, ◌<◌, ◌≤◌, ◌⊎◌, drop, length};
+ghost use Rattle.std.specs.Prelude.{map, option_and_then, option_map, string_bytes, IfOk, IfSome};
 ghost use Rattle.melt_model.specs.Config.{InRanges};
 ghost use Rattle.melt_trace.specs.Language.{number_of};
-ghost use Rattle.melt_top.specs.Command.{HasRanges, IsGiven, between, chosen, configured, meant, once, options, with_option};
+ghost use Rattle.melt_top.specs.Command.{HasRanges, between, config_of, kind_named, meant, number_or, recipe_of};
+ghost use Rattle.melt_top.specs.Words.{Given, given_of};
+ghost use Rattle.melt_top.specs.Parses.{Has, gen_names, step_names};
 
-use melt_model::Config;
+use crate::options::{Verb, WordsRefusal, options_given};
+use clap::ArgMatches;
+use melt_gen::Workload;
+use melt_model::{Config, NoMemory};
 use melt_trace::read_number;
+use std::alloc::Global;
 
 /// The numbers of words that a heap may have.
 const HEAP: Limits = Limits {
@@ -22,28 +29,31 @@ const EVERY: Limits = Limits {
     high: 1_048_576,
 };
 
+/// How many objects each thread makes in a trace that is made.
+const SIZE: Limits = Limits {
+    low: 1,
+    high: 100_000,
+};
+
+const THREADS: Limits = Limits { low: 1, high: 8 };
+
 /// A command of the program.
 #[derive(Clone, Copy, Debug, PartialEq, Eq)]
 pub enum Command {
     /// Runs a trace by its written order.
     Step(Config),
+    /// Makes a trace.
+    Gen(Recipe),
 }
 
-/// The numbers that options gave.
-#[derive(Clone, Copy)]
-struct Given {
-    heap: Option<u32>,
-    mark: Option<u32>,
-    move_: Option<u32>,
-    every: Option<u32>,
+/// What a trace is made of, with a size from 1 to 100,000 and 1 to 8 threads.
+#[derive(Clone, Copy, Debug, PartialEq, Eq)]
+pub struct Recipe {
+    pub kind: Workload,
+    pub seed: u64,
+    pub size: u32,
+    pub threads: u32,
 }
-
-const NOTHING_GIVEN: Given = Given {
-    heap: None,
-    mark: None,
-    move_: None,
-    every: None,
-};
 
 /// The bounds of a number, both of them allowed.
 #[derive(Clone, Copy)]
@@ -61,77 +71,98 @@ impl Limits {
         let number = u32::try_from(read_number(word.as_bytes())?).ok()?;
         (self.low <= number && number <= self.high).then_some(number)
     }
-}
 
-impl Given {
-    /// What is given with one option more.
-    fn with(self, name: &str, value: &str) -> Option<Given>
-        requires { IsGiven self }
-        ensures value { result ≡ with_option self name.now value.now }
-        ensures given { IfSome result IsGiven }
+    /// The same of the value of an option, or another number where it was not given.
+    fn read_or(self, value: Option<&str>, otherwise: u32) -> Option<u32>
+        ensures value { result ≡ number_or self.low self.high otherwise (option_map (λ text. text.now) value.entry) }
+        ensures within { IfSome result (λ n. ((self.low ≤ n) × (n ≤ self.high)) ⊎ (n ≡ otherwise)) }
     {
-        match name {
-            "--heap" if self.heap.is_none() => Some(Given {
-                heap: Some(HEAP.read(value)?),
-                ..self
-            }),
-            "--mark" if self.mark.is_none() => Some(Given {
-                mark: Some(PART.read(value)?),
-                ..self
-            }),
-            "--move" if self.move_.is_none() => Some(Given {
-                move_: Some(PART.read(value)?),
-                ..self
-            }),
-            "--every" if self.every.is_none() => Some(Given {
-                every: Some(EVERY.read(value)?),
-                ..self
-            }),
-            _ => None,
+        match value {
+            Some(word) => self.read(word),
+            None => Some(otherwise),
         }
-    }
-
-    /// What is given with all options of these words.
-    fn with_all(self, words: &[String]) -> Option<Given>
-        requires { IsGiven self }
-        ensures value { result ≡ options self (map string_bytes words.now) }
-        ensures given { IfSome result IsGiven }
-    {
-        match words {
-            [] => Some(self),
-            [_] => None,
-            [name, value, rest @ ..] => self.with(name.as_str(), value.as_str())?.with_all(rest),
-        }
-    }
-
-    /// What a run is given where no option says otherwise, or none, where its numbers do not go together.
-    fn config(self) -> Option<Config>
-        requires { IsGiven self }
-        ensures value { result ≡ configured (chosen self) }
-        ensures ranges { IfSome result InRanges }
-    {
-        let config = Config {
-            heap: self.heap.unwrap_or(65_536),
-            forward: 1024,
-            disk: 16_777_216,
-            mark: self.mark.unwrap_or(50),
-            move_: self.move_.unwrap_or(80),
-            every: self.every.unwrap_or(0),
-        };
-        (config.mark <= config.move_).then_some(config)
     }
 }
 
-/// The command that the words mean, or none: `step`, and behind it options, each at most once with its value.
-pub fn command_of(words: &[String]) -> Option<Command>
-    ensures value { result ≡ meant (map string_bytes words.now) }
-    ensures ranges { IfSome result HasRanges }
+/// What the options of `step` say of a run, or nothing, where a value is none of its option or the numbers do not go
+/// together.
+fn read_config(options: &ArgMatches<'_>) -> Option<Config>
+    ensures value { (given : Given) → Has options.now given → result ≡ config_of given }
+    ensures ranges { IfSome result InRanges }
+{
+    let config = Config {
+        heap: HEAP.read_or(options.get_str("heap"), 65_536)?,
+        forward: 1024,
+        disk: 16_777_216,
+        mark: PART.read_or(options.get_str("mark"), 50)?,
+        move_: PART.read_or(options.get_str("move"), 80)?,
+        every: EVERY.read_or(options.get_str("every"), 0)?,
+    };
+    (config.mark <= config.move_).then_some(config)
+}
+
+/// The kind of work of this name.
+fn kind_of(name: &str) -> Option<Workload>
+    ensures { result ≡ kind_named name.now }
+{
+    match name {
+        "list" => Some(Workload::List),
+        "queue" => Some(Workload::Queue),
+        "table" => Some(Workload::Table),
+        "tree" => Some(Workload::Tree),
+        _ => None,
+    }
+}
+
+/// What the options of `gen` say of a trace, or nothing, where one is missing or a value is none of its option.
+fn read_recipe(options: &ArgMatches<'_>) -> Option<Recipe>
+    ensures value { (given : Given) → Has options.now given → result ≡ recipe_of given }
+    ensures ranges { IfSome result (λ recipe. HasRanges (Command.Gen recipe)) }
+{
+    Some(Recipe {
+        kind: kind_of(options.get_str("kind")?)?,
+        seed: read_number(options.get_str("seed")?.as_bytes())?,
+        size: SIZE.read(options.get_str("size")?)?,
+        threads: THREADS.read(options.get_str("threads")?)?,
+    })
+}
+
+fn step_command(alloc: Global, words: &[String]) -> Result<Option<Command>, NoMemory>
+    requires { 0 < length words.now }
+    ensures value { IfOk result (λ command. command
+        ≡ option_map Command.Step (option_and_then config_of
+        (given_of step_names (drop 1 (map string_bytes words.now))))) }
+    ensures ranges { IfOk result (λ command. IfSome command HasRanges) }
+{
+    match options_given(alloc, Verb::Step, words) {
+        Ok(options) => Ok(read_config(&options).map(Command::Step)),
+        Err(WordsRefusal::Usage) => Ok(None),
+        Err(WordsRefusal::NoMemory) => Err(NoMemory),
+    }
+}
+
+fn gen_command(alloc: Global, words: &[String]) -> Result<Option<Command>, NoMemory>
+    requires { 0 < length words.now }
+    ensures value { IfOk result (λ command. command
+        ≡ option_map Command.Gen (option_and_then recipe_of
+        (given_of gen_names (drop 1 (map string_bytes words.now))))) }
+    ensures ranges { IfOk result (λ command. IfSome command HasRanges) }
+{
+    match options_given(alloc, Verb::Gen, words) {
+        Ok(options) => Ok(read_recipe(&options).map(Command::Gen)),
+        Err(WordsRefusal::Usage) => Ok(None),
+        Err(WordsRefusal::NoMemory) => Err(NoMemory),
+    }
+}
+
+/// The command that the words mean, or none: its name, and behind it its options, each at most once with its value.
+pub fn command_of(alloc: Global, words: &[String]) -> Result<Option<Command>, NoMemory>
+    ensures value { IfOk result (λ command. command ≡ meant (map string_bytes words.now)) }
+    ensures ranges { IfOk result (λ command. IfSome command HasRanges) }
 {
     match words {
-        [word, rest @ ..] if word.as_str() == "step" => {
-            let given = NOTHING_GIVEN.with_all(rest)?;
-            Some(Command::Step(given.config()?))
-        }
-        _ => None,
+        [word, ..] if word.as_str() == "step" => step_command(alloc, words),
+        [word, ..] if word.as_str() == "gen" => gen_command(alloc, words),
+        _ => Ok(None),
     }
 }

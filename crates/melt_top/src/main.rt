@@ -2,6 +2,7 @@
 #![tactic(auto)]
 
 mod command;
+mod options;
 mod status;
 #[cfg(test)]
 mod tests;

@@ -121,6 +121,22 @@ fn words_that_mean_nothing_read_nothing(rt: HostRuntime) -> Result<(), Fail> {
         &["run"],
         &["step", "x"],
         &["step", "--mark", "90"],
+        &["step", "--"],
+        &["step", "--help"],
+        &["step", "--heap", "16", "--heap=16"],
+        &["step", "--seed", "1"],
+        &["gen", "--kind", "tree", "--seed", "7", "--size", "2"],
+        &[
+            "gen",
+            "--kind",
+            "list",
+            "--seed",
+            "1",
+            "--size",
+            "100000",
+            "--threads",
+            "2",
+        ],
     ];
     for words in cases {
         let mut source = MemSource::new(TRACE.to_vec(rt.alloc())?);
@@ -129,6 +145,54 @@ fn words_that_mean_nothing_read_nothing(rt: HostRuntime) -> Result<(), Fail> {
         assert_eq!(rt; sink.bytes.as_slice(), b"error usage\n".as_slice());
         assert_eq!(rt; (source.pos, source.calls), (0, 0));
     }
+    Ok(())
+}
+
+#[test]
+fn gen_writes_a_trace_and_reads_nothing(rt: HostRuntime) -> Result<(), Fail> {
+    let words = [
+        "gen",
+        "--threads",
+        "1",
+        "--kind",
+        "tree",
+        "--seed=7",
+        "--size",
+        "2",
+    ];
+    let mut source = MemSource::new(TRACE.to_vec(rt.alloc())?);
+    let mut sink = MemSink::new(rt.alloc());
+    assert_eq!(rt; call(&rt, &words, &mut source, &mut sink)?, Status::Done);
+    let text =
+        b"melt 1\nthreads 1\nglobals 1\nthread 0\nnew 0 2 1\nput 0 0 7191089600892374487\ngstore 0 0\n\
+        gload 0 0\nnew 1 2 1\nput 1 0 309689372594955804\nstore 0 0 1\ndrop 0\ndrop 1\ndone\n";
+    assert_eq!(rt; sink.bytes.as_slice(), text.as_slice());
+    assert_eq!(rt; (source.pos, source.calls), (0, 0));
+    Ok(())
+}
+
+#[test]
+fn a_trace_that_was_made_runs(rt: HostRuntime) -> Result<(), Fail> {
+    let words = [
+        "gen",
+        "--kind",
+        "list",
+        "--seed",
+        "1",
+        "--size",
+        "10",
+        "--threads",
+        "1",
+    ];
+    let mut nothing = MemSource::new(Vec::new(rt.alloc()));
+    let mut trace = MemSink::new(rt.alloc());
+    assert_eq!(rt; call(&rt, &words, &mut nothing, &mut trace)?, Status::Done);
+    let mut source = MemSource::new(trace.bytes);
+    let mut sink = MemSink::new(rt.alloc());
+    let status = call(&rt, &["step", "--heap=64"], &mut source, &mut sink)?;
+    assert_eq!(rt; status, Status::Done);
+    let end = b"ref\n9\nref\n8\nref\n7\nref\n6\nref\n5\nref\n4\nref\n3\nref\n2\nok\nok\nend done\n";
+    assert!(rt; sink.bytes.as_slice().ends_with(end));
     Ok(())
 }
 

@@ -1,19 +1,21 @@
 //! The whole program, over any source and any sink.
-ghost use Rattle.std.specs.Prelude.{◌≡◌, map, string_bytes, IfOk, IfNone, IfSome, IsNone, OnErr};
+ghost use Rattle.std.specs.Prelude.{◌≡◌, ◌⊎◌, map, string_bytes, IfOk, OnErr};
 ghost use Rattle.melt_io.specs.Outside.{Rose};
 ghost use Rattle.melt_model.specs.Config.{InRanges};
 ghost use Rattle.melt_trace.specs.Grammar.{line};
-ghost use Rattle.melt_top.specs.Command.{meant};
+ghost use Rattle.melt_top.specs.Command.{HasRanges, meant};
 ghost use Rattle.melt_top.specs.Text.{refused_text};
-ghost use Rattle.melt_top.specs.Headline.{IsUntouched, ReadAFront, RunDue, TraceDue, StepDue, Due, Outcome, IsBuilt};
+ghost use Rattle.melt_top.specs.Headline.{ReadAFront, RunDue, TraceDue, StepDue, MadeNone, MadeTrace, Due, IsRefused};
+ghost use Rattle.melt_top.specs.Headline.{ReadAtMost, Outcome, IsBuilt};
 
-use crate::command::{Command, command_of};
+use crate::command::{Command, Recipe, command_of};
 use crate::status::{Status, status_for};
 use crate::text::report_text;
+use melt_gen::{GenRefusal, generate};
 use melt_io::{Gate, ReadRefusal, Sink, Source, StaleDisk, read_all, write_all};
 use melt_model::{Config, NoMemory};
 use melt_step::run_schedule;
-use melt_trace::{MAX_BYTES, ParseRefusal, Trace, TraceError, parse, push_line};
+use melt_trace::{MAX_BYTES, ParseRefusal, Trace, TraceError, parse, print, push_line};
 use std::alloc::Global;
 use std::thread::Threads;
 
@@ -84,19 +86,33 @@ fn step_answer<S: Source>(alloc: Global, config: Config, input: &mut S) -> Resul
     }
 }
 
-/// What is due for the words. Nothing is read where they mean nothing.
+/// What is due for a recipe. Its trace is written in the canonical form.
+fn gen_answer(alloc: Global, recipe: Recipe) -> Result<Answer, NoMemory>
+    requires { HasRanges (Command.Gen recipe) }
+    ensures { IfOk result (λ answer. MadeNone recipe answer.status answer.text.items ⊎ MadeTrace recipe answer.status answer.text.items) }
+{
+    match generate(alloc, recipe.kind, recipe.seed, recipe.size, recipe.threads) {
+        Ok(trace) => Ok(Answer {
+            status: Status::Done,
+            text: print(alloc, &trace)?,
+        }),
+        Err(GenRefusal::TooMany) => Answer::line(alloc, Status::Usage, b"error usage", &[]),
+        Err(GenRefusal::NoMemory) => Err(NoMemory),
+    }
+}
+
+/// What is due for the words. Only `step` reads.
 fn answer_to<S: Source>(alloc: Global, words: &[String], input: &mut S) -> Result<Answer, NoMemory>
     ensures due { IfOk result (λ answer. Due (meant (map string_bytes words.now))
         (record { before = S.left input.old; after = S.left input.new; faults_before = S.faults input.old; faults_after = S.faults input.new })
         answer.status answer.text.items) }
-    ensures read { IfSome (meant (map string_bytes words.now)) (λ _. ReadAFront
+    ensures read { OnErr result (ReadAtMost (meant (map string_bytes words.now))
         (record { before = S.left input.old; after = S.left input.new; faults_before = S.faults input.old; faults_after = S.faults input.new })) }
-    ensures unread { OnErr result (IfNone (meant (map string_bytes words.now))
-        (IsUntouched (record { before = S.left input.old; after = S.left input.new; faults_before = S.faults input.old; faults_after = S.faults input.new }))) }
 {
-    match command_of(words) {
+    match command_of(alloc, words)? {
         None => Answer::line(alloc, Status::Usage, b"error usage", &[]),
         Some(Command::Step(config)) => step_answer(alloc, config, input),
+        Some(Command::Gen(recipe)) => gen_answer(alloc, recipe),
     }
 }
 
@@ -116,7 +132,7 @@ pub fn melt<X: Threads + Sync, S: Source, K: Sink, D: StaleDisk, G: Gate + Sync>
         (record { before = K.written out.old; after = K.written out.new; faults_before = K.faults out.old; faults_after = K.faults out.new })
         result }
     // Each answer by itself. Want of memory alone has no cause.
-    ensures usage { result ≡ Status.Usage → IsNone (meant (map string_bytes words.now)) }
+    ensures usage { result ≡ Status.Usage → IsRefused (meant (map string_bytes words.now)) }
     ensures read_fault { result ≡ Status.ReadFault → Rose (S.faults input.old) (S.faults input.new) }
     ensures write_fault { result ≡ Status.WriteFault → Rose (K.faults out.old) (K.faults out.new) }
     ensures no_others { IsBuilt result }

@@ -28,7 +28,7 @@ impl Model for Program {
 
 impl Program {
     /// A program of these lines, which stand for so many operations.
-    pub(crate) fn new(items: Vec<Item>, count: u64) -> Program
+    pub fn new(items: Vec<Item>, count: u64) -> Program
         requires { count ≡ length (expand items.items) }
         ensures { result ≡ items.items }
     {
@@ -72,7 +72,7 @@ impl Model for Trace {
 
 impl Trace {
     /// A trace of these parts.
-    pub(crate) fn of_parts(globals: u32, orders: Vec<(u32, u32)>, programs: Vec<Program>) -> Trace
+    pub fn new(globals: u32, orders: Vec<(u32, u32)>, programs: Vec<Program>) -> Trace
         requires { IsScript (record { globals = globals; orders = orders.items; programs = programs.items }) }
         ensures { result ≡ record { globals = globals; orders = orders.items; programs = programs.items } }
     {

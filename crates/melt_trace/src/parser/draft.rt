@@ -87,7 +87,7 @@ impl Draft {
             programs,
             ..
         } = self;
-        Trace::of_parts(globals, orders, programs)
+        Trace::new(globals, orders, programs)
     }
 
     pub fn operation(&mut self, op: Op) -> Result<(), Fault>

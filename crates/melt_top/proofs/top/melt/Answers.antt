@@ -1,4 +1,4 @@
-use Rattle.melt_top.proofs.TopLaws.{due_built, wrote_all}
+use Rattle.melt_top.proofs.TopLaws.{due_built, no_write_fault, read_fault_rose, refused_words, wrote_all}
 use Rattle.melt_top.proofs.top.melt.Goals as goal
 
 pub returns-in-Ok-write_all-clause-headline : goal.returns-in-Ok-write_all-clause-headline
@@ -7,3 +7,12 @@ returns-in-Ok-write_all-clause-headline g c =
 
 pub returns-in-Ok-write_all-clause-no_others : goal.returns-in-Ok-write_all-clause-no_others
 returns-in-Ok-write_all-clause-no_others g c = due_built _ _ c.in-Ok.answer.status c.in-Ok.answer.text.items c.in-Ok.ensures.due
+
+pub returns-in-Ok-write_all-clause-usage : goal.returns-in-Ok-write_all-clause-usage
+returns-in-Ok-write_all-clause-usage g c = refused_words _ _ c.in-Ok.answer.status c.in-Ok.answer.text.items c.in-Ok.ensures.due
+
+pub returns-in-Ok-write_all-clause-read_fault : goal.returns-in-Ok-write_all-clause-read_fault
+returns-in-Ok-write_all-clause-read_fault g c = λ e. read_fault_rose _ _ c.in-Ok.answer.status c.in-Ok.answer.text.items c.in-Ok.ensures.due e
+
+pub returns-in-Ok-write_all-clause-write_fault : goal.returns-in-Ok-write_all-clause-write_fault
+returns-in-Ok-write_all-clause-write_fault g c = λ e. absurd (no_write_fault _ _ c.in-Ok.answer.status c.in-Ok.answer.text.items c.in-Ok.ensures.due e)

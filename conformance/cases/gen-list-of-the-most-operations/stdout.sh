@@ -1,0 +1,1 @@
+"$(dirname "$0")/../../generator" list 5 18722 8

@@ -1,0 +1,1 @@
+"$(dirname "$0")/../../generator" queue 9 100000 1

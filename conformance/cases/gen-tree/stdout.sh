@@ -1,0 +1,1 @@
+"$(dirname "$0")/../../generator" tree 7 40 1

@@ -1,0 +1,1 @@
+"$(dirname "$0")/../../generator" list 1 1000 1

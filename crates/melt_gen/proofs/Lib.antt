@@ -1,0 +1,4 @@
+mod Branches
+mod InLimits
+mod Lengths
+mod Writing

@@ -1,0 +1,63 @@
+-- How the words behind a command are read: options in any order, each once at most and with its value.
+use Rattle.std.specs.Prelude.{ℕ, Bool, not, ◌||◌, if◌then◌else◌, List, [], ◌∷◌, ◌++◌, find, Option, None}
+use Rattle.std.specs.Prelude.{Some, option_and_then, option_map, codes}
+use Rattle.std.specs.List.{list_any}
+use Rattle.std.specs.Str.{bytes_eq}
+use Rattle.clap.specs.Lexer.{long_of, is_long_word, is_short_word}
+
+-- the options so far, without their two hyphens, each with its value
+abbrev pub Given : Type 0
+Given = List (List ℕ × List ℕ)
+
+abbrev pub value_of : Given → (name : List ℕ) → Option (List ℕ)
+value_of given name = option_map (λ g. g.1) (find (λ g. bytes_eq g.0 name) given)
+
+abbrev pub is_given : Given → (name : List ℕ) → Bool
+is_given given name = list_any (λ g. bytes_eq g.0 name) given
+
+-- what was given, and the option whose value is to be the next word
+pub record Reading : Type 0 where
+  pub given : Given
+  pub waits : Option (List ℕ)
+
+-- the option has its value, and may not have had one before
+abbrev pub with_value : Given → (name : List ℕ) → (value : List ℕ) → Option Reading
+with_value given name value =
+    if is_given given name then None else Some (record { given = given ++ (name, value) ∷ []; waits = None })
+
+-- the option's word has the value too, behind `=`, or the next word is the value
+abbrev pub with_name : Given → (name : List ℕ) → (value : Option (List ℕ)) → Option Reading
+with_name given name (Some value) = with_value given name value
+with_name given name None = Some (record { given = given; waits = Some name })
+
+-- a word that is to be an option of these names
+abbrev pub with_option : List (List ℕ) → Given → (parts : Option (List ℕ × Option (List ℕ))) → Option Reading
+with_option names given None = None
+with_option names given (Some parts) =
+    if list_any (λ name. bytes_eq name parts.0) names then with_name given parts.0 parts.1 else None
+
+-- A word that begins with a hyphen is no value, unless it is the hyphen alone.
+abbrev pub is_value : List ℕ → Bool
+is_value word = not (is_long_word word || is_short_word word)
+
+abbrev pub with_word : List (List ℕ) → Given → (waits : Option (List ℕ)) → List ℕ → Option Reading
+with_word names given None word = with_option names given (long_of word)
+with_word names given (Some name) word = if is_value word then with_value given name word else None
+
+abbrev pub ended : Given → (waits : Option (List ℕ)) → Option Given
+ended given None = Some given
+ended given (Some name) = None
+
+abbrev pub read_from : List (List ℕ) → Reading → List (List ℕ) → Option Given
+read_from names reading [] = ended reading.given reading.waits
+read_from names reading (word ∷ words) =
+    option_and_then (λ next. read_from names next words) (with_word names reading.given reading.waits word)
+
+-- nothing may stand behind the options, so no word parts them from others
+abbrev pub parts_options : List ℕ → Bool
+parts_options word = bytes_eq word (codes "--")
+
+-- what the words give to the options of these names, or none
+abbrev pub given_of : (names : List (List ℕ)) → List (List ℕ) → Option Given
+given_of names words =
+    if list_any parts_options words then None else read_from names (record { given = []; waits = None }) words
