@@ -5,12 +5,13 @@
 //! for the clean one, if it is still what was found. So no clean address is ever that of an object with the stale bit,
 //! and the word that the exchange finds is always one that may be answered: a word with a tag can only have become one
 //! without.
-ghost use Rattle.std.specs.Prelude.{◌≡◌, ◌<◌, false, length, Some, None};
-ghost use Rattle.melt_core.specs.Advances.{Advances, MayAdvance};
-ghost use Rattle.melt_core.specs.Changed.{HasRead, HoldsRef};
-ghost use Rattle.melt_core.specs.Known.{IsPlace, word_in};
+ghost use Rattle.std.specs.Prelude.{◌≡◌, ◌<◌, length, Some, None};
+ghost use Rattle.melt_scion.specs.Heaps.{OnDisk};
+ghost use Rattle.melt_core.specs.Advances.{Moves, MayMove};
+ghost use Rattle.melt_core.specs.Changed.{HasPlace, HasRead, HoldsRef, StandsAt};
+ghost use Rattle.melt_core.specs.Known.{word_in};
 ghost use Rattle.melt_core.specs.Stages.{LooksFrom};
-ghost use Rattle.melt_core.specs.Views.{Standing, maps, stage_of, state, view};
+ghost use Rattle.melt_core.specs.Views.{stage_of, state, view};
 
 use crate::answer::StepResult;
 use crate::call::{Access, Place, Stage, Task};
@@ -30,9 +31,9 @@ pub(crate) struct Looked {
 impl Core {
     /// Reads the header of the object in a register. Its shape never changes, so that what is known of it stays.
     pub(crate) fn head(&mut self, thread: u32, op: Op, r: u8, access: Access) -> StepResult
-        requires asks { MayAdvance (view self.old) thread op }
+        requires asks { MayMove (view self.old) thread op }
         requires stage { stage_of (view self.old) thread ≡ Some (Stage.Polled (Task.Use r access)) }
-        ensures { Advances (view self.old) (view self.new) thread op result }
+        ensures { Moves (view self.old) (view self.new) thread op result }
     {
         let address = self.register(thread, r);
         let shape = self.heap.space.shape(address);
@@ -51,10 +52,10 @@ impl Core {
 
     /// Reads a number word of an object.
     pub(crate) fn get(&mut self, thread: u32, op: Op, cell: Cell) -> StepResult
-        requires asks { MayAdvance (view self.old) thread op }
+        requires asks { MayMove (view self.old) thread op }
         requires stage { stage_of (view self.old) thread
             ≡ Some (Stage.Headed cell.address cell.shape (Access.Get cell.j)) }
-        ensures { Advances (view self.old) (view self.new) thread op result }
+        ensures { Moves (view self.old) (view self.new) thread op result }
     {
         let Cell { address, shape, j } = cell;
         let at = address + 2 + u32::from(shape.refs) + u32::from(j);
@@ -68,9 +69,8 @@ impl Core {
 
     /// The reference at a place, which is no home.
     fn reference_in(&self, place: Place) -> Ref
-        requires stands { Standing false (view self.now) }
-        requires place { IsPlace (maps (view self.now)) (state (view self.now)) place }
-        ensures { HoldsRef (word_in (state (view self.now)) place) result }
+        requires { StandsAt (view self.now) place }
+        ensures { (disk : OnDisk) → HoldsRef (word_in (state disk (view self.now)) place) result }
     {
         reference(self.word_in(place))
     }
@@ -82,7 +82,7 @@ impl Core {
         requires small { thread < 256 }
         requires register { dst < 16 }
         requires room { length (view self.old).log < (view self.old).capacity }
-        requires place { IsPlace (maps (view self.old)) (state (view self.old)) place }
+        requires place { HasPlace (view self.old) place }
         ensures { HasRead (view self.old) (view self.new) thread place dst address result }
     {
         let slot = self.slot_at(place);
@@ -97,9 +97,9 @@ impl Core {
     // (inlined, since each caller has a place of one kind and needs no code for the other)
     #[inline(always)]
     pub(crate) fn look(&mut self, thread: u32, op: Op, place: Place, dst: u8) -> StepResult
-        requires asks { MayAdvance (view self.old) thread op }
+        requires asks { MayMove (view self.old) thread op }
         requires stage { LooksFrom (stage_of (view self.old) thread) place dst }
-        ensures { Advances (view self.old) (view self.new) thread op result }
+        ensures { Moves (view self.old) (view self.new) thread op result }
     {
         match self.reference_in(place) {
             Ref::Null => self.read(thread, place, dst, 0),
@@ -115,9 +115,9 @@ impl Core {
 
     /// Clears the stale bit of the object that a load found.
     pub(crate) fn clear(&mut self, thread: u32, op: Op, looked: Looked) -> StepResult
-        requires asks { MayAdvance (view self.old) thread op }
+        requires asks { MayMove (view self.old) thread op }
         requires stage { stage_of (view self.old) thread ≡ Some (Stage.Looked looked.place looked.target looked.dst) }
-        ensures { Advances (view self.old) (view self.new) thread op result }
+        ensures { Moves (view self.old) (view self.new) thread op result }
     {
         let Looked { place, target, dst } = looked;
         // Nothing but this bit of a header ever changes, and it is only ever cleared in an epoch, so that a plain store
@@ -134,9 +134,9 @@ impl Core {
     /// Exchanges the word at a place for that of the clean address, if it is still that of the stale one. The load is
     /// answered with the reference that stands there then.
     pub(crate) fn untag(&mut self, thread: u32, op: Op, looked: Looked) -> StepResult
-        requires asks { MayAdvance (view self.old) thread op }
+        requires asks { MayMove (view self.old) thread op }
         requires stage { stage_of (view self.old) thread ≡ Some (Stage.Cleared looked.place looked.target looked.dst) }
-        ensures { Advances (view self.old) (view self.new) thread op result }
+        ensures { Moves (view self.old) (view self.new) thread op result }
     {
         let Looked { place, target, dst } = looked;
         match self.reference_in(place) {

@@ -10,7 +10,7 @@ use Rattle.melt_step.proofs.events.call_alone.Goals as goal
 pub loop-reply-preserved : goal.loop-reply-preserved
 loop-reply-preserved c = record {
   on = call_goes (view c.args.core.now) (view c.loop-reply.core)
-      (view c.advance.new.self) c.args.thread c.args.op c.loop-reply.invariant.on (search rules);
+      (view c.advance.new.core) c.args.thread c.args.op c.loop-reply.invariant.on (search rules);
   state = c.loop-reply.invariant.state;
 }
 
@@ -20,18 +20,18 @@ answered-requires-clause-stands c = c.advance.ensures.keeps true c.loop-reply.in
 pub returns-in-Refused-Pause-Space-clause-called : goal.returns-in-Refused-Pause-Space-clause-called
 returns-in-Refused-Pause-Space-clause-called c =
     subst (λ (need : ℕ). CalledAlone (view c.args.core.now)
-    (view c.advance.new.self) c.args.thread c.args.state.now c.loop-reply.state (Some need))
+    (view c.advance.new.core) c.args.thread c.args.state.now c.loop-reply.state (Some need))
     (sym c.in-Refused-Pause-Space.need-is)
     (subst (λ (s : ThreadState). CalledAlone (view c.args.core.now)
-    (view c.advance.new.self) c.args.thread c.args.state.now s (Some c.in-Refused-Pause-Space.need))
+    (view c.advance.new.core) c.args.thread c.args.state.now s (Some c.in-Refused-Pause-Space.need))
     (sym c.loop-reply.invariant.state)
     (call_lacks (view c.args.core.now) (view c.loop-reply.core)
-    (view c.advance.new.self) c.args.thread c.args.op c.in-Refused-Pause-Space.need c.args.state.now
+    (view c.advance.new.core) c.args.thread c.args.op c.in-Refused-Pause-Space.need c.args.state.now
     (search rules) c.loop-reply.invariant.on (search rules)))
 
 pub returns-in-Answered-clause-called : goal.returns-in-Answered-clause-called
 returns-in-Answered-clause-called c =
-    call_told (view c.args.core.now) (view c.loop-reply.core) (view c.advance.new.self)
+    call_told (view c.args.core.now) (view c.loop-reply.core) (view c.advance.new.core)
     (view c.answered.new.core) c.args.thread c.args.op c.in-Answered.reply c.args.state.now c.answered.new.state
     c.requires.waits c.requires.op c.requires.no_collect c.loop-reply.invariant.on
     (c.advance.ensures.keeps true c.loop-reply.invariant.on.stands) c.advance.ensures.others (search rules)

@@ -20,20 +20,20 @@ answered-requires c = record {
 pub returns-in-Going : goal.returns-in-Going
 returns-in-Going c =
     let both = goes_step (view c.args.core.now)
-    (view c.advance.new.self) c.args.thread c.in-Running-Some.op c.args.state.now (search rules) (search rules)
+    (view c.advance.new.core) c.args.thread c.in-Running-Some.op c.args.state.now (search rules) (search rules)
     (search rules) c.requires.ready.stands (search rules) in
     record { step = both.0; stop = both.1; due = λ other. absurd (other refl) }
 
 pub returns-in-Refused-Pause-Space : goal.returns-in-Refused-Pause-Space
 returns-in-Refused-Pause-Space c =
     let both = lacks_step (view c.args.core.now)
-    (view c.advance.new.self) c.args.thread c.in-Running-Some.op c.advance.result c.args.state.now (search rules)
+    (view c.advance.new.core) c.args.thread c.in-Running-Some.op c.advance.result c.args.state.now (search rules)
     (search rules) (search rules) c.requires.ready.stands c.advance.ensures (search rules) in
     record { step = both.0; stop = both.1; due = λ other. absurd (other refl) }
 
 pub returns-in-Answered : goal.returns-in-Answered
 returns-in-Answered c =
-    let both = told_step (view c.args.core.now) (view c.advance.new.self)
+    let both = told_step (view c.args.core.now) (view c.advance.new.core)
     (view c.answered.new.core) c.args.thread c.in-Running-Some.op c.in-Answered.reply c.args.state.now
     c.answered.new.state
     (search rules) (search rules) (search rules) c.requires.ready.stands
