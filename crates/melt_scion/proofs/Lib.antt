@@ -21,6 +21,7 @@ pub mod Writing
 pub mod Entering
 pub mod EnteringTells
 pub mod Making
+pub mod Committing
 pub mod Holding
 pub mod Starting
 pub mod HomesApart
