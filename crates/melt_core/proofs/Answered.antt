@@ -50,7 +50,7 @@ pub record Ends (disk : OnDisk) (v : View) (t : ℕ) (o : Op) (stage : Stage) : 
 abbrev pub MayEnd : Stage → Type 0
 MayEnd (Polled task) = Unit {0}
 MayEnd (Headed address shape access) = Unit {0}
-MayEnd (Cleared place target dst) = Unit {0}
+MayEnd (Cleared place found target dst) = Unit {0}
 MayEnd stage = ⊥
 
 may_end : (v : View) (t : ℕ) (o : Op) (stage : Stage) → MayEnd stage
@@ -58,8 +58,8 @@ may_end : (v : View) (t : ℕ) (o : Op) (stage : Stage) → MayEnd stage
     × (claimed_in (Some (record { op = o; stage = stage })) ≡ 0) × ((need : ℕ) → stage ≡ Lacking need → ⊥)
 may_end v t o (Polled task) may = (λ pause. pause, refl, refl, λ need is. cc)
 may_end v t o (Headed address shape access) may = (λ pause. pause, refl, refl, λ need is. cc)
-may_end v t o (Looked place target dst) may = absurd may
-may_end v t o (Cleared place target dst) may = (λ pause. pause, refl, refl, λ need is. cc)
+may_end v t o (Looked place found target dst) may = absurd may
+may_end v t o (Cleared place found target dst) may = (λ pause. pause, refl, refl, λ need is. cc)
 may_end v t o (Claimed address shape stored dst) may = absurd may
 may_end v t o (Lacking need) may = absurd may
 
@@ -132,7 +132,7 @@ over_plain disk v w t cleared act event nothing moves words local unclaimed no_l
   threads = local.threads;
   others = local.others;
   may_hold = local.may_hold;
-  known = λ c none. absurd (cc);
+  known = λ told s c none. absurd (cc);
   fits = λ c none. absurd (cc);
   unclaimed = refl;
   unclaimed_before = unclaimed;

@@ -37,9 +37,15 @@ inside disk v t o asks = let each : length v.calls ≡ length v.held = asks.stan
     asks.thread in omega arith
 
 pub known_at : (disk : OnDisk) (v : View) (t : ℕ) (o : Op) (stage : Stage) → Asks disk v t o → stage_of v t ≡ Some stage
-    → Known (maps v) (state disk v) stage
+    → Known false (maps v) (state disk v) stage
 known_at disk v t o stage asks is = asks.stands.known t (record { op = o; stage = stage })
     (call_at disk v t o stage asks is)
+
+-- told or not
+pub known_so : (told : Bool) (disk : OnDisk) (v : View) (t : ℕ) (o : Op) (stage : Stage) → Asks disk v t o
+    → stage_of v t ≡ Some stage → Standing told disk v → Known told (maps v) (state disk v) stage
+known_so told disk v t o stage asks is s =
+    s.known t (record { op = o; stage = stage }) (call_at disk v t o stage asks is)
 
 pub fits_at : (disk : OnDisk) (v : View) (t : ℕ) (o : Op) (stage : Stage) → Asks disk v t o → stage_of v t ≡ Some stage
     → Fits (register_in v.held t) o stage
@@ -67,8 +73,8 @@ nothing_claimed s register (Some c) is = nothing_claimed_at s register c.stage i
         → claimed_in (Some (record { op = c.op; stage = stage })) ≡ 0
     nothing_claimed_at s register (Polled task) is = refl
     nothing_claimed_at s register (Headed address shape access) is = refl
-    nothing_claimed_at s register (Looked place target dst) is = refl
-    nothing_claimed_at s register (Cleared place target dst) is = refl
+    nothing_claimed_at s register (Looked place found target dst) is = refl
+    nothing_claimed_at s register (Cleared place found target dst) is = refl
     nothing_claimed_at s register (Claimed address shape stored dst) is =
         absurd (publishes_or_stores _ (Publish address shape) (Word (address + 1 + stored) 0) (λ no. cc) (λ no. cc) is)
     nothing_claimed_at s register (Lacking need) is = refl
@@ -99,8 +105,9 @@ next_fits maps s register stop o (Some c) next continued fits is =
     next_fits_at maps s register stop o (Headed address shape (Store i src)) next fits is = absurd is
     next_fits_at maps s register stop o (Headed address shape (Get j)) next fits is = absurd is
     next_fits_at maps s register stop o (Headed address shape (Put j v)) next fits is = absurd is
-    next_fits_at maps s register stop o (Looked place target dst) next fits is = subst (Fits register o) (sym is) fits
-    next_fits_at maps s register stop o (Cleared place target dst) next fits is = absurd is
+    next_fits_at maps s register stop o (Looked place found target dst) next fits is =
+        subst (Fits register o) (sym is) fits
+    next_fits_at maps s register stop o (Cleared place found target dst) next fits is = absurd is
     next_fits_at maps s register stop o (Claimed address shape stored dst) next fits is =
         subst (Fits register o) (sym is.1) fits
     next_fits_at maps s register stop o (Lacking need) next fits is = absurd is
@@ -111,8 +118,8 @@ pub still_clears : (s : State) (register : ℕ → ℕ) (stage : Option Stage) �
 still_clears s register None still = refl
 still_clears s register (Some (Polled task)) still = refl
 still_clears s register (Some (Headed address shape access)) still = refl
-still_clears s register (Some (Looked place target dst)) still = absurd (cc)
-still_clears s register (Some (Cleared place target dst)) still = refl
+still_clears s register (Some (Looked place found target dst)) still = absurd (cc)
+still_clears s register (Some (Cleared place found target dst)) still = refl
 still_clears s register (Some (Claimed address shape stored dst)) still = refl
 still_clears s register (Some (Lacking need)) still = refl
 

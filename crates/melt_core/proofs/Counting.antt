@@ -128,7 +128,7 @@ region_free : (disk : OnDisk) (v : View) (t address stored dst n : ℕ) (c : Cal
     → b ≡ address → ⊥
 region_free disk v t address stored dst n c shape s at stage b named same =
     let flight : IsShape shape × HasStored (maps v) (state disk v) (region address shape) (λ k. 0) stored =
-    subst (Known (maps v) (state disk v)) stage (s.known t c at) in
+    subst (Known true (maps v) (state disk v)) stage (s.known t c at) in
     let object = s.holds.formed.objects b n named in
     (flight.1.owns.outside b n object.0 named object.1.starts).differ (omega arith) (omega arith) same
 

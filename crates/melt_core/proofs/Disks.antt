@@ -171,11 +171,11 @@ module _ (maps : Maps) (s : State) (disk : OnDisk) (ends : disk.end ≡ s.base.e
     outside = λ b n header named starts. is.outside b n header named (header_back b header starts);
   }
 
-  known_on : (stage : Stage) → Known maps s stage → Known maps t stage
+  known_on : (stage : Stage) → Known false maps s stage → Known false maps t stage
   known_on (Polled task) is = tt
   known_on (Headed address shape access) is = object_on address shape is
-  known_on (Looked place target dst) is = looked_on place (Stale target) is
-  known_on (Cleared place target dst) is = (looked_on place (Stale target) is.0, fresh_on target is.1)
+  known_on (Looked place found target dst) is = (looked_on place found is.0, is.1)
+  known_on (Cleared place found target dst) is = (looked_on place found is.0, is.1, fresh_on target is.2)
   known_on (Claimed address shape stored dst) is = (
     is.0,
     record { owns = owns_on (region address shape) is.1.owns; few = is.1.few; are = is.1.are },
@@ -238,3 +238,37 @@ pub stands_settled : (told : Bool) (disk : OnDisk) (v : View) → disk.end ≡ 1
     → slice_index v.forward p ≡ 0
 stands_settled told disk v ends s =
     settled_words v.forward (none_forwarded (maps v) (state disk v) ends s.holds.formed)
+
+known_untold : (told : Bool) (m : Maps) (s : State) (stage : Stage) → Known told m s stage → Known false m s stage
+known_untold told m s (Polled task) is = tt
+known_untold told m s (Headed address shape access) is = is
+known_untold told m s (Looked place found target dst) is =
+    (is.0, record { named = is.1.named; same = λ (tells : false ≡ true). absurd (cc) })
+known_untold told m s (Cleared place found target dst) is =
+    (is.0, record { named = is.1.named; same = λ (tells : false ≡ true). absurd (cc) }, is.2)
+known_untold told m s (Claimed address shape stored dst) is = is
+known_untold told m s (Lacking need) is = is
+
+-- what stands, told or not, stands untold
+pub stands_untold : (told : Bool) (disk : OnDisk) (v : View) → Standing told disk v → Standing false disk v
+stands_untold told disk v s = record {
+  named = s.named;
+  room = s.room;
+  scions_made = s.scions_made;
+  few = s.few;
+  each = s.each;
+  counted = s.counted;
+  first = s.first;
+  bounded = s.bounded;
+  holds = record {
+    formed = s.holds.formed;
+    no_gaps = s.holds.no_gaps;
+    tells = λ (tells : false ≡ true). absurd (cc);
+  };
+  legal = λ (tells : false ≡ true). absurd (cc);
+  registers = s.registers;
+  known = λ t c is. known_untold told (maps v) (state disk v) c.stage (s.known t c is);
+  fits = s.fits;
+  apart = s.apart;
+  counts = λ (tells : false ≡ true). absurd (cc);
+}

@@ -46,7 +46,7 @@ pub record GoesOn (disk : OnDisk) (v w : View) (t : ℕ) (o : Op) (stage : Stage
       (change_of (state disk v) (register_in v.held t) (stage_of v t))
   pub words : length w.space.list ≡ length v.space.list
   pub next : Next (maps v) (state disk v) (register_in v.held t) v.stop o (stage_of v t) stage
-  pub known : Known (maps w) (state disk w) stage
+  pub known : (told : Bool) → Standing told disk v → Known told (maps w) (state disk w) stage
   pub unclaimed : claimed_in (Some (record { op = o; stage = stage })) ≡ 0
   pub unclaimed_before : claimed_in (call_of v t) ≡ 0
 
@@ -68,8 +68,9 @@ goes_on disk v space t o stage asks is =
       threads = refl;
       others = λ u differ. refl;
       may_hold = s.registers t;
-      known = λ c same. subst (λ (d : Call). Known (maps w) (state disk w) d.stage) (let e : after ≡ c = cc in e)
-          is.known;
+      known = λ told stands c same. subst (λ (d : Call). Known told (maps w) (state disk w) d.stage)
+          (let e : after ≡ c = cc in e)
+          (is.known told stands);
       fits = λ c same. subst (λ (d : Call). Fits (register_in v.held t) d.op d.stage) (let e : after ≡ c = cc in e)
           (next_fits (maps v) (state disk v) (register_in v.held t) v.stop o (call_of v t) stage asks.continued
           (λ d at. s.fits t d at) is.next);
@@ -86,7 +87,7 @@ goes_on disk v space t o stage asks is =
 pub go_advances : (disk : OnDisk) (v : View) (t : ℕ) (o : Op) (stage : Stage) → Asks disk v t o
     → change_of (state disk v) (register_in v.held t) (stage_of v t) ≡ Nothing
     → Next (maps v) (state disk v) (register_in v.held t) v.stop o (stage_of v t) stage
-    → Known (maps v) (state disk v) stage
+    → ((told : Bool) → Standing told disk v → Known told (maps v) (state disk v) stage)
     → claimed_in (Some (record { op = o; stage = stage })) ≡ 0
     → AdvancesOver disk v (with_call v t (Some (record { op = o; stage = stage }))) t o Going
 go_advances disk v t o stage asks still next known unclaimed =
@@ -113,4 +114,4 @@ poll_advances disk v t o task asks first shares runs =
     (subst (λ (g : Option Stage). change_of (state disk v) (register_in v.held t) g ≡ Nothing) none refl)
     (subst (λ (g : Option Stage). Next (maps v) (state disk v) (register_in v.held t) v.stop o g (Polled task)) none
     (task, shares, runs, refl))
-    tt refl
+    (λ told s. tt) refl

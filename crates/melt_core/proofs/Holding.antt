@@ -164,11 +164,12 @@ module _ (told : Bool) (thread : ℕ) (h : List Entry) (maps new : Maps) (s t : 
       changes)
   holds_event mine cleared act holds legal
       (Event.commits home tried p n address shape rest may changes appears) = record {
-    formed = Formed_committed maps new s t home tried p n address shape rest holds.formed holds.no_gaps told may changes
-        appears;
-    no_gaps = NoGaps_committed maps new s t home tried p n address shape rest holds.formed holds.no_gaps told may
-        changes appears;
-    tells = λ tell.
-        Tells_committed maps new s t home tried p n address shape rest holds.formed holds.no_gaps told may changes
-        appears h (holds.tells tell) tell;
-  }
+        formed = Formed_committed maps new s t home tried p n address shape rest holds.formed holds.no_gaps told may
+            changes
+            appears;
+        no_gaps = NoGaps_committed maps new s t home tried p n address shape rest holds.formed holds.no_gaps told may
+            changes appears;
+        tells = λ tell.
+            Tells_committed maps new s t home tried p n address shape rest holds.formed holds.no_gaps told may changes
+            appears h (holds.tells tell) tell;
+      }

@@ -87,25 +87,26 @@ hold_words m s t address same (inr holds) =
     )
 
 -- new words are apart from what a call owns
-claimed_from : (disk : OnDisk) (v : View) (words : ℕ) (stage : Stage) → FormedWords (maps v) (state disk v)
-    → Known (maps v) (state disk v) stage
+claimed_from : (told : Bool) (disk : OnDisk) (v : View) (words : ℕ) (stage : Stage)
+    → FormedWords (maps v) (state disk v)
+    → Known told (maps v) (state disk v) stage
     → Apart (record { at = v.free; words = words }) (region_of stage)
-claimed_from disk v words (Polled task) formed known =
+claimed_from told disk v words (Polled task) formed known =
     apart_sym no_region (record { at = v.free; words = words })
     (no_region_apart (record { at = v.free; words = words }))
-claimed_from disk v words (Headed address shape access) formed known =
+claimed_from told disk v words (Headed address shape access) formed known =
     apart_sym no_region (record { at = v.free; words = words })
     (no_region_apart (record { at = v.free; words = words }))
-claimed_from disk v words (Looked place target dst) formed known =
+claimed_from told disk v words (Looked place found target dst) formed known =
     apart_sym no_region (record { at = v.free; words = words })
     (no_region_apart (record { at = v.free; words = words }))
-claimed_from disk v words (Cleared place target dst) formed known =
+claimed_from told disk v words (Cleared place found target dst) formed known =
     apart_sym no_region (record { at = v.free; words = words })
     (no_region_apart (record { at = v.free; words = words }))
-claimed_from disk v words (Claimed address shape stored dst) formed known =
+claimed_from told disk v words (Claimed address shape stored dst) formed known =
     apart_sym (region address shape) (record { at = v.free; words = words })
     (claimed_apart (maps v) (state disk v) words (region address shape) known.1.owns)
-claimed_from disk v words (Lacking need) formed known =
+claimed_from told disk v words (Lacking need) formed known =
     apart_sym no_region (record { at = v.free; words = words })
     (no_region_apart (record { at = v.free; words = words }))
 
@@ -178,10 +179,10 @@ claim_happens disk {v} {t} {free} {need} {o} {shape} {dst} {stage} told claim s 
       ];
       may_hold = λ r. hold_words (maps v) (state disk v) (state disk w) (register_in v.held t r) (λ k. refl)
           (s.registers t r);
-      known = λ c is. subst (λ (d : Call). Known (maps w) (state disk w) d.stage) (let e : after ≡ c = cc in e)
+      known = λ c is. subst (λ (d : Call). Known told (maps w) (state disk w) d.stage) (let e : after ≡ c = cc in e)
           (elim (cases_lt (length v.space.list + 1) free) [
-            | inl above ↦ subst (Known (maps w) (state disk w)) (sym (claim.lacks above)) above
-            | inr below ↦ subst (Known (maps w) (state disk w)) (sym (claim.fits below)) (
+            | inl above ↦ subst (Known told (maps w) (state disk w)) (sym (claim.lacks above)) above
+            | inr below ↦ subst (Known told (maps w) (state disk w)) (sym (claim.fits below)) (
               small,
               record {
                 owns = claimed_owned (maps v) (state disk v) (state disk w) (cost_of shape) s.holds.formed first
@@ -201,7 +202,7 @@ claim_happens disk {v} {t} {free} {need} {o} {shape} {dst} {stage} told claim s 
             | inl above ↦ subst (λ (g : Stage). Apart (region_of g) (region_of d.stage)) (sym (claim.lacks above))
                 (no_region_apart (region_of d.stage))
             | inr below ↦ subst (λ (g : Stage). Apart (region_of g) (region_of d.stage)) (sym (claim.fits below))
-                (claimed_from disk v (cost_of shape) d.stage s.holds.formed (s.known u d other))
+                (claimed_from told disk v (cost_of shape) d.stage s.holds.formed (s.known u d other))
           ]);
       counts = λ is. elim (cases_lt (length v.space.list + 1) free) [
         | inl above ↦
@@ -330,7 +331,7 @@ store_zero_advances disk v space t o address stored dst shape asks at few sets =
             (stores (region address shape) (address + 1 + stored) 0 refl known.1.owns (omega arith)
             (omega arith) changes))
             (register_in v.held t r) (s.registers t r);
-        known = λ c is. subst (λ (d : Call). Known (maps w) (state disk w) d.stage) (let e : after ≡ c = cc in e) (
+        known = λ c is. subst (λ (d : Call). Known told (maps w) (state disk w) d.stage) (let e : after ≡ c = cc in e) (
           known.0,
           record {
             owns = owns;

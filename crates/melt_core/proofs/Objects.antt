@@ -1,5 +1,5 @@
 -- Objects and places, as the events of a call find them.
-use Rattle.std.proofs.Common.{◌≡◌, ◌≢◌, ℕ, ◌+◌, ◌*◌, ◌<◌, ◌≤◌, inl, inr, refl, sym, ◌∙◌, ap, subst, arith}
+use Rattle.std.proofs.Common.{◌≡◌, ◌≢◌, ◌⊎◌, ℕ, ◌+◌, ◌*◌, ◌<◌, ◌≤◌, inl, inr, refl, sym, ◌∙◌, ap, subst, arith}
 use Rattle.std.specs.Prelude.{true, false, Some}
 use Rattle.melt_model.specs.History.{shape as shape_in, last}
 use Rattle.melt_model.specs.Thread.{value_in}
@@ -131,6 +131,22 @@ tagged_is word r holds tagged =
     subst HasTag (same_ref tagged.reference r tagged.in_range holds.in_range (sym tagged.is ∙ holds.is)) tagged.tag
 
 -- a number behind the tag of a stale address is an address
+-- a stale address or a home has a tag
+pub either_tagged : (word : ℕ) (r : Ref) → HoldsRef word r
+    → ((a : ℕ) × (r ≡ Stale a)) ⊎ ((home : ℕ) × (r ≡ Disk home)) → IsTagged word
+either_tagged word r holds (inl stale) = record {
+  reference = r;
+  in_range = holds.in_range;
+  tag = subst HasTag (sym stale.1) tt;
+  is = holds.is;
+}
+either_tagged word r holds (inr disk) = record {
+  reference = r;
+  in_range = holds.in_range;
+  tag = subst HasTag (sym disk.1) tt;
+  is = holds.is;
+}
+
 stale_number : (r : Ref) (a : ℕ) → IsRef r → 4 * a + 1 ≡ ref_word r → IsAddress a
 stale_number Null a range is = absurd (omega arith)
 stale_number (Clean b) a range is = absurd (omega arith)

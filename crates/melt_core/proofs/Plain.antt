@@ -43,20 +43,21 @@ OnlyMoves v w t act after = w ≡ record v {
 }
 
 pub record Plain (disk : OnDisk) (v w : View) (t : ℕ) (cleared : ℕ) (act : Option Act) (after : Option Call) : Type 0
-    where
-  pub event : (told : Bool) → Standing told disk v
-      → Event told v.log (maps v) (maps w) (state disk v) (state disk w) no_region cleared act
-  pub nothing : MakesNothing act
-  pub moves : OnlyMoves v w t act after
-  pub words : length w.space.list ≡ length v.space.list
-  pub threads : length w.held ≡ length v.held
-  pub others : (u : ℕ) → u ≢ t → registers_in w.held u ≡ registers_in v.held u
-  pub may_hold : (r : ℕ) → MayHold (maps v) (state disk v) (register_in w.held t r)
-  pub known : (c : Call) → after ≡ Some c → Known (maps w) (state disk w) c.stage
-  pub fits : (c : Call) → after ≡ Some c → Fits (register_in w.held t) c.op c.stage
-  pub unclaimed : claimed_in after ≡ 0
-  pub unclaimed_before : claimed_in (call_of v t) ≡ 0
-  pub claims : claims_left v.stop (stage_in after) ≤ claims_left v.stop (stage_of v t)
+  where
+    pub event : (told : Bool) → Standing told disk v
+        → Event told v.log (maps v) (maps w) (state disk v) (state disk w) no_region cleared act
+    pub nothing : MakesNothing act
+    pub moves : OnlyMoves v w t act after
+    pub words : length w.space.list ≡ length v.space.list
+    pub threads : length w.held ≡ length v.held
+    pub others : (u : ℕ) → u ≢ t → registers_in w.held u ≡ registers_in v.held u
+    pub may_hold : (r : ℕ) → MayHold (maps v) (state disk v) (register_in w.held t r)
+    pub known : (told : Bool) → Standing told disk v → (c : Call) → after ≡ Some c
+        → Known told (maps w) (state disk w) c.stage
+    pub fits : (c : Call) → after ≡ Some c → Fits (register_in w.held t) c.op c.stage
+    pub unclaimed : claimed_in after ≡ 0
+    pub unclaimed_before : claimed_in (call_of v t) ≡ 0
+    pub claims : claims_left v.stop (stage_in after) ≤ claims_left v.stop (stage_of v t)
 
 made_none : (t : ℕ) (act : Act) → shape_made act ≡ None → makes (entry t act ∷ []) ≡ 0
 made_none t act nothing = ap (λ (z : Option Shape). length (cons_option z [])) nothing
@@ -71,8 +72,8 @@ made_same h t (Some act) nothing =
 unclaimed_region : (stage : Stage) → (region_of stage).words ≡ 0 → region_of stage ≡ no_region
 unclaimed_region (Polled task) none = refl
 unclaimed_region (Headed address shape access) none = refl
-unclaimed_region (Looked place target dst) none = refl
-unclaimed_region (Cleared place target dst) none = refl
+unclaimed_region (Looked place found target dst) none = refl
+unclaimed_region (Cleared place found target dst) none = refl
 unclaimed_region (Claimed address shape stored dst) none = absurd (omega arith)
 unclaimed_region (Lacking need) none = refl
 
@@ -135,7 +136,7 @@ plain disk v w t cleared act after within p = record {
             (event_keeps told t v.log (maps v) (maps w) (state disk v) (state disk w) no_region cleared act s.legal
             s.holds
             (p.event told s)).evolves (register_in w.held t r) (p.may_hold r);
-        known = p.known;
+        known = p.known told s;
         fits = p.fits;
         mine_is = λ u d differ is. no_region_apart (region_of d.stage);
         apart = λ c is u d differ other.

@@ -180,4 +180,4 @@ head_advances disk v t o r address access shape asks at is object part =
       part,
       ap (λ (a : ℕ). Headed a shape access) is,
     ))
-    object refl
+    (λ told s. object) refl

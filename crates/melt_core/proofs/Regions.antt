@@ -1,7 +1,7 @@
 -- Regions apart, what is claimed, and how a call comes nearer to its end.
 use Rattle.std.proofs.Common.{◌≡◌, ℕ, ◌+◌, ◌<◌, ◌≤◌, refl, sym, ap, subst, arith, ◌-◌, inl, inr}
 use Rattle.std.proofs.lemmas.Bool.{cases_lt}
-use Rattle.std.specs.Prelude.{Bool, Option, None, Some}
+use Rattle.std.specs.Prelude.{false, Bool, Option, None, Some}
 use Rattle.melt_model.specs.declared.operations.Op.{Op}
 use Rattle.melt_model.specs.declared.operations.Op.TheVariants as op
 use Rattle.melt_word.specs.Words.{IsShape, cost_of}
@@ -73,7 +73,7 @@ claimed_apart maps s words r owns =
 -- what is known where a call is at this stage, if it is at one
 abbrev pub AtStage : Maps → State → (ℕ → ℕ) → Op → Option Stage → Type 0
 AtStage maps s register o None = Unit {0}
-AtStage maps s register o (Some stage) = Known maps s stage × Fits register o stage
+AtStage maps s register o (Some stage) = Known false maps s stage × Fits register o stage
 
 -- an object that an operation in bounds makes is small
 made_small : (globals : ℕ) (o : Op) (dst : ℕ) (shape : Shape) → InBounds globals o → task_of o ≡ Some (Make dst shape) →
@@ -108,9 +108,9 @@ Next_nearer maps s register stop globals o (Some (Polled (StoreGlobal g src))) n
 Next_nearer maps s register stop globals o (Some (Headed address shape (Load dst i))) next bounds at is =
     let left : events_left (Some next) ≡ 3 = ap (λ (x : Stage). events_left (Some x)) is.2 in omega arith
 Next_nearer maps s register stop globals o (Some (Headed address shape access)) next bounds at is = absurd is
-Next_nearer maps s register stop globals o (Some (Looked place target dst)) next bounds at is =
+Next_nearer maps s register stop globals o (Some (Looked place found target dst)) next bounds at is =
     let left : events_left (Some next) ≡ 2 = ap (λ (x : Stage). events_left (Some x)) is in omega arith
-Next_nearer maps s register stop globals o (Some (Cleared place target dst)) next bounds at is = absurd is
+Next_nearer maps s register stop globals o (Some (Cleared place found target dst)) next bounds at is = absurd is
 Next_nearer maps s register stop globals o (Some (Claimed address shape stored dst)) next bounds at is =
     let left : events_left (Some next) ≡ cost_of shape - (stored + 1) =
     ap (λ (x : Stage). events_left (Some x)) is.1 in

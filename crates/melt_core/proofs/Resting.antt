@@ -111,11 +111,11 @@ stands_finish disk told v space s still words used =
     }
 
 -- what is known of a call stays where only registers change
-known_words : (m : Maps) (s t : State) (stage : Stage) → SameWords s t → FormedWords m s → Known m s stage
-    → Known m t stage
-known_words m s t stage same formed known =
+known_words : (told : Bool) (m : Maps) (s t : State) (stage : Stage) → SameWords s t → FormedWords m s
+    → Known told m s stage → Known told m t stage
+known_words told m s t stage same formed known =
     let event : Event false [] m m s t no_region 0 None = quiet refl same in
-    known_stays m m s t 0 formed (evolves_event false [] m m s t no_region 0 None formed event) stage
+    known_stays m m s t 0 formed (evolves_event false [] m m s t no_region 0 None formed event) told stage
     (λ owns. regions_event false [] m m s t no_region 0 None formed event (region_of stage) owns
     (no_region_apart (region_of stage))) known
 
@@ -156,7 +156,7 @@ dropped v t within none = record {
                 | inr other ↦ subst (λ (regs : List ℕ). MayHold (maps v) (state disk v) (get_or regs r 0))
                     (sym (registers_other v.held t u (replicate 16 0) other)) (s.registers u r)
               ]);
-          known = λ u c is. known_words (maps v) (state disk v) (state disk w) c.stage
+          known = λ u c is. known_words told (maps v) (state disk v) (state disk w) c.stage
               (same_behind disk v w.held) s.holds.formed (s.known u c is);
           fits = λ u c is. elim (cases_eq u t) [
             | inl same ↦ absurd (let e : None ≡ Some c = sym none ∙ (ap (call_of v) (sym same) ∙ is) in cc)

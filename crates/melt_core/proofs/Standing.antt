@@ -64,7 +64,7 @@ pub record Happens (disk : OnDisk) (told : Bool) (v w : View) (t : ℕ) (mine : 
   pub first : 1 ≤ w.free
   pub bounded : Bounded w
   pub may_hold : (r : ℕ) → MayHold (maps w) (state disk w) (register_in w.held t r)
-  pub known : (c : Call) → after ≡ Some c → Known (maps w) (state disk w) c.stage
+  pub known : (c : Call) → after ≡ Some c → Known told (maps w) (state disk w) c.stage
   pub fits : (c : Call) → after ≡ Some c → Fits (register_in w.held t) c.op c.stage
   pub mine_is : (u : ℕ) (d : Call) → u ≢ t → call_of v u ≡ Some d → Apart mine (region_of d.stage)
   pub apart : (c : Call) → after ≡ Some c → (u : ℕ) (d : Call) → u ≢ t → call_of v u ≡ Some d
@@ -140,7 +140,8 @@ stands_behind disk told v w t mine cleared act after s e =
       ];
       known = λ u c is. elim (call_behind v w t u after c e.kept.calls is) [
         | inl here ↦ e.known c here.1
-        | inr there ↦ known_stays (maps v) (maps w) (state disk v) (state disk w) cleared s.holds.formed evolves c.stage
+        | inr there ↦ known_stays (maps v) (maps w) (state disk v) (state disk w) cleared s.holds.formed evolves told
+            c.stage
             (λ owns. keeps.regions (region_of c.stage) owns (e.mine_is u c there.0 there.1)) (s.known u c there.1)
       ];
       fits = λ u c is. elim (call_behind v w t u after c e.kept.calls is) [

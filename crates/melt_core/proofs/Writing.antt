@@ -119,7 +119,7 @@ store_advances disk v space globals t o (Field object i) at src address asks sto
       applies = (
         refl,
         subst (λ (a : ℕ). WordChanges (state disk v) (state disk (over v space globals)) (object + 2 + i) (4 * a)) is
-        changes,
+            changes,
       );
       answers = λ told. subst (λ (p : Op). Answers t v.log (values_of v t) p reply.Done
           (v.log ++ entry t (Write at (held_value v.names address)) ∷ []) (values_of v t))
@@ -147,9 +147,11 @@ store_advances disk v space globals t o (Global g) at src address asks stores is
           writes_place (Global g) at address (held_value v.names address) refl
           (stores_at disk v t o (Global g) src asks stores) slot may (λ x. may_value v.names (state disk v) address may)
           changes;
-      applies =
-          (refl, subst (λ (a : ℕ). GlobalChanges (state disk v) (state disk (over v space globals)) g (4 * a)) is
-          changes);
+      applies = (
+        refl,
+        subst (λ (a : ℕ). GlobalChanges (state disk v) (state disk (over v space globals)) g (4 * a)) is
+            changes,
+      );
       answers = λ told. subst (λ (p : Op). Answers t v.log (values_of v t) p reply.Done
           (v.log ++ entry t (Write at (held_value v.names address)) ∷ []) (values_of v t)) (sym same)
           (gstore_answers t v.log (values_of v t) g src (held_value v.names address) reply.Done _ _

@@ -49,10 +49,9 @@ OnlyWords v w = w ≡ record v { space = w.space; globals = w.globals }
 abbrev pub HasPlace : View → Place → Type 0
 HasPlace v place = (disk : OnDisk) × IsPlace (maps v) (state disk v) place
 
--- and the words are well formed over it, which has no homes yet
+-- and the words are well formed over it
 pub record StandsAt (v : View) (place : Place) : Type 0 where
   pub disk : OnDisk
-  pub no_homes : disk.end ≡ 1
   pub stands : Standing false disk v
   pub there : IsPlace (maps v) (state disk v) place
 

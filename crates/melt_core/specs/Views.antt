@@ -181,7 +181,7 @@ pub record Standing (told : Bool) (disk : OnDisk) (v : View) : Type 0 where
   pub holds : Holds told v.log (maps v) (state disk v)
   pub legal : told ≡ true → Legal v.log (length v.globals)
   pub registers : (t r : ℕ) → MayHold (maps v) (state disk v) (register_in v.held t r)
-  pub known : (t : ℕ) (c : Call) → call_of v t ≡ Some c → Known (maps v) (state disk v) c.stage
+  pub known : (t : ℕ) (c : Call) → call_of v t ≡ Some c → Known told (maps v) (state disk v) c.stage
   pub fits : (t : ℕ) (c : Call) → call_of v t ≡ Some c → Fits (register_in v.held t) c.op c.stage
   pub apart : (t u : ℕ) (c d : Call) → t ≢ u → call_of v t ≡ Some c → call_of v u ≡ Some d
       → Apart (region_of c.stage) (region_of d.stage)

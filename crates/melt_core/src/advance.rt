@@ -76,11 +76,33 @@ impl Core {
                 shape,
                 access,
             } => self.after_head(thread, op, address, shape, access),
-            Stage::Looked { place, target, dst } => {
-                self.clear(thread, op, Looked { place, target, dst })
+            Stage::Looked {
+                place,
+                found,
+                target,
+                dst,
+            } => {
+                let looked = Looked {
+                    place,
+                    found,
+                    target,
+                    dst,
+                };
+                self.clear(thread, op, looked)
             }
-            Stage::Cleared { place, target, dst } => {
-                self.untag(thread, op, Looked { place, target, dst })
+            Stage::Cleared {
+                place,
+                found,
+                target,
+                dst,
+            } => {
+                let looked = Looked {
+                    place,
+                    found,
+                    target,
+                    dst,
+                };
+                self.untag(thread, op, looked)
             }
             Stage::Claimed {
                 address,

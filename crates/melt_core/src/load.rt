@@ -20,10 +20,12 @@ use crate::parts::{Cell, found, reference, value_at};
 use melt_model::{Act, Op, Reply, Slot, Value};
 use melt_word::{Header, Ref, encode_header, encode_ref};
 
-/// What a load found that takes the slow path: the stale address `target` at the place, for register `dst`.
+/// What a load found that takes the slow path: a reference with a tag at the place, for register `dst`. Its object is at
+/// the address `target`.
 #[derive(Clone, Copy)]
 pub(crate) struct Looked {
     pub(crate) place: Place,
+    pub(crate) found: Ref,
     pub(crate) target: u32,
     pub(crate) dst: u8,
 }
@@ -67,7 +69,7 @@ impl Core {
         StepResult::Answered(Reply::Num(number))
     }
 
-    /// The reference at a place, which is no home.
+    /// The reference at a place.
     fn reference_in(&self, place: Place) -> Ref
         requires { StandsAt (view self.now) place }
         ensures { (disk : OnDisk) → HoldsRef (word_in (state disk (view self.now)) place) result }
@@ -105,7 +107,14 @@ impl Core {
             Ref::Null => self.read(thread, place, dst, 0),
             Ref::Clean(address) => self.read(thread, place, dst, address),
             Ref::Stale(target) => {
-                self.set_stage(thread, op, Stage::Looked { place, target, dst });
+                let found = Ref::Stale(target);
+                let stage = Stage::Looked {
+                    place,
+                    found,
+                    target,
+                    dst,
+                };
+                self.set_stage(thread, op, stage);
                 StepResult::Going
             }
             // (no object has a home yet)
@@ -116,10 +125,15 @@ impl Core {
     /// Clears the stale bit of the object that a load found.
     pub(crate) fn clear(&mut self, thread: u32, op: Op, looked: Looked) -> StepResult
         requires asks { MayMove (view self.old) thread op }
-        requires stage { stage_of (view self.old) thread ≡ Some (Stage.Looked looked.place looked.target looked.dst) }
+        requires stage { stage_of (view self.old) thread ≡ Some (Stage.Looked looked.place looked.found looked.target looked.dst) }
         ensures { Moves (view self.old) (view self.new) thread op result }
     {
-        let Looked { place, target, dst } = looked;
+        let Looked {
+            place,
+            found,
+            target,
+            dst,
+        } = looked;
         // Nothing but this bit of a header ever changes, and it is only ever cleared in an epoch, so that a plain store
         // will do.
         let header = Header {
@@ -127,27 +141,37 @@ impl Core {
             stale: false,
         };
         self.heap.space.set_word(target, encode_header(header));
-        self.set_stage(thread, op, Stage::Cleared { place, target, dst });
+        let stage = Stage::Cleared {
+            place,
+            found,
+            target,
+            dst,
+        };
+        self.set_stage(thread, op, stage);
         StepResult::Going
     }
 
-    /// Exchanges the word at a place for that of the clean address, if it is still that of the stale one. The load is
+    /// Exchanges the word at a place for that of the clean address, if it is still that which was found. The load is
     /// answered with the reference that stands there then.
     pub(crate) fn untag(&mut self, thread: u32, op: Op, looked: Looked) -> StepResult
         requires asks { MayMove (view self.old) thread op }
-        requires stage { stage_of (view self.old) thread ≡ Some (Stage.Cleared looked.place looked.target looked.dst) }
+        requires stage { stage_of (view self.old) thread ≡ Some (Stage.Cleared looked.place looked.found looked.target looked.dst) }
         ensures { Moves (view self.old) (view self.new) thread op result }
     {
-        let Looked { place, target, dst } = looked;
+        let Looked {
+            place,
+            target,
+            dst,
+            ..
+        } = looked;
         match self.reference_in(place) {
             Ref::Null => self.read(thread, place, dst, 0),
             Ref::Clean(current) => self.read(thread, place, dst, current),
             // A word with a tag never becomes another one with a tag, so that this is the word of the look.
-            Ref::Stale(_) => {
+            Ref::Stale(_) | Ref::Disk(_) => {
                 self.set_word_in(place, encode_ref(Ref::Clean(target)));
                 self.read(thread, place, dst, target)
             }
-            Ref::Disk(_) => unreachable!(),
         }
     }
 }

@@ -67,9 +67,9 @@ goes_free m n s x register stop o (Some (Headed address shape (Load dst i))) nex
 goes_free m n s x register stop o (Some (Headed address shape (Store i src))) next is applies early = absurd is
 goes_free m n s x register stop o (Some (Headed address shape (Get j))) next is applies early = absurd is
 goes_free m n s x register stop o (Some (Headed address shape (Put j v))) next is applies early = absurd is
-goes_free m n s x register stop o (Some (Looked place target dst)) next is applies early =
+goes_free m n s x register stop o (Some (Looked place found target dst)) next is applies early =
     absurd (subst (λ (g : Stage). IsEarly (Some g)) is early)
-goes_free m n s x register stop o (Some (Cleared place target dst)) next is applies early = absurd is
+goes_free m n s x register stop o (Some (Cleared place found target dst)) next is applies early = absurd is
 goes_free m n s x register stop o (Some (Claimed address shape stored dst)) next is applies early =
     absurd (subst (λ (g : Stage). IsEarly (Some g)) is.1 early)
 goes_free m n s x register stop o (Some (stage.Lacking need)) next is applies early = absurd is
@@ -99,9 +99,9 @@ goes_lacks m s register stop o (Some (Headed address shape (Load dst i))) next n
 goes_lacks m s register stop o (Some (Headed address shape (Store i src))) next need is lacks = absurd is
 goes_lacks m s register stop o (Some (Headed address shape (Get j))) next need is lacks = absurd is
 goes_lacks m s register stop o (Some (Headed address shape (Put j v))) next need is lacks = absurd is
-goes_lacks m s register stop o (Some (Looked place target dst)) next need is lacks =
-    absurd (let e : Cleared place target dst ≡ stage.Lacking need = sym is ∙ lacks in cc)
-goes_lacks m s register stop o (Some (Cleared place target dst)) next need is lacks = absurd is
+goes_lacks m s register stop o (Some (Looked place found target dst)) next need is lacks =
+    absurd (let e : Cleared place found target dst ≡ stage.Lacking need = sym is ∙ lacks in cc)
+goes_lacks m s register stop o (Some (Cleared place found target dst)) next need is lacks = absurd is
 goes_lacks m s register stop o (Some (Claimed address shape stored dst)) next need is lacks =
     absurd (let e : Claimed address shape (stored + 1) dst ≡ stage.Lacking need = sym is.1 ∙ lacks in cc)
 goes_lacks m s register stop o (Some (stage.Lacking n)) next need is lacks = absurd is
@@ -116,9 +116,9 @@ goes_early m s register stop o (Some (Headed address shape (Load dst i))) next i
 goes_early m s register stop o (Some (Headed address shape (Store i src))) next is early = absurd is
 goes_early m s register stop o (Some (Headed address shape (Get j))) next is early = absurd is
 goes_early m s register stop o (Some (Headed address shape (Put j v))) next is early = absurd is
-goes_early m s register stop o (Some (Looked place target dst)) next is early =
+goes_early m s register stop o (Some (Looked place found target dst)) next is early =
     subst (λ (g : Stage). IsEarly (Some g)) is early
-goes_early m s register stop o (Some (Cleared place target dst)) next is early = absurd is
+goes_early m s register stop o (Some (Cleared place found target dst)) next is early = absurd is
 goes_early m s register stop o (Some (Claimed address shape stored dst)) next is early =
     subst (λ (g : Stage). IsEarly (Some g)) is.1 early
 goes_early m s register stop o (Some (stage.Lacking need)) next is early = absurd is

@@ -148,8 +148,12 @@ pub told_stands : (w x : View) (t : ℕ) (mode : Mode) → Standing true no_home
     → Standing true no_homes_on x × KeepsOthers w x t × (x.stop ≡ w.stop)
 told_stands w x t mode stands drops =
     elim (drop_cases w x t mode drops) [
-      | inl ended ↦ (ended.1.keeps true no_homes_on stands, dropped_keeps w x t ended.1, ap (λ (y : View). y.stop)
-          ended.1.only)
+      | inl ended ↦ (
+        ended.1.keeps true no_homes_on stands,
+        dropped_keeps w x t ended.1,
+        ap (λ (y : View). y.stop)
+            ended.1.only,
+      )
       | inr goes ↦ (
         subst (Standing true no_homes_on) (sym goes.1) stands,
         subst (λ (y : View). KeepsOthers w y t) (sym goes.1) (nothing_keeps w t),

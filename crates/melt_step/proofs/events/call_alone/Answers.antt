@@ -1,11 +1,24 @@
 -- Each event goes on with the call, or ends it.
 use Rattle.std.proofs.Common.{rules, sym, subst, true}
 use Rattle.std.specs.Prelude.{ℕ, Some}
+use Rattle.melt_scion.specs.Heaps.{no_homes_on}
 use Rattle.melt_core.specs.Views.{view}
+use Rattle.melt_core.proofs.Disks.{stands_untold}
 use Rattle.melt_step.specs.Threads.{CalledAlone}
 use Rattle.melt_step.specs.declared.thread.ThreadState.{ThreadState}
 use Rattle.melt_step.proofs.Alone.{call_goes, call_told, call_lacks}
 use Rattle.melt_step.proofs.events.call_alone.Goals as goal
+
+pub advance-requires : goal.advance-requires
+advance-requires c = record {
+  stands = stands_untold true no_homes_on (view c.loop-reply.core) c.loop-reply.invariant.on.stands;
+  thread = search rules;
+  bounds = search rules;
+  no_collect = search rules;
+  continued = search rules;
+  room = search rules;
+  few = search rules;
+}
 
 pub loop-reply-preserved : goal.loop-reply-preserved
 loop-reply-preserved c = record {

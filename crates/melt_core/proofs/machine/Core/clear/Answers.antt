@@ -11,7 +11,7 @@ use Rattle.melt_core.proofs.machine.Core.clear.Goals as goal
 pub set_stage-requires-clause-call : goal.set_stage-requires-clause-call
 set_stage-requires-clause-call c =
     let disk = c.requires.asks.disk in
-    let stage : Stage = Looked c.args.looked.place c.args.looked.target c.args.looked.dst in
+    let stage : Stage = Looked c.args.looked.place c.args.looked.found c.args.looked.target c.args.looked.dst in
     (stage, call_at disk (view c.args.self.now) c.args.thread c.args.op stage c.requires.asks.asks c.requires.stage)
 
 pub returns : goal.returns
@@ -20,7 +20,8 @@ returns c = record {
       let asks = asks_over (view c.args.self.now) c.args.thread c.args.op c.requires.asks disk stands in
       let v : View = view c.args.self.now in
       subst (λ (w : View). AdvancesOver disk v w c.args.thread c.args.op Going) (sym c.set_stage.ensures)
-      (clear_advances disk v c.set_word.new.self c.args.thread c.args.op c.args.looked.place c.args.looked.target
+      (clear_advances disk v c.set_word.new.self c.args.thread c.args.op c.args.looked.place c.args.looked.found
+      c.args.looked.target
       c.args.looked.dst
       c.encode_header.result c.shape.result asks c.requires.stage c.shape.ensures c.encode_header.ensures
       c.set_word.ensures);

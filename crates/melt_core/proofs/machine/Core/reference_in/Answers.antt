@@ -10,5 +10,8 @@ reference-requires c =
     (word.reference, record { in_range = word.in_range; is = c.word_in.ensures disk ∙ word.is })
 
 pub returns : goal.returns
-returns c = λ disk. record { in_range = c.reference.ensures.in_range; is = sym (c.word_in.ensures disk) ∙
-    c.reference.ensures.is }
+returns c = λ disk. record {
+  in_range = c.reference.ensures.in_range;
+  is = sym (c.word_in.ensures disk) ∙
+      c.reference.ensures.is;
+}
