@@ -1,10 +1,10 @@
 -- How an object comes back from disk: words that one thread filled with a copy of a Body become an object, by one store
 -- to an empty forwarding word.
-use Rattle.std.specs.Prelude.{◌≡◌, ℕ, zero, suc, ◌+◌, ◌<◌, ◌≤◌, Bool, true, false, List, slice_index, Some}
+use Rattle.std.specs.Prelude.{◌≡◌, ◌⊎◌, ℕ, zero, suc, ◌+◌, ◌<◌, ◌≤◌, Bool, true, false, List, slice_index, Some}
 use Rattle.melt_word.specs.Words.{IsShape, IsDiskHome, header_word, home_word, cost_of}
 use Rattle.melt_word.specs.declared.header.Shape.{Shape}
-use Rattle.melt_record.specs.declared.head.Kind.TheVariants.{Body}
-use Rattle.melt_record.specs.Records.{AreSlots}
+use Rattle.melt_record.specs.declared.head.Kind.TheVariants.{Body, Stub}
+use Rattle.melt_record.specs.Records.{AreSlots, IsSlotWord}
 use Rattle.melt_forward.specs.Forwarding.{SendsAnother, probe}
 use Rattle.melt_scion.specs.State.{Base, State}
 use Rattle.melt_scion.specs.Placed.{Maps, HeadIs}
@@ -50,3 +50,20 @@ pub record MayCommit (told : Bool) (maps : Maps) (s : State) (home tried p n add
   pub body : HasBody told s.base home z rest
   pub copy : HasCopy maps s address home z rest
   pub number : told ≡ true → maps.home home ≡ Some n
+
+-- What a record that no forwarding word hides is, where it is told: a Body, with its slots, or a Stub, whose live scion
+-- names its home.
+pub record BodyStands (b : Base) (home : ℕ) : Type 0 where
+  pub shape : Shape
+  pub head : HeadIs b home (record { shape = shape; kind = Body })
+  pub slots : (i : ℕ) → i < shape.refs → IsSlotWord b.end (b.image (home + 2 + i))
+
+pub record StubStands (b : Base) (home : ℕ) : Type 0 where
+  pub shape : Shape
+  pub scion : ℕ
+  pub address : ℕ
+  pub head : HeadIs b home (record { shape = shape; kind = Stub scion })
+  pub live : b.scion scion ≡ Some (record { home = home; address = address })
+
+abbrev pub HasRecord : Base → ℕ → Type 0
+HasRecord b home = BodyStands b home ⊎ StubStands b home
