@@ -9,7 +9,8 @@ use Rattle.melt_word.specs.declared.header.Header.{Header}
 use Rattle.melt_word.specs.declared.reference.Ref.{Ref}
 use Rattle.melt_word.specs.declared.reference.Ref.TheVariants.{Null, Clean, Stale, Disk}
 use Rattle.melt_scion.specs.State.{State, HeaderAt, IsFresh}
-use Rattle.melt_scion.specs.Placed.{Maps, IsNamed, MayStand, value_of}
+use Rattle.melt_scion.specs.Placed.{Maps, IsNamed, HasObject, MayStand, value_of}
+use Rattle.melt_scion.specs.Commits.{Probed}
 use Rattle.melt_scion.specs.Regions.{Region, no_region, Owns, HasStored}
 use Rattle.melt_core.specs.declared.call.Place.{Place}
 use Rattle.melt_core.specs.declared.call.Place.TheVariants.{Field, Global}
@@ -60,6 +61,13 @@ pub record HasLooked (maps : Maps) (s : State) (place : Place) (found : Ref) : T
   pub tag : HasTag found
   pub may_stand : MayStand maps s found
   pub unless_clean : IsTagged (word_in s place) → word_in s place ≡ ref_word found
+
+-- The home was found at the place, and its address is searched for: so many forwarding words send other homes. Where it
+-- is told, the home is that of an object.
+pub record Searches (told : Bool) (maps : Maps) (s : State) (place : Place) (home tried : ℕ) : Type 0 where
+  pub looked : HasLooked maps s place (Disk home)
+  pub probed : Probed s home tried
+  pub object : told ≡ true → HasObject maps home
 
 -- the words for an object of the shape
 abbrev pub region : ℕ → Shape → Region
