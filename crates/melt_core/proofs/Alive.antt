@@ -1,4 +1,4 @@
--- Between two events the state is placed for the history, what is alive is in use, and its words have a sum.
+-- Between two events the state is placed for the history, and the words of what is alive have a sum.
 use Rattle.std.proofs.Common.{◌≡◌, ℕ, ◌<◌, List, [], length, refl, sym, ◌∙◌, ap, arith, inl, inr}
 use Rattle.std.proofs.Math.ListN.{length-map}
 use Rattle.std.proofs.lemmas.Bool.{cases_lt}
@@ -9,24 +9,26 @@ use Rattle.melt_model.specs.Thread.{value_in}
 use Rattle.melt_model.specs.declared.history.Value.TheVariants.{Nil, Ref}
 use Rattle.melt_model.proofs.AliveSums as sums
 use Rattle.melt_scion.specs.Placed.{Placed}
-use Rattle.melt_scion.specs.Heaps.{register_in}
+use Rattle.melt_scion.specs.Heaps.{OnDisk, register_in}
 use Rattle.melt_scion.specs.declared.registers.Registers.{Registers}
 use Rattle.melt_scion.proofs.Reaching.{alive_reached}
 use Rattle.melt_core.specs.Views.{View, InUse, maps, state, value, values_of, registers_in, held_values, Standing}
 use Rattle.melt_core.proofs.Values.{value_held, may_value}
 
 -- the state is placed for the history, with the values of all registers
-pub placed : (v : View) → Standing true v → Placed v.log (value v) (maps v) (state v)
-placed v s = record {
+pub placed : (disk : OnDisk) (v : View) → Standing true disk v → Placed v.log (value v) (maps v) (state disk v)
+placed disk v s = record {
   formed = record { words = s.holds.formed; registers = s.registers };
   tells = s.holds.tells refl;
-  registers = λ t r. may_value v.names (state v) (register_in v.held t r) (s.registers t r)
+  registers = λ t r. may_value v.names (state disk v) (register_in v.held t r) (s.registers t r)
       ∙ ap Some (sym (value_held v.names (registers_in v.held t) r));
 }
 
-pub alive_in_use : (v : View) → Standing true v → (n : ℕ) → Alive v.log (value v) n → InUse (maps v) n
-alive_in_use v s n alive =
-    let found = alive_reached v.log (value v) (maps v) (state v) (s.legal refl) (placed v s) refl n alive in
+-- over a disk without homes what is alive is in use
+pub alive_in_use : (disk : OnDisk) (v : View) → Standing true disk v → disk.homes ≡ [] → (n : ℕ)
+    → Alive v.log (value v) n → InUse (maps v) n
+alive_in_use disk v s none n alive =
+    let found = alive_reached v.log (value v) (maps v) (state disk v) (s.legal refl) (placed disk v s) none n alive in
     (found.0, found.1)
 
 -- a thread that is not there holds nothing
@@ -42,5 +44,6 @@ held_within v t r n is = elim (cases_lt t (length v.held)) [
       )
 ]
 
-pub alive_sum : (v : View) → Standing true v → (total : ℕ) × CostsSum (words_of v.log) (Alive v.log (value v)) total
-alive_sum v s = sums.alive_sum v.log (values_of v) (length v.held) (λ t r n is. held_within v t r n is)
+pub alive_sum : (disk : OnDisk) (v : View) → Standing true disk v
+    → (total : ℕ) × CostsSum (words_of v.log) (Alive v.log (value v)) total
+alive_sum disk v s = sums.alive_sum v.log (values_of v) (length v.held) (λ t r n is. held_within v t r n is)

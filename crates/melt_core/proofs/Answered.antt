@@ -1,7 +1,7 @@
 -- Events that answer a call, and neither make an object nor own words.
 use Rattle.std.proofs.Common.{◌≡◌, ◌≢◌, ℕ, ◌<◌, List, length, get_or, refl, sym, ◌∙◌, ap, subst, inl}
 use Rattle.std.proofs.Math.ListN.{set}
-use Rattle.std.specs.Prelude.{Bool, true, false, Option, None, Some}
+use Rattle.std.specs.Prelude.{Bool, true, false, [], Option, None, Some}
 use Rattle.melt_model.specs.declared.history.Act.{Act}
 use Rattle.melt_model.specs.declared.operations.Op.{Op}
 use Rattle.melt_model.specs.declared.operations.Op.TheVariants as op
@@ -11,7 +11,7 @@ use Rattle.melt_scion.specs.Placed.{MayHold}
 use Rattle.melt_scion.specs.Regions.{no_region}
 use Rattle.melt_scion.specs.declared.heap.Names as heap
 use Rattle.melt_scion.specs.declared.registers.Registers.{Registers}
-use Rattle.melt_scion.specs.Heaps.{register_in}
+use Rattle.melt_scion.specs.Heaps.{OnDisk, register_in}
 use Rattle.melt_core.specs.declared.answer.StepResult.TheVariants.{Answered}
 use Rattle.melt_core.specs.declared.call.Access.{Access}
 use Rattle.melt_core.specs.declared.call.Call.{Call}
@@ -24,7 +24,7 @@ use Rattle.melt_core.specs.Answering.{Answers}
 use Rattle.melt_core.specs.Events.{Event, quiet}
 use Rattle.melt_core.specs.Stages.{Next, MustPause, Applies, Shares, change_of, cleared_by, task_of, HasObject}
 use Rattle.melt_core.specs.Changed.{with_register}
-use Rattle.melt_core.specs.Advances.{MayAdvance, Advances, LeavesClean, HasRoomFor, Sets}
+use Rattle.melt_core.specs.Advances.{Asks, AdvancesOver, LeavesClean, HasRoomFor, Sets}
 use Rattle.melt_core.specs.Views.{View, Standing, maps, state, call_of, stage_in, stage_of, claimed_in}
 use Rattle.melt_core.specs.Views.{values_of, held_value, held_values, registers_in}
 use Rattle.melt_core.proofs.Claims.{claims_ends}
@@ -38,9 +38,9 @@ use Rattle.melt_core.proofs.Answers.{nil_answers, HoldsNil, differ_answers, copy
 use Rattle.melt_core.proofs.Tasks.{no_load}
 
 -- A call has no further event, and pauses in none.
-pub record Ends (v : View) (t : ℕ) (o : Op) (stage : Stage) : Type 0 where
+pub record Ends (disk : OnDisk) (v : View) (t : ℕ) (o : Op) (stage : Stage) : Type 0 where
   pub at : stage_of v t ≡ Some stage
-  pub last : (next : Stage) → Next (maps v) (state v) (register_in v.held t) v.stop o (Some stage) next → ⊥
+  pub last : (next : Stage) → Next (maps v) (state disk v) (register_in v.held t) v.stop o (Some stage) next → ⊥
   pub no_pause : MustPause (register_in v.held t) v.stop o (Some stage) → ⊥
   pub clears : cleared_by (Some stage) ≡ 0
   pub unclaimed : claimed_in (Some (record { op = o; stage = stage })) ≡ 0
@@ -50,7 +50,7 @@ pub record Ends (v : View) (t : ℕ) (o : Op) (stage : Stage) : Type 0 where
 abbrev pub MayEnd : Stage → Type 0
 MayEnd (Polled task) = Unit {0}
 MayEnd (Headed address shape access) = Unit {0}
-MayEnd (Cleared place target dst) = Unit {0}
+MayEnd (Cleared place found target dst) = Unit {0}
 MayEnd stage = ⊥
 
 may_end : (v : View) (t : ℕ) (o : Op) (stage : Stage) → MayEnd stage
@@ -58,37 +58,38 @@ may_end : (v : View) (t : ℕ) (o : Op) (stage : Stage) → MayEnd stage
     × (claimed_in (Some (record { op = o; stage = stage })) ≡ 0) × ((need : ℕ) → stage ≡ Lacking need → ⊥)
 may_end v t o (Polled task) may = (λ pause. pause, refl, refl, λ need is. cc)
 may_end v t o (Headed address shape access) may = (λ pause. pause, refl, refl, λ need is. cc)
-may_end v t o (Looked place target dst) may = absurd may
-may_end v t o (Cleared place target dst) may = (λ pause. pause, refl, refl, λ need is. cc)
+may_end v t o (Looked place found target dst) may = absurd may
+may_end v t o (Cleared place found target dst) may = (λ pause. pause, refl, refl, λ need is. cc)
 may_end v t o (Claimed address shape stored dst) may = absurd may
 may_end v t o (Lacking need) may = absurd may
 
-pub ends_at : (v : View) (t : ℕ) (o : Op) (stage : Stage) → stage_of v t ≡ Some stage → MayEnd stage
-    → ((next : Stage) → Next (maps v) (state v) (register_in v.held t) v.stop o (Some stage) next → ⊥)
-    → Ends v t o stage
-ends_at v t o stage at may last =
+pub ends_at : (disk : OnDisk) (v : View) (t : ℕ) (o : Op) (stage : Stage) → stage_of v t ≡ Some stage → MayEnd stage
+    → ((next : Stage) → Next (maps v) (state disk v) (register_in v.held t) v.stop o (Some stage) next → ⊥)
+    → Ends disk v t o stage
+ends_at disk v t o stage at may last =
     let is = may_end v t o stage may in
     record { at = at; last = last; no_pause = is.0; clears = is.1; unclaimed = is.2; no_lack = is.3 }
 
 -- What the answer to a call says beside what the event does.
-pub record Replies (v w : View) (t : ℕ) (o : Op) (reply : Reply) : Type 0 where
-  pub last : (next : Stage) → Next (maps v) (state v) (register_in v.held t) v.stop o (stage_of v t) next → ⊥
+pub record Replies (disk : OnDisk) (v w : View) (t : ℕ) (o : Op) (reply : Reply) : Type 0 where
+  pub last : (next : Stage) → Next (maps v) (state disk v) (register_in v.held t) v.stop o (stage_of v t) next → ⊥
   pub no_pause : MustPause (register_in v.held t) v.stop o (stage_of v t) → ⊥
-  pub answers : Standing true v → Answers t v.log (values_of v t) o reply w.log (values_of w t)
+  pub answers : Standing true disk v → Answers t v.log (values_of v t) o reply w.log (values_of w t)
   pub registers : (r : ℕ) → (Sets o r → ⊥) → register_in w.held t r ≡ register_in v.held t r
-  pub room : Standing true v → HasRoomFor v o
-  pub clean : LeavesClean v w t o (Answered reply)
+  pub room : Standing true disk v → disk.homes ≡ [] → HasRoomFor v o
+  pub clean : LeavesClean disk v w t o (Answered reply)
 
-answered : (v w : View) (t : ℕ) (o : Op) (reply : Reply) (act : Option Act) → MayAdvance v t o
-    → Plain v w t (cleared_by (stage_of v t)) act None
-    → Applies (maps v) (maps w) (state v) (state w) (change_of (state v) (register_in v.held t) (stage_of v t))
-    → Replies v w t o reply → Advances v w t o (Answered reply)
-answered v w t o reply act asks p applies replies =
-    advances v w t o (Answered reply) asks (plain v w t (cleared_by (stage_of v t)) act None asks.thread p)
+answered : (disk : OnDisk) (v w : View) (t : ℕ) (o : Op) (reply : Reply) (act : Option Act) → Asks disk v t o
+    → Plain disk v w t (cleared_by (stage_of v t)) act None
+    → Applies (maps v) (maps w) (state disk v) (state disk w) (change_of (state disk v) (register_in v.held t)
+    (stage_of v t))
+    → Replies disk v w t o reply → AdvancesOver disk v w t o (Answered reply)
+answered disk v w t o reply act asks p applies replies =
+    advances disk v w t o (Answered reply) asks (plain disk v w t (cleared_by (stage_of v t)) act None asks.thread p)
     (ap (λ (x : View). x.capacity) p.moves) applies (record {
       last = replies.last;
       no_pause = replies.no_pause;
-      call = call_here v w t None (ap (λ (x : View). x.calls) p.moves) (inside v t o asks);
+      call = call_here v w t None (ap (λ (x : View). x.calls) p.moves) (inside disk v t o asks);
       answers = replies.answers;
       history = (act, ap (λ (x : View). x.log) p.moves);
       registers = replies.registers;
@@ -97,31 +98,33 @@ answered v w t o reply act asks p applies replies =
     }) replies.clean
 
 -- What an event shows of registers: those of its thread may hold what they hold, and those of the others stay.
-pub record Local (v : View) (held : List Registers) (t : ℕ) : Type 0 where
+pub record Local (disk : OnDisk) (v : View) (held : List Registers) (t : ℕ) : Type 0 where
   pub threads : length held ≡ length v.held
   pub others : (u : ℕ) → u ≢ t → registers_in held u ≡ registers_in v.held u
-  pub may_hold : (r : ℕ) → MayHold (maps v) (state v) (register_in held t r)
+  pub may_hold : (r : ℕ) → MayHold (maps v) (state disk v) (register_in held t r)
 
 -- a register was set
-pub local_set : (v : View) (t r address : ℕ) → Standing false v → t < length v.held → MayHold (maps v) (state v) address
-    → Local v (with_register v t r address).held t
-local_set v t r address s within may = record {
+pub local_set : (disk : OnDisk) (v : View) (t r address : ℕ) → Standing false disk v → t < length v.held
+    → MayHold (maps v) (state disk v) address
+    → Local disk v (with_register v t r address).held t
+local_set disk v t r address s within may = record {
   threads = threads_set v t r address;
   others = λ u differ. registers_other v.held t u (set (registers_in v.held t) r address) differ;
-  may_hold = register_keeps (MayHold (maps v) (state v)) v t r address within may (s.registers t);
+  may_hold = register_keeps (MayHold (maps v) (state disk v)) v t r address within may (s.registers t);
 }
 
 -- nothing changes at all
-pub local_still : (v : View) (t : ℕ) → Standing false v → Local v v.held t
-local_still v t s = record { threads = refl; others = λ u differ. refl; may_hold = s.registers t }
+pub local_still : (disk : OnDisk) (v : View) (t : ℕ) → Standing false disk v → Local disk v v.held t
+local_still disk v t s = record { threads = refl; others = λ u differ. refl; may_hold = s.registers t }
 
 -- an event behind which the call is over, by what it shows of words and registers
-over_plain : (v w : View) (t cleared : ℕ) (act : Option Act)
-    → ((told : Bool) → Standing told v → Event told v.log (maps v) (maps w) (state v) (state w) no_region cleared act)
-    → MakesNothing act → OnlyMoves v w t act None → length w.space.list ≡ length v.space.list → Local v w.held t
+over_plain : (disk : OnDisk) (v w : View) (t cleared : ℕ) (act : Option Act)
+    → ((told : Bool) → Standing told disk v → Event told v.log (maps v) (maps w) (state disk v) (state disk w) no_region
+    cleared act)
+    → MakesNothing act → OnlyMoves v w t act None → length w.space.list ≡ length v.space.list → Local disk v w.held t
     → claimed_in (call_of v t) ≡ 0 → ((need : ℕ) → stage_of v t ≡ Some (Lacking need) → ⊥)
-    → Plain v w t cleared act None
-over_plain v w t cleared act event nothing moves words local unclaimed no_lack = record {
+    → Plain disk v w t cleared act None
+over_plain disk v w t cleared act event nothing moves words local unclaimed no_lack = record {
   event = event;
   nothing = nothing;
   moves = moves;
@@ -129,7 +132,7 @@ over_plain v w t cleared act event nothing moves words local unclaimed no_lack =
   threads = local.threads;
   others = local.others;
   may_hold = local.may_hold;
-  known = λ c none. absurd (cc);
+  known = λ told s c none. absurd (cc);
   fits = λ c none. absurd (cc);
   unclaimed = refl;
   unclaimed_before = unclaimed;
@@ -137,70 +140,74 @@ over_plain v w t cleared act event nothing moves words local unclaimed no_lack =
 }
 
 -- What the last event of a call shows that began before it.
-pub record Over (v w : View) (t : ℕ) (o : Op) (stage : Stage) (act : Option Act) (reply : Reply) : Type 0 where
-  pub ends : Ends v t o stage
-  pub event : (told : Bool) → Standing told v → Event told v.log (maps v) (maps w) (state v) (state w) no_region 0 act
-  pub applies : Applies (maps v) (maps w) (state v) (state w)
-      (change_of (state v) (register_in v.held t) (Some stage))
+pub record Over (disk : OnDisk) (v w : View) (t : ℕ) (o : Op) (stage : Stage) (act : Option Act) (reply : Reply) : Type
+    0 where
+  pub ends : Ends disk v t o stage
+  pub event : (told : Bool) → Standing told disk v → Event told v.log (maps v) (maps w) (state disk v) (state disk w)
+      no_region 0 act
+  pub applies : Applies (maps v) (maps w) (state disk v) (state disk w)
+      (change_of (state disk v) (register_in v.held t) (Some stage))
   pub nothing : MakesNothing act
   pub moves : OnlyMoves v w t act None
   pub words : length w.space.list ≡ length v.space.list
-  pub local : Local v w.held t
-  pub answers : Standing true v → Answers t v.log (values_of v t) o reply w.log (values_of w t)
+  pub local : Local disk v w.held t
+  pub answers : Standing true disk v → Answers t v.log (values_of v t) o reply w.log (values_of w t)
   pub registers : (r : ℕ) → (Sets o r → ⊥) → register_in w.held t r ≡ register_in v.held t r
   pub room : HasRoomFor v o
-  pub clean : LeavesClean v w t o (Answered reply)
+  pub clean : LeavesClean disk v w t o (Answered reply)
 
-pub over_advances : (v w : View) (t : ℕ) (o : Op) (stage : Stage) (act : Option Act) (reply : Reply)
-    → MayAdvance v t o → Over v w t o stage act reply → Advances v w t o (Answered reply)
-over_advances v w t o stage act reply asks is =
-    let ends : Ends v t o stage = is.ends in
-    answered v w t o reply act asks
-    (over_plain v w t (cleared_by (stage_of v t)) act
-    (λ told s. subst (λ (k : ℕ). Event told v.log (maps v) (maps w) (state v) (state w) no_region k act)
+pub over_advances : (disk : OnDisk) (v w : View) (t : ℕ) (o : Op) (stage : Stage) (act : Option Act) (reply : Reply)
+    → Asks disk v t o → Over disk v w t o stage act reply → AdvancesOver disk v w t o (Answered reply)
+over_advances disk v w t o stage act reply asks is =
+    let ends : Ends disk v t o stage = is.ends in
+    answered disk v w t o reply act asks
+    (over_plain disk v w t (cleared_by (stage_of v t)) act
+    (λ told s. subst (λ (k : ℕ). Event told v.log (maps v) (maps w) (state disk v) (state disk w) no_region k act)
     (sym (ap cleared_by ends.at ∙ ends.clears)) (is.event told s))
-    is.nothing is.moves is.words is.local (ap claimed_in (call_at v t o stage asks ends.at) ∙ ends.unclaimed)
+    is.nothing is.moves is.words is.local (ap claimed_in (call_at disk v t o stage asks ends.at) ∙ ends.unclaimed)
     (λ need lacks. ends.no_lack need (let e : Some stage ≡ Some (Lacking need) = sym ends.at ∙ lacks in cc)))
-    (subst (λ (g : Option Stage). Applies (maps v) (maps w) (state v) (state w)
-    (change_of (state v) (register_in v.held t) g)) (sym ends.at) is.applies)
+    (subst (λ (g : Option Stage). Applies (maps v) (maps w) (state disk v) (state disk w)
+    (change_of (state disk v) (register_in v.held t) g)) (sym ends.at) is.applies)
     (record {
       last = λ next goes. ends.last next
-          (subst (λ (g : Option Stage). Next (maps v) (state v) (register_in v.held t) v.stop o g next) ends.at goes);
+          (subst (λ (g : Option Stage). Next (maps v) (state disk v) (register_in v.held t) v.stop o g next) ends.at
+          goes);
       no_pause = λ pause. ends.no_pause (subst (MustPause (register_in v.held t) v.stop o) ends.at pause);
       answers = is.answers;
       registers = is.registers;
-      room = λ told. is.room;
+      room = λ told none. is.room;
       clean = is.clean;
     })
 
 -- an operation on registers alone
-local_plain : (v : View) (held : List Registers) (t : ℕ) → call_of v t ≡ None → Local v held t
-    → Plain v (record v { held = held }) t 0 None None
-local_plain v held t first local =
-    over_plain v (record v { held = held }) t 0 None (λ told stands. quiet refl (same_behind v held)) tt
+local_plain : (disk : OnDisk) (v : View) (held : List Registers) (t : ℕ) → call_of v t ≡ None → Local disk v held t
+    → Plain disk v (record v { held = held }) t 0 None None
+local_plain disk v held t first local =
+    over_plain disk v (record v { held = held }) t 0 None (λ told stands. quiet refl (same_behind disk v held)) tt
     (ap (λ (calls : List (Option Call)). record v { held = held; calls = calls }) (set_none v.calls t first)) refl local
     (ap claimed_in first)
     (λ need is. let none : stage_of v t ≡ None = ap stage_in first in cc)
 
 -- an answer in the first event of a call: nothing of its words is shared
-first_answered : (v : View) (held : List Registers) (t : ℕ) (o : Op) (reply : Reply) → MayAdvance v t o
-    → call_of v t ≡ None → Local v held t → Replies v (record v { held = held }) t o reply
-    → Advances v (record v { held = held }) t o (Answered reply)
-first_answered v held t o reply asks first is replies =
+first_answered : (disk : OnDisk) (v : View) (held : List Registers) (t : ℕ) (o : Op) (reply : Reply) → Asks disk v t o
+    → call_of v t ≡ None → Local disk v held t → Replies disk v (record v { held = held }) t o reply
+    → AdvancesOver disk v (record v { held = held }) t o (Answered reply)
+first_answered disk v held t o reply asks first is replies =
     let w : View = record v { held = held } in
     let none : stage_of v t ≡ None = ap stage_in first in
-    answered v w t o reply None asks
-    (subst (λ (g : Option Stage). Plain v w t (cleared_by g) None None) (sym none) (local_plain v held t first is))
-    (subst (λ (g : Option Stage). Applies (maps v) (maps w) (state v) (state w)
-    (change_of (state v) (register_in v.held t) g)) (sym none) (refl, same_behind v held))
+    answered disk v w t o reply None asks
+    (subst (λ (g : Option Stage). Plain disk v w t (cleared_by g) None None) (sym none)
+    (local_plain disk v held t first is))
+    (subst (λ (g : Option Stage). Applies (maps v) (maps w) (state disk v) (state disk w)
+    (change_of (state disk v) (register_in v.held t) g)) (sym none) (refl, same_behind disk v held))
     replies
 
 -- where the operation has no task, its first event is its last, and it never pauses
-first_last : (v : View) (t : ℕ) (o : Op) (next : Stage) → task_of o ≡ None → call_of v t ≡ None
-    → Next (maps v) (state v) (register_in v.held t) v.stop o (stage_of v t) next → ⊥
-first_last v t o next none first is =
-    let at : Next (maps v) (state v) (register_in v.held t) v.stop o None next =
-    subst (λ (g : Option Stage). Next (maps v) (state v) (register_in v.held t) v.stop o g next)
+first_last : (disk : OnDisk) (v : View) (t : ℕ) (o : Op) (next : Stage) → task_of o ≡ None → call_of v t ≡ None
+    → Next (maps v) (state disk v) (register_in v.held t) v.stop o (stage_of v t) next → ⊥
+first_last disk v t o next none first is =
+    let at : Next (maps v) (state disk v) (register_in v.held t) v.stop o None next =
+    subst (λ (g : Option Stage). Next (maps v) (state disk v) (register_in v.held t) v.stop o g next)
     (ap stage_in first) is in
     let some : task_of o ≡ Some at.0 = at.1.0 in
     cc
@@ -214,54 +221,56 @@ first_no_pause v t o none first is =
     cc
 
 -- a register took the address of another
-pub copy_advances : (v : View) (t dst src address : ℕ) → MayAdvance v t (op.Copy dst src) → call_of v t ≡ None
+pub copy_advances : (disk : OnDisk) (v : View) (t dst src address : ℕ) → Asks disk v t (op.Copy dst src)
+    → call_of v t ≡ None
     → address ≡ register_in v.held t src
-    → Advances v (with_register v t dst address) t (op.Copy dst src) (Answered reply.Done)
-copy_advances v t dst src address asks first is =
-    let s : Standing false v = asks.stands in
+    → AdvancesOver disk v (with_register v t dst address) t (op.Copy dst src) (Answered reply.Done)
+copy_advances disk v t dst src address asks first is =
+    let s : Standing false disk v = asks.stands in
     let w : View = with_register v t dst address in
-    first_answered v w.held t (op.Copy dst src) reply.Done asks first
-    (local_set v t dst address s asks.thread (subst (MayHold (maps v) (state v)) (sym is) (s.registers t src)))
+    first_answered disk v w.held t (op.Copy dst src) reply.Done asks first
+    (local_set disk v t dst address s asks.thread (subst (MayHold (maps v) (state disk v)) (sym is)
+    (s.registers t src)))
     (record {
-      last = λ next. first_last v t (op.Copy dst src) next refl first;
+      last = λ next. first_last disk v t (op.Copy dst src) next refl first;
       no_pause = first_no_pause v t (op.Copy dst src) refl first;
       answers = λ told. copy_answers t v.log (values_of v t) dst src (held_value v.names address) reply.Done v.log
           (values_of w t)
           (value_held v.names (registers_in v.held t) src ∙ ap (held_value v.names) (sym is)) refl
           (values_set v t dst address asks.thread) refl;
       registers = λ r other. register_other v t dst address r asks.thread other;
-      room = λ told. tt;
+      room = λ told none. tt;
       clean = λ place d loads there tagged. no_load (register_in v.held t) (op.Copy dst src) place d tt loads;
     })
 
-pub drop_advances : (v : View) (t r : ℕ) → MayAdvance v t (op.Drop r) → call_of v t ≡ None
-    → Advances v (with_register v t r 0) t (op.Drop r) (Answered reply.Done)
-drop_advances v t r asks first =
+pub drop_advances : (disk : OnDisk) (v : View) (t r : ℕ) → Asks disk v t (op.Drop r) → call_of v t ≡ None
+    → AdvancesOver disk v (with_register v t r 0) t (op.Drop r) (Answered reply.Done)
+drop_advances disk v t r asks first =
     let w : View = with_register v t r 0 in
-    first_answered v w.held t (op.Drop r) reply.Done asks first
-    (local_set v t r 0 asks.stands asks.thread (inl refl)) (record {
-      last = λ next. first_last v t (op.Drop r) next refl first;
+    first_answered disk v w.held t (op.Drop r) reply.Done asks first
+    (local_set disk v t r 0 asks.stands asks.thread (inl refl)) (record {
+      last = λ next. first_last disk v t (op.Drop r) next refl first;
       no_pause = first_no_pause v t (op.Drop r) refl first;
       answers = λ told. drop_answers t v.log (values_of v t) r reply.Done v.log (values_of w t) refl
           (values_set v t r 0 asks.thread) refl;
       registers = λ k other. register_other v t r 0 k asks.thread other;
-      room = λ told. tt;
+      room = λ told none. tt;
       clean = λ place d loads there tagged. no_load (register_in v.held t) (op.Drop r) place d tt loads;
     })
 
 -- two registers hold different addresses
-pub differ_advances : (v : View) (t a b : ℕ) → MayAdvance v t (op.Same a b) → call_of v t ≡ None
-    → register_in v.held t a ≢ register_in v.held t b → Advances v v t (op.Same a b) (Answered reply.No)
-differ_advances v t a b asks first differ =
-    let s : Standing false v = asks.stands in
-    first_answered v v.held t (op.Same a b) reply.No asks first (local_still v t s) (record {
-      last = λ next. first_last v t (op.Same a b) next refl first;
+pub differ_advances : (disk : OnDisk) (v : View) (t a b : ℕ) → Asks disk v t (op.Same a b) → call_of v t ≡ None
+    → register_in v.held t a ≢ register_in v.held t b → AdvancesOver disk v v t (op.Same a b) (Answered reply.No)
+differ_advances disk v t a b asks first differ =
+    let s : Standing false disk v = asks.stands in
+    first_answered disk v v.held t (op.Same a b) reply.No asks first (local_still disk v t s) (record {
+      last = λ next. first_last disk v t (op.Same a b) next refl first;
       no_pause = first_no_pause v t (op.Same a b) refl first;
-      answers = λ told. differ_answers t v.log v.names (registers_in v.held t) (state v) a b reply.No v.log
+      answers = λ told. differ_answers t v.log v.names (registers_in v.held t) (state disk v) a b reply.No v.log
           (values_of v t) ((told.holds.tells refl).one_address) (s.registers t a)
           (s.registers t b) differ refl refl refl;
       registers = λ k other. refl;
-      room = λ told. tt;
+      room = λ told none. tt;
       clean = λ place d loads there tagged. no_load (register_in v.held t) (op.Same a b) place d tt loads;
     })
 
@@ -286,28 +295,30 @@ use_room v (op.New dst refs nums) r access is = absurd (cc)
 use_room v o r access is = tt
 
 -- where the register is empty, no reference is loaded
-nil_clean : (v : View) (t : ℕ) (o : Op) (r : ℕ) (access : Access) → Standing false v → task_of o ≡ Some (Use r access)
-    → register_in v.held t r ≡ 0 → LeavesClean v v t o (Answered reply.Nil)
-nil_clean v t o r access s is none (Field object i) dst loads there tagged =
+nil_clean : (disk : OnDisk) (v : View) (t : ℕ) (o : Op) (r : ℕ) (access : Access) → Standing false disk v
+    → task_of o ≡ Some (Use r access)
+    → register_in v.held t r ≡ 0 → LeavesClean disk v v t o (Answered reply.Nil)
+nil_clean disk v t o r access s is none (Field object i) dst loads there tagged =
     let same : loads.0 ≡ r = cc in
     let at : object ≡ 0 = sym loads.2 ∙ (ap (register_in v.held t) same ∙ none) in
     absurd (let named = there.1.named in
     no_name_at v.names there.1.number (subst (λ (a : ℕ). (maps v).address a ≡ Some there.1.number) at named))
-nil_clean v t o r access s is none (Global g) dst loads there tagged = absurd (cc)
+nil_clean disk v t o r access s is none (Global g) dst loads there tagged = absurd (cc)
 
-pub nil_advances : (v : View) (t : ℕ) (o : Op) (r : ℕ) (access : Access) → MayAdvance v t o → call_of v t ≡ None
-    → task_of o ≡ Some (Use r access) → register_in v.held t r ≡ 0 → Advances v v t o (Answered reply.Nil)
-nil_advances v t o r access asks first task none =
-    let s : Standing false v = asks.stands in
+pub nil_advances : (disk : OnDisk) (v : View) (t : ℕ) (o : Op) (r : ℕ) (access : Access) → Asks disk v t o
+    → call_of v t ≡ None
+    → task_of o ≡ Some (Use r access) → register_in v.held t r ≡ 0 → AdvancesOver disk v v t o (Answered reply.Nil)
+nil_advances disk v t o r access asks first task none =
+    let s : Standing false disk v = asks.stands in
     let has : (x : Task) → Shares (register_in v.held t) o x → ⊥ = λ x shares.
     let same : x ≡ Use r access = cc in
     let some : HasObject (register_in v.held t) (Use r access) =
     subst (HasObject (register_in v.held t)) same shares.1 in
     some none in
-    first_answered v v.held t o reply.Nil asks first (local_still v t s) (record {
+    first_answered disk v v.held t o reply.Nil asks first (local_still disk v t s) (record {
       last = λ next is.
-          let at : Next (maps v) (state v) (register_in v.held t) v.stop o None next =
-          subst (λ (g : Option Stage). Next (maps v) (state v) (register_in v.held t) v.stop o g next)
+          let at : Next (maps v) (state disk v) (register_in v.held t) v.stop o None next =
+          subst (λ (g : Option Stage). Next (maps v) (state disk v) (register_in v.held t) v.stop o g next)
           (ap stage_in first) is in
           has at.0 at.1;
       no_pause = λ is.
@@ -317,6 +328,6 @@ nil_advances v t o r access asks first task none =
       answers = λ told. nil_answers t v.log (values_of v t) o reply.Nil v.log (values_of v t)
           (holds_nil v.names (registers_in v.held t) o r access task none) refl refl refl;
       registers = λ k other. refl;
-      room = λ told. use_room v o r access task;
-      clean = nil_clean v t o r access s task none;
+      room = λ told none. use_room v o r access task;
+      clean = nil_clean disk v t o r access s task none;
     })

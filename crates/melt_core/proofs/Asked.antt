@@ -8,7 +8,7 @@ use Rattle.melt_model.specs.declared.operations.Op.{Op}
 use Rattle.melt_word.specs.Words.{cost_of}
 use Rattle.melt_scion.specs.State.{State}
 use Rattle.melt_scion.specs.Placed.{Maps}
-use Rattle.melt_scion.specs.Heaps.{register_in}
+use Rattle.melt_scion.specs.Heaps.{OnDisk, register_in}
 use Rattle.melt_core.specs.declared.call.Access.TheVariants.{Load, Store, Get, Put}
 use Rattle.melt_core.specs.declared.call.Task.TheVariants.{Make, Use, LoadGlobal, StoreGlobal}
 use Rattle.melt_core.specs.declared.call.Stage.{Stage}
@@ -16,8 +16,8 @@ use Rattle.melt_core.specs.declared.call.Stage.TheVariants.{Polled, Headed, Look
 use Rattle.melt_core.specs.declared.call.Call.{Call}
 use Rattle.melt_core.specs.Known.{Known}
 use Rattle.melt_core.specs.Stages.{Fits, Next, Change, Nothing, Word, Publish, change_of, cleared_by}
-use Rattle.melt_core.specs.Advances.{MayAdvance, Continues}
-use Rattle.melt_core.specs.Views.{View, maps, state, call_of, stage_in, stage_of, claimed_in}
+use Rattle.melt_core.specs.Advances.{Asks, Continues, MayMove}
+use Rattle.melt_core.specs.Views.{View, Standing, maps, state, call_of, stage_in, stage_of, claimed_in}
 
 -- the call at a stage is of the operation
 at_stage : (c : Option Call) (o : Op) (stage : Stage) → Continues c o → stage_in c ≡ Some stage
@@ -27,21 +27,30 @@ at_stage (Some c) o stage continued is =
     let same : c.stage ≡ stage = cc in ap (λ (p : Op). Some (record { op = p; stage = c.stage })) (sym continued)
     ∙ ap (λ (g : Stage). Some (record { op = o; stage = g })) same
 
-pub call_at : (v : View) (t : ℕ) (o : Op) (stage : Stage) → MayAdvance v t o → stage_of v t ≡ Some stage
+pub call_at : (disk : OnDisk) (v : View) (t : ℕ) (o : Op) (stage : Stage) → Asks disk v t o → stage_of v t ≡ Some stage
     → call_of v t ≡ Some (record { op = o; stage = stage })
-call_at v t o stage asks is = at_stage (call_of v t) o stage asks.continued is
+call_at disk v t o stage asks is = at_stage (call_of v t) o stage asks.continued is
 
-pub inside : (v : View) (t : ℕ) (o : Op) → MayAdvance v t o → t < length v.calls
-inside v t o asks = let each : length v.calls ≡ length v.held = asks.stands.each in let within : t < length v.held =
+pub inside : (disk : OnDisk) (v : View) (t : ℕ) (o : Op) → Asks disk v t o → t < length v.calls
+inside disk v t o asks = let each : length v.calls ≡ length v.held = asks.stands.each in let within : t < length
+    v.held =
     asks.thread in omega arith
 
-pub known_at : (v : View) (t : ℕ) (o : Op) (stage : Stage) → MayAdvance v t o → stage_of v t ≡ Some stage
-    → Known (maps v) (state v) stage
-known_at v t o stage asks is = asks.stands.known t (record { op = o; stage = stage }) (call_at v t o stage asks is)
+pub known_at : (disk : OnDisk) (v : View) (t : ℕ) (o : Op) (stage : Stage) → Asks disk v t o → stage_of v t ≡ Some stage
+    → Known false (maps v) (state disk v) stage
+known_at disk v t o stage asks is = asks.stands.known t (record { op = o; stage = stage })
+    (call_at disk v t o stage asks is)
 
-pub fits_at : (v : View) (t : ℕ) (o : Op) (stage : Stage) → MayAdvance v t o → stage_of v t ≡ Some stage
+-- told or not
+pub known_so : (told : Bool) (disk : OnDisk) (v : View) (t : ℕ) (o : Op) (stage : Stage) → Asks disk v t o
+    → stage_of v t ≡ Some stage → Standing told disk v → Known told (maps v) (state disk v) stage
+known_so told disk v t o stage asks is s =
+    s.known t (record { op = o; stage = stage }) (call_at disk v t o stage asks is)
+
+pub fits_at : (disk : OnDisk) (v : View) (t : ℕ) (o : Op) (stage : Stage) → Asks disk v t o → stage_of v t ≡ Some stage
     → Fits (register_in v.held t) o stage
-fits_at v t o stage asks is = asks.stands.fits t (record { op = o; stage = stage }) (call_at v t o stage asks is)
+fits_at disk v t o stage asks is = asks.stands.fits t (record { op = o; stage = stage })
+    (call_at disk v t o stage asks is)
 
 -- a call that is over already
 pub set_none : (calls : List (Option Call)) (t : ℕ) → get_or calls t None ≡ None → calls ≡ set calls t None
@@ -64,8 +73,8 @@ nothing_claimed s register (Some c) is = nothing_claimed_at s register c.stage i
         → claimed_in (Some (record { op = c.op; stage = stage })) ≡ 0
     nothing_claimed_at s register (Polled task) is = refl
     nothing_claimed_at s register (Headed address shape access) is = refl
-    nothing_claimed_at s register (Looked place target dst) is = refl
-    nothing_claimed_at s register (Cleared place target dst) is = refl
+    nothing_claimed_at s register (Looked place found target dst) is = refl
+    nothing_claimed_at s register (Cleared place found target dst) is = refl
     nothing_claimed_at s register (Claimed address shape stored dst) is =
         absurd (publishes_or_stores _ (Publish address shape) (Word (address + 1 + stored) 0) (λ no. cc) (λ no. cc) is)
     nothing_claimed_at s register (Lacking need) is = refl
@@ -96,8 +105,9 @@ next_fits maps s register stop o (Some c) next continued fits is =
     next_fits_at maps s register stop o (Headed address shape (Store i src)) next fits is = absurd is
     next_fits_at maps s register stop o (Headed address shape (Get j)) next fits is = absurd is
     next_fits_at maps s register stop o (Headed address shape (Put j v)) next fits is = absurd is
-    next_fits_at maps s register stop o (Looked place target dst) next fits is = subst (Fits register o) (sym is) fits
-    next_fits_at maps s register stop o (Cleared place target dst) next fits is = absurd is
+    next_fits_at maps s register stop o (Looked place found target dst) next fits is =
+        subst (Fits register o) (sym is) fits
+    next_fits_at maps s register stop o (Cleared place found target dst) next fits is = absurd is
     next_fits_at maps s register stop o (Claimed address shape stored dst) next fits is =
         subst (Fits register o) (sym is.1) fits
     next_fits_at maps s register stop o (Lacking need) next fits is = absurd is
@@ -108,7 +118,19 @@ pub still_clears : (s : State) (register : ℕ → ℕ) (stage : Option Stage) �
 still_clears s register None still = refl
 still_clears s register (Some (Polled task)) still = refl
 still_clears s register (Some (Headed address shape access)) still = refl
-still_clears s register (Some (Looked place target dst)) still = absurd (cc)
-still_clears s register (Some (Cleared place target dst)) still = refl
+still_clears s register (Some (Looked place found target dst)) still = absurd (cc)
+still_clears s register (Some (Cleared place found target dst)) still = refl
 still_clears s register (Some (Claimed address shape stored dst)) still = refl
 still_clears s register (Some (Lacking need)) still = refl
+
+-- what an event asks over some disk, it asks over each over which the words are well formed
+pub asks_over : (v : View) (t : ℕ) (o : Op) → MayMove v t o → (disk : OnDisk) → Standing false disk v → Asks disk v t o
+asks_over v t o may disk stands = record {
+  stands = stands;
+  thread = may.asks.thread;
+  bounds = may.asks.bounds;
+  no_collect = may.asks.no_collect;
+  continued = may.asks.continued;
+  room = may.asks.room;
+  few = may.asks.few;
+}

@@ -12,6 +12,7 @@ use Rattle.melt_core.specs.declared.call.Place.TheVariants.{Field}
 use Rattle.melt_core.specs.Stages.{Next}
 use Rattle.melt_core.specs.declared.call.Access.TheVariants.{Load}
 use Rattle.melt_core.specs.declared.call.Task.{Task}
+use Rattle.melt_word.specs.declared.reference.Ref.TheVariants.{Stale}
 use Rattle.melt_core.specs.declared.call.Stage.{Stage}
 use Rattle.melt_core.specs.declared.call.Stage.TheVariants.{Polled, Headed, Looked, Cleared, Claimed, Lacking}
 use Rattle.melt_core.specs.declared.call.Call.{Call}
@@ -44,10 +45,10 @@ claims_one stop (Some (Polled task)) = omega arith
 claims_one stop (Some (Lacking need)) = omega arith
 claims_one true (Some (Headed address shape access)) = omega arith
 claims_one false (Some (Headed address shape access)) = omega arith
-claims_one true (Some (Looked place target dst)) = omega arith
-claims_one false (Some (Looked place target dst)) = omega arith
-claims_one true (Some (Cleared place target dst)) = omega arith
-claims_one false (Some (Cleared place target dst)) = omega arith
+claims_one true (Some (Looked place found target dst)) = omega arith
+claims_one false (Some (Looked place found target dst)) = omega arith
+claims_one true (Some (Cleared place found target dst)) = omega arith
+claims_one false (Some (Cleared place found target dst)) = omega arith
 claims_one true (Some (Claimed address shape stored dst)) = omega arith
 claims_one false (Some (Claimed address shape stored dst)) = omega arith
 
@@ -58,8 +59,8 @@ claims_true false None = omega arith
 claims_true false (Some (Polled task)) = omega arith
 claims_true false (Some (Lacking need)) = omega arith
 claims_true false (Some (Headed address shape access)) = omega arith
-claims_true false (Some (Looked place target dst)) = omega arith
-claims_true false (Some (Cleared place target dst)) = omega arith
+claims_true false (Some (Looked place found target dst)) = omega arith
+claims_true false (Some (Cleared place found target dst)) = omega arith
 claims_true false (Some (Claimed address shape stored dst)) = omega arith
 
 claims_each : (stop : Bool) (calls : List (Option Call)) → sum_by (claims_in stop) calls ≤ length calls
@@ -138,15 +139,15 @@ claims_next maps s register stop o None next is =
     omega arith
 claims_next maps s register stop o (Some (Polled task)) next is = claims_one stop (Some next)
 claims_next maps s register stop o (Some (Headed address shape (Load dst i))) next is =
-    let left : claims_left stop (Some next) ≡ claims_left stop (Some (Looked (Field address i) is.0 dst)) =
+    let left : claims_left stop (Some next) ≡ claims_left stop (Some (Looked (Field address i) (Stale is.0) is.0 dst)) =
     ap (λ (x : Stage). claims_left stop (Some x)) is.2 in
     omega arith
 claims_next maps s register stop o (Some (Headed address shape access)) next is = absurd is
-claims_next maps s register stop o (Some (Looked place target dst)) next is =
-    let left : claims_left stop (Some next) ≡ claims_left stop (Some (Cleared place target dst)) =
+claims_next maps s register stop o (Some (Looked place found target dst)) next is =
+    let left : claims_left stop (Some next) ≡ claims_left stop (Some (Cleared place found target dst)) =
     ap (λ (x : Stage). claims_left stop (Some x)) is in
     omega arith
-claims_next maps s register stop o (Some (Cleared place target dst)) next is = absurd is
+claims_next maps s register stop o (Some (Cleared place found target dst)) next is = absurd is
 claims_next maps s register stop o (Some (Claimed address shape stored dst)) next is =
     let left : claims_left stop (Some next) ≡ claims_left stop (Some (Claimed address shape (stored + 1) dst)) =
     ap (λ (x : Stage). claims_left stop (Some x)) is.1 in
@@ -160,6 +161,6 @@ claims_ends stop None enough = omega arith
 claims_ends stop (Some (Polled task)) enough = claims_one stop None
 claims_ends stop (Some (Lacking need)) enough = absurd (enough need refl)
 claims_ends stop (Some (Headed address shape access)) enough = omega arith
-claims_ends stop (Some (Looked place target dst)) enough = omega arith
-claims_ends stop (Some (Cleared place target dst)) enough = omega arith
+claims_ends stop (Some (Looked place found target dst)) enough = omega arith
+claims_ends stop (Some (Cleared place found target dst)) enough = omega arith
 claims_ends stop (Some (Claimed address shape stored dst)) enough = omega arith

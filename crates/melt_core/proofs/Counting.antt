@@ -4,7 +4,7 @@ use Rattle.std.proofs.Common.{List, [], ◌∷◌, ◌++◌, length, get_or, ref
 use Rattle.std.proofs.Math.ListN.{set}
 use Rattle.std.proofs.lemmas.Bool.Decides.{eqb_tells}
 use Rattle.std.proofs.lemmas.List.Sums.{sum-map, sum_by-set}
-use Rattle.std.specs.Prelude.{◌↔◌, true, Option, None, Some}
+use Rattle.std.specs.Prelude.{◌↔◌, true, [], Option, None, Some}
 use Rattle.std.specs.Option.{option_map_or}
 use Rattle.melt_model.specs.History.{Shape as ModelShape, made as makes}
 use Rattle.melt_model.specs.Alive.{Alive, words_of, CostsSum}
@@ -17,6 +17,7 @@ use Rattle.melt_word.specs.declared.header.Shape.{Shape}
 use Rattle.melt_scion.specs.Changes.{NameAppears}
 use Rattle.melt_scion.specs.Placed.{Maps}
 use Rattle.melt_scion.proofs.Entries.{made_shape}
+use Rattle.melt_scion.specs.Heaps.{OnDisk}
 use Rattle.melt_core.specs.declared.call.Call.{Call}
 use Rattle.melt_core.specs.declared.call.Stage.{Stage}
 use Rattle.melt_core.specs.declared.call.Stage.TheVariants.{Claimed}
@@ -42,9 +43,9 @@ claimed-set calls t call within =
     )
 
 -- and so in a view
-claimed_after : (v w : View) (t : ℕ) (call : Option Call) → Standing true v → t < length v.held
+claimed_after : (disk : OnDisk) (v w : View) (t : ℕ) (call : Option Call) → Standing true disk v → t < length v.held
     → w.calls ≡ set v.calls t call → claimed w.calls + claimed_in (call_of v t) ≡ claimed v.calls + claimed_in call
-claimed_after v w t call s within calls =
+claimed_after disk v w t call s within calls =
     let inside : t < length v.calls = let each : length v.calls ≡ length v.held = s.each in omega arith in
     ap (λ (cs : List (Option Call)). claimed cs + claimed_in (call_of v t)) calls ∙ claimed-set v.calls t call inside
 
@@ -54,8 +55,8 @@ pub claimed_at : (v : View) (t address stored dst : ℕ) (c : Call) (shape : Sha
 claimed_at v t address stored dst c shape at stage = ap claimed_in at ∙ ap (λ (g : Stage). (region_of g).words) stage
 
 -- whatever is in use was made
-in_use_made : (v : View) (n : ℕ) → Standing true v → InUse (maps v) n → n < makes v.log
-in_use_made v n s is = named_made v.log (maps v) (state v) is.0 n s.holds.formed (s.holds.tells refl) is.1
+in_use_made : (disk : OnDisk) (v : View) (n : ℕ) → Standing true disk v → InUse (maps v) n → n < makes v.log
+in_use_made disk v n s is = named_made v.log (maps v) (state disk v) is.0 n s.holds.formed (s.holds.tells refl) is.1
 
 -- the words of objects that were made stay when the history grows
 words_stay : (h : List Entry) (e : Entry) (n : ℕ) → n < makes h → words_of h n ≡ words_of (h ++ e ∷ []) n
@@ -70,11 +71,11 @@ made_words h e refs nums act =
     (made_shape h e refs nums act)
 
 -- the words of what is in use, by the history with one entry more
-in_use_later : (v : View) (e : Entry) → (s : Standing true v)
+in_use_later : (disk : OnDisk) (v : View) (e : Entry) → (s : Standing true disk v)
     → CostsSum (words_of (v.log ++ e ∷ [])) (InUse (maps v)) (s.counts refl).in_use
-in_use_later v e s =
+in_use_later disk v e s =
     CostsSum-cost (words_of v.log) (words_of (v.log ++ e ∷ [])) (InUse (maps v)) (s.counts refl).in_use
-    (λ n is. words_stay v.log e n (in_use_made v n s is)) (s.counts refl).adds_up
+    (λ n is. words_stay v.log e n (in_use_made disk v n s is)) (s.counts refl).adds_up
 
 -- the same words of the same objects
 same_use : (v w : View) (total : ℕ) → w.names ≡ v.names → CostsSum (words_of w.log) (InUse (maps v)) total
@@ -90,10 +91,10 @@ pub record Claims (v w : View) (t : ℕ) (call : Option Call) : Type 0 where
   pub below : v.free + claimed_in call ≤ w.free + claimed_in (call_of v t)
   pub within : (claimed_in call ≤ claimed_in (call_of v t)) ⊎ (v.free + claimed_in call ≤ length v.space.list + 1)
 
-counts_by : (v w : View) (t : ℕ) (call : Option Call) → (s : Standing true v) → t < length v.held
+counts_by : (disk : OnDisk) (v w : View) (t : ℕ) (call : Option Call) → (s : Standing true disk v) → t < length v.held
     → CostsSum (words_of w.log) (InUse (maps v)) (s.counts refl).in_use → Claims v w t call → Counts w
-counts_by v w t call s within sum is =
-    let after = claimed_after v w t call s within is.calls in
+counts_by disk v w t call s within sum is =
+    let after = claimed_after disk v w t call s within is.calls in
     let below = (s.counts refl).below in
     let fits = (s.counts refl).within in
     record {
@@ -104,28 +105,30 @@ counts_by v w t call s within sum is =
     }
 
 -- the history has no entry more
-pub Counts_same : (v w : View) (t : ℕ) (call : Option Call) → Standing true v → t < length v.held → w.log ≡ v.log
+pub Counts_same : (disk : OnDisk) (v w : View) (t : ℕ) (call : Option Call) → Standing true disk v → t < length v.held
+    → w.log ≡ v.log
     → Claims v w t call → Counts w
-Counts_same v w t call s within log is =
-    counts_by v w t call s within
+Counts_same disk v w t call s within log is =
+    counts_by disk v w t call s within
     (subst (λ (h : List Entry). CostsSum (words_of h) (InUse (maps v)) (s.counts refl).in_use) (sym log)
     (s.counts refl).adds_up) is
 
 -- and where it has one
-pub Counts_entry : (v w : View) (t : ℕ) (call : Option Call) (e : Entry) → Standing true v → t < length v.held
+pub Counts_entry : (disk : OnDisk) (v w : View) (t : ℕ) (call : Option Call) (e : Entry) → Standing true disk v
+    → t < length v.held
     → w.log ≡ v.log ++ e ∷ [] → Claims v w t call → Counts w
-Counts_entry v w t call e s within log is =
-    counts_by v w t call s within
+Counts_entry disk v w t call e s within log is =
+    counts_by disk v w t call s within
     (subst (λ (h : List Entry). CostsSum (words_of h) (InUse (maps v)) (s.counts refl).in_use) (sym log)
-    (in_use_later v e s)) is
+    (in_use_later disk v e s)) is
 
 -- no object stands where a region begins
-region_free : (v : View) (t address stored dst n : ℕ) (c : Call) (shape : Shape) → Standing true v
+region_free : (disk : OnDisk) (v : View) (t address stored dst n : ℕ) (c : Call) (shape : Shape) → Standing true disk v
     → call_of v t ≡ Some c → c.stage ≡ Claimed address shape stored dst → (b : ℕ) → (maps v).address b ≡ Some n
     → b ≡ address → ⊥
-region_free v t address stored dst n c shape s at stage b named same =
-    let flight : IsShape shape × HasStored (maps v) (state v) (region address shape) (λ k. 0) stored =
-    subst (Known (maps v) (state v)) stage (s.known t c at) in
+region_free disk v t address stored dst n c shape s at stage b named same =
+    let flight : IsShape shape × HasStored (maps v) (state disk v) (region address shape) (λ k. 0) stored =
+    subst (Known true (maps v) (state disk v)) stage (s.known t c at) in
     let object = s.holds.formed.objects b n named in
     (flight.1.owns.outside b n object.0 named object.1.starts).differ (omega arith) (omega arith) same
 
@@ -144,28 +147,30 @@ in_use_more old new address n m unused appears = (
 )
 
 -- a region becomes an object
-pub Counts_published : (v w : View) (t address stored dst : ℕ) (c : Call) (shape : Shape) (e : Entry) → Standing true v
+pub Counts_published : (disk : OnDisk) (v w : View) (t address stored dst : ℕ) (c : Call) (shape : Shape) (e : Entry)
+    → Standing true disk v
     → t < length v.held → call_of v t ≡ Some c → c.stage ≡ Claimed address shape stored dst
     → NameAppears (maps v) (maps w) address (makes v.log) → e.act ≡ Make shape.refs shape.nums → w.log ≡ v.log ++ e ∷ []
     → w.free ≡ v.free → length w.space.list ≡ length v.space.list → w.calls ≡ set v.calls t None → Counts w
-Counts_published v w t address stored dst c shape e s within at stage named act log free words calls =
+Counts_published disk v w t address stored dst c shape e s within at stage named act log free words calls =
     let total : ℕ = (s.counts refl).in_use in
     let h : List Entry = v.log ++ e ∷ [] in
     let n : ℕ = makes v.log in
     let cost : words_of h n ≡ cost_of shape = made_words v.log e shape.refs shape.nums act in
     let after : claimed w.calls + claimed_in (call_of v t) ≡ claimed v.calls + 0 =
-    claimed_after v w t None s within calls in
+    claimed_after disk v w t None s within calls in
     let owned : claimed_in (call_of v t) ≡ cost_of shape = claimed_at v t address stored dst c shape at stage in
     let below = (s.counts refl).below in
     let fits = (s.counts refl).within in
     let more : CostsSum (words_of h) (λ m. InUse (maps v) m ⊎ (m ≡ n)) (total + words_of h n) =
     CostsSum-more (words_of h) (InUse (maps v)) n total
-    (λ is. let less : makes v.log < makes v.log = in_use_made v (makes v.log) s is in omega arith)
-    (in_use_later v e s) in
+    (λ is. let less : makes v.log < makes v.log = in_use_made disk v (makes v.log) s is in omega arith)
+    (in_use_later disk v e s) in
     let all : CostsSum (words_of h) (InUse (maps w)) (total + cost_of shape) =
     subst (λ (k : ℕ). CostsSum (words_of h) (InUse (maps w)) (total + k)) cost
     (CostsSum-same (words_of h) (λ m. InUse (maps v) m ⊎ (m ≡ n)) (InUse (maps w)) (total + words_of h n)
-    (λ m. in_use_more (maps v) (maps w) address n m (region_free v t address stored dst m c shape s at stage) named)
+    (λ m. in_use_more (maps v) (maps w) address n m (region_free disk v t address stored dst m c shape s at stage)
+    named)
     more) in
     record {
       in_use = total + cost_of shape;
@@ -176,16 +181,18 @@ Counts_published v w t address stored dst c shape e s within at stage named act 
     }
 
 -- what was made had room beside all that is alive: its region and the objects in use lie in the heap
-pub room_for : (v : View) (t address stored dst : ℕ) (c : Call) (shape : Shape) → Standing true v → t < length v.held
+pub room_for : (disk : OnDisk) (v : View) (t address stored dst : ℕ) (c : Call) (shape : Shape) → Standing true disk v
+    → disk.homes ≡ []
+    → t < length v.held
     → call_of v t ≡ Some c → c.stage ≡ Claimed address shape stored dst → HasRoom v (2 + shape.refs + shape.nums)
-room_for v t address stored dst c shape s within at stage =
+room_for disk v t address stored dst c shape s none within at stage =
     let inside : t < length v.calls = let each : length v.calls ≡ length v.held = s.each in omega arith in
     let without : claimed (set v.calls t None) + claimed_in (call_of v t) ≡ claimed v.calls + 0 =
     claimed-set v.calls t None inside in
     let owned : claimed_in (call_of v t) ≡ cost_of shape = claimed_at v t address stored dst c shape at stage in
     let fits : (s.counts refl).in_use + claimed v.calls ≤ length v.space.list = (s.counts refl).within in
-    let sum = alive_sum v s in
+    let sum = alive_sum disk v s in
     let part : sum.0 ≤ (s.counts refl).in_use =
     CostsSum-part (words_of v.log) (Alive v.log (value v)) (InUse (maps v)) sum.0 (s.counts refl).in_use
-    (alive_in_use v s) sum.1 (s.counts refl).adds_up in
+    (alive_in_use disk v s none) sum.1 (s.counts refl).adds_up in
     record { alive = sum.0; adds_up = sum.1; fits = omega arith }

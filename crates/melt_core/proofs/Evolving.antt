@@ -12,7 +12,9 @@ use Rattle.melt_word.specs.declared.reference.Ref.TheVariants.{Null, Clean, Stal
 use Rattle.melt_scion.specs.State.{State, HeaderAt}
 use Rattle.melt_scion.specs.Placed.{Maps, FormedWords}
 use Rattle.melt_scion.specs.Regions.{Region, Owns}
-use Rattle.melt_scion.specs.Changes.{SameWords, WordChanges, GlobalChanges, FreeMoves, NameAppears}
+use Rattle.melt_scion.specs.Changes.{SameWords, WordChanges, GlobalChanges, ForwardChanges, FreeMoves, NameAppears}
+use Rattle.melt_forward.specs.Forwarding.{forward_word}
+use Rattle.melt_scion.specs.Commits.{MayCommit}
 use Rattle.melt_scion.proofs.Geometry.{one_header, header_moves}
 use Rattle.melt_scion.proofs.Parts.{PartAt, head_part, slot_part, number_part}
 use Rattle.melt_scion.proofs.Parts.{parts_differ, slot_or_number, part_outside}
@@ -228,6 +230,24 @@ evolves_enter maps new s t r word n formed owns some changes appears =
       free = word_only.free;
     }
 
+-- a copy becomes an object: a forwarding word that was empty is filled
+evolves_commit : (told : Bool) (maps new : Maps) (s t : State) (home tried p n address : ℕ) (shape : Shape)
+    (rest : List ℕ) → FormedWords maps s → MayCommit told maps s home tried p n address shape rest →
+    ForwardChanges s t p (forward_word home address) → NameAppears maps new address n → Evolves maps new s t 0
+evolves_commit told maps new s t home tried p n address shape rest formed may changes appears =
+    let fresh : NotNamed maps address =
+    owned_not_named maps s (region address shape) address formed may.copy.owns (omega arith) (omega arith) in
+    record {
+      base = changes.base;
+      homes = appears.home;
+      names = λ a m named. appears.others a (fresh a m named) ∙ named;
+      header = λ a m header named other starts. header_moves t s a header (changes.word_stays a) starts;
+      clears = λ m header named starts. absurd (null_not_named maps s formed 0 m named refl);
+      places = settles_same maps s t changes.word_stays changes.global;
+      forwards = λ q below filled. changes.others q (λ same. filled (ap s.forward same ∙ may.empty));
+      free = let e : t.free ≡ s.free = changes.free in omega arith;
+    }
+
 -- an event that keeps the maps leaves what it leaves with the old ones
 same_maps : (maps new : Maps) (s t : State) (cleared : ℕ) → new ≡ maps → Evolves maps maps s t cleared →
     Evolves maps new s t cleared
@@ -266,3 +286,5 @@ module _ (told : Bool) (h : List Entry) (maps new : Maps) (s t : State) where
   evolves_event mine cleared act formed
       (Event.untags place at found target value is slot range was named fresh same last changes) =
       same_maps maps new s t 0 is (evolves_place maps s t place target formed slot changes)
+  evolves_event mine cleared act formed (Event.commits home tried p n address shape rest may changes appears) =
+      evolves_commit told maps new s t home tried p n address shape rest formed may changes appears

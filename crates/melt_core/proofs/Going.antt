@@ -4,7 +4,7 @@ use Rattle.std.proofs.Math.ListN.{set}
 use Rattle.std.specs.Prelude.{Bool, false, Option, None, Some}
 use Rattle.melt_model.specs.declared.operations.Op.{Op}
 use Rattle.melt_space.specs.Space.{SpaceWords}
-use Rattle.melt_scion.specs.Heaps.{register_in}
+use Rattle.melt_scion.specs.Heaps.{OnDisk, register_in}
 use Rattle.melt_scion.specs.Regions.{no_region}
 use Rattle.melt_core.specs.declared.answer.StepResult.TheVariants.{Going}
 use Rattle.melt_core.specs.declared.call.Call.{Call}
@@ -15,7 +15,7 @@ use Rattle.melt_core.specs.Known.{Known}
 use Rattle.melt_core.specs.Events.{Event, quiet}
 use Rattle.melt_core.specs.Stages.{Next, Nothing, Shares, change_of, cleared_by, Applies, Fits}
 use Rattle.melt_core.specs.Changed.{with_call}
-use Rattle.melt_core.specs.Advances.{MayAdvance, Advances, Goes, KeepsOwn}
+use Rattle.melt_core.specs.Advances.{Asks, AdvancesOver, Goes, KeepsOwn}
 use Rattle.melt_core.specs.Views.{View, maps, state, call_of, stage_in, stage_of, claimed_in, Standing}
 use Rattle.melt_core.proofs.Claims.{claims_next}
 use Rattle.melt_core.proofs.Asked.{inside, nothing_claimed, next_fits, still_clears}
@@ -25,28 +25,28 @@ use Rattle.melt_core.proofs.Plain.{Plain, plain}
 use Rattle.melt_core.proofs.Regions.{nearer_in}
 
 -- the call goes on, by this call behind the event
-pub goes : (v w : View) (t : ℕ) (o : Op) (stage : Stage) → MayAdvance v t o
-    → Next (maps v) (state v) (register_in v.held t) v.stop o (stage_of v t) stage
+pub goes : (disk : OnDisk) (v w : View) (t : ℕ) (o : Op) (stage : Stage) → Asks disk v t o
+    → Next (maps v) (state disk v) (register_in v.held t) v.stop o (stage_of v t) stage
     → w.calls ≡ set v.calls t (Some (record { op = o; stage = stage })) → KeepsOwn v w t → w.stop ≡ v.stop
-    → Goes v w t o
-goes v w t o stage asks next calls own stop = record {
+    → Goes disk v w t o
+goes disk v w t o stage asks next calls own stop = record {
   stage = stage;
   next = next;
-  call = call_here v w t (Some (record { op = o; stage = stage })) calls (inside v t o asks);
-  nearer = nearer_in v t o stage asks next;
+  call = call_here v w t (Some (record { op = o; stage = stage })) calls (inside disk v t o asks);
+  nearer = nearer_in disk v t o stage asks next;
   own = own;
   stop = stop;
 }
 
 -- What an event shows after which the call goes on at this stage.
-pub record GoesOn (v w : View) (t : ℕ) (o : Op) (stage : Stage) : Type 0 where
-  pub event : (told : Bool) → Standing told v
-      → Event told v.log (maps v) (maps w) (state v) (state w) no_region (cleared_by (stage_of v t)) None
-  pub applies : Applies (maps v) (maps w) (state v) (state w)
-      (change_of (state v) (register_in v.held t) (stage_of v t))
+pub record GoesOn (disk : OnDisk) (v w : View) (t : ℕ) (o : Op) (stage : Stage) : Type 0 where
+  pub event : (told : Bool) → Standing told disk v
+      → Event told v.log (maps v) (maps w) (state disk v) (state disk w) no_region (cleared_by (stage_of v t)) None
+  pub applies : Applies (maps v) (maps w) (state disk v) (state disk w)
+      (change_of (state disk v) (register_in v.held t) (stage_of v t))
   pub words : length w.space.list ≡ length v.space.list
-  pub next : Next (maps v) (state v) (register_in v.held t) v.stop o (stage_of v t) stage
-  pub known : Known (maps w) (state w) stage
+  pub next : Next (maps v) (state disk v) (register_in v.held t) v.stop o (stage_of v t) stage
+  pub known : (told : Bool) → Standing told disk v → Known told (maps w) (state disk w) stage
   pub unclaimed : claimed_in (Some (record { op = o; stage = stage })) ≡ 0
   pub unclaimed_before : claimed_in (call_of v t) ≡ 0
 
@@ -54,13 +54,13 @@ pub record GoesOn (v w : View) (t : ℕ) (o : Op) (stage : Stage) : Type 0 where
 abbrev pub gone_on : View → SpaceWords → ℕ → Op → Stage → View
 gone_on v space t o stage = with_call (record v { space = space }) t (Some (record { op = o; stage = stage }))
 
-pub goes_on : (v : View) (space : SpaceWords) (t : ℕ) (o : Op) (stage : Stage) → MayAdvance v t o
-    → GoesOn v (gone_on v space t o stage) t o stage → Advances v (gone_on v space t o stage) t o Going
-goes_on v space t o stage asks is =
-    let s : Standing false v = asks.stands in
+pub goes_on : (disk : OnDisk) (v : View) (space : SpaceWords) (t : ℕ) (o : Op) (stage : Stage) → Asks disk v t o
+    → GoesOn disk v (gone_on v space t o stage) t o stage → AdvancesOver disk v (gone_on v space t o stage) t o Going
+goes_on disk v space t o stage asks is =
+    let s : Standing false disk v = asks.stands in
     let after : Call = record { op = o; stage = stage } in
     let w : View = gone_on v space t o stage in
-    let p : Plain v w t (cleared_by (stage_of v t)) None (Some after) = record {
+    let p : Plain disk v w t (cleared_by (stage_of v t)) None (Some after) = record {
       event = is.event;
       nothing = tt;
       moves = refl;
@@ -68,44 +68,50 @@ goes_on v space t o stage asks is =
       threads = refl;
       others = λ u differ. refl;
       may_hold = s.registers t;
-      known = λ c same. subst (λ (d : Call). Known (maps w) (state w) d.stage) (let e : after ≡ c = cc in e) is.known;
+      known = λ told stands c same. subst (λ (d : Call). Known told (maps w) (state disk w) d.stage)
+          (let e : after ≡ c = cc in e)
+          (is.known told stands);
       fits = λ c same. subst (λ (d : Call). Fits (register_in v.held t) d.op d.stage) (let e : after ≡ c = cc in e)
-          (next_fits (maps v) (state v) (register_in v.held t) v.stop o (call_of v t) stage asks.continued
+          (next_fits (maps v) (state disk v) (register_in v.held t) v.stop o (call_of v t) stage asks.continued
           (λ d at. s.fits t d at) is.next);
       unclaimed = is.unclaimed;
       unclaimed_before = is.unclaimed_before;
-      claims = claims_next (maps v) (state v) (register_in v.held t) v.stop o (stage_of v t) stage is.next;
+      claims = claims_next (maps v) (state disk v) (register_in v.held t) v.stop o (stage_of v t) stage is.next;
     } in
-    advances v w t o Going asks (plain v w t (cleared_by (stage_of v t)) None (Some after) asks.thread p) refl
-    is.applies (goes v w t o stage asks is.next refl (record { history = refl; registers = refl; values = refl }) refl)
+    advances disk v w t o Going asks (plain disk v w t (cleared_by (stage_of v t)) None (Some after) asks.thread p) refl
+    is.applies (goes disk v w t o stage asks is.next refl (record { history = refl; registers = refl; values = refl })
+    refl)
     tt
 
 -- no word that threads share changes
-pub go_advances : (v : View) (t : ℕ) (o : Op) (stage : Stage) → MayAdvance v t o
-    → change_of (state v) (register_in v.held t) (stage_of v t) ≡ Nothing
-    → Next (maps v) (state v) (register_in v.held t) v.stop o (stage_of v t) stage → Known (maps v) (state v) stage
+pub go_advances : (disk : OnDisk) (v : View) (t : ℕ) (o : Op) (stage : Stage) → Asks disk v t o
+    → change_of (state disk v) (register_in v.held t) (stage_of v t) ≡ Nothing
+    → Next (maps v) (state disk v) (register_in v.held t) v.stop o (stage_of v t) stage
+    → ((told : Bool) → Standing told disk v → Known told (maps v) (state disk v) stage)
     → claimed_in (Some (record { op = o; stage = stage })) ≡ 0
-    → Advances v (with_call v t (Some (record { op = o; stage = stage }))) t o Going
-go_advances v t o stage asks still next known unclaimed =
-    goes_on v v.space t o stage asks (record {
-      event = λ told stands. subst (λ (k : ℕ). Event told v.log (maps v) (maps v) (state v) (state v) no_region k None)
-          (sym (still_clears (state v) (register_in v.held t) (stage_of v t) still)) (quiet refl (same_words v));
-      applies = subst (Applies (maps v) (maps v) (state v) (state v)) (sym still) (refl, same_words v);
+    → AdvancesOver disk v (with_call v t (Some (record { op = o; stage = stage }))) t o Going
+go_advances disk v t o stage asks still next known unclaimed =
+    goes_on disk v v.space t o stage asks (record {
+      event = λ told stands. subst (λ (k : ℕ). Event told v.log (maps v) (maps v) (state disk v) (state disk v)
+          no_region k None)
+          (sym (still_clears (state disk v) (register_in v.held t) (stage_of v t) still))
+          (quiet refl (same_words disk v));
+      applies = subst (Applies (maps v) (maps v) (state disk v) (state disk v)) (sym still) (refl, same_words disk v);
       words = refl;
       next = next;
       known = known;
       unclaimed = unclaimed;
-      unclaimed_before = nothing_claimed (state v) (register_in v.held t) (call_of v t) still;
+      unclaimed_before = nothing_claimed (state disk v) (register_in v.held t) (call_of v t) still;
     })
 
 -- the stop word was not set
-pub poll_advances : (v : View) (t : ℕ) (o : Op) (task : Task) → MayAdvance v t o → call_of v t ≡ None
+pub poll_advances : (disk : OnDisk) (v : View) (t : ℕ) (o : Op) (task : Task) → Asks disk v t o → call_of v t ≡ None
     → Shares (register_in v.held t) o task → v.stop ≡ false
-    → Advances v (with_call v t (Some (record { op = o; stage = Polled task }))) t o Going
-poll_advances v t o task asks first shares runs =
+    → AdvancesOver disk v (with_call v t (Some (record { op = o; stage = Polled task }))) t o Going
+poll_advances disk v t o task asks first shares runs =
     let none : None ≡ stage_of v t = sym (ap stage_in first) in
-    go_advances v t o (Polled task) asks
-    (subst (λ (g : Option Stage). change_of (state v) (register_in v.held t) g ≡ Nothing) none refl)
-    (subst (λ (g : Option Stage). Next (maps v) (state v) (register_in v.held t) v.stop o g (Polled task)) none
+    go_advances disk v t o (Polled task) asks
+    (subst (λ (g : Option Stage). change_of (state disk v) (register_in v.held t) g ≡ Nothing) none refl)
+    (subst (λ (g : Option Stage). Next (maps v) (state disk v) (register_in v.held t) v.stop o g (Polled task)) none
     (task, shares, runs, refl))
-    tt refl
+    (λ told s. tt) refl

@@ -23,6 +23,7 @@ use Rattle.melt_scion.proofs.Staying.{SameParts, FormedWords_same, Tells_same, N
 use Rattle.melt_scion.proofs.Staying.{word_outside, bit_cleared, Tells_reads}
 use Rattle.melt_scion.proofs.Writing.{Formed_number, Tells_number}
 use Rattle.melt_scion.proofs.Making.{Formed_made, Tells_made}
+use Rattle.melt_scion.proofs.Committing.{Formed_committed, NoGaps_committed, Tells_committed}
 use Rattle.melt_core.specs.declared.call.Place.{Place}
 use Rattle.melt_core.specs.Answering.{entry, with_entry}
 use Rattle.melt_core.specs.Known.{IsPlace, SlotAt, word_in, region}
@@ -161,3 +162,14 @@ module _ (told : Bool) (thread : ℕ) (h : List Entry) (maps new : Maps) (s t : 
       same_maps told _ maps new t is
       (holds_untags told thread h maps s t holds place at found target value slot range was named fresh same lasts
       changes)
+  holds_event mine cleared act holds legal
+      (Event.commits home tried p n address shape rest may changes appears) = record {
+        formed = Formed_committed maps new s t home tried p n address shape rest holds.formed holds.no_gaps told may
+            changes
+            appears;
+        no_gaps = NoGaps_committed maps new s t home tried p n address shape rest holds.formed holds.no_gaps told may
+            changes appears;
+        tells = λ tell.
+            Tells_committed maps new s t home tried p n address shape rest holds.formed holds.no_gaps told may changes
+            appears h (holds.tells tell) tell;
+      }

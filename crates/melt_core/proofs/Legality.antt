@@ -111,3 +111,6 @@ module _ (told : Bool) (thread : ℕ) (h : List Entry) (maps new : Maps) (s t : 
       (Event.untags place at found target value is slot range was named fresh same lasts changes) tell =
       same_globals _ s t (place_base s t place (4 * target) changes)
       (legal_read_place thread h maps s (legal tell) (holds.tells tell) place at value slot (lasts tell))
+  legal_event mine cleared act holds legal
+      (Event.commits home tried p n address shape rest may changes appears) tell =
+      same_globals h s t changes.base (legal tell)

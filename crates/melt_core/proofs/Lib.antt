@@ -9,6 +9,7 @@ pub mod Regions
 pub mod Legality
 pub mod Holding
 pub mod Keeping
+pub mod Disks
 pub mod Standing
 pub mod Alive
 pub mod Counting

@@ -1,9 +1,9 @@
 -- The events of loads: a look, a clear and an untag.
-use Rattle.std.proofs.Common.{◌≡◌, ℕ, zero, suc, ◌<◌, inl, inr, List, []}
+use Rattle.std.proofs.Common.{◌≡◌, ℕ, zero, suc, ◌+◌, ◌^◌, ◌<◌, ◌≤◌, inl, inr, List, []}
 use Rattle.std.proofs.Common.{◌∷◌, ◌++◌, length, refl, sym, ◌∙◌, ap, subst, arith}
 use Rattle.std.specs.Prelude.{Bool, true, false, Option, None, Some, unwrap_or}
 use Rattle.melt_model.specs.History.{last}
-use Rattle.melt_model.specs.Thread.{found}
+use Rattle.melt_model.specs.Thread.{found as found_in}
 use Rattle.melt_model.specs.declared.history.Act.TheVariants.{Read}
 use Rattle.melt_model.specs.declared.history.Slot.{Slot}
 use Rattle.melt_model.specs.declared.history.Slot.TheVariants as slots
@@ -11,17 +11,18 @@ use Rattle.melt_model.specs.declared.history.Value.{Value}
 use Rattle.melt_model.specs.declared.history.Value.TheVariants.{Nil}
 use Rattle.melt_model.specs.declared.operations.Op.{Op}
 use Rattle.melt_model.specs.declared.operations.Op.TheVariants as op
-use Rattle.melt_word.specs.Words.{IsHeader, IsRef, header_word, ref_word}
+use Rattle.melt_word.specs.Words.{IsAddress, IsHeader, IsRef, cost_of, header_word, ref_word}
 use Rattle.melt_word.specs.declared.header.Header.{Header}
 use Rattle.melt_space.specs.Space.{SpaceWords, SetsWord, word_at}
+use Rattle.melt_word.specs.declared.reference.Ref.{Ref}
 use Rattle.melt_word.specs.declared.reference.Ref.TheVariants.{Null, Clean, Stale}
 use Rattle.melt_word.specs.declared.header.Shape.{Shape}
 use Rattle.melt_scion.specs.State.{Base, State, HeaderAt, IsFresh}
 use Rattle.melt_scion.proofs.Geometry.{one_header}
-use Rattle.melt_scion.specs.Placed.{MayHold, value_of}
+use Rattle.melt_scion.specs.Placed.{IsNamed, MayHold, value_of}
 use Rattle.melt_scion.specs.Regions.{no_region}
 use Rattle.melt_scion.specs.Changes.{WordChanges}
-use Rattle.melt_scion.specs.Heaps.{register_in}
+use Rattle.melt_scion.specs.Heaps.{OnDisk, register_in}
 use Rattle.melt_core.specs.declared.answer.StepResult.{StepResult}
 use Rattle.melt_core.specs.declared.answer.StepResult.TheVariants.{Answered, Going}
 use Rattle.melt_core.specs.declared.call.Access.TheVariants.{Load}
@@ -31,13 +32,13 @@ use Rattle.melt_core.specs.declared.call.Stage.{Stage}
 use Rattle.melt_core.specs.declared.call.Stage.TheVariants.{Polled, Headed, Looked, Cleared}
 use Rattle.melt_core.specs.declared.call.Task.TheVariants.{LoadGlobal}
 use Rattle.melt_core.specs.Answering.{Answers, entry}
-use Rattle.melt_core.specs.Known.{IsObjectAt, IsPlace, IsTagged, SlotAt, HasLooked, Evolves, word_in}
+use Rattle.melt_core.specs.Known.{IsObjectAt, IsPlace, IsTagged, SlotAt, HasLooked, Leads, Evolves, word_in}
 use Rattle.melt_core.specs.Events.{Event, PlaceChanges, reads_place, clears, untags}
 use Rattle.melt_core.specs.Stages.{Next, Fits, LoadsAt, LooksFrom, Applies, Nothing, change_of, cleared_by}
 use Rattle.melt_core.specs.Changed.{HoldsRef, HasRead, with_call, with_register, noted}
-use Rattle.melt_core.specs.Advances.{MayAdvance, Advances, HasRoomFor, Sets, InBounds}
+use Rattle.melt_core.specs.Advances.{Asks, AdvancesOver, HasRoomFor, Sets, InBounds}
 use Rattle.melt_core.specs.Views.{View, Standing, maps, state, stage_of, values_of, held_value, claimed_in}
-use Rattle.melt_core.proofs.Asked.{call_at, fits_at, known_at}
+use Rattle.melt_core.proofs.Asked.{call_at, fits_at, known_at, known_so}
 use Rattle.melt_core.proofs.Words.{same_behind, word_set, over}
 use Rattle.melt_core.proofs.Evolving.{evolves_event}
 use Rattle.melt_core.proofs.Staying.{looked_stays, place_stays}
@@ -54,11 +55,11 @@ behind m t at dst address =
     with_call (with_register (noted m (entry t (Read at (held_value m.names address)))) t dst address) t None
 
 -- What a load knows where it is answered: its place, and the address that it found there.
-pub record Finds (v : View) (t : ℕ) (o : Op) (place : Place) (dst address : ℕ) : Type 0 where
+pub record Finds (disk : OnDisk) (v : View) (t : ℕ) (o : Op) (place : Place) (dst address : ℕ) : Type 0 where
   pub loads : LoadsAt (register_in v.held t) o place dst
-  pub there : IsPlace (maps v) (state v) place
-  pub may_hold : MayHold (maps v) (state v) address
-  pub value : Standing true v → (at : Slot) → SlotAt (maps v) place at → held_value v.names address ≡ last v.log at
+  pub there : IsPlace (maps v) (state disk v) place
+  pub may_hold : MayHold (maps v) (state disk v) address
+  pub value : Standing true disk v → (at : Slot) → SlotAt (maps v) place at → held_value v.names address ≡ last v.log at
 
 -- a load is of one place
 one_place : (register : ℕ → ℕ) (o : Op) (place other : Place) (dst d : ℕ) → LoadsAt register o place dst
@@ -80,30 +81,32 @@ one_place register o (Global g) (Global k) dst d first second = let e : op.GLoad
     sym (gload_is o dst g first) ∙ gload_is o d k second in let same : g ≡ k = cc in ap Global same
 
 -- the answer to a load, by its place
-read_answers : (v : View) (t : ℕ) (o : Op) (place : Place) (at : Slot) (dst address : ℕ) → t < length v.held
-    → Standing true v → Finds v t o place dst address → SlotAt (maps v) place at
-    → Answers t v.log (values_of v t) o (found (held_value v.names address))
+read_answers : (disk : OnDisk) (v : View) (t : ℕ) (o : Op) (place : Place) (at : Slot) (dst address : ℕ)
+    → t < length v.held
+    → Standing true disk v → Finds disk v t o place dst address → SlotAt (maps v) place at
+    → Answers t v.log (values_of v t) o (found_in (held_value v.names address))
     (v.log ++ entry t (Read at (held_value v.names address)) ∷ []) (values_of (with_register v t dst address) t)
-read_answers v t o (Field object i) at dst address within told finds slot =
-    subst (λ (q : Slot). Answers t v.log (values_of v t) o (found (held_value v.names address))
+read_answers disk v t o (Field object i) at dst address within told finds slot =
+    subst (λ (q : Slot). Answers t v.log (values_of v t) o (found_in (held_value v.names address))
     (v.log ++ entry t (Read q (held_value v.names address)) ∷ []) (values_of (with_register v t dst address) t))
     (sym slot.2)
-    (subst (λ (p : Op). Answers t v.log (values_of v t) p (found (held_value v.names address))
+    (subst (λ (p : Op). Answers t v.log (values_of v t) p (found_in (held_value v.names address))
     (v.log ++ entry t (Read (slots.Field slot.0 i) (held_value v.names address)) ∷ [])
     (values_of (with_register v t dst address) t)) (sym (load_is o finds.loads.0 dst i finds.loads.1))
     (load_answers t v.log (values_of v t) dst finds.loads.0 i slot.0 finds.there.0 (held_value v.names address)
-    (found (held_value v.names address)) _ _
+    (found_in (held_value v.names address)) _ _
     (value_named v t finds.loads.0 object slot.0 finds.loads.2 slot.1)
-    (object_shape v object slot.0 finds.there.0 told finds.there.1 slot.1) finds.there.2 refl
+    (object_shape disk v object slot.0 finds.there.0 told finds.there.1 slot.1) finds.there.2 refl
     (values_set v t dst address within) refl))
-read_answers v t o (Global g) at dst address within told finds slot =
-    subst (λ (q : Slot). Answers t v.log (values_of v t) o (found (held_value v.names address))
+read_answers disk v t o (Global g) at dst address within told finds slot =
+    subst (λ (q : Slot). Answers t v.log (values_of v t) o (found_in (held_value v.names address))
     (v.log ++ entry t (Read q (held_value v.names address)) ∷ []) (values_of (with_register v t dst address) t))
     (sym slot)
-    (subst (λ (p : Op). Answers t v.log (values_of v t) p (found (held_value v.names address))
+    (subst (λ (p : Op). Answers t v.log (values_of v t) p (found_in (held_value v.names address))
     (v.log ++ entry t (Read (slots.Global g) (held_value v.names address)) ∷ [])
     (values_of (with_register v t dst address) t)) (sym (gload_is o dst g finds.loads))
-    (gload_answers t v.log (values_of v t) dst g (held_value v.names address) (found (held_value v.names address)) _ _
+    (gload_answers t v.log (values_of v t) dst g (held_value v.names address) (found_in (held_value v.names address)) _
+    _
     refl (values_set v t dst address within) refl))
 
 sets_dst : (register : ℕ → ℕ) (o : Op) (place : Place) (dst : ℕ) → LoadsAt register o place dst → Sets o dst
@@ -117,58 +120,62 @@ load_room v register o (Field object i) dst loads = subst (HasRoomFor v) (sym (l
 load_room v register o (Global g) dst loads = subst (HasRoomFor v) (sym (gload_is o dst g loads)) tt
 
 -- What a load shows that is answered, where words of the space or a global may have changed.
-record Reads (v m : View) (t : ℕ) (o : Op) (stage : Stage) (place : Place) (at : Slot) (dst address : ℕ) : Type 0 where
-  pub ends : Ends v t o stage
-  pub finds : Finds v t o place dst address
+record Reads (disk : OnDisk) (v m : View) (t : ℕ) (o : Op) (stage : Stage) (place : Place) (at : Slot) (dst address : ℕ)
+    : Type 0 where
+  pub ends : Ends disk v t o stage
+  pub finds : Finds disk v t o place dst address
   pub is_slot : SlotAt (maps v) place at
   pub words : length m.space.list ≡ length v.space.list
-  pub event : (told : Bool) → Standing told v
-      → Event told v.log (maps v) (maps v) (state v) (state (behind m t at dst address)) no_region 0
+  pub event : (told : Bool) → Standing told disk v
+      → Event told v.log (maps v) (maps v) (state disk v) (state disk (behind m t at dst address)) no_region 0
       (Some (Read at (held_value v.names address)))
-  pub applies : Applies (maps v) (maps v) (state v) (state (behind m t at dst address))
-      (change_of (state v) (register_in v.held t) (Some stage))
-  pub clean : IsTagged (word_in (state m) place) → ⊥
+  pub applies : Applies (maps v) (maps v) (state disk v) (state disk (behind m t at dst address))
+      (change_of (state disk v) (register_in v.held t) (Some stage))
+  pub clean : IsTagged (word_in (state disk m) place) → ⊥
 
-read_advances : (v : View) (space : SpaceWords) (globals : List ℕ) (t : ℕ) (o : Op) (stage : Stage) (place : Place)
-    (at : Slot) (dst address : ℕ) → MayAdvance v t o → Reads v (over v space globals) t o stage place at dst address
-    → Advances v (behind (over v space globals) t at dst address) t o (Answered (found (held_value v.names address)))
-read_advances v space globals t o stage place at dst address asks is =
+read_advances : (disk : OnDisk) (v : View) (space : SpaceWords) (globals : List ℕ) (t : ℕ) (o : Op) (stage : Stage)
+    (place : Place)
+    (at : Slot) (dst address : ℕ) → Asks disk v t o → Reads disk v (over v space globals) t o stage place at dst address
+    → AdvancesOver disk v (behind (over v space globals) t at dst address) t o
+    (Answered (found_in (held_value v.names address)))
+read_advances disk v space globals t o stage place at dst address asks is =
     let m : View = over v space globals in
-    over_advances v (behind m t at dst address) t o stage (Some (Read at (held_value v.names address)))
-    (found (held_value v.names address)) asks (record {
+    over_advances disk v (behind m t at dst address) t o stage (Some (Read at (held_value v.names address)))
+    (found_in (held_value v.names address)) asks (record {
       ends = is.ends;
       event = is.event;
       applies = is.applies;
       nothing = refl;
       moves = refl;
       words = is.words;
-      local = local_set v t dst address asks.stands asks.thread is.finds.may_hold;
-      answers = λ told. read_answers v t o place at dst address asks.thread told is.finds is.is_slot;
+      local = local_set disk v t dst address asks.stands asks.thread is.finds.may_hold;
+      answers = λ told. read_answers disk v t o place at dst address asks.thread told is.finds is.is_slot;
       registers = λ r other. register_other v t dst address r asks.thread
           (λ same. other (subst (Sets o) (sym same) (sets_dst (register_in v.held t) o place dst is.finds.loads)));
       room = load_room v (register_in v.held t) o place dst is.finds.loads;
       clean = λ other d loads there tagged. is.clean
-          (subst (λ (p : Place). IsTagged (word_in (state m) p))
+          (subst (λ (p : Place). IsTagged (word_in (state disk m) p))
           (one_place (register_in v.held t) o other place d dst loads is.finds.loads)
           (same_word m t at dst address other tagged));
     })
   where
     same_word : (m : View) (t : ℕ) (at : Slot) (dst address : ℕ) (place : Place)
-        → IsTagged (word_in (state (behind m t at dst address)) place) → IsTagged (word_in (state m) place)
+        → IsTagged (word_in (state disk (behind m t at dst address)) place) → IsTagged (word_in (state disk m) place)
     same_word m t at dst address (Field object i) tagged = tagged
     same_word m t at dst address (Global g) tagged = tagged
 
 -- the place at which a load looks, and its operation
-pub looks_at : (v : View) (t : ℕ) (o : Op) (place : Place) (dst : ℕ) → MayAdvance v t o
-    → LooksFrom (stage_of v t) place dst → LoadsAt (register_in v.held t) o place dst × IsPlace (maps v) (state v) place
-looks_at v t o (Field object i) dst asks looks =
+pub looks_at : (disk : OnDisk) (v : View) (t : ℕ) (o : Op) (place : Place) (dst : ℕ) → Asks disk v t o
+    → LooksFrom (stage_of v t) place dst → LoadsAt (register_in v.held t) o place dst × IsPlace (maps v) (state disk v)
+    place
+looks_at disk v t o (Field object i) dst asks looks =
     let stage : Stage = Headed object looks.0 (Load dst i) in
-    let fits : Fits (register_in v.held t) o stage = fits_at v t o stage asks looks.1 in
-    let known : IsObjectAt (maps v) (state v) object looks.0 = known_at v t o stage asks looks.1 in
+    let fits : Fits (register_in v.held t) o stage = fits_at disk v t o stage asks looks.1 in
+    let known : IsObjectAt (maps v) (state disk v) object looks.0 = known_at disk v t o stage asks looks.1 in
     ((fits.0, fits.1, fits.2), (looks.0, known, fits.3))
-looks_at v t o (Global g) dst asks looks =
+looks_at disk v t o (Global g) dst asks looks =
     let stage : Stage = Polled (LoadGlobal dst g) in
-    let fits : Fits (register_in v.held t) o stage = fits_at v t o stage asks looks in
+    let fits : Fits (register_in v.held t) o stage = fits_at disk v t o stage asks looks in
     let bounds : InBounds (length v.globals) (op.GLoad dst g) =
     subst (InBounds (length v.globals)) (gload_is o dst g fits.0) asks.bounds in
     (fits.0, bounds.1)
@@ -182,144 +189,161 @@ clean_value : (v : View) (a : ℕ) (x : Value) → IsRef (Clean a) → value_of 
 clean_value v zero x range is = absurd (let some : 0 < 0 = range.not_null in omega arith)
 clean_value v (suc a) x range is = ap (λ (y : Option Value). unwrap_or y Nil) is
 
-pub finds_null : (v : View) (t : ℕ) (o : Op) (place : Place) (dst : ℕ) → Standing false v
-    → LoadsAt (register_in v.held t) o place dst → IsPlace (maps v) (state v) place
-    → HoldsRef (word_in (state v) place) Null → Finds v t o place dst 0
-finds_null v t o place dst s loads there holds = record {
+pub finds_null : (disk : OnDisk) (v : View) (t : ℕ) (o : Op) (place : Place) (dst : ℕ) → Standing false disk v
+    → LoadsAt (register_in v.held t) o place dst → IsPlace (maps v) (state disk v) place
+    → HoldsRef (word_in (state disk v) place) Null → Finds disk v t o place dst 0
+finds_null disk v t o place dst s loads there holds = record {
   loads = loads;
   there = there;
   may_hold = inl refl;
-  value = λ told at slot. null_value v (last v.log at) (value_there v place at Null told there slot holds);
+  value = λ told at slot. null_value v (last v.log at) (value_there disk v place at Null told there slot holds);
 }
 
-pub finds_clean : (v : View) (t : ℕ) (o : Op) (place : Place) (dst a : ℕ) → Standing false v
-    → LoadsAt (register_in v.held t) o place dst → IsPlace (maps v) (state v) place
-    → HoldsRef (word_in (state v) place) (Clean a) → Finds v t o place dst a
-finds_clean v t o place dst a s loads there holds = record {
+pub finds_clean : (disk : OnDisk) (v : View) (t : ℕ) (o : Op) (place : Place) (dst a : ℕ) → Standing false disk v
+    → LoadsAt (register_in v.held t) o place dst → IsPlace (maps v) (state disk v) place
+    → HoldsRef (word_in (state disk v) place) (Clean a) → Finds disk v t o place dst a
+finds_clean disk v t o place dst a s loads there holds = record {
   loads = loads;
   there = there;
-  may_hold = inr (may_stand_there v place (Clean a) s there holds);
+  may_hold = inr (may_stand_there disk v place (Clean a) s there holds);
   value = λ told at slot. clean_value v a (last v.log at) holds.in_range
-      (value_there v place at (Clean a) told there slot holds);
+      (value_there disk v place at (Clean a) told there slot holds);
 }
 
 -- the event of a read that changes no word
-pub quiet_read : (told : Bool) (v : View) (t : ℕ) (o : Op) (place : Place) (at : Slot) (dst address : ℕ)
-    → Standing told v → Finds v t o place dst address → SlotAt (maps v) place at
-    → (IsTagged (word_in (state v) place) → ⊥)
-    → Event told v.log (maps v) (maps v) (state v) (state (behind v t at dst address)) no_region 0
+pub quiet_read : (disk : OnDisk) (told : Bool) (v : View) (t : ℕ) (o : Op) (place : Place) (at : Slot) (dst address : ℕ)
+    → Standing told disk v → Finds disk v t o place dst address → SlotAt (maps v) place at
+    → (IsTagged (word_in (state disk v) place) → ⊥)
+    → Event told v.log (maps v) (maps v) (state disk v) (state disk (behind v t at dst address)) no_region 0
     (Some (Read at (held_value v.names address)))
-quiet_read told v t o place at dst address s finds slot clean =
+quiet_read disk told v t o place at dst address s finds slot clean =
     reads_place place at (held_value v.names address) refl
-    (same_behind v (behind v t at dst address).held) finds.there clean
-    (λ is. record { slot = slot; last = finds.value (subst (λ (b : Bool). Standing b v) is s) at slot })
+    (same_behind disk v (behind v t at dst address).held) finds.there clean
+    (λ is. record { slot = slot; last = finds.value (subst (λ (b : Bool). Standing b disk v) is s) at slot })
 
 -- a stale address has a tag
-stale_tagged : (v : View) (place : Place) (target : ℕ) → Standing false v → IsPlace (maps v) (state v) place
-    → word_in (state v) place ≡ ref_word (Stale target) → IsTagged (word_in (state v) place)
-stale_tagged v place target s there is =
-    record { reference = Stale target; in_range = stale_address v place target s there is; tag = tt; is = is }
+stale_tagged : (disk : OnDisk) (v : View) (place : Place) (target : ℕ) → Standing false disk v
+    → IsPlace (maps v) (state disk v) place
+    → word_in (state disk v) place ≡ ref_word (Stale target) → IsTagged (word_in (state disk v) place)
+stale_tagged disk v place target s there is =
+    record { reference = Stale target; in_range = stale_address disk v place target s there is; tag = tt; is = is }
 
 -- a look that found no tag is the last event of its load
-look_stage : (v : View) (t : ℕ) (o : Op) (place : Place) (dst : ℕ) → Standing false v → IsPlace (maps v) (state v) place
-    → LooksFrom (stage_of v t) place dst → (IsTagged (word_in (state v) place) → ⊥) → (stage : Stage) × Ends v t o stage
-    × (change_of (state v) (register_in v.held t) (Some stage) ≡ Nothing)
-look_stage v t o (Field object i) dst s there looks clean = (
+look_stage : (disk : OnDisk) (v : View) (t : ℕ) (o : Op) (place : Place) (dst : ℕ) → Standing false disk v
+    → IsPlace (maps v) (state disk v) place
+    → LooksFrom (stage_of v t) place dst → (IsTagged (word_in (state disk v) place) → ⊥)
+    → (stage : Stage) × Ends disk v t o stage
+    × (change_of (state disk v) (register_in v.held t) (Some stage) ≡ Nothing)
+look_stage disk v t o (Field object i) dst s there looks clean = (
   Headed object looks.0 (Load dst i),
-  ends_at v t o (Headed object looks.0 (Load dst i)) looks.1 tt
-      (λ next goes. clean (stale_tagged v (Field object i) goes.0 s there goes.1)),
+  ends_at disk v t o (Headed object looks.0 (Load dst i)) looks.1 tt
+      (λ next goes. clean (stale_tagged disk v (Field object i) goes.0 s there goes.1)),
   refl,
 )
-look_stage v t o (Global g) dst s there looks clean = (
+look_stage disk v t o (Global g) dst s there looks clean = (
   Polled (LoadGlobal dst g),
-  ends_at v t o (Polled (LoadGlobal dst g)) looks tt
-      (λ next goes. clean (stale_tagged v (Global g) goes.0 s there goes.1)),
+  ends_at disk v t o (Polled (LoadGlobal dst g)) looks tt
+      (λ next goes. clean (stale_tagged disk v (Global g) goes.0 s there goes.1)),
   refl,
 )
 
 -- a look found a stale address
-pub looked_known : (v : View) (t : ℕ) (place : Place) (target : ℕ) → Standing false v → IsPlace (maps v) (state v) place
-    → HoldsRef (word_in (state v) place) (Stale target) → HasLooked (maps v) (state v) place (Stale target)
-looked_known v t place target s there holds = record {
+pub looked_known : (disk : OnDisk) (v : View) (t : ℕ) (place : Place) (target : ℕ) → Standing false disk v
+    → IsPlace (maps v) (state disk v) place
+    → HoldsRef (word_in (state disk v) place) (Stale target) → HasLooked (maps v) (state disk v) place (Stale target)
+looked_known disk v t place target s there holds = record {
   at = there;
   in_range = holds.in_range;
   tag = tt;
-  may_stand = may_stand_there v place (Stale target) s there holds;
+  may_stand = may_stand_there disk v place (Stale target) s there holds;
   unless_clean = λ tagged. holds.is;
 }
 
 -- the stale bit of the object was cleared
-pub clear_advances : (v : View) (space : SpaceWords) (t : ℕ) (o : Op) (place : Place) (target dst word : ℕ)
-    (shape : Shape) → MayAdvance v t o → stage_of v t ≡ Some (Looked place target dst)
+pub clear_advances : (disk : OnDisk) (v : View) (space : SpaceWords) (t : ℕ) (o : Op) (place : Place) (found : Ref)
+    (target dst word : ℕ)
+    (shape : Shape) → Asks disk v t o → stage_of v t ≡ Some (Looked place found target dst)
     → ((h : Header) → IsHeader h → word_at v.space target ≡ header_word h → shape ≡ h.shape)
     → word ≡ header_word (record { shape = shape; stale = false }) → SetsWord v.space space target word
-    → Advances v (with_call (record v { space = space }) t (Some (record { op = o; stage = Cleared place target dst })))
+    → AdvancesOver disk v (with_call (record v { space = space }) t (Some
+    (record { op = o; stage = Cleared place found target dst })))
     t o Going
-clear_advances v space t o place target dst word shape asks at shaped is sets =
-    let s : Standing false v = asks.stands in
-    let stage : Stage = Looked place target dst in
-    let w : View = with_call (record v { space = space }) t (Some (record { op = o; stage = Cleared place target dst }))
+clear_advances disk v space t o place found target dst word shape asks at shaped is sets =
+    let s : Standing false disk v = asks.stands in
+    let stage : Stage = Looked place found target dst in
+    let w : View = with_call (record v { space = space }) t (Some (record
+    { op = o; stage = Cleared place found target dst }))
     in
-    let looked : HasLooked (maps v) (state v) place (Stale target) = known_at v t o stage asks at in
-    let object = s.holds.formed.objects target looked.may_stand.0 looked.may_stand.1 in
-    let starts : HeaderAt (state v) target object.0 = object.1.starts in
+    let known = known_at disk v t o stage asks at in
+    let looked : HasLooked (maps v) (state disk v) place found = known.0 in
+    let named : IsNamed (maps v) target = known.1.named in
+    let object = s.holds.formed.objects target named.0 named.1 in
+    let starts : HeaderAt (state disk v) target object.0 = object.1.starts in
     let same : shape ≡ object.0.shape = shaped object.0 starts.in_range starts.word in
     let cleared : Header = record { shape = object.0.shape; stale = false } in
     let here : word ≡ header_word cleared =
     is ∙ ap (λ (z : Shape). header_word (record { shape = z; stale = false })) same in
-    let changes : WordChanges (state v) (state w) target (header_word cleared) =
-    subst (WordChanges (state v) (state w) target) here (word_set v space v.held target word sets) in
-    let event : (told : Bool) → Event told v.log (maps v) (maps w) (state v) (state w) no_region target None =
-    λ told. clears target object.0 refl looked.may_stand starts changes in
-    let evolves : Evolves (maps v) (maps w) (state v) (state w) target =
-    evolves_event false v.log (maps v) (maps w) (state v) (state w) no_region target None s.holds.formed
+    let changes : WordChanges (state disk v) (state disk w) target (header_word cleared) =
+    subst (WordChanges (state disk v) (state disk w) target) here (word_set disk v space v.held target word sets) in
+    let event : (told : Bool) → Event told v.log (maps v) (maps w) (state disk v) (state disk w) no_region target None =
+    λ told. clears target object.0 refl named starts changes in
+    let evolves : Evolves (maps v) (maps w) (state disk v) (state disk w) target =
+    evolves_event false v.log (maps v) (maps w) (state disk v) (state disk w) no_region target None s.holds.formed
     (event false) in
-    goes_on v space t o (Cleared place target dst) asks (record {
-      event = λ told stands. subst (λ (k : ℕ). Event told v.log (maps v) (maps w) (state v) (state w) no_region k None)
+    goes_on disk v space t o (Cleared place found target dst) asks (record {
+      event = λ told stands. subst (λ (k : ℕ). Event told v.log (maps v) (maps w) (state disk v) (state disk w)
+          no_region k None)
           (sym (ap cleared_by at)) (event told);
-      applies = subst (λ (g : Option Stage). Applies (maps v) (maps w) (state v) (state w)
-          (change_of (state v) (register_in v.held t) g)) (sym at) (
+      applies = subst (λ (g : Option Stage). Applies (maps v) (maps w) (state disk v) (state disk w)
+          (change_of (state disk v) (register_in v.held t) g)) (sym at) (
             refl,
             λ header stands. subst
-                (λ (h : Header). WordChanges (state v) (state w) target
+                (λ (h : Header). WordChanges (state disk v) (state disk w) target
                 (header_word (record { shape = h.shape; stale = false })))
-                (one_header (state v) target object.0 header starts stands) changes,
+                (one_header (state disk v) target object.0 header starts stands) changes,
           );
       words = sets.size;
-      next = subst (λ (g : Option Stage). Next (maps v) (state v) (register_in v.held t) v.stop o g
-          (Cleared place target dst)) (sym at) refl;
-      known = (
-        looked_stays (maps v) (maps w) (state v) (state w) target s.holds.formed evolves place (Stale target) looked,
-        λ header stands. ap (λ (h : Header). h.stale)
-            (one_header (state w) target header cleared stands
-            (evolves.clears looked.may_stand.0 object.0 looked.may_stand.1 starts)),
-      );
+      next = subst (λ (g : Option Stage). Next (maps v) (state disk v) (register_in v.held t) v.stop o g
+          (Cleared place found target dst)) (sym at) refl;
+      known = λ told stands.
+          let so = known_so told disk v t o stage asks at stands in (
+            looked_stays (maps v) (maps w) (state disk v) (state disk w) target s.holds.formed evolves place found so.0,
+            so.1,
+            λ header starts_w. ap (λ (h : Header). h.stale)
+                (one_header (state disk w) target header cleared starts_w
+                (evolves.clears named.0 object.0 named.1 starts)),
+          );
       unclaimed = refl;
-      unclaimed_before = ap claimed_in (call_at v t o stage asks at);
+      unclaimed_before = ap claimed_in (call_at disk v t o stage asks at);
     })
 
 -- the look found a stale address
-pub look_advances : (v : View) (t : ℕ) (o : Op) (place : Place) (target dst : ℕ) → MayAdvance v t o
-    → LooksFrom (stage_of v t) place dst → HoldsRef (word_in (state v) place) (Stale target)
-    → Advances v (with_call v t (Some (record { op = o; stage = Looked place target dst }))) t o Going
-look_advances v t o place target dst asks looks holds =
+pub look_advances : (disk : OnDisk) (v : View) (t : ℕ) (o : Op) (place : Place) (target dst : ℕ) → Asks disk v t o
+    → LooksFrom (stage_of v t) place dst → HoldsRef (word_in (state disk v) place) (Stale target)
+    → AdvancesOver disk v (with_call v t (Some (record { op = o; stage = Looked place (Stale target) target dst }))) t o
+    Going
+look_advances disk v t o place target dst asks looks holds =
     let next = look_next v t o place target dst looks holds.is in
-    go_advances v t o (Looked place target dst) asks next.0 next.1
-    (looked_known v t place target asks.stands (looks_at v t o place dst asks looks).1 holds) refl
+    go_advances disk v t o (Looked place (Stale target) target dst) asks next.0 next.1
+    (λ told s.
+    let looked : HasLooked (maps v) (state disk v) place (Stale target) =
+    looked_known disk v t place target asks.stands (looks_at disk v t o place dst asks looks).1 holds in
+    (looked, record { named = looked.may_stand; same = λ tells. refl })) refl
   where
     look_next : (v : View) (t : ℕ) (o : Op) (place : Place) (target dst : ℕ) → LooksFrom (stage_of v t) place dst
-        → word_in (state v) place ≡ ref_word (Stale target)
-        → (change_of (state v) (register_in v.held t) (stage_of v t) ≡ Nothing)
-        × Next (maps v) (state v) (register_in v.held t) v.stop o (stage_of v t) (Looked place target dst)
+        → word_in (state disk v) place ≡ ref_word (Stale target)
+        → (change_of (state disk v) (register_in v.held t) (stage_of v t) ≡ Nothing)
+        × Next (maps v) (state disk v) (register_in v.held t) v.stop o (stage_of v t)
+        (Looked place (Stale target) target dst)
     look_next v t o (Field object i) target dst looks is = (
-      subst (λ (g : Option Stage). change_of (state v) (register_in v.held t) g ≡ Nothing) (sym looks.1) refl,
-      subst (λ (g : Option Stage). Next (maps v) (state v) (register_in v.held t) v.stop o g
-          (Looked (Field object i) target dst)) (sym looks.1) (target, is, refl),
+      subst (λ (g : Option Stage). change_of (state disk v) (register_in v.held t) g ≡ Nothing) (sym looks.1) refl,
+      subst (λ (g : Option Stage). Next (maps v) (state disk v) (register_in v.held t) v.stop o g
+          (Looked (Field object i) (Stale target) target dst)) (sym looks.1) (target, is, refl),
     )
     look_next v t o (Global g) target dst looks is = (
-      subst (λ (g : Option Stage). change_of (state v) (register_in v.held t) g ≡ Nothing) (sym looks) refl,
-      subst (λ (x : Option Stage). Next (maps v) (state v) (register_in v.held t) v.stop o x
-          (Looked (Global g) target dst)) (sym looks) (target, is, refl),
+      subst (λ (g : Option Stage). change_of (state disk v) (register_in v.held t) g ≡ Nothing) (sym looks) refl,
+      subst (λ (x : Option Stage). Next (maps v) (state disk v) (register_in v.held t) v.stop o x
+          (Looked (Global g) (Stale target) target dst)) (sym looks) (target, is, refl),
     )
 
 -- the stage at which a load looks
@@ -329,123 +353,159 @@ looks_stage stage (Field object i) dst looks = (Headed object looks.0 (Load dst 
 looks_stage stage (Global g) dst looks = (Polled (LoadGlobal dst g), looks)
 
 -- a load was answered by its look
-pub look_reads : (v w : View) (t : ℕ) (o : Op) (place : Place) (dst address : ℕ) (result : StepResult)
-    → MayAdvance v t o → LooksFrom (stage_of v t) place dst → Finds v t o place dst address
-    → (IsTagged (word_in (state v) place) → ⊥) → HasRead v w t place dst address result → Advances v w t o result
-look_reads v w t o place dst address result asks looks finds clean read =
-    let stage = look_stage v t o place dst asks.stands finds.there looks clean in
-    subst (λ (r : StepResult). Advances v w t o r) (sym read.told)
-    (subst (λ (x : View). Advances v x t o (Answered (found (held_value v.names address)))) (sym read.is)
-    (read_advances v v.space v.globals t o stage.0 place read.slot dst address asks (record {
+pub look_reads : (disk : OnDisk) (v w : View) (t : ℕ) (o : Op) (place : Place) (dst address : ℕ) (result : StepResult)
+    → Asks disk v t o → LooksFrom (stage_of v t) place dst → Finds disk v t o place dst address
+    → (IsTagged (word_in (state disk v) place) → ⊥) → HasRead v w t place dst address result
+    → AdvancesOver disk v w t o result
+look_reads disk v w t o place dst address result asks looks finds clean read =
+    let stage = look_stage disk v t o place dst asks.stands finds.there looks clean in
+    subst (λ (r : StepResult). AdvancesOver disk v w t o r) (sym read.told)
+    (subst (λ (x : View). AdvancesOver disk v x t o (Answered (found_in (held_value v.names address)))) (sym read.is)
+    (read_advances disk v v.space v.globals t o stage.0 place read.slot dst address asks (record {
       ends = stage.1;
       finds = finds;
       is_slot = read.is_slot;
       words = refl;
-      event = λ told s. quiet_read told v t o place read.slot dst address s finds read.is_slot clean;
-      applies = subst (Applies (maps v) (maps v) (state v) (state (behind v t read.slot dst address))) (sym stage.2)
-          (refl, same_behind v (behind v t read.slot dst address).held);
+      event = λ told s. quiet_read disk told v t o place read.slot dst address s finds read.is_slot clean;
+      applies = subst (Applies (maps v) (maps v) (state disk v) (state disk (behind v t read.slot dst address)))
+          (sym stage.2)
+          (refl, same_behind disk v (behind v t read.slot dst address).held);
       clean = clean;
     })))
 
--- The next event of the thread is the exchange of its load, which found the stale target at the place.
-pub record IsCleared (v : View) (t : ℕ) (o : Op) (place : Place) (target dst : ℕ) : Type 0 where
-  pub asks : MayAdvance v t o
-  pub at : stage_of v t ≡ Some (Cleared place target dst)
+-- The next event of the thread is the exchange of its load, which found the reference at the place.
+pub record IsCleared (disk : OnDisk) (v : View) (t : ℕ) (o : Op) (place : Place) (found : Ref) (target dst : ℕ) : Type 0
+    where
+  pub asks : Asks disk v t o
+  pub at : stage_of v t ≡ Some (Cleared place found target dst)
 
 -- it has no event behind it
-cleared_ends : {v : View} {t : ℕ} {o : Op} {place : Place} {target dst : ℕ} → IsCleared v t o place target dst
-    → Ends v t o (Cleared place target dst)
-cleared_ends {v} {t} {o} {place} {target} {dst} is =
-    ends_at v t o (Cleared place target dst) is.at tt (λ next goes. goes)
+cleared_ends : (disk : OnDisk) {v : View} {t : ℕ} {o : Op} {place : Place} {found : Ref} {target dst : ℕ}
+    → IsCleared disk v t o place found target dst
+    → Ends disk v t o (Cleared place found target dst)
+cleared_ends disk {v} {t} {o} {place} {found} {target} {dst} is =
+    ends_at disk v t o (Cleared place found target dst) is.at tt (λ next goes. goes)
 
 -- what such a load knows
-pub cleared_known : {v : View} {t : ℕ} {o : Op} {place : Place} {target dst : ℕ} → IsCleared v t o place target dst
-    → HasLooked (maps v) (state v) place (Stale target) × IsFresh (state v) target
-cleared_known {v} {t} {o} {place} {target} {dst} is = known_at v t o (Cleared place target dst) is.asks is.at
+pub cleared_known : (disk : OnDisk) {v : View} {t : ℕ} {o : Op} {place : Place} {found : Ref} {target dst : ℕ}
+    → IsCleared disk v t o place found target dst
+    → HasLooked (maps v) (state disk v) place found × Leads false (maps v) found target × IsFresh (state disk v) target
+cleared_known disk {v} {t} {o} {place} {found} {target} {dst} is = known_at disk v t o (Cleared place found target dst)
+    is.asks is.at
 
-pub cleared_loads : {v : View} {t : ℕ} {o : Op} {place : Place} {target dst : ℕ} → IsCleared v t o place target dst
+pub cleared_loads : (disk : OnDisk) {v : View} {t : ℕ} {o : Op} {place : Place} {found : Ref} {target dst : ℕ}
+    → IsCleared disk v t o place found target dst
     → LoadsAt (register_in v.held t) o place dst
-cleared_loads {v} {t} {o} {place} {target} {dst} is = fits_at v t o (Cleared place target dst) is.asks is.at
+cleared_loads disk {v} {t} {o} {place} {found} {target} {dst} is = fits_at disk v t o (Cleared place found target dst)
+    is.asks is.at
 
 -- an exchange was lost: the word that stands there is answered
-pub untag_lost : {v w : View} {t : ℕ} {o : Op} {place : Place} {target dst address : ℕ} {result : StepResult}
-    → IsCleared v t o place target dst → Finds v t o place dst address → (IsTagged (word_in (state v) place) → ⊥)
-    → HasRead v w t place dst address result → Advances v w t o result
-untag_lost {v} {w} {t} {o} {place} {target} {dst} {address} is finds clean read =
-    subst (λ (r : StepResult). Advances v w t o r) (sym read.told)
-    (subst (λ (x : View). Advances v x t o (Answered (found (held_value v.names address)))) (sym read.is)
-    (read_advances v v.space v.globals t o (Cleared place target dst) place read.slot dst address is.asks (record {
-      ends = cleared_ends is;
+pub untag_lost : (disk : OnDisk) {v w : View} {t : ℕ} {o : Op} {place : Place} {found : Ref} {target dst address : ℕ}
+    {result : StepResult}
+    → IsCleared disk v t o place found target dst → Finds disk v t o place dst address
+    → (IsTagged (word_in (state disk v) place) → ⊥)
+    → HasRead v w t place dst address result → AdvancesOver disk v w t o result
+untag_lost disk {v} {w} {t} {o} {place} {found} {target} {dst} {address} is finds clean read =
+    subst (λ (r : StepResult). AdvancesOver disk v w t o r) (sym read.told)
+    (subst (λ (x : View). AdvancesOver disk v x t o (Answered (found_in (held_value v.names address)))) (sym read.is)
+    (read_advances disk v v.space v.globals t o (Cleared place found target dst) place read.slot dst address is.asks
+    (record {
+      ends = cleared_ends disk is;
       finds = finds;
       is_slot = read.is_slot;
       words = refl;
-      event = λ told s. quiet_read told v t o place read.slot dst address s finds read.is_slot clean;
+      event = λ told s. quiet_read disk told v t o place read.slot dst address s finds read.is_slot clean;
       applies = (
         refl,
         (
           λ still. absurd (clean
-              (record { reference = Stale target; in_range = (cleared_known is).0.in_range; tag = tt; is = still })),
-          λ differ. same_behind v (behind v t read.slot dst address).held,
+              (record {
+                reference = found;
+                in_range = (cleared_known disk is).0.in_range;
+                tag = (cleared_known disk is).0.tag;
+                is = still;
+              })),
+          λ differ. same_behind disk v (behind v t read.slot dst address).held,
         ),
       );
       clean = clean;
     })))
 
--- the stale address is still there
-untag_is : {v : View} {t : ℕ} {o : Op} {place : Place} {target dst : ℕ} (x : ℕ) → IsCleared v t o place target dst
-    → HoldsRef (word_in (state v) place) (Stale x) → word_in (state v) place ≡ ref_word (Stale target)
-untag_is x is holds = (cleared_known is).0.unless_clean
-    (record { reference = Stale x; in_range = holds.in_range; tag = tt; is = holds.is })
+-- a word with a tag is still what was found
+untag_is : (disk : OnDisk) {v : View} {t : ℕ} {o : Op} {place : Place} {found : Ref} {target dst : ℕ}
+    → IsCleared disk v t o place found target dst → IsTagged (word_in (state disk v) place)
+    → word_in (state disk v) place ≡ ref_word found
+untag_is disk is tagged = (cleared_known disk is).0.unless_clean tagged
+
+-- the address of an object is in range
+named_range : (disk : OnDisk) (v : View) (a : ℕ) → Standing false disk v → IsNamed (maps v) a → IsAddress a
+named_range disk v a s named =
+    let object = s.holds.formed.objects a named.0 named.1 in
+    let small : length v.space.list < 2 ^ 30 = s.holds.formed.small in
+    let within : a + cost_of object.0.shape ≤ length v.space.list + 1 = object.1.within in
+    let first : 1 ≤ a = object.1.first in
+    record { not_null = omega arith; small = omega arith }
 
 -- the load's object
-untag_finds : {v : View} {t : ℕ} {o : Op} {place : Place} {target dst : ℕ} (x : ℕ) → IsCleared v t o place target dst
-    → HoldsRef (word_in (state v) place) (Stale x) → Finds v t o place dst target
-untag_finds {v} {t} {o} {place} {target} x is holds =
-    let known = cleared_known is in
+untag_finds : (disk : OnDisk) {v : View} {t : ℕ} {o : Op} {place : Place} {found : Ref} {target dst : ℕ}
+    → IsCleared disk v t o place found target dst → IsTagged (word_in (state disk v) place)
+    → Finds disk v t o place dst target
+untag_finds disk {v} {t} {o} {place} {found} {target} {dst} is tagged =
+    let known = cleared_known disk is in
     record {
-      loads = cleared_loads is;
+      loads = cleared_loads disk is;
       there = known.0.at;
-      may_hold = inr (known.0.may_stand, known.1);
-      value = λ told slot at. clean_value v target (last v.log slot) known.0.in_range
-          (value_there v place slot (Stale target) told known.0.at at
-          (record { in_range = known.0.in_range; is = untag_is x is holds }));
+      may_hold = inr (known.1.named, known.2);
+      value = λ told slot at.
+          let so = known_so true disk v t o (Cleared place found target dst) is.asks is.at told in
+          clean_value v target (last v.log slot) (named_range disk v target is.asks.stands known.1.named)
+          (sym (so.1.same refl)
+          ∙ value_there disk v place slot found told known.0.at at
+          (record { in_range = known.0.in_range; is = untag_is disk is tagged }));
     }
 
 -- the exchange, as an event
-untag_event : {v : View} {t : ℕ} {o : Op} {place : Place} {target dst : ℕ} (told : Bool) (m : View) (at : Slot) (x : ℕ)
-    → IsCleared v t o place target dst → Standing told v → SlotAt (maps v) place at
-    → HoldsRef (word_in (state v) place) (Stale x) → PlaceChanges (state v) (state m) place (ref_word (Clean target)) →
-    Event told v.log (maps v) (maps v) (state v) (state m) no_region 0 (Some (Read at (held_value v.names target)))
-untag_event {v} {t} {o} {place} {target} told m at x is s slot holds changes =
-    let known = cleared_known is in
-    let finds = untag_finds x is holds in
-    untags place at (Stale target) target (held_value v.names target) refl known.0.at known.0.in_range
-    (untag_is x is holds) known.0.may_stand known.1 (λ tells. refl)
-    (λ tells. record { slot = slot; last = finds.value (subst (λ (b : Bool). Standing b v) tells s) at slot }) changes
+untag_event : (disk : OnDisk) {v : View} {t : ℕ} {o : Op} {place : Place} {found : Ref} {target dst : ℕ} (told : Bool)
+    (m : View) (at : Slot)
+    → IsCleared disk v t o place found target dst → Standing told disk v → SlotAt (maps v) place at
+    → IsTagged (word_in (state disk v) place) → PlaceChanges (state disk v) (state disk m) place
+    (ref_word (Clean target)) →
+    Event told v.log (maps v) (maps v) (state disk v) (state disk m) no_region 0
+    (Some (Read at (held_value v.names target)))
+untag_event disk {v} {t} {o} {place} {found} {target} {dst} told m at is s slot tagged changes =
+    let known = cleared_known disk is in
+    let finds = untag_finds disk is tagged in
+    untags place at found target (held_value v.names target) refl known.0.at known.0.in_range
+    (untag_is disk is tagged) known.1.named known.2
+    (known_so told disk v t o (Cleared place found target dst) is.asks is.at s).1.same
+    (λ tells. record { slot = slot; last = finds.value (subst (λ (b : Bool). Standing b disk v) tells s) at slot })
+    changes
 
 -- the place is one behind it
-pub untag_place : {v : View} {t : ℕ} {o : Op} {place : Place} {target dst : ℕ} (space : SpaceWords) (globals : List ℕ)
-    (x : ℕ) → IsCleared v t o place target dst → HoldsRef (word_in (state v) place) (Stale x)
-    → PlaceChanges (state v) (state (over v space globals)) place (ref_word (Clean target))
-    → IsPlace (maps v) (state (over v space globals)) place
-untag_place {v} {t} {o} {place} space globals x is holds changes =
-    let there = (cleared_known is).0.at in
-    let s : Standing false v = is.asks.stands in
+pub untag_place : (disk : OnDisk) {v : View} {t : ℕ} {o : Op} {place : Place} {found : Ref} {target dst : ℕ}
+    (space : SpaceWords)
+    (globals : List ℕ) → IsCleared disk v t o place found target dst → IsTagged (word_in (state disk v) place)
+    → PlaceChanges (state disk v) (state disk (over v space globals)) place (ref_word (Clean target))
+    → IsPlace (maps v) (state disk (over v space globals)) place
+untag_place disk {v} {t} {o} {place} space globals is tagged changes =
+    let there = (cleared_known disk is).0.at in
+    let s : Standing false disk v = is.asks.stands in
     let m : View = over v space globals in
     let slot = some_slot v place there in
-    place_stays (maps v) (maps v) (state v) (state m) 0 s.holds.formed
-    (evolves_event false v.log (maps v) (maps v) (state v) (state m) no_region 0 _ s.holds.formed
-    (untag_event false m slot.0 x is s slot.1 holds changes)) place there
+    place_stays (maps v) (maps v) (state disk v) (state disk m) 0 s.holds.formed
+    (evolves_event false v.log (maps v) (maps v) (state disk v) (state disk m) no_region 0 _ s.holds.formed
+    (untag_event disk false m slot.0 is s slot.1 tagged changes)) place there
   where
-    some_slot : (v : View) (place : Place) → IsPlace (maps v) (state v) place → (at : Slot) × SlotAt (maps v) place at
+    some_slot : (v : View) (place : Place) → IsPlace (maps v) (state disk v) place
+        → (at : Slot) × SlotAt (maps v) place at
     some_slot v (Field object i) there = (slots.Field there.1.number i, (there.1.number, there.1.named, refl))
     some_slot v (Global g) there = (slots.Global g, refl)
 
 -- registers aside, the view behind a read is that before it
-behind_changes : (v m : View) (t : ℕ) (place : Place) (at : Slot) (dst address word : ℕ)
-    → PlaceChanges (state v) (state m) place word
-    → PlaceChanges (state v) (state (behind m t at dst address)) place word
-behind_changes v m t (Field object i) at dst address word changes =
+behind_changes : (disk : OnDisk) (v m : View) (t : ℕ) (place : Place) (at : Slot) (dst address word : ℕ)
+    → PlaceChanges (state disk v) (state disk m) place word
+    → PlaceChanges (state disk v) (state disk (behind m t at dst address)) place word
+behind_changes disk v m t (Field object i) at dst address word changes =
     record {
       base = changes.base;
       free = changes.free;
@@ -455,7 +515,7 @@ behind_changes v m t (Field object i) at dst address word changes =
           changes.global;
       forward = changes.forward;
     }
-behind_changes v m t (Global g) at dst address word changes =
+behind_changes disk v m t (Global g) at dst address word changes =
     record {
       base = changes.base;
       free = changes.free;
@@ -470,33 +530,38 @@ changed_word : (s t : State) (place : Place) (word : ℕ) → PlaceChanges s t p
 changed_word s t (Field object i) word changes = changes.here
 changed_word s t (Global g) word changes = changes.here
 
-changed_size : (v m : View) (place : Place) (word : ℕ) → PlaceChanges (state v) (state m) place word
+changed_size : (disk : OnDisk) (v m : View) (place : Place) (word : ℕ)
+    → PlaceChanges (state disk v) (state disk m) place word
     → length m.space.list ≡ length v.space.list
-changed_size v m (Field object i) word changes = ap (λ (b : Base). b.size) changes.base
-changed_size v m (Global g) word changes = ap (λ (b : Base). b.size) changes.base
+changed_size disk v m (Field object i) word changes = ap (λ (b : Base). b.size) changes.base
+changed_size disk v m (Global g) word changes = ap (λ (b : Base). b.size) changes.base
 
 -- an exchange was won
-pub untag_won : {v w : View} {t : ℕ} {o : Op} {place : Place} {target dst : ℕ} {result : StepResult}
-    (space : SpaceWords) (globals : List ℕ) (x : ℕ) → IsCleared v t o place target dst
-    → HoldsRef (word_in (state v) place) (Stale x)
-    → PlaceChanges (state v) (state (over v space globals)) place (ref_word (Clean target))
-    → HasRead (over v space globals) w t place dst target result → Advances v w t o result
-untag_won {v} {w} {t} {o} {place} {target} {dst} space globals x is holds changes read =
+pub untag_won : (disk : OnDisk) {v w : View} {t : ℕ} {o : Op} {place : Place} {found : Ref} {target dst : ℕ}
+    {result : StepResult}
+    (space : SpaceWords) (globals : List ℕ) → IsCleared disk v t o place found target dst
+    → IsTagged (word_in (state disk v) place)
+    → PlaceChanges (state disk v) (state disk (over v space globals)) place (ref_word (Clean target))
+    → HasRead (over v space globals) w t place dst target result → AdvancesOver disk v w t o result
+untag_won disk {v} {w} {t} {o} {place} {found} {target} {dst} space globals is tagged changes read =
     let m : View = over v space globals in
-    let after : PlaceChanges (state v) (state (behind m t read.slot dst target)) place (ref_word (Clean target)) =
-    behind_changes v m t place read.slot dst target (ref_word (Clean target)) changes in
-    subst (λ (r : StepResult). Advances v w t o r) (sym read.told)
-    (subst (λ (y : View). Advances v y t o (Answered (found (held_value v.names target)))) (sym read.is)
-    (read_advances v space globals t o (Cleared place target dst) place read.slot dst target is.asks (record {
-      ends = cleared_ends is;
-      finds = untag_finds x is holds;
+    let after : PlaceChanges (state disk v) (state disk (behind m t read.slot dst target)) place
+    (ref_word (Clean target)) =
+    behind_changes disk v m t place read.slot dst target (ref_word (Clean target)) changes in
+    subst (λ (r : StepResult). AdvancesOver disk v w t o r) (sym read.told)
+    (subst (λ (y : View). AdvancesOver disk v y t o (Answered (found_in (held_value v.names target)))) (sym read.is)
+    (read_advances disk v space globals t o (Cleared place found target dst) place read.slot dst target is.asks
+    (record {
+      ends = cleared_ends disk is;
+      finds = untag_finds disk is tagged;
       is_slot = read.is_slot;
-      words = changed_size v m place (ref_word (Clean target)) changes;
-      event = λ told s. untag_event told (behind m t read.slot dst target) read.slot x is s read.is_slot holds after;
-      applies = (refl, (λ still. after, λ differ. absurd (differ (untag_is x is holds))));
-      clean = λ tagged. tagged_is (word_in (state m) place) (Clean target)
+      words = changed_size disk v m place (ref_word (Clean target)) changes;
+      event = λ told s. untag_event disk told (behind m t read.slot dst target) read.slot is s read.is_slot tagged
+          after;
+      applies = (refl, (λ still. after, λ differ. absurd (differ (untag_is disk is tagged))));
+      clean = λ later. tagged_is (word_in (state disk m) place) (Clean target)
           (record {
-            in_range = (cleared_known is).0.in_range;
-            is = changed_word (state v) (state m) place (ref_word (Clean target)) changes;
-          }) tagged;
+            in_range = named_range disk v target is.asks.stands (cleared_known disk is).1.named;
+            is = changed_word (state disk v) (state disk m) place (ref_word (Clean target)) changes;
+          }) later;
     })))

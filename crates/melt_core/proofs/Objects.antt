@@ -1,5 +1,5 @@
 -- Objects and places, as the events of a call find them.
-use Rattle.std.proofs.Common.{◌≡◌, ◌≢◌, ℕ, ◌+◌, ◌*◌, ◌<◌, ◌≤◌, inl, inr, refl, sym, ◌∙◌, ap, subst, arith}
+use Rattle.std.proofs.Common.{◌≡◌, ◌≢◌, ◌⊎◌, ℕ, ◌+◌, ◌*◌, ◌<◌, ◌≤◌, inl, inr, refl, sym, ◌∙◌, ap, subst, arith}
 use Rattle.std.specs.Prelude.{true, false, Some}
 use Rattle.melt_model.specs.History.{shape as shape_in, last}
 use Rattle.melt_model.specs.Thread.{value_in}
@@ -13,7 +13,7 @@ use Rattle.melt_word.specs.declared.reference.Ref.TheVariants.{Null, Clean, Stal
 use Rattle.melt_word.proofs.OneToOne.{same_ref}
 use Rattle.melt_space.specs.Space.{word_at}
 use Rattle.melt_scion.specs.Placed.{MayStand, Stands, IsReferenceWord, value_of}
-use Rattle.melt_scion.specs.Heaps.{register_in}
+use Rattle.melt_scion.specs.Heaps.{OnDisk, register_in}
 use Rattle.melt_core.specs.declared.call.Place.{Place}
 use Rattle.melt_core.specs.declared.call.Place.TheVariants.{Field, Global}
 use Rattle.melt_core.specs.Known.{IsObjectAt, IsPlace, IsTagged, HasTag, SlotAt, word_in}
@@ -23,9 +23,10 @@ use Rattle.melt_core.proofs.Answers.{shape_of}
 use Rattle.melt_core.proofs.Values.{value_held, held_is, named_value}
 
 -- an object stands where a register points
-pub object_held : (v : View) (t r : ℕ) → Standing false v → register_in v.held t r ≢ 0 → (header : Header)
-    × IsObjectAt (maps v) (state v) (register_in v.held t r) header.shape
-object_held v t r s some = elim (s.registers t r) [
+pub object_held : (disk : OnDisk) (v : View) (t r : ℕ) → Standing false disk v → register_in v.held t r ≢ 0
+    → (header : Header)
+    × IsObjectAt (maps v) (state disk v) (register_in v.held t r) header.shape
+object_held disk v t r s some = elim (s.registers t r) [
   | inl nothing ↦ absurd (some nothing)
   | inr holds ↦
       let object = s.holds.formed.objects (register_in v.held t r) holds.0.0 holds.0.1 in (
@@ -42,11 +43,11 @@ object_held v t r s some = elim (s.registers t r) [
 ]
 
 -- the object of a shape that was read off its header
-pub object_of : (v : View) (address : ℕ) (header : Header) (shape : Shape)
-    → IsObjectAt (maps v) (state v) address header.shape
+pub object_of : (disk : OnDisk) (v : View) (address : ℕ) (header : Header) (shape : Shape)
+    → IsObjectAt (maps v) (state disk v) address header.shape
     → ((h : Header) → IsHeader h → word_at v.space address ≡ header_word h → shape ≡ h.shape)
-    → IsObjectAt (maps v) (state v) address shape
-object_of v address header shape is shaped =
+    → IsObjectAt (maps v) (state disk v) address shape
+object_of disk v address header shape is shaped =
     record {
       number = is.number;
       named = is.named;
@@ -64,60 +65,63 @@ value_named v t r address n holds named =
     ∙ (ap (held_value v.names) holds ∙ held_is v.names address (Object n) (named_value v.names address n named))
 
 -- the history's shape of an object
-pub object_shape : (v : View) (address n : ℕ) (shape : Shape) → Standing true v
-    → IsObjectAt (maps v) (state v) address shape → (maps v).address address ≡ Some n
+pub object_shape : (disk : OnDisk) (v : View) (address n : ℕ) (shape : Shape) → Standing true disk v
+    → IsObjectAt (maps v) (state disk v) address shape → (maps v).address address ≡ Some n
     → shape_in v.log n ≡ Some (shape_of shape)
-object_shape v address n shape s object named =
+object_shape disk v address n shape s object named =
     (s.holds.tells refl).shapes address n object.header named object.starts
     ∙ ap (λ (z : Shape). Some (shape_of z)) object.shape_is
 
 -- the word at a place is one of a reference
-pub place_word : (v : View) (place : Place) → Standing false v → IsPlace (maps v) (state v) place
-    → IsReferenceWord (maps v) (state v) (word_in (state v) place)
-place_word v (Field object i) s there =
+pub place_word : (disk : OnDisk) (v : View) (place : Place) → Standing false disk v
+    → IsPlace (maps v) (state disk v) place
+    → IsReferenceWord (maps v) (state disk v) (word_in (state disk v) place)
+place_word disk v (Field object i) s there =
     let refs : there.1.header.shape.refs ≡ there.0.refs = ap (λ (x : Shape). x.refs) there.1.shape_is in
     let below : i < there.0.refs = there.2 in
     s.holds.formed.slots object there.1.number i there.1.header there.1.named there.1.starts (omega arith)
-place_word v (Global g) s there = s.holds.formed.globals g there
+place_word disk v (Global g) s there = s.holds.formed.globals g there
 
 -- and stands for what was last written there
-pub place_stands : (v : View) (place : Place) (slot : Slot) → Standing true v → IsPlace (maps v) (state v) place
-    → SlotAt (maps v) place slot → Stands (maps v) (word_in (state v) place) (last v.log slot)
-place_stands v (Field object i) slot s there at =
+pub place_stands : (disk : OnDisk) (v : View) (place : Place) (slot : Slot) → Standing true disk v
+    → IsPlace (maps v) (state disk v) place
+    → SlotAt (maps v) place slot → Stands (maps v) (word_in (state disk v) place) (last v.log slot)
+place_stands disk v (Field object i) slot s there at =
     let refs : there.1.header.shape.refs ≡ there.0.refs = ap (λ (x : Shape). x.refs) there.1.shape_is in
     let below : i < there.0.refs = there.2 in
     let inside : i < there.1.header.shape.refs = omega arith in
-    subst (λ (x : Slot). Stands (maps v) (word_in (state v) (Field object i)) (last v.log x)) (sym at.2)
+    subst (λ (x : Slot). Stands (maps v) (word_in (state disk v) (Field object i)) (last v.log x)) (sym at.2)
     ((s.holds.tells refl).slots object at.0 i there.1.header at.1 there.1.starts inside)
-place_stands v (Global g) slot s there at =
-    subst (λ (x : Slot). Stands (maps v) (word_in (state v) (Global g)) (last v.log x)) (sym at)
+place_stands disk v (Global g) slot s there at =
+    subst (λ (x : Slot). Stands (maps v) (word_in (state disk v) (Global g)) (last v.log x)) (sym at)
     ((s.holds.tells refl).globals g there)
 
--- no home stands anywhere yet: word 1 on disk is past all of them
-pub place_no_home : (v : View) (place : Place) (home : ℕ) → Standing false v → IsPlace (maps v) (state v) place
-    → HoldsRef (word_in (state v) place) (Disk home) → ⊥
-place_no_home v place home s there holds =
-    let word = place_word v place s there in
+-- over a disk whose first word is past all homes, none stands anywhere
+pub place_no_home : (disk : OnDisk) (v : View) (place : Place) (home : ℕ) → disk.end ≡ 1 → Standing false disk v
+    → IsPlace (maps v) (state disk v) place → HoldsRef (word_in (state disk v) place) (Disk home) → ⊥
+place_no_home disk v place home ends s there holds =
+    let word = place_word disk v place s there in
     let same : word.reference ≡ Disk home =
     same_ref word.reference (Disk home) word.in_range holds.in_range (sym word.is ∙ holds.is) in
-    let stands : (1 ≤ home) × (home < 1) = subst (MayStand (maps v) (state v)) same word.stands in
+    let stands : (1 ≤ home) × (home < disk.end) = subst (MayStand (maps v) (state disk v)) same word.stands in
     let first : 1 ≤ home = stands.0 in
-    let last : home < 1 = stands.1 in
-    omega arith
+    let last : home < disk.end = stands.1 in
+    omega (arith, first, last, ends)
 
 -- what a reference that was decoded may be
-pub may_stand_there : (v : View) (place : Place) (r : Ref) → Standing false v → IsPlace (maps v) (state v) place
-    → HoldsRef (word_in (state v) place) r → MayStand (maps v) (state v) r
-may_stand_there v place r s there holds =
-    let word = place_word v place s there in
-    subst (MayStand (maps v) (state v))
+pub may_stand_there : (disk : OnDisk) (v : View) (place : Place) (r : Ref) → Standing false disk v
+    → IsPlace (maps v) (state disk v) place
+    → HoldsRef (word_in (state disk v) place) r → MayStand (maps v) (state disk v) r
+may_stand_there disk v place r s there holds =
+    let word = place_word disk v place s there in
+    subst (MayStand (maps v) (state disk v))
     (same_ref word.reference r word.in_range holds.in_range (sym word.is ∙ holds.is)) word.stands
 
-pub value_there : (v : View) (place : Place) (slot : Slot) (r : Ref) → Standing true v
-    → IsPlace (maps v) (state v) place → SlotAt (maps v) place slot → HoldsRef (word_in (state v) place) r
+pub value_there : (disk : OnDisk) (v : View) (place : Place) (slot : Slot) (r : Ref) → Standing true disk v
+    → IsPlace (maps v) (state disk v) place → SlotAt (maps v) place slot → HoldsRef (word_in (state disk v) place) r
     → value_of (maps v) r ≡ Some (last v.log slot)
-value_there v place slot r s there at holds =
-    let stands = place_stands v place slot s there at in
+value_there disk v place slot r s there at holds =
+    let stands = place_stands disk v place slot s there at in
     subst (λ (x : Ref). value_of (maps v) x ≡ Some (last v.log slot))
     (same_ref stands.reference r stands.in_range holds.in_range (sym stands.is ∙ holds.is)) stands.stands_for
 
@@ -127,14 +131,31 @@ tagged_is word r holds tagged =
     subst HasTag (same_ref tagged.reference r tagged.in_range holds.in_range (sym tagged.is ∙ holds.is)) tagged.tag
 
 -- a number behind the tag of a stale address is an address
+-- a stale address or a home has a tag
+pub either_tagged : (word : ℕ) (r : Ref) → HoldsRef word r
+    → ((a : ℕ) × (r ≡ Stale a)) ⊎ ((home : ℕ) × (r ≡ Disk home)) → IsTagged word
+either_tagged word r holds (inl stale) = record {
+  reference = r;
+  in_range = holds.in_range;
+  tag = subst HasTag (sym stale.1) tt;
+  is = holds.is;
+}
+either_tagged word r holds (inr disk) = record {
+  reference = r;
+  in_range = holds.in_range;
+  tag = subst HasTag (sym disk.1) tt;
+  is = holds.is;
+}
+
 stale_number : (r : Ref) (a : ℕ) → IsRef r → 4 * a + 1 ≡ ref_word r → IsAddress a
 stale_number Null a range is = absurd (omega arith)
 stale_number (Clean b) a range is = absurd (omega arith)
 stale_number (Stale b) a range is = let same : b ≡ a = omega arith in subst IsAddress same range
 stale_number (Disk b) a range is = absurd (omega arith)
 
-pub stale_address : (v : View) (place : Place) (a : ℕ) → Standing false v → IsPlace (maps v) (state v) place
-    → word_in (state v) place ≡ ref_word (Stale a) → IsAddress a
-stale_address v place a s there is =
-    let word = place_word v place s there in
+pub stale_address : (disk : OnDisk) (v : View) (place : Place) (a : ℕ) → Standing false disk v
+    → IsPlace (maps v) (state disk v) place
+    → word_in (state disk v) place ≡ ref_word (Stale a) → IsAddress a
+stale_address disk v place a s there is =
+    let word = place_word disk v place s there in
     stale_number word.reference a word.in_range (sym is ∙ word.is)

@@ -6,6 +6,7 @@ use Rattle.std.specs.Prelude.{false, Option, None, Some}
 use Rattle.melt_model.specs.declared.history.Entry.{Entry}
 use Rattle.melt_model.specs.declared.history.Act.{Act}
 use Rattle.melt_model.specs.declared.operations.Op.{Op}
+use Rattle.melt_scion.specs.Heaps.{OnDisk}
 use Rattle.melt_core.specs.declared.answer.Pause.TheVariants.{Asked, Space, Forward}
 use Rattle.melt_core.specs.declared.answer.Refusal.{Refusal}
 use Rattle.melt_core.specs.declared.answer.Refusal.TheVariants as refusal
@@ -13,7 +14,7 @@ use Rattle.melt_core.specs.declared.answer.StepResult.{StepResult}
 use Rattle.melt_core.specs.declared.answer.StepResult.TheVariants.{Going, Answered, Refused}
 use Rattle.melt_core.specs.declared.call.Call.{Call}
 use Rattle.melt_core.specs.Answering.{entry, with_entry}
-use Rattle.melt_core.specs.Advances.{Advances, Continues, Goes, KeepsOthers, Outcome}
+use Rattle.melt_core.specs.Advances.{AdvancesOver, Continues, Goes, KeepsOthers, Outcome}
 use Rattle.melt_core.specs.Stages.{events_left}
 use Rattle.melt_core.specs.Views.{View, call_of, stage_in, stage_of, Standing}
 
@@ -40,37 +41,40 @@ entry_longer t log after (Some act) is =
     let same : length after ≡ length (log ++ entry t act ∷ []) = ap length is in
     omega (arith, length-append log (entry t act ∷ []))
 
-refused_over : (v w : View) (t : ℕ) (o : Op) (why : Refusal) → Outcome v w t o (Refused why) → IsOver v w t
-refused_over v w t o (refusal.Pause Asked) is =
+refused_over : (disk : OnDisk) (v w : View) (t : ℕ) (o : Op) (why : Refusal) → Outcome disk v w t o (Refused why)
+    → IsOver v w t
+refused_over disk v w t o (refusal.Pause Asked) is =
     subst (λ (x : View). IsOver v x t) (sym is.same) (record { call = is.first; history = omega arith })
-refused_over v w t o (refusal.Pause (Space need)) is =
+refused_over disk v w t o (refusal.Pause (Space need)) is =
     record {
       call = is.call;
       history = let same : length w.log ≡ length v.log =
           ap length is.own.history in omega arith;
     }
-refused_over v w t o (refusal.Pause Forward) is = absurd is
-refused_over v w t o refusal.DiskFault is = absurd is
-refused_over v w t o (refusal.Damaged damaged) is = absurd is
+refused_over disk v w t o (refusal.Pause Forward) is = absurd is
+refused_over disk v w t o refusal.DiskFault is = absurd is
+refused_over disk v w t o (refusal.Damaged damaged) is = absurd is
 
 -- an event that does not leave the call going ends it
-pub event_over : (v w : View) (t : ℕ) (o : Op) (result : StepResult) → (result ≡ Going → ⊥) → Outcome v w t o result
+pub event_over : (disk : OnDisk) (v w : View) (t : ℕ) (o : Op) (result : StepResult) → (result ≡ Going → ⊥)
+    → Outcome disk v w t o result
     → IsOver v w t
-event_over v w t o Going ends is = absurd (ends refl)
-event_over v w t o (Answered reply) ends is =
+event_over disk v w t o Going ends is = absurd (ends refl)
+event_over disk v w t o (Answered reply) ends is =
     record { call = is.call; history = entry_longer t v.log w.log is.history.0 is.history.1 }
-event_over v w t o (Refused why) ends is = refused_over v w t o why is
+event_over disk v w t o (Refused why) ends is = refused_over disk v w t o why is
 
 -- an event after which the call goes on
-pub going : (v w : View) (t : ℕ) (o : Op) (result : StepResult) → result ≡ Going → Outcome v w t o result → Goes v w t o
-going v w t o result is outcome = subst (Outcome v w t o) is outcome
+pub going : (disk : OnDisk) (v w : View) (t : ℕ) (o : Op) (result : StepResult) → result ≡ Going
+    → Outcome disk v w t o result → Goes disk v w t o
+going disk v w t o result is outcome = subst (Outcome disk v w t o) is outcome
 
-pub going_continues : (v w : View) (t : ℕ) (o : Op) → Goes v w t o → Continues (call_of w t) o
-going_continues v w t o is = subst (λ (c : Option Call). Continues c o) (sym is.call) refl
+pub going_continues : (disk : OnDisk) (v w : View) (t : ℕ) (o : Op) → Goes disk v w t o → Continues (call_of w t) o
+going_continues disk v w t o is = subst (λ (c : Option Call). Continues c o) (sym is.call) refl
 
-pub going_nearer : (v w : View) (t : ℕ) (o : Op) → Goes v w t o
+pub going_nearer : (disk : OnDisk) (v w : View) (t : ℕ) (o : Op) → Goes disk v w t o
     → events_left (stage_of w t) + 1 ≤ events_left (stage_of v t)
-going_nearer v w t o is =
+going_nearer disk v w t o is =
     let at : events_left (stage_of w t) ≡ events_left (Some is.stage) =
     ap (λ (c : Option Call). events_left (stage_in c)) is.call in
     omega (arith, at, is.nearer)
@@ -84,19 +88,20 @@ over_leaves : (v w : View) (t : ℕ) (o : Op) → IsOver v w t → Leaves v w t 
 over_leaves v w t o over =
     record { continues = subst (λ (c : Option Call). Continues c o) (sym over.call) tt; history = over.history }
 
-leaves : (v w : View) (t : ℕ) (o : Op) (result : StepResult) → Outcome v w t o result → Leaves v w t o
-leaves v w t o Going is = record {
-  continues = going_continues v w t o is;
+leaves : (disk : OnDisk) (v w : View) (t : ℕ) (o : Op) (result : StepResult) → Outcome disk v w t o result
+    → Leaves v w t o
+leaves disk v w t o Going is = record {
+  continues = going_continues disk v w t o is;
   history = let same : length w.log ≡ length v.log = ap length is.own.history in omega arith;
 }
-leaves v w t o (Answered reply) is =
-    over_leaves v w t o (event_over v w t o (Answered reply) (λ e. absurd (cc)) is)
-leaves v w t o (Refused why) is = over_leaves v w t o (event_over v w t o (Refused why) (λ e. absurd (cc)) is)
+leaves disk v w t o (Answered reply) is =
+    over_leaves v w t o (event_over disk v w t o (Answered reply) (λ e. absurd (cc)) is)
+leaves disk v w t o (Refused why) is = over_leaves v w t o (event_over disk v w t o (Refused why) (λ e. absurd (cc)) is)
 
 -- The words stand after some events, each call in flight is of the operation, the history has at most so many entries
 -- more, and all else that a call needs is as before.
-pub record Onward (u w : View) (o : Op) (entries : ℕ) : Type 0 where
-  pub stands : Standing false w
+pub record Onward (disk : OnDisk) (u w : View) (o : Op) (entries : ℕ) : Type 0 where
+  pub stands : Standing false disk w
   pub globals : length w.globals ≡ length u.globals
   pub threads : length w.held ≡ length u.held
   pub capacity : w.capacity ≡ u.capacity
@@ -104,10 +109,11 @@ pub record Onward (u w : View) (o : Op) (entries : ℕ) : Type 0 where
   pub history : length w.log ≤ length u.log + entries
 
 -- so it is after one event more
-pub onward_event : (u v w : View) (t : ℕ) (o : Op) (entries : ℕ) (result : StepResult) → Advances v w t o result
-    → Onward u v o entries → Onward u w o (entries + 1)
-onward_event u v w t o entries result event before =
-    let left : Leaves v w t o = leaves v w t o result event.outcome in
+pub onward_event : (disk : OnDisk) (u v w : View) (t : ℕ) (o : Op) (entries : ℕ) (result : StepResult)
+    → AdvancesOver disk v w t o result
+    → Onward disk u v o entries → Onward disk u w o (entries + 1)
+onward_event disk u v w t o entries result event before =
+    let left : Leaves v w t o = leaves disk v w t o result event.outcome in
     record {
       stands = event.keeps false before.stands;
       globals = event.others.globals ∙ before.globals;

@@ -11,6 +11,7 @@ use Rattle.melt_scion.specs.State.{Base, State, HeaderAt}
 use Rattle.melt_scion.specs.Placed.{Maps, FormedWords}
 use Rattle.melt_scion.specs.Regions.{Region, Apart, Owns}
 use Rattle.melt_scion.specs.Changes.{NameAppears}
+use Rattle.melt_scion.proofs.Committing.{copy_header}
 use Rattle.melt_scion.proofs.Geometry.{one_header}
 use Rattle.melt_scion.proofs.Parts.{head_part, part_outside}
 use Rattle.melt_core.specs.declared.call.Place.{Place}
@@ -114,6 +115,8 @@ module _ (told : Bool) (h : List Entry) (maps new : Maps) (s t : State) where
   words_event mine cleared act r owns apart
       (Event.untags place at found target value is slot range was named fresh same last changes) k from to =
       place_outside maps s t r place (4 * target) owns slot changes k from to
+  words_event mine cleared act r owns apart
+      (Event.commits home tried p n address shape rest may changes appears) k from to = changes.word_stays k
 
   -- no object is new
   no_new : (r : Region) → new ≡ maps →
@@ -138,6 +141,9 @@ module _ (told : Bool) (h : List Entry) (maps new : Maps) (s t : State) where
   new_event mine cleared act r apart (Event.clears address header is named starts changes) = no_new r is
   new_event mine cleared act r apart
       (Event.untags place at found target value is slot range was named fresh same last changes) = no_new r is
+  new_event mine cleared act r apart (Event.commits home tried p n address shape rest may changes appears) =
+      entered_apart maps new s t (region address shape) r shape n refl apart may.body.head.small
+      (changes.word_stays address ∙ copy_header maps s address home shape rest may.copy) appears
 
   -- each event leaves to other threads what they own
   pub regions_event : (mine : Region) (cleared : ℕ) (act : Option Act) → FormedWords maps s →

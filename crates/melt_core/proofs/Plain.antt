@@ -10,7 +10,7 @@ use Rattle.melt_model.specs.declared.history.Entry.{Entry}
 use Rattle.melt_model.proofs.Histories.{made-append}
 use Rattle.melt_scion.specs.Placed.{MayHold}
 use Rattle.melt_scion.specs.Regions.{Region, no_region, Apart}
-use Rattle.melt_scion.specs.Heaps.{register_in}
+use Rattle.melt_scion.specs.Heaps.{OnDisk, register_in}
 use Rattle.melt_core.specs.declared.call.Call.{Call}
 use Rattle.melt_core.specs.declared.call.Stage.{Stage}
 use Rattle.melt_core.specs.declared.call.Stage.TheVariants.{Polled, Headed, Looked, Cleared, Claimed, Lacking}
@@ -42,20 +42,22 @@ OnlyMoves v w t act after = w ≡ record v {
   log = with_entry t v.log act;
 }
 
-pub record Plain (v w : View) (t : ℕ) (cleared : ℕ) (act : Option Act) (after : Option Call) : Type 0 where
-  pub event : (told : Bool) → Standing told v
-      → Event told v.log (maps v) (maps w) (state v) (state w) no_region cleared act
-  pub nothing : MakesNothing act
-  pub moves : OnlyMoves v w t act after
-  pub words : length w.space.list ≡ length v.space.list
-  pub threads : length w.held ≡ length v.held
-  pub others : (u : ℕ) → u ≢ t → registers_in w.held u ≡ registers_in v.held u
-  pub may_hold : (r : ℕ) → MayHold (maps v) (state v) (register_in w.held t r)
-  pub known : (c : Call) → after ≡ Some c → Known (maps w) (state w) c.stage
-  pub fits : (c : Call) → after ≡ Some c → Fits (register_in w.held t) c.op c.stage
-  pub unclaimed : claimed_in after ≡ 0
-  pub unclaimed_before : claimed_in (call_of v t) ≡ 0
-  pub claims : claims_left v.stop (stage_in after) ≤ claims_left v.stop (stage_of v t)
+pub record Plain (disk : OnDisk) (v w : View) (t : ℕ) (cleared : ℕ) (act : Option Act) (after : Option Call) : Type 0
+  where
+    pub event : (told : Bool) → Standing told disk v
+        → Event told v.log (maps v) (maps w) (state disk v) (state disk w) no_region cleared act
+    pub nothing : MakesNothing act
+    pub moves : OnlyMoves v w t act after
+    pub words : length w.space.list ≡ length v.space.list
+    pub threads : length w.held ≡ length v.held
+    pub others : (u : ℕ) → u ≢ t → registers_in w.held u ≡ registers_in v.held u
+    pub may_hold : (r : ℕ) → MayHold (maps v) (state disk v) (register_in w.held t r)
+    pub known : (told : Bool) → Standing told disk v → (c : Call) → after ≡ Some c
+        → Known told (maps w) (state disk w) c.stage
+    pub fits : (c : Call) → after ≡ Some c → Fits (register_in w.held t) c.op c.stage
+    pub unclaimed : claimed_in after ≡ 0
+    pub unclaimed_before : claimed_in (call_of v t) ≡ 0
+    pub claims : claims_left v.stop (stage_in after) ≤ claims_left v.stop (stage_of v t)
 
 made_none : (t : ℕ) (act : Act) → shape_made act ≡ None → makes (entry t act ∷ []) ≡ 0
 made_none t act nothing = ap (λ (z : Option Shape). length (cons_option z [])) nothing
@@ -70,14 +72,15 @@ made_same h t (Some act) nothing =
 unclaimed_region : (stage : Stage) → (region_of stage).words ≡ 0 → region_of stage ≡ no_region
 unclaimed_region (Polled task) none = refl
 unclaimed_region (Headed address shape access) none = refl
-unclaimed_region (Looked place target dst) none = refl
-unclaimed_region (Cleared place target dst) none = refl
+unclaimed_region (Looked place found target dst) none = refl
+unclaimed_region (Cleared place found target dst) none = refl
 unclaimed_region (Claimed address shape stored dst) none = absurd (omega arith)
 unclaimed_region (Lacking need) none = refl
 
-plain_claims : (v w : View) (t cleared : ℕ) (act : Option Act) (after : Option Call) → Plain v w t cleared act after
+plain_claims : (disk : OnDisk) (v w : View) (t cleared : ℕ) (act : Option Act) (after : Option Call)
+    → Plain disk v w t cleared act after
     → Claims v w t after
-plain_claims v w t cleared act after p = record {
+plain_claims disk v w t cleared act after p = record {
   names = ap (λ (x : View). x.names) p.moves;
   words = p.words;
   calls = ap (λ (x : View). x.calls) p.moves;
@@ -86,21 +89,23 @@ plain_claims v w t cleared act after p = record {
   within = inl (omega (arith, p.unclaimed, p.unclaimed_before));
 }
 
-counts_plain : (v w : View) (t cleared : ℕ) (act : Option Act) (after : Option Call) → Standing true v
-    → t < length v.held → Plain v w t cleared act after → Counts w
-counts_plain v w t cleared None after s within p =
-    Counts_same v w t after s within (ap (λ (x : View). x.log) p.moves) (plain_claims v w t cleared None after p)
-counts_plain v w t cleared (Some act) after s within p =
-    Counts_entry v w t after (entry t act) s within (ap (λ (x : View). x.log) p.moves)
-    (plain_claims v w t cleared (Some act) after p)
+counts_plain : (disk : OnDisk) (v w : View) (t cleared : ℕ) (act : Option Act) (after : Option Call)
+    → Standing true disk v
+    → t < length v.held → Plain disk v w t cleared act after → Counts w
+counts_plain disk v w t cleared None after s within p =
+    Counts_same disk v w t after s within (ap (λ (x : View). x.log) p.moves)
+    (plain_claims disk v w t cleared None after p)
+counts_plain disk v w t cleared (Some act) after s within p =
+    Counts_entry disk v w t after (entry t act) s within (ap (λ (x : View). x.log) p.moves)
+    (plain_claims disk v w t cleared (Some act) after p)
 
 -- where it is told, it is told so
-pub as_told : (told : Bool) (v : View) → told ≡ true → Standing told v → Standing true v
-as_told told v is s = subst (λ (b : Bool). Standing b v) is s
+pub as_told : (disk : OnDisk) (told : Bool) (v : View) → told ≡ true → Standing told disk v → Standing true disk v
+as_told disk told v is s = subst (λ (b : Bool). Standing b disk v) is s
 
-pub plain : (v w : View) (t cleared : ℕ) (act : Option Act) (after : Option Call) → t < length v.held
-    → Plain v w t cleared act after → Made v w t cleared
-plain v w t cleared act after within p = record {
+pub plain : (disk : OnDisk) (v w : View) (t cleared : ℕ) (act : Option Act) (after : Option Call) → t < length v.held
+    → Plain disk v w t cleared act after → Made disk v w t cleared
+plain disk v w t cleared act after within p = record {
   mine = no_region;
   act = act;
   after = after;
@@ -127,16 +132,17 @@ plain v w t cleared act after within p = record {
         bounded = bounded_is w (length v.space.list) v.free v.stop (set v.calls t after) p.words free
             (ap (λ (x : View). x.stop) p.moves) calls
             (bounded_call (length v.space.list) v.free v.stop v.calls t after inside p.claims s.bounded);
-        may_hold = λ r. hold_stays (maps v) (maps w) (state v) (state w) cleared s.holds.formed
-            (event_keeps told t v.log (maps v) (maps w) (state v) (state w) no_region cleared act s.legal s.holds
+        may_hold = λ r. hold_stays (maps v) (maps w) (state disk v) (state disk w) cleared s.holds.formed
+            (event_keeps told t v.log (maps v) (maps w) (state disk v) (state disk w) no_region cleared act s.legal
+            s.holds
             (p.event told s)).evolves (register_in w.held t r) (p.may_hold r);
-        known = p.known;
+        known = p.known told s;
         fits = p.fits;
         mine_is = λ u d differ is. no_region_apart (region_of d.stage);
         apart = λ c is u d differ other.
             subst (λ (r : Region). Apart r (region_of d.stage))
             (sym (unclaimed_region c.stage (sym (ap claimed_in is) ∙ p.unclaimed)))
             (no_region_apart (region_of d.stage));
-        counts = λ is. counts_plain v w t cleared act after (as_told told v is s) within p;
+        counts = λ is. counts_plain disk v w t cleared act after (as_told disk told v is s) within p;
       };
 }

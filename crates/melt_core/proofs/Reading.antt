@@ -16,7 +16,7 @@ use Rattle.melt_space.specs.Space.{word_at}
 use Rattle.melt_word.specs.declared.header.Shape.{Shape}
 use Rattle.melt_word.specs.declared.header.Header.{Header}
 use Rattle.melt_scion.specs.Regions.{no_region}
-use Rattle.melt_scion.specs.Heaps.{register_in}
+use Rattle.melt_scion.specs.Heaps.{OnDisk, register_in}
 use Rattle.melt_scion.proofs.Geometry.{one_header}
 use Rattle.melt_core.specs.declared.answer.StepResult.TheVariants.{Going, Answered}
 use Rattle.melt_core.specs.declared.call.Access.{Access}
@@ -30,7 +30,7 @@ use Rattle.melt_core.specs.Known.{IsObjectAt}
 use Rattle.melt_core.specs.Events.{Event, quiet, reads_number, number_place}
 use Rattle.melt_core.specs.Stages.{Next, Nothing, HasPart, Fits, change_of, task_of}
 use Rattle.melt_core.specs.Changed.{with_call, noted}
-use Rattle.melt_core.specs.Advances.{MayAdvance, Advances, LeavesClean}
+use Rattle.melt_core.specs.Advances.{Asks, AdvancesOver, LeavesClean}
 use Rattle.melt_core.specs.Views.{View, maps, state, stage_of, values_of}
 use Rattle.melt_core.proofs.Asked.{fits_at, known_at}
 use Rattle.melt_core.proofs.Words.{same_words}
@@ -67,40 +67,41 @@ lacks_part rs (op.GStore g src) r n access z is value lacks = absurd (cc)
 lacks_part rs o r n access z is value lacks = absurd (cc)
 
 -- objects at one address have one shape
-pub one_shape : (v : View) (address : ℕ) (y z : Shape) → IsObjectAt (maps v) (state v) address y
-    → IsObjectAt (maps v) (state v) address z → y ≡ z
-one_shape v address y z first second =
+pub one_shape : (disk : OnDisk) (v : View) (address : ℕ) (y z : Shape) → IsObjectAt (maps v) (state disk v) address y
+    → IsObjectAt (maps v) (state disk v) address z → y ≡ z
+one_shape disk v address y z first second =
     sym first.shape_is ∙ (ap (λ (h : Header). h.shape)
-    (one_header (state v) address first.header second.header first.starts second.starts) ∙ second.shape_is)
+    (one_header (state disk v) address first.header second.header first.starts second.starts) ∙ second.shape_is)
 
-pub range_advances : (v : View) (t : ℕ) (o : Op) (r : ℕ) (access : Access) (shape : Shape) → MayAdvance v t o
-    → stage_of v t ≡ Some (Polled (Use r access)) → IsObjectAt (maps v) (state v) (register_in v.held t r) shape
-    → (HasPart access shape → ⊥) → Advances v (with_call v t None) t o (Answered reply.Range)
-range_advances v t o r access shape asks at object lacks =
+pub range_advances : (disk : OnDisk) (v : View) (t : ℕ) (o : Op) (r : ℕ) (access : Access) (shape : Shape)
+    → Asks disk v t o
+    → stage_of v t ≡ Some (Polled (Use r access)) → IsObjectAt (maps v) (state disk v) (register_in v.held t r) shape
+    → (HasPart access shape → ⊥) → AdvancesOver disk v (with_call v t None) t o (Answered reply.Range)
+range_advances disk v t o r access shape asks at object lacks =
     let stage : Stage = Polled (Use r access) in
-    let task : task_of o ≡ Some (Use r access) = (fits_at v t o stage asks at).0 in
-    over_advances v (with_call v t None) t o stage None reply.Range asks (record {
-      ends = ends_at v t o stage at tt
+    let task : task_of o ≡ Some (Use r access) = (fits_at disk v t o stage asks at).0 in
+    over_advances disk v (with_call v t None) t o stage None reply.Range asks (record {
+      ends = ends_at disk v t o stage at tt
           (λ next goes. lacks
-          (subst (HasPart access) (one_shape v (register_in v.held t r) goes.0 shape goes.1 object) goes.2));
-      event = λ told s. quiet refl (same_words v);
-      applies = (refl, same_words v);
+          (subst (HasPart access) (one_shape disk v (register_in v.held t r) goes.0 shape goes.1 object) goes.2));
+      event = λ told s. quiet refl (same_words disk v);
+      applies = (refl, same_words disk v);
       nothing = tt;
       moves = refl;
       words = refl;
-      local = local_still v t asks.stands;
+      local = local_still disk v t asks.stands;
       answers = λ told. range_answers t v.log (values_of v t) o object.number shape reply.Range v.log (values_of v t)
           (lacks_part (values_of v t) o r object.number access shape task
           (value_named v t r (register_in v.held t r) object.number refl object.named) lacks)
-          (object_shape v (register_in v.held t r) object.number shape told object object.named) refl refl refl;
+          (object_shape disk v (register_in v.held t r) object.number shape told object object.named) refl refl refl;
       registers = λ k other. refl;
       room = use_room v o r access task;
       clean = range_clean v t o r access shape task object lacks;
     })
   where
     range_clean : (v : View) (t : ℕ) (o : Op) (r : ℕ) (access : Access) (shape : Shape)
-        → task_of o ≡ Some (Use r access) → IsObjectAt (maps v) (state v) (register_in v.held t r) shape
-        → (HasPart access shape → ⊥) → LeavesClean v (with_call v t None) t o (Answered reply.Range)
+        → task_of o ≡ Some (Use r access) → IsObjectAt (maps v) (state disk v) (register_in v.held t r) shape
+        → (HasPart access shape → ⊥) → LeavesClean disk v (with_call v t None) t o (Answered reply.Range)
     range_clean v t o r access shape task object lacks (Field address i) dst loads there tagged =
         let same : Use loads.0 (Load dst i) ≡ Use r access =
         (let e : Some (Use loads.0 (Load dst i)) ≡ Some (Use r access) = sym loads.1 ∙ task in cc) in
@@ -108,38 +109,40 @@ range_advances v t o r access shape asks at object lacks =
         let part : access ≡ Load dst i = cc in
         let at : register_in v.held t r ≡ address = ap (register_in v.held t) (sym register) ∙ loads.2 in
         let shapes : there.0 ≡ shape =
-        one_shape v address there.0 shape there.1
-        (subst (λ (a : ℕ). IsObjectAt (maps v) (state v) a shape) at object) in
+        one_shape disk v address there.0 shape there.1
+        (subst (λ (a : ℕ). IsObjectAt (maps v) (state disk v) a shape) at object) in
         lacks (subst (λ (a : Access). HasPart a shape) (sym part) (subst (λ (z : Shape). i < z.refs) shapes there.2))
     range_clean v t o r access shape task object lacks (Global g) dst loads there tagged = absurd (cc)
 
 -- a number word of an object was read
-pub get_advances : (v : View) (t : ℕ) (o : Op) (address j n number : ℕ) (shape : Shape) → MayAdvance v t o
+pub get_advances : (disk : OnDisk) (v : View) (t : ℕ) (o : Op) (address j n number : ℕ) (shape : Shape)
+    → Asks disk v t o
     → stage_of v t ≡ Some (Headed address shape (Get j)) → (maps v).address address ≡ Some n
-    → number ≡ (state v).word (number_place address shape j)
-    → Advances v (with_call (noted v (entry t (Read (slots.Cell n j) (Num number)))) t None) t o
+    → number ≡ (state disk v).word (number_place address shape j)
+    → AdvancesOver disk v (with_call (noted v (entry t (Read (slots.Cell n j) (Num number)))) t None) t o
     (Answered (reply.Num number))
-get_advances v t o address j n number shape asks at named is =
+get_advances disk v t o address j n number shape asks at named is =
     let stage : Stage = Headed address shape (Get j) in
     let act : Act = Read (slots.Cell n j) (Num number) in
     let w : View = with_call (noted v (entry t act)) t None in
-    let fits : Fits (register_in v.held t) o stage = fits_at v t o stage asks at in
-    let object : IsObjectAt (maps v) (state v) address shape = known_at v t o stage asks at in
-    over_advances v w t o stage (Some act) (reply.Num number) asks (record {
-      ends = ends_at v t o stage at tt (λ next goes. goes);
-      event = λ told s. subst (λ (x : ℕ). Event told v.log (maps v) (maps v) (state v) (state v) no_region 0
+    let fits : Fits (register_in v.held t) o stage = fits_at disk v t o stage asks at in
+    let object : IsObjectAt (maps v) (state disk v) address shape = known_at disk v t o stage asks at in
+    over_advances disk v w t o stage (Some act) (reply.Num number) asks (record {
+      ends = ends_at disk v t o stage at tt (λ next goes. goes);
+      event = λ told s. subst (λ (x : ℕ). Event told v.log (maps v) (maps v) (state disk v) (state disk v) no_region 0
           (Some (Read (slots.Cell n j) (Num x)))) (sym is)
-          (reads_number address n j shape refl (same_words v)
+          (reads_number address n j shape refl (same_words disk v)
           (record { object_is = object; below = fits.3; named = named }));
-      applies = (refl, same_words v);
+      applies = (refl, same_words disk v);
       nothing = refl;
       moves = refl;
       words = refl;
-      local = local_still v t asks.stands;
+      local = local_still disk v t asks.stands;
       answers = λ told. subst (λ (p : Op). Answers t v.log (values_of v t) p (reply.Num number) w.log (values_of v t))
           (sym (get_is o fits.0 j fits.1))
           (get_answers t v.log (values_of v t) fits.0 j n number shape (reply.Num number) w.log (values_of v t)
-          (value_named v t fits.0 address n fits.2 named) (object_shape v address n shape told object named) fits.3 refl
+          (value_named v t fits.0 address n fits.2 named) (object_shape disk v address n shape told object named) fits.3
+          refl
           refl refl);
       registers = λ k other. refl;
       room = use_room v o fits.0 (Get j) fits.1;
@@ -148,29 +151,33 @@ get_advances v t o address j n number shape asks at named is =
     })
 
 -- the object whose header was read
-pub head_object : (v : View) (t : ℕ) (o : Op) (r address : ℕ) (access : Access) (shape : Shape) → MayAdvance v t o
+pub head_object : (disk : OnDisk) (v : View) (t : ℕ) (o : Op) (r address : ℕ) (access : Access) (shape : Shape)
+    → Asks disk v t o
     → stage_of v t ≡ Some (Polled (Use r access)) → address ≡ register_in v.held t r
     → ((h : Header) → IsHeader h → word_at v.space address ≡ header_word h → shape ≡ h.shape)
-    → IsObjectAt (maps v) (state v) address shape
-head_object v t o r address access shape asks at is shaped =
-    let fits : Fits (register_in v.held t) o (Polled (Use r access)) = fits_at v t o (Polled (Use r access)) asks at in
-    let held = object_held v t r asks.stands fits.1 in
-    object_of v address held.0 shape (subst (λ (a : ℕ). IsObjectAt (maps v) (state v) a held.0.shape) (sym is) held.1)
+    → IsObjectAt (maps v) (state disk v) address shape
+head_object disk v t o r address access shape asks at is shaped =
+    let fits : Fits (register_in v.held t) o (Polled (Use r access)) = fits_at disk v t o (Polled (Use r access)) asks
+    at in
+    let held = object_held disk v t r asks.stands fits.1 in
+    object_of disk v address held.0 shape (subst (λ (a : ℕ). IsObjectAt (maps v) (state disk v) a held.0.shape) (sym is)
+    held.1)
     shaped
 
 -- the call goes on, and has read the header
-pub head_advances : (v : View) (t : ℕ) (o : Op) (r address : ℕ) (access : Access) (shape : Shape) → MayAdvance v t o
+pub head_advances : (disk : OnDisk) (v : View) (t : ℕ) (o : Op) (r address : ℕ) (access : Access) (shape : Shape)
+    → Asks disk v t o
     → stage_of v t ≡ Some (Polled (Use r access)) → address ≡ register_in v.held t r
-    → IsObjectAt (maps v) (state v) address shape → HasPart access shape
-    → Advances v (with_call v t (Some (record { op = o; stage = Headed address shape access }))) t o Going
-head_advances v t o r address access shape asks at is object part =
-    go_advances v t o (Headed address shape access) asks
-    (subst (λ (g : Option Stage). change_of (state v) (register_in v.held t) g ≡ Nothing) (sym at) refl)
-    (subst (λ (g : Option Stage). Next (maps v) (state v) (register_in v.held t) v.stop o g
+    → IsObjectAt (maps v) (state disk v) address shape → HasPart access shape
+    → AdvancesOver disk v (with_call v t (Some (record { op = o; stage = Headed address shape access }))) t o Going
+head_advances disk v t o r address access shape asks at is object part =
+    go_advances disk v t o (Headed address shape access) asks
+    (subst (λ (g : Option Stage). change_of (state disk v) (register_in v.held t) g ≡ Nothing) (sym at) refl)
+    (subst (λ (g : Option Stage). Next (maps v) (state disk v) (register_in v.held t) v.stop o g
     (Headed address shape access)) (sym at) (
       shape,
-      subst (λ (a : ℕ). IsObjectAt (maps v) (state v) a shape) is object,
+      subst (λ (a : ℕ). IsObjectAt (maps v) (state disk v) a shape) is object,
       part,
       ap (λ (a : ℕ). Headed a shape access) is,
     ))
-    object refl
+    (λ told s. object) refl

@@ -1,7 +1,7 @@
 -- Regions apart, what is claimed, and how a call comes nearer to its end.
 use Rattle.std.proofs.Common.{◌≡◌, ℕ, ◌+◌, ◌<◌, ◌≤◌, refl, sym, ap, subst, arith, ◌-◌, inl, inr}
 use Rattle.std.proofs.lemmas.Bool.{cases_lt}
-use Rattle.std.specs.Prelude.{Bool, Option, None, Some}
+use Rattle.std.specs.Prelude.{false, Bool, Option, None, Some}
 use Rattle.melt_model.specs.declared.operations.Op.{Op}
 use Rattle.melt_model.specs.declared.operations.Op.TheVariants as op
 use Rattle.melt_word.specs.Words.{IsShape, cost_of}
@@ -11,7 +11,7 @@ use Rattle.melt_scion.specs.State.{Base, State, HeaderAt}
 use Rattle.melt_scion.specs.Placed.{Maps, FormedWords}
 use Rattle.melt_scion.specs.Regions.{Region, no_region, Apart, Owns}
 use Rattle.melt_scion.specs.Changes.{FreeMoves}
-use Rattle.melt_scion.specs.Heaps.{register_in}
+use Rattle.melt_scion.specs.Heaps.{OnDisk, register_in}
 use Rattle.melt_scion.proofs.Geometry.{one_header, header_moves}
 use Rattle.melt_core.specs.declared.call.Access.TheVariants.{Load}
 use Rattle.melt_core.specs.declared.call.Task.TheVariants.{Make, Use, LoadGlobal, StoreGlobal}
@@ -21,7 +21,7 @@ use Rattle.melt_core.specs.declared.call.Call.{Call}
 use Rattle.melt_core.specs.Known.{Known}
 use Rattle.melt_core.specs.Stages.{task_of, Fits, Next, events_left}
 use Rattle.melt_core.specs.Views.{View, maps, state, call_of, stage_in, stage_of}
-use Rattle.melt_core.specs.Advances.{InBounds, Continues, MayAdvance}
+use Rattle.melt_core.specs.Advances.{InBounds, Continues, Asks}
 
 pub apart_sym : (a b : Region) → Apart a b → Apart b a
 apart_sym a b apart = record {
@@ -73,7 +73,7 @@ claimed_apart maps s words r owns =
 -- what is known where a call is at this stage, if it is at one
 abbrev pub AtStage : Maps → State → (ℕ → ℕ) → Op → Option Stage → Type 0
 AtStage maps s register o None = Unit {0}
-AtStage maps s register o (Some stage) = Known maps s stage × Fits register o stage
+AtStage maps s register o (Some stage) = Known false maps s stage × Fits register o stage
 
 -- an object that an operation in bounds makes is small
 made_small : (globals : ℕ) (o : Op) (dst : ℕ) (shape : Shape) → InBounds globals o → task_of o ≡ Some (Make dst shape) →
@@ -108,9 +108,9 @@ Next_nearer maps s register stop globals o (Some (Polled (StoreGlobal g src))) n
 Next_nearer maps s register stop globals o (Some (Headed address shape (Load dst i))) next bounds at is =
     let left : events_left (Some next) ≡ 3 = ap (λ (x : Stage). events_left (Some x)) is.2 in omega arith
 Next_nearer maps s register stop globals o (Some (Headed address shape access)) next bounds at is = absurd is
-Next_nearer maps s register stop globals o (Some (Looked place target dst)) next bounds at is =
+Next_nearer maps s register stop globals o (Some (Looked place found target dst)) next bounds at is =
     let left : events_left (Some next) ≡ 2 = ap (λ (x : Stage). events_left (Some x)) is in omega arith
-Next_nearer maps s register stop globals o (Some (Cleared place target dst)) next bounds at is = absurd is
+Next_nearer maps s register stop globals o (Some (Cleared place found target dst)) next bounds at is = absurd is
 Next_nearer maps s register stop globals o (Some (Claimed address shape stored dst)) next bounds at is =
     let left : events_left (Some next) ≡ cost_of shape - (stored + 1) =
     ap (λ (x : Stage). events_left (Some x)) is.1 in
@@ -119,24 +119,24 @@ Next_nearer maps s register stop globals o (Some (Claimed address shape stored d
 Next_nearer maps s register stop globals o (Some (Lacking need)) next bounds at is = absurd is
 
 -- what stands of a view is known of the call of a thread
-at_stage_in : (v : View) (t : ℕ) (o : Op) (call : Option Call) → MayAdvance v t o → call_of v t ≡ call →
-    AtStage (maps v) (state v) (register_in v.held t) o (stage_in call)
-at_stage_in v t o None may is = tt
-at_stage_in v t o (Some c) may is =
+at_stage_in : (disk : OnDisk) (v : View) (t : ℕ) (o : Op) (call : Option Call) → Asks disk v t o → call_of v t ≡ call →
+    AtStage (maps v) (state disk v) (register_in v.held t) o (stage_in call)
+at_stage_in disk v t o None may is = tt
+at_stage_in disk v t o (Some c) may is =
     let continued : o ≡ c.op = subst (λ (x : Option Call). Continues x o) is may.continued in (
       may.stands.known t c is,
       subst (λ (x : Op). Fits (register_in v.held t) x c.stage) (sym continued)
           (may.stands.fits t c is),
     )
 
-pub at_stage : (v : View) (t : ℕ) (o : Op) → MayAdvance v t o →
-    AtStage (maps v) (state v) (register_in v.held t) o (stage_of v t)
-at_stage v t o may = at_stage_in v t o (call_of v t) may refl
+pub at_stage : (disk : OnDisk) (v : View) (t : ℕ) (o : Op) → Asks disk v t o →
+    AtStage (maps v) (state disk v) (register_in v.held t) o (stage_of v t)
+at_stage disk v t o may = at_stage_in disk v t o (call_of v t) may refl
 
 -- and so the next event of a thread does
-pub nearer_in : (v : View) (t : ℕ) (o : Op) (next : Stage) → MayAdvance v t o →
-    Next (maps v) (state v) (register_in v.held t) v.stop o (stage_of v t) next →
+pub nearer_in : (disk : OnDisk) (v : View) (t : ℕ) (o : Op) (next : Stage) → Asks disk v t o →
+    Next (maps v) (state disk v) (register_in v.held t) v.stop o (stage_of v t) next →
     events_left (Some next) < events_left (stage_of v t)
-nearer_in v t o next may is =
-    Next_nearer (maps v) (state v) (register_in v.held t) v.stop _ o (stage_of v t) next may.bounds
-    (at_stage v t o may) is
+nearer_in disk v t o next may is =
+    Next_nearer (maps v) (state disk v) (register_in v.held t) v.stop _ o (stage_of v t) next may.bounds
+    (at_stage disk v t o may) is

@@ -15,7 +15,7 @@ use Rattle.melt_scion.specs.Placed.{Maps, MayHold, FormedWords, Holds}
 use Rattle.std.specs.FinMap.{get-empty}
 use Rattle.std.specs.Ordering.{nat_cmp}
 use Rattle.melt_scion.specs.Scions.{empty_table}
-use Rattle.melt_scion.specs.Heaps.{AreScionsFor, register_in, no_names, IsNewHeap}
+use Rattle.melt_scion.specs.Heaps.{AreScionsFor, OnDisk, no_homes_on, register_in, no_names, IsNewHeap}
 use Rattle.melt_scion.specs.Names.{name_at}
 use Rattle.melt_scion.specs.declared.heap.Heap.{Heap}
 use Rattle.melt_scion.proofs.Tables.{scions_made}
@@ -69,17 +69,18 @@ holds_shifts told h m s t moves ends holds =
 
 -- The epoch ends, and the words in use are those up to here. Whatever ended before the first free place, and within
 -- the words, is among them.
-pub stands_finish : (told : Bool) (v : View) (space : SpaceWords) → Standing told v → IsQuiet v
+pub stands_finish : (disk : OnDisk) (told : Bool) (v : View) (space : SpaceWords) → Standing told disk v → IsQuiet v
     → space.list ≡ v.space.list → space.used ≡ min (v.free - 1) (length v.space.list)
-    → Standing told (record v { space = space; free = space.used + 1; stop = false })
-stands_finish told v space s still words used =
+    → Standing told disk (record v { space = space; free = space.used + 1; stop = false })
+stands_finish disk told v space s still words used =
     let w : View = record v { space = space; free = space.used + 1; stop = false } in
     let size : length space.list ≡ length v.space.list = ap length words in
     let first : 1 ≤ v.free = s.first in
     let ends : (end : ℕ) → end ≤ v.free → end ≤ length v.space.list + 1 → end ≤ space.used + 1 =
     λ end below within. omega (arith, used, below, within, first) in
-    let base : (state w).base ≡ (state v).base = ap (λ (n : ℕ). record (state v).base { size = n }) size in
-    let word : (k : ℕ) → (state w).word k ≡ (state v).word k = λ k. same_word v.space space k words in
+    let base : (state disk w).base ≡ (state disk v).base = ap (λ (n : ℕ). record (state disk v).base { size = n }) size
+    in
+    let word : (k : ℕ) → (state disk w).word k ≡ (state disk v).word k = λ k. same_word v.space space k words in
     let unclaimed : claimed v.calls ≡ 0 = claimed_none v.calls still in
     let gone : (t : ℕ) (c : Call) → call_of w t ≡ Some c → ⊥ =
     λ t c is. (let none : call_of v t ≡ None = still t in let e : None ≡ Some c = sym none ∙ is in cc) in
@@ -87,16 +88,16 @@ stands_finish told v space s still words used =
       named = s.named;
       room = s.room ∙ sym size;
       scions_made = subst (λ (n : ℕ). AreScionsFor n v.scions) (sym size) s.scions_made;
-      settled = s.settled;
       few = s.few;
       each = s.each;
       counted = s.counted;
       first = omega arith;
       bounded = inl (omega (arith, used, size));
-      holds = holds_shifts told v.log (maps v) (state v) (state w)
+      holds = holds_shifts told v.log (maps v) (state disk v) (state disk w)
           (record { base = base; is = refl; word = word; global = λ g. refl; forward = λ p. refl }) ends s.holds;
       legal = s.legal;
-      registers = λ t r. hold_words (maps v) (state v) (state w) (register_in v.held t r) word (s.registers t r);
+      registers = λ t r. hold_words (maps v) (state disk v) (state disk w) (register_in v.held t r) word
+          (s.registers t r);
       known = λ t c is. absurd (gone t c is);
       fits = λ t c is. absurd (gone t c is);
       apart = λ t u c d other is at. absurd (gone t c is);
@@ -110,11 +111,11 @@ stands_finish told v space s still words used =
     }
 
 -- what is known of a call stays where only registers change
-known_words : (m : Maps) (s t : State) (stage : Stage) → SameWords s t → FormedWords m s → Known m s stage
-    → Known m t stage
-known_words m s t stage same formed known =
+known_words : (told : Bool) (m : Maps) (s t : State) (stage : Stage) → SameWords s t → FormedWords m s
+    → Known told m s stage → Known told m t stage
+known_words told m s t stage same formed known =
     let event : Event false [] m m s t no_region 0 None = quiet refl same in
-    known_stays m m s t 0 formed (evolves_event false [] m m s t no_region 0 None formed event) stage
+    known_stays m m s t 0 formed (evolves_event false [] m m s t no_region 0 None formed event) told stage
     (λ owns. regions_event false [] m m s t no_region 0 None formed event (region_of stage) owns
     (no_region_apart (region_of stage))) known
 
@@ -122,41 +123,41 @@ known_words m s t stage same formed known =
 pub dropped : (v : View) (t : ℕ) → t < length v.held → call_of v t ≡ None
     → HasDropped v (record v { held = slice_set v.held t no_registers }) t
 dropped v t within none = record {
-  keeps = λ told s. stands_dropped told v t within none s;
+  keeps = λ told disk s. stands_dropped told disk v t within none s;
   only = refl;
   here = ap (held_values v.names) (registers_set v.held t (replicate 16 0) within);
   others = λ u other. ap (held_values v.names) (registers_other v.held t u (replicate 16 0) other);
 }
   where
-    stands_dropped : (told : Bool) (v : View) (t : ℕ) → t < length v.held → call_of v t ≡ None → Standing told v
-        → Standing told (record v { held = slice_set v.held t no_registers })
-    stands_dropped told v t within none s =
+    stands_dropped : (told : Bool) (disk : OnDisk) (v : View) (t : ℕ) → t < length v.held → call_of v t ≡ None
+        → Standing told disk v
+        → Standing told disk (record v { held = slice_set v.held t no_registers })
+    stands_dropped told disk v t within none s =
         let w : View = record v { held = slice_set v.held t no_registers } in
         let size : length w.held ≡ length v.held = length-set v.held t no_registers in
         record {
           named = s.named;
           room = s.room;
           scions_made = s.scions_made;
-          settled = s.settled;
           few = omega (arith, s.few, size);
           each = s.each ∙ sym size;
           counted = s.counted;
           first = s.first;
           bounded = s.bounded;
-          holds = holds_shifts told v.log (maps v) (state v) (state w)
+          holds = holds_shifts told v.log (maps v) (state disk v) (state disk w)
               (record { base = refl; is = refl; word = λ k. refl; global = λ g. refl; forward = λ p. refl })
               (λ end below inside. below) s.holds;
           legal = s.legal;
-          registers = λ u r. hold_words (maps v) (state v) (state w) (register_in w.held u r) (λ k. refl)
+          registers = λ u r. hold_words (maps v) (state disk v) (state disk w) (register_in w.held u r) (λ k. refl)
               (elim (cases_eq u t) [
                 | inl same ↦ inl (ap (λ (k : ℕ). register_in w.held k r) same
                     ∙ (ap (λ (regs : List ℕ). get_or regs r 0) (registers_set v.held t (replicate 16 0) within)
                     ∙ get_or_replicate 16 r 0))
-                | inr other ↦ subst (λ (regs : List ℕ). MayHold (maps v) (state v) (get_or regs r 0))
+                | inr other ↦ subst (λ (regs : List ℕ). MayHold (maps v) (state disk v) (get_or regs r 0))
                     (sym (registers_other v.held t u (replicate 16 0) other)) (s.registers u r)
               ]);
-          known = λ u c is. known_words (maps v) (state v) (state w) c.stage
-              (same_behind v w.held) s.holds.formed (s.known u c is);
+          known = λ u c is. known_words told (maps v) (state disk v) (state disk w) c.stage
+              (same_behind disk v w.held) s.holds.formed (s.known u c is);
           fits = λ u c is. elim (cases_eq u t) [
             | inl same ↦ absurd (let e : None ≡ Some c = sym none ∙ (ap (call_of v) (sym same) ∙ is) in cc)
             | inr other ↦ subst (λ (regs : List ℕ). Fits (slice_index regs) c.op c.stage)
@@ -168,12 +169,11 @@ dropped v t within none = record {
         }
 
 -- the stop word was set
-pub stands_stopped : (told : Bool) (v : View) → Standing told v → Standing told (stopped v)
-stands_stopped told v s = record {
+pub stands_stopped : (disk : OnDisk) (told : Bool) (v : View) → Standing told disk v → Standing told disk (stopped v)
+stands_stopped disk told v s = record {
   named = s.named;
   room = s.room;
   scions_made = s.scions_made;
-  settled = s.settled;
   few = s.few;
   each = s.each;
   counted = s.counted;
@@ -217,7 +217,8 @@ new_view space words globals forward threads capacity = record {
 }
 
 stands_new : (told : Bool) (space : SpaceWords) (words globals forward threads capacity : ℕ) → length space.list ≡ words
-    → space.used ≡ 0 → words < 2 ^ 30 → threads ≤ 8 → Standing told (new_view space words globals forward threads capacity)
+    → space.used ≡ 0 → words < 2 ^ 30 → threads ≤ 8 → Standing told no_homes_on
+    (new_view space words globals forward threads capacity)
 unfolding new_view
 stands_new told space words globals forward threads capacity size unused small few =
     let v : View = new_view space words globals forward threads capacity in
@@ -226,7 +227,7 @@ stands_new told space words globals forward threads capacity size unused small f
     λ t c is. (let e : None ≡ Some c = sym (still t) ∙ is in cc) in
     let unclaimed : claimed v.calls ≡ 0 = claimed_none v.calls still in
     let objects : NoObjects (maps v) = record { address = no_name words; home = get-empty {X = ℕ} nat_cmp } in
-    let empty : IsEmpty (state v) = record {
+    let empty : IsEmpty (state no_homes_on v) = record {
       small = omega (arith, size, small);
       forwards = λ p below. nothing_at forward p;
       scions = no_scion_in (words / 2);
@@ -239,16 +240,15 @@ stands_new told space words globals forward threads capacity size unused small f
       named = refl;
       room = length-replicate words None ∙ sym size;
       scions_made = subst (λ (n : ℕ). AreScionsFor n v.scions) (sym size) (scions_made words v.scions refl);
-      settled = nothing_at forward;
       few = omega (arith, length-replicate threads no_registers, few);
       each = length-replicate threads None ∙ sym (length-replicate threads no_registers);
       counted = refl;
       first = omega arith;
       bounded = inl (omega (arith, unused));
       holds = record {
-        formed = FormedWords_start (maps v) (state v) objects empty;
-        no_gaps = NoGaps_start (maps v) (state v) objects empty;
-        tells = λ is. Tells_start (maps v) (state v) objects empty;
+        formed = FormedWords_start (maps v) (state no_homes_on v) objects empty;
+        no_gaps = NoGaps_start (maps v) (state no_homes_on v) objects empty;
+        tells = λ is. Tells_start (maps v) (state no_homes_on v) objects empty;
       };
       legal = λ is p e at. absurd (cc);
       registers = λ t r. inl (nothing_held threads t r);
@@ -266,13 +266,16 @@ stands_new told space words globals forward threads capacity size unused small f
 
 -- before the first event
 pub start_at_rest : (told : Bool) (words globals forward threads entries : ℕ) (heap : Heap) (rest : Rest)
-    → words < 2 ^ 30 → threads ≤ 8 → IsNewHeap words globals forward true heap → IsNewRest threads entries rest → AtRest told heap rest
+    → words < 2 ^ 30 → threads ≤ 8 → IsNewHeap words globals forward true heap → IsNewRest threads entries rest
+    → AtRest told no_homes_on heap rest
 unfolding new_view
 start_at_rest told words globals forward threads entries heap rest small few is_new is_rest =
-    let same : new_view heap.space words globals forward threads (vec_capacity rest.log) ≡ view (core_of heap rest) = cc in
+    let same : new_view heap.space words globals forward threads (vec_capacity rest.log) ≡ view (core_of heap rest) = cc
+    in
     record {
-      stands = subst (Standing told) same
-          (stands_new told heap.space words globals forward threads (vec_capacity rest.log) is_new.space.size is_new.space.used
+      stands = subst (Standing told no_homes_on) same
+          (stands_new told heap.space words globals forward threads (vec_capacity rest.log) is_new.space.size
+          is_new.space.used
           small few);
       quiet = λ t. ap (λ (calls : List (Option Call)). get_or calls t None) is_rest.calls
           ∙ get_or_replicate threads t None;

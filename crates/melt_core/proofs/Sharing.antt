@@ -1,16 +1,17 @@
 -- The laws of events for plain words that threads share.
-use Rattle.std.proofs.Common.{ℕ, ◌+◌, ◌*◌, refl, arith}
+use Rattle.std.proofs.Common.{◌≡◌, ℕ, ◌+◌, ◌*◌, refl, arith}
 use Rattle.std.specs.Prelude.{Bool, List}
 use Rattle.melt_model.specs.declared.history.Entry.{Entry}
 use Rattle.melt_word.specs.declared.reference.Ref.TheVariants.{Stale}
 use Rattle.melt_scion.specs.State.{Base}
 use Rattle.melt_scion.specs.Placed.{Maps}
 use Rattle.melt_scion.specs.Regions.{no_region}
-use Rattle.melt_scion.specs.Changes.{WordChanges, FreeMoves}
+use Rattle.melt_forward.specs.Forwarding.{forward_word}
+use Rattle.melt_scion.specs.Changes.{WordChanges, ForwardChanges, FreeMoves}
 use Rattle.melt_core.specs.declared.call.Place.TheVariants.{Field}
 use Rattle.melt_core.specs.Known.{region}
 use Rattle.melt_core.specs.Events.{Event}
-use Rattle.melt_core.specs.Shared.{Table, shown, Replaces, SharedLaws}
+use Rattle.melt_core.specs.Shared.{Table, shown, Replaces, ReplacesForward, SharedLaws}
 use Rattle.melt_core.proofs.Keeping.{event_keeps}
 use Rattle.melt_core.proofs.Regions.{claimed_owned}
 
@@ -34,6 +35,17 @@ module _ (base : Base) (old new : Table) where
     forward = replaces.forwards;
   }
 
+forward_changes : (base : Base) (old new : Table) (at word : ℕ) → ReplacesForward old new at word →
+    ForwardChanges (shown base old) (shown base new) at word
+forward_changes base old new at word replaces = record {
+  base = refl;
+  free = replaces.words 1;
+  word_stays = λ k. replaces.words (2 + k);
+  global = replaces.globals;
+  here = replaces.here;
+  others = replaces.others;
+}
+
 pub shared_laws : (told : Bool) (thread : ℕ) (h : List Entry) (maps : Maps) (base : Base) (old new : Table) →
     SharedLaws told thread h maps base old new
 shared_laws told thread h maps base old new = record {
@@ -55,4 +67,9 @@ shared_laws told thread h maps base old new = record {
       event_keeps told thread h maps maps (shown base old) (shown base new) no_region 0 _ before.legal before.holds
       (Event.untags (Field object i) at (Stale target) target value refl is in_range word named fresh (λ tell. refl)
       last (word_changes base old new (object + 2 + i) _ replaces));
+  commits = λ later home tried p n address shape rest before may replaces appears.
+      event_keeps told thread h maps later (shown base old) (shown base new) (region address shape) 0 _ before.legal
+      before.holds
+      (Event.commits home tried p n address shape rest may
+      (forward_changes base old new p (forward_word home address) replaces) appears);
 }

@@ -13,11 +13,11 @@ use Rattle.melt_model.specs.declared.operations.Op.{Op}
 use Rattle.melt_scion.specs.State.{Base}
 use Rattle.melt_scion.specs.Placed.{MayHold, Holds, value_at}
 use Rattle.melt_scion.specs.Regions.{Region, Apart}
-use Rattle.melt_scion.specs.Heaps.{AreScionsFor, register_in}
+use Rattle.melt_scion.specs.Heaps.{AreScionsFor, OnDisk, register_in}
 use Rattle.melt_core.specs.declared.call.Call.{Call}
 use Rattle.melt_core.specs.declared.answer.StepResult.{StepResult}
 use Rattle.melt_core.specs.Answering.{with_entry}
-use Rattle.melt_core.specs.Advances.{Advances, MayAdvance, Outcome, LeavesClean}
+use Rattle.melt_core.specs.Advances.{AdvancesOver, Asks, Outcome, LeavesClean}
 use Rattle.melt_core.specs.Known.{Known, Evolves, region_of}
 use Rattle.melt_core.specs.Stages.{Fits, Applies, change_of, cleared_by}
 use Rattle.melt_core.specs.Events.{Event, Keeps}
@@ -41,10 +41,10 @@ pub record Kept (v w : View) (t : ℕ) (act : Option Act) (after : Option Call) 
   pub made : w.made ≡ makes w.log
 
 -- an event that leaves registers, names and history
-pub kept_own : (told : Bool) (v w : View) (t : ℕ) (after : Option Call) → Standing told v
+pub kept_own : (disk : OnDisk) (told : Bool) (v w : View) (t : ℕ) (after : Option Call) → Standing told disk v
     → w ≡ record v { space = w.space; calls = set v.calls t after; free = w.free; stop = w.stop }
     → Kept v w t None after
-kept_own told v w t after s moves = record {
+kept_own disk told v w t after s moves = record {
   log = ap (λ (x : View). x.log) moves;
   calls = ap (λ (x : View). x.calls) moves;
   threads = ap (λ (x : View). length x.held) moves;
@@ -57,14 +57,14 @@ kept_own told v w t after s moves = record {
 }
 
 -- One event of a thread, whose call is this behind it.
-pub record Happens (told : Bool) (v w : View) (t : ℕ) (mine : Region) (cleared : ℕ) (act : Option Act)
+pub record Happens (disk : OnDisk) (told : Bool) (v w : View) (t : ℕ) (mine : Region) (cleared : ℕ) (act : Option Act)
     (after : Option Call) : Type 0 where
-  pub event : Event told v.log (maps v) (maps w) (state v) (state w) mine cleared act
+  pub event : Event told v.log (maps v) (maps w) (state disk v) (state disk w) mine cleared act
   pub kept : Kept v w t act after
   pub first : 1 ≤ w.free
   pub bounded : Bounded w
-  pub may_hold : (r : ℕ) → MayHold (maps w) (state w) (register_in w.held t r)
-  pub known : (c : Call) → after ≡ Some c → Known (maps w) (state w) c.stage
+  pub may_hold : (r : ℕ) → MayHold (maps w) (state disk w) (register_in w.held t r)
+  pub known : (c : Call) → after ≡ Some c → Known told (maps w) (state disk w) c.stage
   pub fits : (c : Call) → after ≡ Some c → Fits (register_in w.held t) c.op c.stage
   pub mine_is : (u : ℕ) (d : Call) → u ≢ t → call_of v u ≡ Some d → Apart mine (region_of d.stage)
   pub apart : (c : Call) → after ≡ Some c → (u : ℕ) (d : Call) → u ≢ t → call_of v u ≡ Some d
@@ -109,36 +109,39 @@ call_there v w t u call sets differ = ap (λ (cs : List (Option Call)). get_or c
     ∙ get_or-set_other v.calls t u call None differ
 
 -- behind such an event all stands
-pub stands_behind : (told : Bool) (v w : View) (t : ℕ) (mine : Region) (cleared : ℕ) (act : Option Act)
-    (after : Option Call) → Standing told v → Happens told v w t mine cleared act after → Standing told w
-stands_behind told v w t mine cleared act after s e =
-    let keeps : Keeps told v.log (with_entry t v.log act) (maps v) (maps w) (state v) (state w) mine cleared =
-    event_keeps told t v.log (maps v) (maps w) (state v) (state w) mine cleared act s.legal s.holds e.event in
-    let evolves : Evolves (maps v) (maps w) (state v) (state w) cleared = keeps.evolves in
+pub stands_behind : (disk : OnDisk) (told : Bool) (v w : View) (t : ℕ) (mine : Region) (cleared : ℕ) (act : Option Act)
+    (after : Option Call) → Standing told disk v → Happens disk told v w t mine cleared act after → Standing told disk w
+stands_behind disk told v w t mine cleared act after s e =
+    let keeps : Keeps told v.log (with_entry t v.log act) (maps v) (maps w) (state disk v) (state disk w) mine cleared =
+    event_keeps told t v.log (maps v) (maps w) (state disk v) (state disk w) mine cleared act s.legal s.holds e.event in
+    let evolves : Evolves (maps v) (maps w) (state disk v) (state disk w) cleared = keeps.evolves in
     let size : length w.space.list ≡ length v.space.list = ap (λ (b : Base). b.size) evolves.base in
     record {
       named = e.kept.named;
       room = e.kept.room ∙ (s.room ∙ sym size);
       scions_made = subst (AreScionsFor (length w.space.list)) (sym e.kept.scions)
           (subst (λ (n : ℕ). AreScionsFor n v.scions) (sym size) s.scions_made);
-      settled = λ p. ap (λ (words : List ℕ). slice_index words p) e.kept.forward ∙ s.settled p;
       few = omega (arith, s.few, e.kept.threads);
       each = ap length e.kept.calls ∙ (length-set v.calls t after ∙ (s.each ∙ sym e.kept.threads));
       counted = e.kept.made;
       first = e.first;
       bounded = e.bounded;
-      holds = subst (λ (h : List Entry). Holds told h (maps w) (state w)) (sym e.kept.log) keeps.holds;
+      holds = subst (λ (h : List Entry). Holds told h (maps w) (state disk w)) (sym e.kept.log) keeps.holds;
       legal = λ is. subst (λ (h : List Entry). Legal h (length w.globals)) (sym e.kept.log) (keeps.legal is);
       registers = λ u r. elim (cases_eq u t) [
-        | inl same ↦ subst (λ (k : ℕ). MayHold (maps w) (state w) (register_in w.held k r)) (sym same) (e.may_hold r)
+        | inl same ↦ subst (λ (k : ℕ). MayHold (maps w) (state disk w) (register_in w.held k r)) (sym same)
+            (e.may_hold r)
         | inr differ ↦
-            subst (λ (regs : List ℕ). MayHold (maps w) (state w) (slice_index regs r)) (sym (e.kept.others u differ))
-            (hold_stays (maps v) (maps w) (state v) (state w) cleared s.holds.formed evolves (register_in v.held u r)
+            subst (λ (regs : List ℕ). MayHold (maps w) (state disk w) (slice_index regs r))
+            (sym (e.kept.others u differ))
+            (hold_stays (maps v) (maps w) (state disk v) (state disk w) cleared s.holds.formed evolves
+            (register_in v.held u r)
             (s.registers u r))
       ];
       known = λ u c is. elim (call_behind v w t u after c e.kept.calls is) [
         | inl here ↦ e.known c here.1
-        | inr there ↦ known_stays (maps v) (maps w) (state v) (state w) cleared s.holds.formed evolves c.stage
+        | inr there ↦ known_stays (maps v) (maps w) (state disk v) (state disk w) cleared s.holds.formed evolves told
+            c.stage
             (λ owns. keeps.regions (region_of c.stage) owns (e.mine_is u c there.0 there.1)) (s.known u c there.1)
       ];
       fits = λ u c is. elim (call_behind v w t u after c e.kept.calls is) [
@@ -160,40 +163,43 @@ stands_behind told v w t mine cleared act after s e =
     }
 
 -- What an event does, by what it has to show: each form of it, told or not.
-pub record Made (v w : View) (t : ℕ) (cleared : ℕ) : Type 0 where
+pub record Made (disk : OnDisk) (v w : View) (t : ℕ) (cleared : ℕ) : Type 0 where
   pub mine : Region
   pub act : Option Act
   pub after : Option Call
-  pub happens : (told : Bool) → Standing told v → Happens told v w t mine cleared act after
+  pub happens : (told : Bool) → Standing told disk v → Happens disk told v w t mine cleared act after
 
 -- the values of the others stay
-pub values_stay : (v w : View) (u cleared : ℕ) → Standing false v
-    → Evolves (maps v) (maps w) (state v) (state w) cleared → registers_in w.held u ≡ registers_in v.held u
+pub values_stay : (disk : OnDisk) (v w : View) (u cleared : ℕ) → Standing false disk v
+    → Evolves (maps v) (maps w) (state disk v) (state disk w) cleared → registers_in w.held u ≡ registers_in v.held u
     → values_of w u ≡ values_of v u
-values_stay v w u cleared s evolves same =
-    let may : (r : ℕ) → MayHold (maps v) (state v) (register_in v.held u r) = s.registers u in
+values_stay disk v w u cleared s evolves same =
+    let may : (r : ℕ) → MayHold (maps v) (state disk v) (register_in v.held u r) = s.registers u in
     same_values v.names w.names (registers_in v.held u) (registers_in w.held u) (ap length same)
     (λ r. subst (λ (regs : List ℕ). value_at (maps_of w.names) (get_or regs r 0) ≡ Some
     (value_in (held_values v.names (registers_in v.held u)) r)) (sym same)
     (subst (λ (x : Value). value_at (maps_of w.names) (get_or (registers_in v.held u) r 0) ≡ Some x)
     (sym (value_held v.names (registers_in v.held u) r))
-    (held_value_stays (maps v) (maps w) (state v) (state w) cleared s.holds.formed evolves (register_in v.held u r)
-    (held_value v.names (register_in v.held u r)) (may_value v.names (state v) (register_in v.held u r) (may r)))))
+    (held_value_stays (maps v) (maps w) (state disk v) (state disk w) cleared s.holds.formed evolves
+    (register_in v.held u r)
+    (held_value v.names (register_in v.held u r)) (may_value v.names (state disk v) (register_in v.held u r) (may r)))))
 
 -- One event was made.
-pub advances : (v w : View) (t : ℕ) (o : Op) (result : StepResult) → (asks : MayAdvance v t o)
-    → (made : Made v w t (cleared_by (stage_of v t))) → w.capacity ≡ v.capacity
-    → Applies (maps v) (maps w) (state v) (state w) (change_of (state v) (register_in v.held t) (stage_of v t))
-    → Outcome v w t o result → LeavesClean v w t o result → Advances v w t o result
-advances v w t o result asks made capacity applies outcome clean =
-    let s : Standing false v = asks.stands in
+pub advances : (disk : OnDisk) (v w : View) (t : ℕ) (o : Op) (result : StepResult) → (asks : Asks disk v t o)
+    → (made : Made disk v w t (cleared_by (stage_of v t))) → w.capacity ≡ v.capacity
+    → Applies (maps v) (maps w) (state disk v) (state disk w) (change_of (state disk v) (register_in v.held t)
+    (stage_of v t))
+    → Outcome disk v w t o result → LeavesClean disk v w t o result → AdvancesOver disk v w t o result
+advances disk v w t o result asks made capacity applies outcome clean =
+    let s : Standing false disk v = asks.stands in
     let cleared : ℕ = cleared_by (stage_of v t) in
-    let h : Happens false v w t made.mine cleared made.act made.after = made.happens false s in
-    let evolves : Evolves (maps v) (maps w) (state v) (state w) cleared =
-    (event_keeps false t v.log (maps v) (maps w) (state v) (state w) made.mine cleared made.act s.legal s.holds
+    let h : Happens disk false v w t made.mine cleared made.act made.after = made.happens false s in
+    let evolves : Evolves (maps v) (maps w) (state disk v) (state disk w) cleared =
+    (event_keeps false t v.log (maps v) (maps w) (state disk v) (state disk w) made.mine cleared made.act s.legal
+    s.holds
     h.event).evolves in
     record {
-      keeps = λ told stands. stands_behind told v w t made.mine cleared made.act made.after stands
+      keeps = λ told stands. stands_behind disk told v w t made.mine cleared made.act made.after stands
           (made.happens told stands);
       changes = applies;
       evolves = evolves;
@@ -204,7 +210,7 @@ advances v w t o result asks made capacity applies outcome clean =
         capacity = capacity;
         calls = λ u differ. call_there v w t u made.after h.kept.calls differ;
         registers = h.kept.others;
-        values = λ u differ. values_stay v w u cleared s evolves (h.kept.others u differ);
+        values = λ u differ. values_stay disk v w u cleared s evolves (h.kept.others u differ);
       };
       outcome = outcome;
       clean = clean;

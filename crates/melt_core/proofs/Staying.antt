@@ -1,7 +1,7 @@
 -- What every event leaves of what is known: of objects, of registers, of values, and of calls.
-use Rattle.std.proofs.Common.{◌≡◌, ℕ, zero, suc, ◌+◌, ◌<◌, ◌≤◌, inl, inr, refl, sym, ◌∙◌, ap, subst, arith}
+use Rattle.std.proofs.Common.{◌≡◌, ◌≢◌, ℕ, zero, suc, ◌+◌, ◌<◌, ◌≤◌, inl, inr, refl, sym, ◌∙◌, ap, subst, arith}
 use Rattle.std.proofs.lemmas.Bool.Decides.{eqb_tells}
-use Rattle.std.specs.Prelude.{false, Option, None, Some}
+use Rattle.std.specs.Prelude.{Bool, true, false, List, Option, None, Some}
 use Rattle.std.specs.Option.{option_map}
 use Rattle.melt_model.specs.declared.history.Value.{Value}
 use Rattle.melt_model.specs.declared.history.Value.TheVariants.{Ref}
@@ -12,13 +12,17 @@ use Rattle.melt_word.specs.declared.reference.Ref.TheVariants.{Null, Clean, Stal
 use Rattle.melt_scion.specs.State.{Base, State, HeaderAt, IsFresh}
 use Rattle.melt_scion.specs.Placed.{Maps, IsNamed, value_of, value_at, MayStand, MayHold, FormedWords}
 use Rattle.melt_scion.specs.Regions.{Region, Owns, HasStored}
+use Rattle.melt_forward.specs.Forwarding.{SendsAnother, probe}
+use Rattle.melt_forward.proofs.Pairs.{forward_word-filled}
+use Rattle.melt_forward.proofs.Probing.{probe_within}
+use Rattle.melt_scion.specs.Commits.{Probed, HasBody, HasCopy}
 use Rattle.melt_scion.proofs.Geometry.{one_header}
 use Rattle.melt_core.specs.declared.call.Place.{Place}
 use Rattle.melt_core.specs.declared.call.Place.TheVariants.{Field, Global}
 use Rattle.melt_core.specs.declared.call.Stage.{Stage}
 use Rattle.melt_core.specs.declared.call.Stage.TheVariants.{Polled, Headed, Looked, Cleared, Claimed, Lacking}
 use Rattle.melt_core.specs.Known.{IsObjectAt, word_in, IsPlace, IsTagged}
-use Rattle.melt_core.specs.Known.{HasLooked, region, Known, region_of, Evolves, RegionStays}
+use Rattle.melt_core.specs.Known.{Searches, HasLooked, Leads, region, Known, region_of, Evolves, RegionStays}
 
 -- the header without the stale bit
 abbrev pub cleared_header : Header → Header
@@ -130,6 +134,56 @@ module _ (maps new : Maps) (s t : State) (cleared : ℕ) (formed : FormedWords m
         same ∙ looked.unless_clean (subst IsTagged same tagged);
   }
 
+  -- an address leads to the object that it led to
+  leads_stays : (told : Bool) (found : words.Ref) (target : ℕ) → Leads told maps found target →
+      Leads told new found target
+  leads_stays told found target is = record {
+    named = named_stays target is.named;
+    same = λ tells.
+        let value : value_of maps (Clean target) ≡ Some (Ref is.named.0) = ap (option_map Ref) is.named.1 in
+        value_stays found (Ref is.named.0) (is.same tells ∙ value)
+        ∙ sym (value_stays (Clean target) (Ref is.named.0) value);
+  }
+
+  -- forwarding words that send other homes do so later
+  pub probed_stays : (home tried : ℕ) → Probed s home tried → Probed t home tried
+  probed_stays home tried is = record {
+    few = subst (λ (b : Base). tried ≤ b.forwards) (sym evolves.base) is.few;
+    others = λ i less.
+        let other = is.others i less in
+        let few : tried ≤ s.base.forwards = is.few in
+        let within : probe home s.base.forwards i < s.base.forwards =
+        probe_within home s.base.forwards i (omega arith) in
+        let filled : s.forward (probe home s.base.forwards i) ≢ 0 =
+        λ empty. forward_word-filled other.0 other.1 other.3.home_in_range (sym other.3.is ∙ empty) in
+        let same : t.forward (probe home t.base.forwards i) ≡ s.forward (probe home s.base.forwards i) =
+        ap (λ (b : Base). t.forward (probe home b.forwards i)) evolves.base
+        ∙ evolves.forwards (probe home s.base.forwards i) within filled in
+        subst (λ (w : ℕ). SendsAnother w home) (sym same) other;
+  }
+
+  -- and a search for the address of a home is as far as it was
+  pub searches_stays : (told : Bool) (place : Place) (home tried : ℕ) → Searches told maps s place home tried →
+      Searches told new t place home tried
+  searches_stays told place home tried is = record {
+    looked = looked_stays place (Disk home) is.looked;
+    probed = probed_stays home tried is.probed;
+    object = λ tells. let has = is.object tells in (has.0, evolves.homes home ∙ has.1);
+  }
+
+  -- what was read at a home was read there
+  pub body_stays : (told : Bool) (home : ℕ) (z : Shape) (rest : List ℕ) → HasBody told s.base home z rest →
+      HasBody told t.base home z rest
+  body_stays told home z rest is = subst (λ (b : Base). HasBody told b home z rest) (sym evolves.base) is
+
+  -- a copy in a region that stays is there
+  pub copy_stays : (address home : ℕ) (z : Shape) (rest : List ℕ) → RegionStays new s t (region address z) →
+      HasCopy maps s address home z rest → HasCopy new t address home z rest
+  copy_stays address home z rest stays is = record {
+    owns = stays.owned;
+    are = λ k below. stays.word (address + k) (omega arith) (omega arith) ∙ is.are k below;
+  }
+
   -- the words that were stored in a region that stays are there
   stored_stays : (r : Region) (holds : ℕ → ℕ) (stored : ℕ) → RegionStays new s t r → HasStored maps s r holds stored →
       HasStored new t r holds stored
@@ -142,16 +196,21 @@ module _ (maps new : Maps) (s t : State) (cleared : ℕ) (formed : FormedWords m
   }
 
   -- what is known of a call stays
-  pub known_stays : (stage : Stage) → (Owns maps s (region_of stage) → RegionStays new s t (region_of stage)) →
-      Known maps s stage → Known new t stage
-  known_stays (Polled task) stays is = tt
-  known_stays (Headed address shape access) stays is = object_stays address shape is
-  known_stays (Looked place target dst) stays is = looked_stays place (Stale target) is
-  known_stays (Cleared place target dst) stays is =
-      (looked_stays place (Stale target) is.0, fresh_stays target is.0.may_stand is.1)
-  known_stays (Claimed address shape stored dst) stays is =
+  pub known_stays : (told : Bool) (stage : Stage) →
+      (Owns maps s (region_of stage) → RegionStays new s t (region_of stage)) →
+      Known told maps s stage → Known told new t stage
+  known_stays told (Polled task) stays is = tt
+  known_stays told (Headed address shape access) stays is = object_stays address shape is
+  known_stays told (Looked place found target dst) stays is =
+      (looked_stays place found is.0, leads_stays told found target is.1)
+  known_stays told (Cleared place found target dst) stays is = (
+    looked_stays place found is.0,
+    leads_stays told found target is.1,
+    fresh_stays target is.1.named is.2,
+  )
+  known_stays told (Claimed address shape stored dst) stays is =
       (is.0, stored_stays (region address shape) (λ k. 0) stored (stays is.1.owns) is.1)
-  known_stays (Lacking need) stays is =
+  known_stays told (Lacking need) stays is =
       let above : s.base.size + 1 < s.free = is in
       let later : s.free ≤ t.free = evolves.free in
       let size : t.base.size ≡ s.base.size = ap (λ (b : Base). b.size) evolves.base in

@@ -1,11 +1,11 @@
 -- What one event does to a core.
-use Rattle.std.specs.Prelude.{◌≡◌, ◌≢◌, ℕ, ◌+◌, ◌^◌, ◌<◌, ◌≤◌, Bool, true, false, length, Option, None, Some}
+use Rattle.std.specs.Prelude.{◌≡◌, ◌≢◌, ℕ, ◌+◌, ◌^◌, ◌<◌, ◌≤◌, Bool, true, false, [], length, Option, None, Some}
 use Rattle.melt_model.specs.Alive.{Alive, words_of, CostsSum}
 use Rattle.melt_model.specs.declared.history.Act.{Act}
 use Rattle.melt_model.specs.declared.operations.Op.{Op}
 use Rattle.melt_model.specs.declared.operations.Op.TheVariants as op
 use Rattle.melt_model.specs.declared.operations.Reply.{Reply}
-use Rattle.melt_scion.specs.Heaps.{register_in}
+use Rattle.melt_scion.specs.Heaps.{OnDisk, register_in}
 use Rattle.melt_core.specs.declared.answer.Pause.{Pause}
 use Rattle.melt_core.specs.declared.answer.Pause.TheVariants.{Asked, Space, Forward}
 use Rattle.melt_core.specs.declared.answer.Refusal.{Refusal}
@@ -41,16 +41,29 @@ abbrev pub Continues : Option Call → Op → Type 0
 Continues None o = Unit {0}
 Continues (Some c) o = o ≡ c.op
 
--- What each event of a thread asks: the words are well formed; operation and thread are in range, and the operation is
--- no collection; a call that is in flight is continued; and the history has room for an entry.
-pub record MayAdvance (v : View) (t : ℕ) (o : Op) : Type 0 where
-  pub stands : Standing false v
+-- What each event of a thread asks: over the disk the words are well formed; operation and thread are in range, and the
+-- operation is no collection; a call that is in flight is continued; and the history has room for an entry.
+pub record Asks (disk : OnDisk) (v : View) (t : ℕ) (o : Op) : Type 0 where
+  pub stands : Standing false disk v
   pub thread : t < length v.held
   pub bounds : InBounds (length v.globals) o
   pub no_collect : o ≢ op.Collect
   pub continued : Continues (call_of v t) o
   pub room : HasRoomForEntry v
   pub few : length v.log < 2 ^ 32
+
+-- over a disk that ends at this word; it has no homes yet
+pub record MayAdvance (end : ℕ) (v : View) (t : ℕ) (o : Op) : Type 0 where
+  pub disk : OnDisk
+  pub ends : disk.end ≡ end
+  pub no_homes : end ≡ 1
+  pub asks : Asks disk v t o
+
+-- over some disk
+pub record MayMove (v : View) (t : ℕ) (o : Op) : Type 0 where
+  pub disk : OnDisk
+  pub no_homes : disk.end ≡ 1
+  pub asks : Asks disk v t o
 
 -- what an event of one thread leaves to the others
 pub record KeepsOthers (v w : View) (t : ℕ) : Type 0 where
@@ -69,9 +82,9 @@ pub record KeepsOwn (v w : View) (t : ℕ) : Type 0 where
   pub values : values_of w t ≡ values_of v t
 
 -- the call of the thread goes on
-pub record Goes (v w : View) (t : ℕ) (o : Op) : Type 0 where
+pub record Goes (disk : OnDisk) (v w : View) (t : ℕ) (o : Op) : Type 0 where
   pub stage : Stage
-  pub next : Next (maps v) (state v) (register_in v.held t) v.stop o (stage_of v t) stage
+  pub next : Next (maps v) (state disk v) (register_in v.held t) v.stop o (stage_of v t) stage
   pub call : call_of w t ≡ Some (record { op = o; stage = stage })
   pub nearer : events_left (Some stage) < events_left (stage_of v t)
   pub own : KeepsOwn v w t
@@ -98,16 +111,17 @@ Sets (op.Drop dst) r = r ≡ dst
 Sets o r = ⊥
 
 -- The call of the thread is answered, in an event that neither goes on nor has to pause. Reply, history and registers
--- are those of the operation, where the words stand for the history; otherwise there is one entry more at most.
-pub record IsAnswered (v w : View) (t : ℕ) (o : Op) (reply : Reply) : Type 0 where
-  pub last : (next : Stage) → Next (maps v) (state v) (register_in v.held t) v.stop o (stage_of v t) next → ⊥
+-- are those of the operation, where the words stand for the history; otherwise there is one entry more at most. What
+-- the operation made had room, where no object is on disk.
+pub record IsAnswered (disk : OnDisk) (v w : View) (t : ℕ) (o : Op) (reply : Reply) : Type 0 where
+  pub last : (next : Stage) → Next (maps v) (state disk v) (register_in v.held t) v.stop o (stage_of v t) next → ⊥
   pub no_pause : MustPause (register_in v.held t) v.stop o (stage_of v t) → ⊥
   pub call : call_of w t ≡ None
-  pub answers : Standing true v → Answers t v.log (values_of v t) o reply w.log (values_of w t)
+  pub answers : Standing true disk v → Answers t v.log (values_of v t) o reply w.log (values_of w t)
   pub history : (act : Option Act) × (w.log ≡ with_entry t v.log act)
   pub registers : (r : ℕ) → (Sets o r → ⊥) → register_in w.held t r ≡ register_in v.held t r
   pub stop : w.stop ≡ v.stop
-  pub room : Standing true v → HasRoomFor v o
+  pub room : Standing true disk v → disk.homes ≡ [] → HasRoomFor v o
 
 -- the call of the thread is refused, as the stop word is set; nothing changes
 pub record IsAsked (v w : View) (t : ℕ) (o : Op) : Type 0 where
@@ -132,25 +146,33 @@ Refuses v w t o (refusal.Pause pause) = Pauses v w t o pause
 Refuses v w t o refusal.DiskFault = ⊥
 Refuses v w t o (refusal.Damaged damaged) = ⊥
 
-abbrev pub Outcome : View → View → ℕ → Op → StepResult → Type 0
-Outcome v w t o Going = Goes v w t o
-Outcome v w t o (Answered reply) = IsAnswered v w t o reply
-Outcome v w t o (Refused refusal) = Refuses v w t o refusal
+abbrev pub Outcome : OnDisk → View → View → ℕ → Op → StepResult → Type 0
+Outcome disk v w t o Going = Goes disk v w t o
+Outcome disk v w t o (Answered reply) = IsAnswered disk v w t o reply
+Outcome disk v w t o (Refused refusal) = Refuses v w t o refusal
 
 -- where a load was answered, the reference that it read has no tag
-abbrev pub LeavesClean : View → View → ℕ → Op → StepResult → Type 0
-LeavesClean v w t o (Answered reply) = (place : Place) (dst : ℕ) → LoadsAt (register_in v.held t) o place dst
-    → IsPlace (maps v) (state v) place → IsTagged (word_in (state w) place) → ⊥
-LeavesClean v w t o Going = Unit {0}
-LeavesClean v w t o (Refused refusal) = Unit {0}
+abbrev pub LeavesClean : OnDisk → View → View → ℕ → Op → StepResult → Type 0
+LeavesClean disk v w t o (Answered reply) = (place : Place) (dst : ℕ) → LoadsAt (register_in v.held t) o place dst
+    → IsPlace (maps v) (state disk v) place → IsTagged (word_in (state disk w) place) → ⊥
+LeavesClean disk v w t o Going = Unit {0}
+LeavesClean disk v w t o (Refused refusal) = Unit {0}
 
--- One event of a thread was made: what stood before, told or not, stands after; the shared words changed as that event
--- changes them, and in no other way.
-pub record Advances (v w : View) (t : ℕ) (o : Op) (result : StepResult) : Type 0 where
-  pub keeps : (told : Bool) → Standing told v → Standing told w
-  pub changes : Applies (maps v) (maps w) (state v) (state w)
-      (change_of (state v) (register_in v.held t) (stage_of v t))
-  pub evolves : Evolves (maps v) (maps w) (state v) (state w) (cleared_by (stage_of v t))
+-- One event of a thread was made, over a disk: what stood before, told or not, stands after; the shared words changed
+-- as that event changes them, and in no other way.
+pub record AdvancesOver (disk : OnDisk) (v w : View) (t : ℕ) (o : Op) (result : StepResult) : Type 0 where
+  pub keeps : (told : Bool) → Standing told disk v → Standing told disk w
+  pub changes : Applies (maps v) (maps w) (state disk v) (state disk w)
+      (change_of (state disk v) (register_in v.held t) (stage_of v t))
+  pub evolves : Evolves (maps v) (maps w) (state disk v) (state disk w) (cleared_by (stage_of v t))
   pub others : KeepsOthers v w t
-  pub outcome : Outcome v w t o result
-  pub clean : LeavesClean v w t o result
+  pub outcome : Outcome disk v w t o result
+  pub clean : LeavesClean disk v w t o result
+
+-- over each disk over which the words are well formed
+pub record Moves (v w : View) (t : ℕ) (o : Op) (result : StepResult) : Type 0 where
+  pub over : (disk : OnDisk) → Standing false disk v → AdvancesOver disk v w t o result
+
+-- over each disk that ends at this word
+pub record Advances (end : ℕ) (v w : View) (t : ℕ) (o : Op) (result : StepResult) : Type 0 where
+  pub over : (disk : OnDisk) → disk.end ≡ end → AdvancesOver disk v w t o result

@@ -1,18 +1,19 @@
 -- The small changes of which events are made, as changes of a view.
-use Rattle.std.specs.Prelude.{◌≡◌, ℕ, ◌<◌, true, [], ◌∷◌, ◌++◌, length, slice_set, Option, None}
+use Rattle.std.specs.Prelude.{◌≡◌, ℕ, ◌<◌, true, false, [], ◌∷◌, ◌++◌, length, slice_set, Option, None}
 use Rattle.melt_model.specs.Thread.{found}
 use Rattle.melt_model.specs.declared.history.Entry.{Entry}
 use Rattle.melt_model.specs.declared.history.Act.TheVariants.{Read}
 use Rattle.melt_model.specs.declared.history.Slot.{Slot}
 use Rattle.melt_word.specs.Words.{IsRef, ref_word}
 use Rattle.melt_word.specs.declared.reference.Ref.{Ref}
+use Rattle.melt_scion.specs.Heaps.{OnDisk}
 use Rattle.melt_core.specs.declared.answer.StepResult.{StepResult}
 use Rattle.melt_core.specs.declared.answer.StepResult.TheVariants.{Answered}
 use Rattle.melt_core.specs.declared.call.Call.{Call}
 use Rattle.melt_core.specs.declared.call.Place.{Place}
 use Rattle.melt_core.specs.Answering.{entry}
-use Rattle.melt_core.specs.Known.{SlotAt}
-use Rattle.melt_core.specs.Views.{View, registers_in, maps, held_value}
+use Rattle.melt_core.specs.Known.{IsPlace, SlotAt}
+use Rattle.melt_core.specs.Views.{View, Standing, registers_in, maps, state, held_value}
 
 -- the word is that of the reference
 pub record HoldsRef (word : ℕ) (reference : Ref) : Type 0 where
@@ -43,6 +44,16 @@ noted v e = record v { log = v.log ++ e ∷ [] }
 -- only words of the space and globals differ
 abbrev pub OnlyWords : View → View → Type 0
 OnlyWords v w = w ≡ record v { space = w.space; globals = w.globals }
+
+-- the place is there, over some disk
+abbrev pub HasPlace : View → Place → Type 0
+HasPlace v place = (disk : OnDisk) × IsPlace (maps v) (state disk v) place
+
+-- and the words are well formed over it
+pub record StandsAt (v : View) (place : Place) : Type 0 where
+  pub disk : OnDisk
+  pub stands : Standing false disk v
+  pub there : IsPlace (maps v) (state disk v) place
 
 -- What an address stands for was read at a place into a register, and the call is over.
 pub record HasRead (v w : View) (t : ℕ) (place : Place) (dst address : ℕ) (result : StepResult) : Type 0 where

@@ -2,6 +2,7 @@
 use Rattle.std.specs.Prelude.{◌≡◌, ◌≢◌, ℕ, ◌+◌, ◌-◌, ◌≤◌, min, length, Bool}
 use Rattle.std.specs.Prelude.{false, [], replicate, slice_set, vec_capacity, None}
 use Rattle.melt_model.specs.declared.history.Value.TheVariants.{Nil}
+use Rattle.melt_scion.specs.Heaps.{OnDisk}
 use Rattle.melt_scion.specs.declared.registers.Registers.{Registers}
 use Rattle.melt_scion.specs.declared.heap.Heap.{Heap}
 use Rattle.melt_core.specs.declared.machine.Core.{Core}
@@ -24,9 +25,9 @@ pub record IsNewRest (threads entries : ℕ) (rest : Rest) : Type 0 where
 abbrev pub core_of : Heap → Rest → Core
 core_of heap rest = record { heap = heap; rest = rest; free = heap.space.used + 1; stop = false }
 
--- A heap and a rest between two epochs: what a core that begins with them stands for, told or not.
-pub record AtRest (told : Bool) (heap : Heap) (rest : Rest) : Type 0 where
-  pub stands : Standing told (view (core_of heap rest))
+-- A heap and a rest between two epochs: what a core that begins with them stands for over a disk, told or not.
+pub record AtRest (told : Bool) (disk : OnDisk) (heap : Heap) (rest : Rest) : Type 0 where
+  pub stands : Standing told disk (view (core_of heap rest))
   pub quiet : IsQuiet (view (core_of heap rest))
 
 -- A core became a heap and a rest: the history stays and the registers do, and so do the words. Those before the first
@@ -44,9 +45,9 @@ pub record HasFinished (v w : View) : Type 0 where
   pub capacity : w.capacity ≡ v.capacity
   pub made : w.made ≡ v.made
 
--- the registers of a thread hold nothing now; what stood before, told or not, stands after
+-- the registers of a thread hold nothing now; what stood before over a disk, told or not, stands after
 pub record HasDropped (v w : View) (t : ℕ) : Type 0 where
-  pub keeps : (told : Bool) → Standing told v → Standing told w
+  pub keeps : (told : Bool) (disk : OnDisk) → Standing told disk v → Standing told disk w
   pub only : w ≡ record v { held = slice_set v.held t no_registers }
   pub here : values_of w t ≡ replicate 16 Nil
   pub others : (u : ℕ) → u ≢ t → values_of w u ≡ values_of v u

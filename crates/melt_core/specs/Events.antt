@@ -13,10 +13,12 @@ use Rattle.melt_word.specs.declared.header.Shape.{Shape}
 use Rattle.melt_word.specs.declared.header.Header.{Header}
 use Rattle.melt_word.specs.declared.reference.Ref.{Ref}
 use Rattle.melt_word.specs.declared.reference.Ref.TheVariants.{Clean}
+use Rattle.melt_forward.specs.Forwarding.{forward_word}
 use Rattle.melt_scion.specs.State.{State, HeaderAt, IsFresh}
 use Rattle.melt_scion.specs.Placed.{Maps, IsNamed, value_of, value_at, MayHold, Holds}
 use Rattle.melt_scion.specs.Regions.{Region, no_region, Apart, Owns, HasStored}
-use Rattle.melt_scion.specs.Changes.{SameWords, WordChanges, GlobalChanges, FreeMoves, NameAppears}
+use Rattle.melt_scion.specs.Changes.{SameWords, WordChanges, GlobalChanges, ForwardChanges, FreeMoves, NameAppears}
+use Rattle.melt_scion.specs.Commits.{MayCommit}
 use Rattle.melt_core.specs.declared.call.Place.{Place}
 use Rattle.melt_core.specs.declared.call.Place.TheVariants.{Field, Global}
 use Rattle.melt_core.specs.Answering.{with_entry}
@@ -73,6 +75,9 @@ pub data Event (told : Bool) (h : List Entry) (maps new : Maps) (s t : State) : 
       → (told ≡ true → value_of maps found ≡ value_of maps (Clean target))
       → (told ≡ true → LastAt h maps place at value) → PlaceChanges s t place (ref_word (Clean target))
       → Event told h maps new s t no_region 0 (Some (Read at value))
+  commits : (home tried p n address : ℕ) → (shape : Shape) → (rest : List ℕ)
+      → MayCommit told maps s home tried p n address shape rest → ForwardChanges s t p (forward_word home address)
+      → NameAppears maps new address n → Event told h maps new s t (region address shape) 0 None
 
 -- What an event keeps: all that held before, told or not; a legal history; and what other threads know and own.
 pub record Keeps (told : Bool) (h k : List Entry) (maps new : Maps) (s t : State) (mine : Region)

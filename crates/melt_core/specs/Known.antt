@@ -1,6 +1,6 @@
 -- What is known of a call between two of its events, whatever other threads did since; without its operation and
 -- without its thread's registers. And what every event leaves, so that this stays.
-use Rattle.std.specs.Prelude.{◌≡◌, ◌≢◌, ℕ, ◌+◌, ◌<◌, ◌≤◌, false, Some}
+use Rattle.std.specs.Prelude.{◌≡◌, ◌≢◌, ℕ, ◌+◌, ◌<◌, ◌≤◌, Bool, true, false, Some}
 use Rattle.melt_model.specs.declared.history.Slot.{Slot}
 use Rattle.melt_model.specs.declared.history.Slot.TheVariants as slot
 use Rattle.melt_word.specs.Words.{IsShape, IsRef, ref_word, cost_of}
@@ -9,7 +9,8 @@ use Rattle.melt_word.specs.declared.header.Header.{Header}
 use Rattle.melt_word.specs.declared.reference.Ref.{Ref}
 use Rattle.melt_word.specs.declared.reference.Ref.TheVariants.{Null, Clean, Stale, Disk}
 use Rattle.melt_scion.specs.State.{State, HeaderAt, IsFresh}
-use Rattle.melt_scion.specs.Placed.{Maps, MayStand}
+use Rattle.melt_scion.specs.Placed.{Maps, IsNamed, HasObject, MayStand, value_of}
+use Rattle.melt_scion.specs.Commits.{Probed}
 use Rattle.melt_scion.specs.Regions.{Region, no_region, Owns, HasStored}
 use Rattle.melt_core.specs.declared.call.Place.{Place}
 use Rattle.melt_core.specs.declared.call.Place.TheVariants.{Field, Global}
@@ -61,19 +62,32 @@ pub record HasLooked (maps : Maps) (s : State) (place : Place) (found : Ref) : T
   pub may_stand : MayStand maps s found
   pub unless_clean : IsTagged (word_in s place) → word_in s place ≡ ref_word found
 
+-- The home was found at the place, and its address is searched for: so many forwarding words send other homes. Where it
+-- is told, the home is that of an object.
+pub record Searches (told : Bool) (maps : Maps) (s : State) (place : Place) (home tried : ℕ) : Type 0 where
+  pub looked : HasLooked maps s place (Disk home)
+  pub probed : Probed s home tried
+  pub object : told ≡ true → HasObject maps home
+
 -- the words for an object of the shape
 abbrev pub region : ℕ → Shape → Region
 region address shape = record { at = address; words = cost_of shape }
 
--- by the stage of the call
-abbrev pub Known : Maps → State → Stage → Type 0
-Known maps s (Polled task) = Unit {0}
-Known maps s (Headed address shape access) = IsObjectAt maps s address shape
-Known maps s (Looked place target dst) = HasLooked maps s place (Stale target)
-Known maps s (Cleared place target dst) = HasLooked maps s place (Stale target) × IsFresh s target
-Known maps s (Claimed address shape stored dst) =
+-- The address is that of an object; where it is told, it is the one for which the reference stands.
+pub record Leads (told : Bool) (maps : Maps) (found : Ref) (target : ℕ) : Type 0 where
+  pub named : IsNamed maps target
+  pub same : told ≡ true → value_of maps found ≡ value_of maps (Clean target)
+
+-- by the stage of the call; what it says of values is told where the disk tells its words
+abbrev pub Known : Bool → Maps → State → Stage → Type 0
+Known told maps s (Polled task) = Unit {0}
+Known told maps s (Headed address shape access) = IsObjectAt maps s address shape
+Known told maps s (Looked place found target dst) = HasLooked maps s place found × Leads told maps found target
+Known told maps s (Cleared place found target dst) =
+    HasLooked maps s place found × Leads told maps found target × IsFresh s target
+Known told maps s (Claimed address shape stored dst) =
     IsShape shape × HasStored maps s (region address shape) (λ k. 0) stored
-Known maps s (Lacking need) = s.base.size + 1 < s.free
+Known told maps s (Lacking need) = s.base.size + 1 < s.free
 
 -- the words that a call owns
 abbrev pub region_of : Stage → Region

@@ -10,10 +10,12 @@ use Rattle.melt_model.specs.declared.history.Entry.{Entry}
 use Rattle.melt_word.specs.Words.{IsShape, IsRef, ref_word, header_word, cost_of}
 use Rattle.melt_word.specs.declared.header.Shape.{Shape}
 use Rattle.melt_word.specs.declared.reference.Ref.TheVariants.{Clean, Stale}
+use Rattle.melt_forward.specs.Forwarding.{forward_word}
 use Rattle.melt_scion.specs.State.{Base, State, IsFresh}
 use Rattle.melt_scion.specs.Placed.{Maps, IsNamed, MayHold, value_at, Holds}
 use Rattle.melt_scion.specs.Regions.{Region, no_region, Owns, HasStored}
 use Rattle.melt_scion.specs.Changes.{NameAppears}
+use Rattle.melt_scion.specs.Commits.{MayCommit}
 use Rattle.melt_core.specs.declared.call.Place.TheVariants.{Field}
 use Rattle.melt_core.specs.Answering.{with_entry}
 use Rattle.melt_core.specs.Known.{IsPlace, SlotAt, region}
@@ -43,6 +45,13 @@ pub record Replaces (old new : Table) (at word : ℕ) : Type 0 where
   pub globals : (g : ℕ) → new.globals g ≡ old.globals g
   pub forwards : (p : ℕ) → new.forwards p ≡ old.forwards p
 
+-- one forwarding word is replaced, and nothing else of the table
+pub record ReplacesForward (old new : Table) (at word : ℕ) : Type 0 where
+  pub words : (k : ℕ) → new.words k ≡ old.words k
+  pub globals : (g : ℕ) → new.globals g ≡ old.globals g
+  pub here : new.forwards at ≡ word
+  pub others : (p : ℕ) → p ≢ at → new.forwards p ≡ old.forwards p
+
 -- what stands before an event, told or not, for any maps
 pub record Before (told : Bool) (h : List Entry) (maps : Maps) (base : Base) (table : Table) : Type 0 where
   pub legal : told ≡ true → Legal h base.globals
@@ -53,7 +62,7 @@ abbrev pub After : Bool → ℕ → List Entry → Maps → Maps → Base → Ta
 After told thread h maps new base old table mine act =
     Keeps told h (with_entry thread h act) maps new (shown base old) (shown base table) mine 0
 
--- Four events, each by any thread.
+-- Five events, each by any thread.
 pub record SharedLaws (told : Bool) (thread : ℕ) (h : List Entry) (maps : Maps) (base : Base) (old new : Table)
     : Type 0 where
   -- an address that a register may hold is stored to a slot of an object
@@ -81,3 +90,8 @@ pub record SharedLaws (told : Bool) (thread : ℕ) (h : List Entry) (maps : Maps
       (told ≡ true → LastAt h maps (Field object i) at value) →
       Replaces old new (2 + (object + 2 + i)) (ref_word (Clean target)) →
       After told thread h maps maps base old new no_region (Some (Read at value))
+  -- an empty forwarding word sends the home of a Body to its copy, which is an object from then on
+  pub commits : (later : Maps) (home tried p n address : ℕ) (shape : Shape) (rest : List ℕ) → Before told h maps base old →
+      MayCommit told maps (shown base old) home tried p n address shape rest →
+      ReplacesForward old new p (forward_word home address) → NameAppears maps later address n →
+      After told thread h maps later base old new (region address shape) None

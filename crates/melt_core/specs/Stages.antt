@@ -7,6 +7,7 @@ use Rattle.melt_model.specs.declared.operations.Op.TheVariants as op
 use Rattle.melt_word.specs.Words.{ref_word, header_word, cost_of}
 use Rattle.melt_word.specs.declared.header.Shape.{Shape}
 use Rattle.melt_word.specs.declared.header.Header.{Header}
+use Rattle.melt_word.specs.declared.reference.Ref.{Ref}
 use Rattle.melt_word.specs.declared.reference.Ref.TheVariants.{Clean, Stale}
 use Rattle.melt_scion.specs.State.{State, HeaderAt}
 use Rattle.melt_scion.specs.Placed.{Maps}
@@ -62,8 +63,8 @@ abbrev pub Fits : (ℕ → ℕ) → Op → Stage → Type 0
 Fits register o (Polled task) = Shares register o task
 Fits register o (Headed address shape access) = (r : ℕ) × (task_of o ≡ Some (Use r access)) × (register r ≡ address)
     × HasPart access shape
-Fits register o (Looked place target dst) = LoadsAt register o place dst
-Fits register o (Cleared place target dst) = LoadsAt register o place dst
+Fits register o (Looked place found target dst) = LoadsAt register o place dst
+Fits register o (Cleared place found target dst) = LoadsAt register o place dst
 Fits register o (Claimed address shape stored dst) = task_of o ≡ Some (Make dst shape)
 Fits register o (Lacking need) = (dst : ℕ) × (shape : Shape) × (task_of o ≡ Some (Make dst shape))
     × (need ≡ cost_of shape)
@@ -76,7 +77,7 @@ pub data Change : Type 0 where
   SetGlobal : (g word : ℕ) → Change
   Free : (free : ℕ) → Change
   Clear : (address : ℕ) → Change
-  Untag : (place : Place) → (target : ℕ) → Change
+  Untag : (place : Place) → (found : Ref) → (target : ℕ) → Change
   Publish : (address : ℕ) → (shape : Shape) → Change
 
 abbrev pub change_of : State → (ℕ → ℕ) → Option Stage → Change
@@ -89,8 +90,8 @@ change_of s register (Some (Headed address shape (Load dst i))) = Nothing
 change_of s register (Some (Headed address shape (Store i src))) = Word (address + 2 + i) (4 * register src)
 change_of s register (Some (Headed address shape (Get j))) = Nothing
 change_of s register (Some (Headed address shape (Put j v))) = Word (number_place address shape j) v
-change_of s register (Some (Looked place target dst)) = Clear target
-change_of s register (Some (Cleared place target dst)) = Untag place target
+change_of s register (Some (Looked place found target dst)) = Clear target
+change_of s register (Some (Cleared place found target dst)) = Untag place found target
 change_of s register (Some (Claimed address shape stored dst)) =
     if stored + 1 == cost_of shape then Publish address shape else Word (address + 1 + stored) 0
 change_of s register (Some (Lacking need)) = Nothing
@@ -104,16 +105,16 @@ Applies maps new s t (Free free) = (new ≡ maps) × FreeMoves s t free
 Applies maps new s t (Clear address) =
     (new ≡ maps) × ((header : Header) → HeaderAt s address header
     → WordChanges s t address (header_word (record { shape = header.shape; stale = false })))
-Applies maps new s t (Untag place target) =
-    (new ≡ maps) × ((word_in s place ≡ ref_word (Stale target) → PlaceChanges s t place (ref_word (Clean target)))
-    × (word_in s place ≢ ref_word (Stale target) → SameWords s t))
+Applies maps new s t (Untag place found target) =
+    (new ≡ maps) × ((word_in s place ≡ ref_word found → PlaceChanges s t place (ref_word (Clean target)))
+    × (word_in s place ≢ ref_word found → SameWords s t))
 Applies maps new s t (Publish address shape) =
     WordChanges s t address (header_word (record { shape = shape; stale = false }))
     × ((n : ℕ) × NameAppears maps new address n)
 
 -- the object whose stale bit the next event clears, or 0
 abbrev pub cleared_by : Option Stage → ℕ
-cleared_by (Some (Looked place target dst)) = target
+cleared_by (Some (Looked place found target dst)) = target
 cleared_by stage = 0
 
 -- The next event is not the last of the call, which reaches this stage by it. An event of a call that has made none
@@ -126,15 +127,16 @@ Next maps s register stop o (Some (Polled (Make dst shape))) next =
 Next maps s register stop o (Some (Polled (Use r access))) next = (shape : Shape) × IsObjectAt maps s (register r) shape
     × HasPart access shape × (next ≡ Headed (register r) shape access)
 Next maps s register stop o (Some (Polled (LoadGlobal dst g))) next =
-    (target : ℕ) × (s.global g ≡ ref_word (Stale target)) × (next ≡ Looked (Global g) target dst)
+    (target : ℕ) × (s.global g ≡ ref_word (Stale target)) × (next ≡ Looked (Global g) (Stale target) target dst)
 Next maps s register stop o (Some (Polled (StoreGlobal g src))) next = ⊥
 Next maps s register stop o (Some (Headed address shape (Load dst i))) next =
-    (target : ℕ) × (s.word (address + 2 + i) ≡ ref_word (Stale target)) × (next ≡ Looked (Field address i) target dst)
+    (target : ℕ) × (s.word (address + 2 + i) ≡ ref_word (Stale target)) ×
+    (next ≡ Looked (Field address i) (Stale target) target dst)
 Next maps s register stop o (Some (Headed address shape (Store i src))) next = ⊥
 Next maps s register stop o (Some (Headed address shape (Get j))) next = ⊥
 Next maps s register stop o (Some (Headed address shape (Put j v))) next = ⊥
-Next maps s register stop o (Some (Looked place target dst)) next = next ≡ Cleared place target dst
-Next maps s register stop o (Some (Cleared place target dst)) next = ⊥
+Next maps s register stop o (Some (Looked place found target dst)) next = next ≡ Cleared place found target dst
+Next maps s register stop o (Some (Cleared place found target dst)) next = ⊥
 Next maps s register stop o (Some (Claimed address shape stored dst)) next =
     (stored + 1 < cost_of shape) × (next ≡ Claimed address shape (stored + 1) dst)
 Next maps s register stop o (Some (Lacking need)) next = ⊥
@@ -150,8 +152,8 @@ abbrev pub events_left : Option Stage → ℕ
 events_left None = 136
 events_left (Some (Polled task)) = 130
 events_left (Some (Headed address shape access)) = 4
-events_left (Some (Looked place target dst)) = 3
-events_left (Some (Cleared place target dst)) = 2
+events_left (Some (Looked place found target dst)) = 3
+events_left (Some (Cleared place found target dst)) = 2
 events_left (Some (Claimed address shape stored dst)) = cost_of shape - stored
 events_left (Some (Lacking need)) = 1
 

@@ -16,7 +16,7 @@ use Rattle.melt_scion.specs.Regions.{Apart}
 use Rattle.melt_scion.specs.Names.{name_at}
 use Rattle.melt_scion.specs.HomeNames.{NamedHomes, home_name}
 use Rattle.melt_scion.specs.Scions.{Scions}
-use Rattle.melt_scion.specs.Heaps.{AreScionsFor, no_homes_on, scion_in, register_in}
+use Rattle.melt_scion.specs.Heaps.{AreScionsFor, OnDisk, scion_in, register_in}
 use Rattle.melt_scion.specs.declared.registers.Registers.{Registers}
 use Rattle.melt_scion.specs.declared.heap.Names as heap
 use Rattle.melt_core.specs.declared.call.Stage.{Stage}
@@ -92,23 +92,23 @@ value v t r = value_in (values_of v t) r
 abbrev pub maps : View → Maps
 maps v = maps_of v.names
 
--- The state that these parts show. There are no homes yet: word 1 on disk is past all of them.
-abbrev pub base_in : SpaceWords → Scions → List ℕ → List ℕ → Base
-base_in space scions globals forward = record {
+-- The state that these parts show over a disk.
+abbrev pub base_in : OnDisk → SpaceWords → Scions → List ℕ → List ℕ → Base
+base_in disk space scions globals forward = record {
   size = length space.list;
   globals = length globals;
   forwards = length forward;
   scion = scion_in scions;
-  end = no_homes_on.end;
-  homes = no_homes_on.homes;
-  free_homes = no_homes_on.free_homes;
-  image = no_homes_on.image;
+  end = disk.end;
+  homes = disk.homes;
+  free_homes = disk.free_homes;
+  image = disk.image;
 }
 
 -- the state of a view, with other words of the space, registers and first free place
-abbrev pub shown : View → SpaceWords → List Registers → ℕ → State
-shown v space held free = record {
-  base = base_in space v.scions v.globals v.forward;
+abbrev pub shown : OnDisk → View → SpaceWords → List Registers → ℕ → State
+shown disk v space held free = record {
+  base = base_in disk space v.scions v.globals v.forward;
   free = free;
   word = word_at space;
   global = slice_index v.globals;
@@ -116,8 +116,8 @@ shown v space held free = record {
   register = register_in held;
 }
 
-abbrev pub state : View → State
-state v = shown v v.space v.held v.free
+abbrev pub state : OnDisk → View → State
+state disk v = shown disk v v.space v.held v.free
 
 -- the call of a thread that is in flight, if one is
 abbrev pub call_in : List (Option Call) → ℕ → Option Call
@@ -167,22 +167,21 @@ Bounded v = (v.free ≤ length v.space.list + 1)
     ⊎ (v.free + 126 * sum (map (λ (c : Option Call). claims_left v.stop (stage_in c)) v.calls) ≤ length
     v.space.list + 1 + 126 * length v.calls)
 
--- What stands between two events, told or not. The words hold as they are, and so do registers; each call in flight
--- knows what its stage says, and fits its operation; regions of calls are apart. No call makes a forwarding yet.
-pub record Standing (told : Bool) (v : View) : Type 0 where
+-- What stands over a disk between two events, told or not. The words hold as they are, and so do registers; each call
+-- in flight knows what its stage says, and fits its operation; regions of calls are apart.
+pub record Standing (told : Bool) (disk : OnDisk) (v : View) : Type 0 where
   pub named : IsSome v.names
   pub room : length (numbers_of v.names) ≡ length v.space.list
   pub scions_made : AreScionsFor (length v.space.list) v.scions
-  pub settled : (p : ℕ) → slice_index v.forward p ≡ 0
   pub few : length v.held ≤ 8
   pub each : length v.calls ≡ length v.held
   pub counted : v.made ≡ makes v.log
   pub first : 1 ≤ v.free
   pub bounded : Bounded v
-  pub holds : Holds told v.log (maps v) (state v)
+  pub holds : Holds told v.log (maps v) (state disk v)
   pub legal : told ≡ true → Legal v.log (length v.globals)
-  pub registers : (t r : ℕ) → MayHold (maps v) (state v) (register_in v.held t r)
-  pub known : (t : ℕ) (c : Call) → call_of v t ≡ Some c → Known (maps v) (state v) c.stage
+  pub registers : (t r : ℕ) → MayHold (maps v) (state disk v) (register_in v.held t r)
+  pub known : (t : ℕ) (c : Call) → call_of v t ≡ Some c → Known told (maps v) (state disk v) c.stage
   pub fits : (t : ℕ) (c : Call) → call_of v t ≡ Some c → Fits (register_in v.held t) c.op c.stage
   pub apart : (t u : ℕ) (c d : Call) → t ≢ u → call_of v t ≡ Some c → call_of v u ≡ Some d
       → Apart (region_of c.stage) (region_of d.stage)

@@ -1,6 +1,6 @@
 //! One event of a call: which it is, by the stage that the call has reached.
 ghost use Rattle.std.specs.Prelude.{◌≡◌, Some};
-ghost use Rattle.melt_core.specs.Advances.{Advances, MayAdvance};
+ghost use Rattle.melt_core.specs.Advances.{Advances, MayAdvance, Moves, MayMove};
 ghost use Rattle.melt_core.specs.Views.{stage_of, view};
 
 use crate::answer::StepResult;
@@ -16,9 +16,9 @@ use melt_word::Shape;
 impl Core {
     /// The event after the stop word was read.
     fn after_poll(&mut self, thread: u32, op: Op, task: Task) -> StepResult
-        requires asks { MayAdvance (view self.old) thread op }
+        requires asks { MayMove (view self.old) thread op }
         requires stage { stage_of (view self.old) thread ≡ Some (Stage.Polled task) }
-        ensures { Advances (view self.old) (view self.new) thread op result }
+        ensures { Moves (view self.old) (view self.new) thread op result }
     {
         match task {
             Task::Make { dst, shape } => self.claim(thread, op, shape, dst),
@@ -37,9 +37,9 @@ impl Core {
         shape: Shape,
         access: Access,
     ) -> StepResult
-        requires asks { MayAdvance (view self.old) thread op }
+        requires asks { MayMove (view self.old) thread op }
         requires stage { stage_of (view self.old) thread ≡ Some (Stage.Headed address shape access) }
-        ensures { Advances (view self.old) (view self.new) thread op result }
+        ensures { Moves (view self.old) (view self.new) thread op result }
     {
         let object = address;
         match access {
@@ -54,16 +54,17 @@ impl Core {
     /// is to be of the same operation. An answer changes the registers and the history as the operation does; a refused
     /// call changes neither. It takes no memory.
     ///
-    /// No object has a home on disk yet: the first word past all homes and the reader are not used.
+    /// No object has a home on disk yet: the disk is to end at word 1, past its homes, and the reader is not used.
+    #[tactic(auto, using(crate::proofs::Disks::moves_advance))]
     pub fn advance<R: RecordReader>(
         &mut self,
         thread: u32,
         op: Op,
-        _end: u32,
+        end: u32,
         _reader: &mut R,
     ) -> StepResult
-        requires { MayAdvance (view self.old) thread op }
-        ensures { Advances (view self.old) (view self.new) thread op result }
+        requires { MayAdvance end (view self.old) thread op }
+        ensures { Advances end (view self.old) (view self.new) thread op result }
     {
         let Some(call) = &self.rest.calls[thread as usize] else {
             return self.begin_call(thread, op);
@@ -75,11 +76,33 @@ impl Core {
                 shape,
                 access,
             } => self.after_head(thread, op, address, shape, access),
-            Stage::Looked { place, target, dst } => {
-                self.clear(thread, op, Looked { place, target, dst })
+            Stage::Looked {
+                place,
+                found,
+                target,
+                dst,
+            } => {
+                let looked = Looked {
+                    place,
+                    found,
+                    target,
+                    dst,
+                };
+                self.clear(thread, op, looked)
             }
-            Stage::Cleared { place, target, dst } => {
-                self.untag(thread, op, Looked { place, target, dst })
+            Stage::Cleared {
+                place,
+                found,
+                target,
+                dst,
+            } => {
+                let looked = Looked {
+                    place,
+                    found,
+                    target,
+                    dst,
+                };
+                self.untag(thread, op, looked)
             }
             Stage::Claimed {
                 address,

@@ -6,7 +6,7 @@ ghost use Rattle.std.specs.Prelude.{◌↔◌, IsTrue};
 ghost use Rattle.melt_core.specs.Stages.{HasPart};
 
 use melt_model::Op;
-use melt_word::Shape;
+use melt_word::{Ref, Shape};
 
 /// Where the word of a reference stands.
 #[derive(Clone, Copy, Debug, PartialEq, Eq)]
@@ -68,15 +68,18 @@ pub enum Stage {
         shape: Shape,
         access: Access,
     },
-    /// The word at the place, which is loaded into register `dst`, was that of the stale address `target`.
+    /// The word at the place, which is loaded into register `dst`, was that of a reference with a tag. Its object is at
+    /// the address `target`.
     Looked {
         place: Place,
+        found: Ref,
         target: u32,
         dst: u8,
     },
     /// And the object at `target` has no stale bit any more.
     Cleared {
         place: Place,
+        found: Ref,
         target: u32,
         dst: u8,
     },

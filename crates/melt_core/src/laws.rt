@@ -6,7 +6,7 @@ ghost use Rattle.melt_scion.specs.Placed.{Maps};
 ghost use Rattle.melt_core.specs.Shared.{Table, SharedLaws};
 
 /// Does nothing: its contract is a theorem. Of a table of words that no heap has, and of which nothing is known but
-/// that they are well formed for some maps, four events keep what stands: told or not, with the entry in the history,
+/// that they are well formed for some maps, five events keep what stands: told or not, with the entry in the history,
 /// and with all that other threads know and own.
 pub fn shared_words()
     ensures { (told : Bool) (thread : ℕ) (h : List Entry) (maps : Maps) (base : Base) (old new : Table)

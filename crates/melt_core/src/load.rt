@@ -5,12 +5,13 @@
 //! for the clean one, if it is still what was found. So no clean address is ever that of an object with the stale bit,
 //! and the word that the exchange finds is always one that may be answered: a word with a tag can only have become one
 //! without.
-ghost use Rattle.std.specs.Prelude.{◌≡◌, ◌<◌, false, length, Some, None};
-ghost use Rattle.melt_core.specs.Advances.{Advances, MayAdvance};
-ghost use Rattle.melt_core.specs.Changed.{HasRead, HoldsRef};
-ghost use Rattle.melt_core.specs.Known.{IsPlace, word_in};
+ghost use Rattle.std.specs.Prelude.{◌≡◌, ◌<◌, length, Some, None};
+ghost use Rattle.melt_scion.specs.Heaps.{OnDisk};
+ghost use Rattle.melt_core.specs.Advances.{Moves, MayMove};
+ghost use Rattle.melt_core.specs.Changed.{HasPlace, HasRead, HoldsRef, StandsAt};
+ghost use Rattle.melt_core.specs.Known.{word_in};
 ghost use Rattle.melt_core.specs.Stages.{LooksFrom};
-ghost use Rattle.melt_core.specs.Views.{Standing, maps, stage_of, state, view};
+ghost use Rattle.melt_core.specs.Views.{stage_of, state, view};
 
 use crate::answer::StepResult;
 use crate::call::{Access, Place, Stage, Task};
@@ -19,10 +20,12 @@ use crate::parts::{Cell, found, reference, value_at};
 use melt_model::{Act, Op, Reply, Slot, Value};
 use melt_word::{Header, Ref, encode_header, encode_ref};
 
-/// What a load found that takes the slow path: the stale address `target` at the place, for register `dst`.
+/// What a load found that takes the slow path: a reference with a tag at the place, for register `dst`. Its object is at
+/// the address `target`.
 #[derive(Clone, Copy)]
 pub(crate) struct Looked {
     pub(crate) place: Place,
+    pub(crate) found: Ref,
     pub(crate) target: u32,
     pub(crate) dst: u8,
 }
@@ -30,9 +33,9 @@ pub(crate) struct Looked {
 impl Core {
     /// Reads the header of the object in a register. Its shape never changes, so that what is known of it stays.
     pub(crate) fn head(&mut self, thread: u32, op: Op, r: u8, access: Access) -> StepResult
-        requires asks { MayAdvance (view self.old) thread op }
+        requires asks { MayMove (view self.old) thread op }
         requires stage { stage_of (view self.old) thread ≡ Some (Stage.Polled (Task.Use r access)) }
-        ensures { Advances (view self.old) (view self.new) thread op result }
+        ensures { Moves (view self.old) (view self.new) thread op result }
     {
         let address = self.register(thread, r);
         let shape = self.heap.space.shape(address);
@@ -51,10 +54,10 @@ impl Core {
 
     /// Reads a number word of an object.
     pub(crate) fn get(&mut self, thread: u32, op: Op, cell: Cell) -> StepResult
-        requires asks { MayAdvance (view self.old) thread op }
+        requires asks { MayMove (view self.old) thread op }
         requires stage { stage_of (view self.old) thread
             ≡ Some (Stage.Headed cell.address cell.shape (Access.Get cell.j)) }
-        ensures { Advances (view self.old) (view self.new) thread op result }
+        ensures { Moves (view self.old) (view self.new) thread op result }
     {
         let Cell { address, shape, j } = cell;
         let at = address + 2 + u32::from(shape.refs) + u32::from(j);
@@ -66,11 +69,10 @@ impl Core {
         StepResult::Answered(Reply::Num(number))
     }
 
-    /// The reference at a place, which is no home.
+    /// The reference at a place.
     fn reference_in(&self, place: Place) -> Ref
-        requires stands { Standing false (view self.now) }
-        requires place { IsPlace (maps (view self.now)) (state (view self.now)) place }
-        ensures { HoldsRef (word_in (state (view self.now)) place) result }
+        requires { StandsAt (view self.now) place }
+        ensures { (disk : OnDisk) → HoldsRef (word_in (state disk (view self.now)) place) result }
     {
         reference(self.word_in(place))
     }
@@ -82,7 +84,7 @@ impl Core {
         requires small { thread < 256 }
         requires register { dst < 16 }
         requires room { length (view self.old).log < (view self.old).capacity }
-        requires place { IsPlace (maps (view self.old)) (state (view self.old)) place }
+        requires place { HasPlace (view self.old) place }
         ensures { HasRead (view self.old) (view self.new) thread place dst address result }
     {
         let slot = self.slot_at(place);
@@ -97,15 +99,22 @@ impl Core {
     // (inlined, since each caller has a place of one kind and needs no code for the other)
     #[inline(always)]
     pub(crate) fn look(&mut self, thread: u32, op: Op, place: Place, dst: u8) -> StepResult
-        requires asks { MayAdvance (view self.old) thread op }
+        requires asks { MayMove (view self.old) thread op }
         requires stage { LooksFrom (stage_of (view self.old) thread) place dst }
-        ensures { Advances (view self.old) (view self.new) thread op result }
+        ensures { Moves (view self.old) (view self.new) thread op result }
     {
         match self.reference_in(place) {
             Ref::Null => self.read(thread, place, dst, 0),
             Ref::Clean(address) => self.read(thread, place, dst, address),
             Ref::Stale(target) => {
-                self.set_stage(thread, op, Stage::Looked { place, target, dst });
+                let found = Ref::Stale(target);
+                let stage = Stage::Looked {
+                    place,
+                    found,
+                    target,
+                    dst,
+                };
+                self.set_stage(thread, op, stage);
                 StepResult::Going
             }
             // (no object has a home yet)
@@ -115,11 +124,16 @@ impl Core {
 
     /// Clears the stale bit of the object that a load found.
     pub(crate) fn clear(&mut self, thread: u32, op: Op, looked: Looked) -> StepResult
-        requires asks { MayAdvance (view self.old) thread op }
-        requires stage { stage_of (view self.old) thread ≡ Some (Stage.Looked looked.place looked.target looked.dst) }
-        ensures { Advances (view self.old) (view self.new) thread op result }
+        requires asks { MayMove (view self.old) thread op }
+        requires stage { stage_of (view self.old) thread ≡ Some (Stage.Looked looked.place looked.found looked.target looked.dst) }
+        ensures { Moves (view self.old) (view self.new) thread op result }
     {
-        let Looked { place, target, dst } = looked;
+        let Looked {
+            place,
+            found,
+            target,
+            dst,
+        } = looked;
         // Nothing but this bit of a header ever changes, and it is only ever cleared in an epoch, so that a plain store
         // will do.
         let header = Header {
@@ -127,27 +141,37 @@ impl Core {
             stale: false,
         };
         self.heap.space.set_word(target, encode_header(header));
-        self.set_stage(thread, op, Stage::Cleared { place, target, dst });
+        let stage = Stage::Cleared {
+            place,
+            found,
+            target,
+            dst,
+        };
+        self.set_stage(thread, op, stage);
         StepResult::Going
     }
 
-    /// Exchanges the word at a place for that of the clean address, if it is still that of the stale one. The load is
+    /// Exchanges the word at a place for that of the clean address, if it is still that which was found. The load is
     /// answered with the reference that stands there then.
     pub(crate) fn untag(&mut self, thread: u32, op: Op, looked: Looked) -> StepResult
-        requires asks { MayAdvance (view self.old) thread op }
-        requires stage { stage_of (view self.old) thread ≡ Some (Stage.Cleared looked.place looked.target looked.dst) }
-        ensures { Advances (view self.old) (view self.new) thread op result }
+        requires asks { MayMove (view self.old) thread op }
+        requires stage { stage_of (view self.old) thread ≡ Some (Stage.Cleared looked.place looked.found looked.target looked.dst) }
+        ensures { Moves (view self.old) (view self.new) thread op result }
     {
-        let Looked { place, target, dst } = looked;
+        let Looked {
+            place,
+            target,
+            dst,
+            ..
+        } = looked;
         match self.reference_in(place) {
             Ref::Null => self.read(thread, place, dst, 0),
             Ref::Clean(current) => self.read(thread, place, dst, current),
             // A word with a tag never becomes another one with a tag, so that this is the word of the look.
-            Ref::Stale(_) => {
+            Ref::Stale(_) | Ref::Disk(_) => {
                 self.set_word_in(place, encode_ref(Ref::Clean(target)));
                 self.read(thread, place, dst, target)
             }
-            Ref::Disk(_) => unreachable!(),
         }
     }
 }

@@ -1,7 +1,7 @@
 //! The core: a heap, the registers and calls of threads, and the history.
 ghost use Rattle.std.specs.Prelude.{◌≡◌, ◌+◌, ◌-◌, ◌<◌, Bool, true, length, None, IfOk, IsSome};
 ghost use Rattle.std.specs.Borrow.{sem};
-ghost use Rattle.melt_scion.specs.Heaps.{IsSettled};
+ghost use Rattle.melt_scion.specs.Heaps.{IsSettled, OnDisk};
 ghost use Rattle.melt_core.specs.Views.{IsQuiet, Standing, call_of, view};
 ghost use Rattle.melt_core.specs.Epochs.{AtRest, HasDropped, HasFinished, IsNewRest, core_of};
 ghost use Rattle.melt_core.specs.Lending.{LendsHeld};
@@ -115,7 +115,8 @@ impl Core {
     /// them where a claim ended past the last one.
     pub fn finish(self) -> (Heap, Rest)
         requires quiet { IsQuiet (view self) }
-        ensures rests { (told : Bool) → Standing told (view self) → AtRest told result.0 result.1 }
+        ensures rests { (told : Bool) (disk : OnDisk) → Standing told disk (view self)
+            → AtRest told disk result.0 result.1 }
         ensures finished { HasFinished (view self) (view (core_of result.0 result.1)) }
     {
         let Core {

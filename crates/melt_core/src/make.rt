@@ -5,7 +5,7 @@
 //! takes its words too, so that no two threads are ever given one word.
 ghost use Rattle.std.specs.Prelude.{◌≡◌, ◌+◌, ◌<◌, Some};
 ghost use Rattle.melt_word.specs.Words.{cost_of};
-ghost use Rattle.melt_core.specs.Advances.{Advances, MayAdvance};
+ghost use Rattle.melt_core.specs.Advances.{Moves, MayMove};
 ghost use Rattle.melt_core.specs.Views.{stage_of, view};
 
 use crate::answer::{Pause, Refusal, StepResult};
@@ -28,9 +28,9 @@ pub(crate) struct Claim {
 impl Core {
     /// Claims the words for an object.
     pub(crate) fn claim(&mut self, thread: u32, op: Op, shape: Shape, dst: u8) -> StepResult
-        requires asks { MayAdvance (view self.old) thread op }
+        requires asks { MayMove (view self.old) thread op }
         requires stage { stage_of (view self.old) thread ≡ Some (Stage.Polled (Task.Make dst shape)) }
-        ensures { Advances (view self.old) (view self.new) thread op result }
+        ensures { Moves (view self.old) (view self.new) thread op result }
     {
         let address = self.free;
         let need = cost(shape);
@@ -52,11 +52,11 @@ impl Core {
 
     /// Stores 0 in the next word of the region of a call.
     fn store_zero(&mut self, thread: u32, op: Op, claim: Claim) -> StepResult
-        requires asks { MayAdvance (view self.old) thread op }
+        requires asks { MayMove (view self.old) thread op }
         requires stage { stage_of (view self.old) thread
             ≡ Some (Stage.Claimed claim.address claim.shape claim.stored claim.dst) }
         requires few { claim.stored + 1 < cost_of claim.shape }
-        ensures { Advances (view self.old) (view self.new) thread op result }
+        ensures { Moves (view self.old) (view self.new) thread op result }
     {
         let Claim {
             address,
@@ -77,11 +77,11 @@ impl Core {
 
     /// Stores the header: the words are an object now, which has the next number.
     fn publish(&mut self, thread: u32, op: Op, claim: Claim) -> StepResult
-        requires asks { MayAdvance (view self.old) thread op }
+        requires asks { MayMove (view self.old) thread op }
         requires stage { stage_of (view self.old) thread
             ≡ Some (Stage.Claimed claim.address claim.shape claim.stored claim.dst) }
         requires all { claim.stored + 1 ≡ cost_of claim.shape }
-        ensures { Advances (view self.old) (view self.new) thread op result }
+        ensures { Moves (view self.old) (view self.new) thread op result }
     {
         let Claim {
             address,
@@ -106,10 +106,10 @@ impl Core {
 
     /// Stores the next word of the region of a call, the header last.
     pub(crate) fn fill(&mut self, thread: u32, op: Op, claim: Claim) -> StepResult
-        requires asks { MayAdvance (view self.old) thread op }
+        requires asks { MayMove (view self.old) thread op }
         requires stage { stage_of (view self.old) thread
             ≡ Some (Stage.Claimed claim.address claim.shape claim.stored claim.dst) }
-        ensures { Advances (view self.old) (view self.new) thread op result }
+        ensures { Moves (view self.old) (view self.new) thread op result }
     {
         if claim.stored + 1 < cost(claim.shape) {
             return self.store_zero(thread, op, claim);
@@ -119,9 +119,9 @@ impl Core {
 
     /// Sets the stop word, as the words that were claimed end past the last one.
     pub(crate) fn lack(&mut self, thread: u32, op: Op, need: u32) -> StepResult
-        requires asks { MayAdvance (view self.old) thread op }
+        requires asks { MayMove (view self.old) thread op }
         requires stage { stage_of (view self.old) thread ≡ Some (Stage.Lacking need) }
-        ensures { Advances (view self.old) (view self.new) thread op result }
+        ensures { Moves (view self.old) (view self.new) thread op result }
     {
         self.stop = true;
         self.set_call(thread, None);

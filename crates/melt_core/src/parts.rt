@@ -1,14 +1,14 @@
 //! Steps on the parts of a core, each of which changes one of them and says nothing of the others' meaning.
-ghost use Rattle.std.specs.Prelude.{◌≡◌, ◌*◌, ◌^◌, ◌<◌, ◌≤◌, false, length, slice_set, Some, None, IsSome};
+ghost use Rattle.std.specs.Prelude.{◌≡◌, ◌*◌, ◌^◌, ◌<◌, ◌≤◌, length, slice_set, Some, None, IsSome};
 ghost use Rattle.melt_model.specs.Thread.{found as found_in};
 ghost use Rattle.melt_word.specs.declared.reference.Ref.{Ref};
 ghost use Rattle.melt_scion.specs.Changes.{NameAppears};
-ghost use Rattle.melt_scion.specs.Heaps.{register_in};
+ghost use Rattle.melt_scion.specs.Heaps.{OnDisk, register_in};
 ghost use Rattle.melt_core.specs.Answering.{entry};
-ghost use Rattle.melt_core.specs.Changed.{HoldsRef, OnlyWords, noted, with_call, with_register};
+ghost use Rattle.melt_core.specs.Changed.{HasPlace, HoldsRef, OnlyWords, StandsAt, noted, with_call, with_register};
 ghost use Rattle.melt_core.specs.Events.{PlaceChanges};
-ghost use Rattle.melt_core.specs.Known.{IsPlace, SlotAt, word_in};
-ghost use Rattle.melt_core.specs.Views.{Standing, call_of, held_value, maps, maps_of, numbers_of, state, view};
+ghost use Rattle.melt_core.specs.Known.{SlotAt, word_in};
+ghost use Rattle.melt_core.specs.Views.{call_of, held_value, maps, maps_of, numbers_of, state, view};
 
 use crate::call::{Call, Place, Stage};
 use crate::machine::Core;
@@ -155,7 +155,7 @@ impl Core {
 
     /// The slot that a place is.
     pub(crate) fn slot_at(&self, place: Place) -> Slot
-        requires { IsPlace (maps (view self.now)) (state (view self.now)) place }
+        requires { HasPlace (view self.now) place }
         ensures { SlotAt (maps (view self.now)) place result }
     {
         match place {
@@ -166,9 +166,8 @@ impl Core {
 
     /// The word at a place.
     pub(crate) fn word_in(&self, place: Place) -> u64
-        requires stands { Standing false (view self.now) }
-        requires place { IsPlace (maps (view self.now)) (state (view self.now)) place }
-        ensures { result ≡ word_in (state (view self.now)) place }
+        requires { StandsAt (view self.now) place }
+        ensures { (disk : OnDisk) → result ≡ word_in (state disk (view self.now)) place }
     {
         match place {
             Place::Field { object, i } => self.heap.space.word(object + 2 + u32::from(i)),
@@ -178,10 +177,10 @@ impl Core {
 
     /// Replaces the word at a place.
     pub(crate) fn set_word_in(&mut self, place: Place, word: u64)
-        requires stands { Standing false (view self.old) }
-        requires place { IsPlace (maps (view self.old)) (state (view self.old)) place }
+        requires { StandsAt (view self.old) place }
         ensures only { OnlyWords (view self.old) (view self.new) }
-        ensures changes { PlaceChanges (state (view self.old)) (state (view self.new)) place word }
+        ensures changes { (disk : OnDisk)
+            → PlaceChanges (state disk (view self.old)) (state disk (view self.new)) place word }
     {
         match place {
             Place::Field { object, i } => self.heap.space.set_word(object + 2 + u32::from(i), word),

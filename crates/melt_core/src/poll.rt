@@ -4,7 +4,7 @@
 //! for at most as many events as one call has, and a thread that meets the stop word has changed nothing.
 ghost use Rattle.std.specs.Prelude.{◌≡◌, Some, None};
 ghost use Rattle.melt_scion.specs.Heaps.{register_in};
-ghost use Rattle.melt_core.specs.Advances.{Advances, MayAdvance};
+ghost use Rattle.melt_core.specs.Advances.{Moves, MayMove};
 ghost use Rattle.melt_core.specs.Stages.{Shares, task_of};
 ghost use Rattle.melt_core.specs.Views.{call_of, view};
 
@@ -17,10 +17,10 @@ use melt_word::Shape;
 impl Core {
     /// Reads the stop word.
     fn poll(&mut self, thread: u32, op: Op, task: Task) -> StepResult
-        requires asks { MayAdvance (view self.old) thread op }
+        requires asks { MayMove (view self.old) thread op }
         requires first { call_of (view self.old) thread ≡ None }
         requires shares { Shares (register_in (view self.old).held thread) op task }
-        ensures { Advances (view self.old) (view self.new) thread op result }
+        ensures { Moves (view self.old) (view self.new) thread op result }
     {
         if self.stop {
             return StepResult::Refused(Refusal::Pause(Pause::Asked));
@@ -33,10 +33,10 @@ impl Core {
     /// Begins an operation on a part of the object in a register. Where that holds none, the answer needs no shared
     /// word.
     fn poll_object(&mut self, thread: u32, op: Op, r: u8, access: Access) -> StepResult
-        requires asks { MayAdvance (view self.old) thread op }
+        requires asks { MayMove (view self.old) thread op }
         requires first { call_of (view self.old) thread ≡ None }
         requires task { task_of op ≡ Some (Task.Use r access) }
-        ensures { Advances (view self.old) (view self.new) thread op result }
+        ensures { Moves (view self.old) (view self.new) thread op result }
     {
         if self.register(thread, r) == 0 {
             return StepResult::Answered(Reply::Nil);
@@ -46,9 +46,9 @@ impl Core {
 
     /// Each object has one address, so that addresses are compared in place of objects.
     fn same(&self, thread: u32, a: u8, b: u8) -> StepResult
-        requires asks { MayAdvance (view self.now) thread (Op.Same a b) }
+        requires asks { MayMove (view self.now) thread (Op.Same a b) }
         requires first { call_of (view self.now) thread ≡ None }
-        ensures { Advances (view self.now) (view self.now) thread (Op.Same a b) result }
+        ensures { Moves (view self.now) (view self.now) thread (Op.Same a b) result }
     {
         if self.register(thread, a) == self.register(thread, b) {
             StepResult::Answered(Reply::Yes)
@@ -59,9 +59,9 @@ impl Core {
 
     /// No other thread sees a register, so that the copy needs no shared word.
     fn copy(&mut self, thread: u32, dst: u8, src: u8) -> StepResult
-        requires asks { MayAdvance (view self.old) thread (Op.Copy dst src) }
+        requires asks { MayMove (view self.old) thread (Op.Copy dst src) }
         requires first { call_of (view self.old) thread ≡ None }
-        ensures { Advances (view self.old) (view self.new) thread (Op.Copy dst src) result }
+        ensures { Moves (view self.old) (view self.new) thread (Op.Copy dst src) result }
     {
         let address = self.register(thread, src);
         self.set_register(thread, dst, address);
@@ -70,9 +70,9 @@ impl Core {
 
     /// The register holds nothing now. What it held stays where it is until a collection.
     fn drop_register(&mut self, thread: u32, r: u8) -> StepResult
-        requires asks { MayAdvance (view self.old) thread (Op.Drop r) }
+        requires asks { MayMove (view self.old) thread (Op.Drop r) }
         requires first { call_of (view self.old) thread ≡ None }
-        ensures { Advances (view self.old) (view self.new) thread (Op.Drop r) result }
+        ensures { Moves (view self.old) (view self.new) thread (Op.Drop r) result }
     {
         self.set_register(thread, r, 0);
         StepResult::Answered(Reply::Done)
@@ -80,9 +80,9 @@ impl Core {
 
     /// The first event of a call.
     pub(crate) fn begin_call(&mut self, thread: u32, op: Op) -> StepResult
-        requires asks { MayAdvance (view self.old) thread op }
+        requires asks { MayMove (view self.old) thread op }
         requires first { call_of (view self.old) thread ≡ None }
-        ensures { Advances (view self.old) (view self.new) thread op result }
+        ensures { Moves (view self.old) (view self.new) thread op result }
     {
         match op {
             Op::New { dst, refs, nums } => {

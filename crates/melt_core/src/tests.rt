@@ -1,5 +1,6 @@
 ghost use Rattle.std.specs.Prelude.{◌≡◌, ◌≢◌, ◌+◌, ◌*◌, ◌^◌, ◌<◌, ◌≤◌, false, None, [], length, IfOk, IsTrue};
-ghost use Rattle.melt_core.specs.Advances.{InBounds, KeepsOthers, MayAdvance};
+ghost use Rattle.melt_scion.specs.Heaps.{no_homes_on};
+ghost use Rattle.melt_core.specs.Advances.{AdvancesOver, Asks, InBounds, KeepsOthers};
 ghost use Rattle.melt_core.specs.Views.{IsQuiet, Standing, call_of, view};
 
 use super::*;
@@ -85,7 +86,7 @@ fn same(a: u8, b: u8) -> Op {
 /// A core over a new heap of so many words and one global, under two threads. The history has room for 32 entries.
 fn new_core(alloc: Global, words: u32) -> Result<Core, NoMemory>
     requires { words < 2 ^ 30 }
-    ensures stands { IfOk result (λ core. Standing false (view core)) }
+    ensures stands { IfOk result (λ core. Standing false no_homes_on (view core)) }
     ensures quiet { IfOk result (λ core. IsQuiet (view core)) }
     ensures threads { IfOk result (λ core. length (view core).held ≡ 2) }
     ensures history { IfOk result (λ core. (view core).log ≡ []) }
@@ -96,6 +97,14 @@ fn new_core(alloc: Global, words: u32) -> Result<Core, NoMemory>
     Ok(Core::begin(heap, rest))
 }
 
+/// Makes one event over a disk without homes.
+fn advance<R: RecordReader>(core: &mut Core, thread: u32, op: Op, reader: &mut R) -> StepResult
+    requires { Asks no_homes_on (view core.old) thread op }
+    ensures { AdvancesOver no_homes_on (view core.old) (view core.new) thread op result }
+{
+    core.advance(thread, op, 1, reader)
+}
+
 /// Makes the events of a call until it is over. Answers how many these were, and what the last came to.
 fn run_call<R: RecordReader>(
     core: &mut Core,
@@ -103,16 +112,16 @@ fn run_call<R: RecordReader>(
     op: Op,
     reader: &mut R,
 ) -> (u32, StepResult)
-    requires asks { MayAdvance (view core.old) thread op }
+    requires asks { Asks no_homes_on (view core.old) thread op }
     requires no_call { call_of (view core.old) thread ≡ None }
-    ensures stands { Standing false (view core.new) }
+    ensures stands { Standing false no_homes_on (view core.new) }
     ensures others { KeepsOthers (view core.old) (view core.new) thread }
     ensures over { call_of (view core.new) thread ≡ None }
     ensures history { length (view core.new).log ≤ length (view core.old).log + 1 }
 {
     let mut events = 0;
     loop {
-        match core.advance(thread, op, 1, reader) {
+        match advance(core, thread, op, reader) {
             StepResult::Going => events += 1,
             result => return (events + 1, result),
         }
@@ -152,11 +161,11 @@ fn paused(thread: u32, op: Op, events: u32, pause: Pause) -> Wanted {
 
 /// Makes calls one after the other, and compares what they come to.
 fn expect<R: Abort>(rt: &R, core: &mut Core, calls: &[Wanted])
-    requires stands { Standing false (view core.old) }
+    requires stands { Standing false no_homes_on (view core.old) }
     requires quiet { IsQuiet (view core.old) }
     requires room { length (view core.old).log + length calls.now ≤ (view core.old).capacity }
     requires few { length (view core.old).log + length calls.now ≤ 2 ^ 32 }
-    ensures stands { Standing false (view core.new) }
+    ensures stands { Standing false no_homes_on (view core.new) }
     ensures quiet { IsQuiet (view core.new) }
     ensures threads { length (view core.new).held ≡ length (view core.old).held }
 {
@@ -272,8 +281,8 @@ fn objects_that_are_made_at_once_stand_apart(rt: HostRuntime) -> Result<(), Fail
         } else {
             StepResult::Answered(Reply::Done)
         };
-        let first = core.advance(0, op, 1, &mut NoDisk);
-        let second = core.advance(1, op, 1, &mut NoDisk);
+        let first = advance(&mut core, 0, op, &mut NoDisk);
+        let second = advance(&mut core, 1, op, &mut NoDisk);
         assert_eq!(rt; first, wanted, "after {events}");
         assert_eq!(rt; second, wanted, "after {events}");
     }

@@ -3,7 +3,7 @@
 //! A register never holds an object with the stale bit, so that what is written needs no tag. The entry of the history
 //! and the word are written in one event: no other thread can come between.
 ghost use Rattle.std.specs.Prelude.{◌≡◌, Some};
-ghost use Rattle.melt_core.specs.Advances.{Advances, MayAdvance};
+ghost use Rattle.melt_core.specs.Advances.{Moves, MayMove};
 ghost use Rattle.melt_core.specs.Stages.{StoresFrom};
 ghost use Rattle.melt_core.specs.Views.{stage_of, view};
 
@@ -18,9 +18,9 @@ impl Core {
     // (inlined for the same reason as `look`)
     #[inline(always)]
     pub(crate) fn store(&mut self, thread: u32, op: Op, place: Place, src: u8) -> StepResult
-        requires asks { MayAdvance (view self.old) thread op }
+        requires asks { MayMove (view self.old) thread op }
         requires stage { StoresFrom (stage_of (view self.old) thread) place src }
-        ensures { Advances (view self.old) (view self.new) thread op result }
+        ensures { Moves (view self.old) (view self.new) thread op result }
     {
         let address = self.register(thread, src);
         let slot = self.slot_at(place);
@@ -33,10 +33,10 @@ impl Core {
 
     /// Writes a number word of an object.
     pub(crate) fn put(&mut self, thread: u32, op: Op, cell: Cell, number: u64) -> StepResult
-        requires asks { MayAdvance (view self.old) thread op }
+        requires asks { MayMove (view self.old) thread op }
         requires stage { stage_of (view self.old) thread
             ≡ Some (Stage.Headed cell.address cell.shape (Access.Put cell.j number)) }
-        ensures { Advances (view self.old) (view self.new) thread op result }
+        ensures { Moves (view self.old) (view self.new) thread op result }
     {
         let Cell { address, shape, j } = cell;
         let slot = Slot::Cell(self.number_at(address), j);

@@ -22,6 +22,8 @@ pub mod Writing
 pub mod Entering
 pub mod EnteringTells
 pub mod Making
+pub mod Committing
+pub mod Searching
 pub mod Holding
 pub mod Starting
 pub mod HomesApart

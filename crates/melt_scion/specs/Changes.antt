@@ -30,6 +30,15 @@ pub record GlobalChanges (s t : State) (at word : ℕ) : Type 0 where
   pub others : (g : ℕ) → g ≢ at → t.global g ≡ s.global g
   pub forward : (p : ℕ) → t.forward p ≡ s.forward p
 
+-- one forwarding word is replaced
+pub record ForwardChanges (s t : State) (at word : ℕ) : Type 0 where
+  pub base : t.base ≡ s.base
+  pub free : t.free ≡ s.free
+  pub word_stays : (k : ℕ) → t.word k ≡ s.word k
+  pub global : (g : ℕ) → t.global g ≡ s.global g
+  pub here : t.forward at ≡ word
+  pub others : (p : ℕ) → p ≢ at → t.forward p ≡ s.forward p
+
 -- the first free place moves on
 pub record FreeMoves (s t : State) (free : ℕ) : Type 0 where
   pub base : t.base ≡ s.base

@@ -1,6 +1,7 @@
 pub mod State
 pub mod Placed
 pub mod Regions
+pub mod Commits
 pub mod Changes
 pub mod Moves
 pub mod Collected

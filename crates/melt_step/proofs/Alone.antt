@@ -18,14 +18,14 @@ use Rattle.melt_word.specs.Words.{cost_of}
 use Rattle.melt_word.specs.declared.header.Shape.{Shape}
 use Rattle.melt_scion.specs.State.{State}
 use Rattle.melt_scion.specs.Placed.{Maps}
-use Rattle.melt_scion.specs.Heaps.{register_in}
+use Rattle.melt_scion.specs.Heaps.{no_homes_on, register_in}
 use Rattle.melt_core.specs.declared.call.Access.TheVariants.{Load, Store, Get, Put}
 use Rattle.melt_core.specs.declared.call.Task.TheVariants.{Make, Use, LoadGlobal, StoreGlobal}
 use Rattle.melt_core.specs.Stages.{Next, Applies, Fits, change_of}
 use Rattle.melt_core.proofs.Tasks.{new_is}
 use Rattle.std.proofs.lemmas.Bool.{cases_lt}
 use Rattle.melt_core.specs.Views.{View, values_of, call_of, maps, state, Standing}
-use Rattle.melt_core.specs.Advances.{Advances, Continues, KeepsOthers, IsAnswered, IsRefused, Goes}
+use Rattle.melt_core.specs.Advances.{AdvancesOver, Continues, KeepsOthers, IsAnswered, IsRefused, Goes}
 use Rattle.melt_core.specs.Views.{stage_in}
 use Rattle.melt_step.specs.declared.thread.ThreadState.{ThreadState}
 use Rattle.melt_step.specs.declared.thread.Mode.TheVariants.{Lacking}
@@ -41,7 +41,7 @@ IsEarly stage = ⊥
 -- A thread makes its call alone: the others saw nothing of it so far, and before it claims the first free place is
 -- that of the beginning. A claim that ended past the last word did so from there.
 pub record OnCall (v w : View) (t : ℕ) (o : Op) : Type 0 where
-  pub stands : Standing true w
+  pub stands : Standing true no_homes_on w
   pub others : KeepsOthers v w t
   pub continued : Continues (call_of w t) o
   pub history : w.log ≡ v.log
@@ -67,9 +67,9 @@ goes_free m n s x register stop o (Some (Headed address shape (Load dst i))) nex
 goes_free m n s x register stop o (Some (Headed address shape (Store i src))) next is applies early = absurd is
 goes_free m n s x register stop o (Some (Headed address shape (Get j))) next is applies early = absurd is
 goes_free m n s x register stop o (Some (Headed address shape (Put j v))) next is applies early = absurd is
-goes_free m n s x register stop o (Some (Looked place target dst)) next is applies early =
+goes_free m n s x register stop o (Some (Looked place found target dst)) next is applies early =
     absurd (subst (λ (g : Stage). IsEarly (Some g)) is early)
-goes_free m n s x register stop o (Some (Cleared place target dst)) next is applies early = absurd is
+goes_free m n s x register stop o (Some (Cleared place found target dst)) next is applies early = absurd is
 goes_free m n s x register stop o (Some (Claimed address shape stored dst)) next is applies early =
     absurd (subst (λ (g : Stage). IsEarly (Some g)) is.1 early)
 goes_free m n s x register stop o (Some (stage.Lacking need)) next is applies early = absurd is
@@ -99,9 +99,9 @@ goes_lacks m s register stop o (Some (Headed address shape (Load dst i))) next n
 goes_lacks m s register stop o (Some (Headed address shape (Store i src))) next need is lacks = absurd is
 goes_lacks m s register stop o (Some (Headed address shape (Get j))) next need is lacks = absurd is
 goes_lacks m s register stop o (Some (Headed address shape (Put j v))) next need is lacks = absurd is
-goes_lacks m s register stop o (Some (Looked place target dst)) next need is lacks =
-    absurd (let e : Cleared place target dst ≡ stage.Lacking need = sym is ∙ lacks in cc)
-goes_lacks m s register stop o (Some (Cleared place target dst)) next need is lacks = absurd is
+goes_lacks m s register stop o (Some (Looked place found target dst)) next need is lacks =
+    absurd (let e : Cleared place found target dst ≡ stage.Lacking need = sym is ∙ lacks in cc)
+goes_lacks m s register stop o (Some (Cleared place found target dst)) next need is lacks = absurd is
 goes_lacks m s register stop o (Some (Claimed address shape stored dst)) next need is lacks =
     absurd (let e : Claimed address shape (stored + 1) dst ≡ stage.Lacking need = sym is.1 ∙ lacks in cc)
 goes_lacks m s register stop o (Some (stage.Lacking n)) next need is lacks = absurd is
@@ -116,17 +116,18 @@ goes_early m s register stop o (Some (Headed address shape (Load dst i))) next i
 goes_early m s register stop o (Some (Headed address shape (Store i src))) next is early = absurd is
 goes_early m s register stop o (Some (Headed address shape (Get j))) next is early = absurd is
 goes_early m s register stop o (Some (Headed address shape (Put j v))) next is early = absurd is
-goes_early m s register stop o (Some (Looked place target dst)) next is early =
+goes_early m s register stop o (Some (Looked place found target dst)) next is early =
     subst (λ (g : Stage). IsEarly (Some g)) is early
-goes_early m s register stop o (Some (Cleared place target dst)) next is early = absurd is
+goes_early m s register stop o (Some (Cleared place found target dst)) next is early = absurd is
 goes_early m s register stop o (Some (Claimed address shape stored dst)) next is early =
     subst (λ (g : Stage). IsEarly (Some g)) is.1 early
 goes_early m s register stop o (Some (stage.Lacking need)) next is early = absurd is
 
 -- the call goes on
-pub call_goes : (v w x : View) (t : ℕ) (o : Op) → OnCall v w t o → Advances w x t o Going → OnCall v x t o
+pub call_goes : (v w x : View) (t : ℕ) (o : Op) → OnCall v w t o → AdvancesOver no_homes_on w x t o Going
+    → OnCall v x t o
 call_goes v w x t o on advances =
-    let goes : Goes w x t o = advances.outcome in
+    let goes : Goes no_homes_on w x t o = advances.outcome in
     let after : stage_in (call_of x t) ≡ Some goes.stage = ap stage_in goes.call in
     record {
       stands = advances.keeps true on.stands;
@@ -137,13 +138,13 @@ call_goes v w x t o on advances =
       stop = goes.stop ∙ on.stop;
       free = λ early.
           let behind : IsEarly (Some goes.stage) = subst IsEarly after early in
-          goes_free (maps w) (maps x) (state w) (state x) (register_in w.held t) w.stop o
+          goes_free (maps w) (maps x) (state no_homes_on w) (state no_homes_on x) (register_in w.held t) w.stop o
           (stage_in (call_of w t)) goes.stage goes.next advances.changes behind
-          ∙ on.free (goes_early (maps w) (state w) (register_in w.held t) w.stop o
+          ∙ on.free (goes_early (maps w) (state no_homes_on w) (register_in w.held t) w.stop o
           (stage_in (call_of w t)) goes.stage goes.next behind);
       lacks = λ need is.
           let lacking : goes.stage ≡ stage.Lacking need = same_Some goes.stage (stage.Lacking need) (sym after ∙ is) in
-          let first = goes_lacks (maps w) (state w) (register_in w.held t) w.stop o
+          let first = goes_lacks (maps w) (state no_homes_on w) (register_in w.held t) w.stop o
           (stage_in (call_of w t)) goes.stage need goes.next lacking in
           let free : w.free ≡ v.free = on.free first.0 in
           omega (arith, first.1, free, on.others.words);
@@ -151,7 +152,8 @@ call_goes v w x t o on advances =
 
 -- the call was answered
 pub call_told : (v w x y : View) (t : ℕ) (o : Op) (reply : Reply) (s after : ThreadState) → s.mode ≡ Lacking
-    → s.op ≡ Some o → o ≢ Collect → OnCall v w t o → Standing true x → KeepsOthers w x t → IsAnswered w x t o reply
+    → s.op ≡ Some o → o ≢ Collect → OnCall v w t o → Standing true no_homes_on x → KeepsOthers w x t
+    → IsAnswered no_homes_on w x t o reply
     → TakesReply s after reply → DropsIfEnded x y t after.mode → CalledAlone v y t s after None
 call_told v w x y t o reply s after lacking next no_collect on stands others answered takes drops =
     let behind = told_stands x y t after.mode stands drops in
@@ -171,7 +173,8 @@ call_told v w x y t o reply s after lacking next no_collect on stands others ans
     }
 
 -- a stage is that of a call, which is the one of the operation
-lacking_fits : (v : View) (t : ℕ) (o : Op) (need : ℕ) (now : Option Call) → call_of v t ≡ now → Standing true v
+lacking_fits : (v : View) (t : ℕ) (o : Op) (need : ℕ) (now : Option Call) → call_of v t ≡ now
+    → Standing true no_homes_on v
     → Continues now o → stage_in now ≡ Some (stage.Lacking need) → Fits (register_in v.held t) o (stage.Lacking need)
 lacking_fits v t o need None is stands continued lacking = absurd (cc)
 lacking_fits v t o need (Some c) is stands continued lacking =
@@ -181,7 +184,7 @@ lacking_fits v t o need (Some c) is stands continued lacking =
 
 -- the call was refused: its claim ended past the last word of the heap
 pub call_lacks : (v w x : View) (t : ℕ) (o : Op) (need : ℕ) (s : ThreadState) → s.op ≡ Some o → OnCall v w t o
-    → Advances w x t o (Refused (Pause (Space need))) → CalledAlone v x t s s (Some need)
+    → AdvancesOver no_homes_on w x t o (Refused (Pause (Space need))) → CalledAlone v x t s s (Some need)
 call_lacks v w x t o need s next on advances =
     let refused : IsRefused w x t o need = advances.outcome in
     let fits : Fits (register_in w.held t) o (stage.Lacking need) =

@@ -12,9 +12,10 @@ use Rattle.melt_model.specs.declared.operations.Reply.{Reply}
 use Rattle.melt_model.specs.declared.reports.ThreadEnd.TheVariants as end
 use Rattle.melt_model.specs.Thread.{value_in}
 use Rattle.melt_model.proofs.Sums.{CostsSum-same}
+use Rattle.melt_scion.specs.Heaps.{no_homes_on}
 use Rattle.melt_core.specs.Answering.{Answers}
 use Rattle.melt_core.specs.Views.{View, value, values_of, call_of, stage_in, Standing}
-use Rattle.melt_core.specs.Advances.{Advances, KeepsOthers, HasRoom, HasRoomFor, IsAnswered, Goes, IsRefused}
+use Rattle.melt_core.specs.Advances.{AdvancesOver, KeepsOthers, HasRoom, HasRoomFor, IsAnswered, Goes, IsRefused}
 use Rattle.melt_core.specs.Stages.{events_left}
 use Rattle.melt_core.specs.declared.call.Call.{Call}
 use Rattle.melt_core.specs.declared.answer.Pause.TheVariants as pause
@@ -33,12 +34,12 @@ use Rattle.melt_step.proofs.Cuts.{alive_same}
 use Rattle.melt_step.proofs.Modes.{dropped_keeps, nothing_keeps, stop_keeps}
 
 -- a thread waits for a collection
-pub waits_step : (v w : View) (t : ℕ) (s : ThreadState) (mode : Mode) → Standing true v → w ≡ stopped v
+pub waits_step : (v w : View) (t : ℕ) (s : ThreadState) (mode : Mode) → Standing true no_homes_on v → w ≡ stopped v
     → ((s.mode ≡ Running) × (s.op ≡ Some Collect) × (mode ≡ Collecting)) ⊎ ((s.mode ≡ Due) × (mode ≡ Silent))
     → ThreadStep v w t s (record s { mode = mode })
 waits_step v w t s mode stands is before =
     record {
-      stands = subst (Standing true) (sym is) (stands_stopped true v stands);
+      stands = subst (Standing true no_homes_on) (sym is) (stands_stopped no_homes_on true v stands);
       others = subst (λ (x : View). KeepsOthers v x t) (sym is) (stop_keeps v true t);
       what = inl (mode, record { only = refl; stop = is; before = before });
     }
@@ -97,14 +98,15 @@ KeepsOthers_both v u w t first then = record {
 -- a thread got its reply, by the last event of a call that the others saw nothing of
 pub told_state : (v u w x : View) (t : ℕ) (o : Op) (reply : Reply) (s after : ThreadState) → s.op ≡ Some o → o ≢ Collect
     → u.log ≡ v.log → ((y : ℕ) → values_of u y ≡ values_of v y) → length u.space.list ≡ length v.space.list
-    → Standing true u → IsAnswered u w t o reply → owes_silent s.mode ≡ false → TakesReply s after reply
+    → Standing true no_homes_on u → IsAnswered no_homes_on u w t o reply → owes_silent s.mode ≡ false
+    → TakesReply s after reply
     → DropsIfEnded w x t after.mode → ThreadTold v x t s after
 told_state v u w x t o reply s after next no_collect log values words stood answered open_ takes drops =
     let here : Answers t u.log (values_of u t) o reply w.log (values_of w t) = answered.answers stood in
     let answers : Answers t v.log (values_of v t) o reply w.log (values_of w t) =
     subst (λ (h : List Entry). Answers t h (values_of v t) o reply w.log (values_of w t)) log
     (subst (λ (vs : List Value). Answers t u.log vs o reply w.log (values_of w t)) (values t) here) in
-    let room : HasRoomFor v o = room_for_same v u o log values words (answered.room stood) in
+    let room : HasRoomFor v o = room_for_same v u o log values words (answered.room stood refl) in
     elim (drop_cases w x t after.mode drops) [
       | inl ended ↦
           let dropped : HasDropped w x t = ended.1 in
@@ -142,13 +144,18 @@ told_state v u w x t o reply s after next no_collect log values words stood answ
     ]
 
 -- all is well behind the reply, and the others saw nothing of it
-pub told_stands : (w x : View) (t : ℕ) (mode : Mode) → Standing true w → DropsIfEnded w x t mode
-    → Standing true x × KeepsOthers w x t × (x.stop ≡ w.stop)
+pub told_stands : (w x : View) (t : ℕ) (mode : Mode) → Standing true no_homes_on w → DropsIfEnded w x t mode
+    → Standing true no_homes_on x × KeepsOthers w x t × (x.stop ≡ w.stop)
 told_stands w x t mode stands drops =
     elim (drop_cases w x t mode drops) [
-      | inl ended ↦ (ended.1.keeps true stands, dropped_keeps w x t ended.1, ap (λ (y : View). y.stop) ended.1.only)
+      | inl ended ↦ (
+        ended.1.keeps true no_homes_on stands,
+        dropped_keeps w x t ended.1,
+        ap (λ (y : View). y.stop)
+            ended.1.only,
+      )
       | inr goes ↦ (
-        subst (Standing true) (sym goes.1) stands,
+        subst (Standing true no_homes_on) (sym goes.1) stands,
         subst (λ (y : View). KeepsOthers w y t) (sym goes.1) (nothing_keeps w t),
         ap (λ (y : View). y.stop) goes.1,
       )
@@ -173,7 +180,8 @@ told_goes s after reply takes waits = elim takes.fits [
 
 -- an event by which a thread got its reply
 pub told_step : (v w x : View) (t : ℕ) (o : Op) (reply : Reply) (s after : ThreadState) → s.mode ≡ Running
-    → s.op ≡ Some o → o ≢ Collect → Standing true v → Standing true w → KeepsOthers v w t → IsAnswered v w t o reply
+    → s.op ≡ Some o → o ≢ Collect → Standing true no_homes_on v → Standing true no_homes_on w → KeepsOthers v w t
+    → IsAnswered no_homes_on v w t o reply
     → TakesReply s after reply → DropsIfEnded w x t after.mode → ThreadStep v x t s after × SetsStop v x after
 told_step v w x t o reply s after running next no_collect stood stands others answered takes drops =
     let behind = told_stands w x t after.mode stands drops in
@@ -195,9 +203,9 @@ told_step v w x t o reply s after running next no_collect stood stands others an
 
 -- an event behind which the call goes on
 pub goes_step : (v w : View) (t : ℕ) (o : Op) (s : ThreadState) → s.mode ≡ Running → s.op ≡ Some o → o ≢ Collect
-    → Standing true v → Advances v w t o Going → ThreadStep v w t s s × SetsStop v w s
+    → Standing true no_homes_on v → AdvancesOver no_homes_on v w t o Going → ThreadStep v w t s s × SetsStop v w s
 goes_step v w t o s running next no_collect stands advances =
-    let goes : Goes v w t o = advances.outcome in
+    let goes : Goes no_homes_on v w t o = advances.outcome in
     let call : Call = record { op = o; stage = goes.stage } in
     let nearer : events_left (stage_in (call_of w t)) < events_left (stage_in (call_of v t)) =
     subst (λ (now : Option Call). events_left (stage_in now) < events_left (stage_in (call_of v t)))
@@ -232,7 +240,8 @@ WantsRoom result = ⊥
 
 -- an event by which it is
 pub lacks_step : (v w : View) (t : ℕ) (o : Op) (result : StepResult) (s : ThreadState) → s.mode ≡ Running
-    → s.op ≡ Some o → o ≢ Collect → Standing true v → Advances v w t o result → WantsRoom result
+    → s.op ≡ Some o → o ≢ Collect → Standing true no_homes_on v → AdvancesOver no_homes_on v w t o result
+    → WantsRoom result
     → ThreadStep v w t s (record s { mode = Lacking }) × SetsStop v w (record s { mode = Lacking })
 lacks_step v w t o Going s running next no_collect stands advances wants = absurd wants
 lacks_step v w t o (Answered reply) s running next no_collect stands advances wants = absurd wants

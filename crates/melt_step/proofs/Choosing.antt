@@ -17,7 +17,7 @@ use Rattle.melt_model.specs.declared.operations.Op.TheVariants.{Collect}
 use Rattle.melt_model.specs.declared.operations.Reply.{Reply}
 use Rattle.melt_model.specs.declared.operations.Reply.TheVariants.{Done}
 use Rattle.melt_model.proofs.Transcripts.{Stands_start, Stands_local, Transcript_so_far}
-use Rattle.melt_scion.specs.Heaps.{IsNewHeap}
+use Rattle.melt_scion.specs.Heaps.{no_homes_on, IsNewHeap}
 use Rattle.melt_scion.specs.declared.heap.Heap.{Heap}
 use Rattle.melt_scion.specs.declared.heap.Names as name_table
 use Rattle.melt_scion.specs.declared.registers.Registers.{Registers}
@@ -25,7 +25,7 @@ use Rattle.melt_core.specs.Answering.{with_entry}
 use Rattle.melt_core.specs.Views.{View, view, values_of, registers_in, held_values, IsQuiet, Standing}
 use Rattle.melt_core.specs.Changed.{stopped}
 use Rattle.melt_core.specs.Epochs.{no_registers, IsNewRest, AtRest, core_of, HasFinished, HasDropped}
-use Rattle.melt_core.specs.Advances.{MayAdvance, Advances, KeepsOthers, IsAnswered, Goes, Refuses}
+use Rattle.melt_core.specs.Advances.{MayAdvance, AdvancesOver, KeepsOthers, IsAnswered, Goes, Refuses}
 use Rattle.melt_core.specs.declared.machine.Rest.{Rest}
 use Rattle.melt_core.specs.declared.answer.Pause.TheVariants as pause
 use Rattle.melt_core.specs.declared.answer.Refusal.{Refusal}
@@ -48,7 +48,7 @@ record StandsSoFar (v : View) (t : ℕ) (s : SoFar) : Type 0 where
 
 -- all threads do
 record AllStand (threads globals : ℕ) (v : View) (all : ℕ → SoFar) : Type 0 where
-  pub stands : Standing true v
+  pub stands : Standing true no_homes_on v
   pub has_threads : length v.held ≡ threads
   pub words : length v.globals ≡ globals
   pub each : (t : ℕ) → StandsSoFar v t (all t)
@@ -64,7 +64,8 @@ stands_as v w t s log threads values st = record {
 }
 
 -- all threads stand as before, in a view with the same history and registers
-all_as : (threads globals : ℕ) (v w : View) (all : ℕ → SoFar) → AllStand threads globals v all → Standing true w
+all_as : (threads globals : ℕ) (v w : View) (all : ℕ → SoFar) → AllStand threads globals v all
+    → Standing true no_homes_on w
     → w.log ≡ v.log → length w.held ≡ length v.held → length w.globals ≡ length v.globals
     → ((t : ℕ) → values_of w t ≡ values_of v t) → AllStand threads globals w all
 all_as threads globals v w all a stands log threads_stay words values = record {
@@ -96,7 +97,8 @@ all_values v w t others own u = elim (cases_eq u t) [
 
 -- an event that leaves the history
 event_stays : (threads globals : ℕ) (v w : View) (all after : ℕ → SoFar) (t : ℕ) → AllStand threads globals v all
-    → Standing true w → KeepsOthers v w t → w.log ≡ v.log → values_of w t ≡ values_of v t → ((u : ℕ) → after u ≡ all u)
+    → Standing true no_homes_on w → KeepsOthers v w t → w.log ≡ v.log → values_of w t ≡ values_of v t
+    → ((u : ℕ) → after u ≡ all u)
     → AllStand threads globals w after
 event_stays threads globals v w all after t a stands others log values same =
     all_same threads globals w all after
@@ -104,7 +106,7 @@ event_stays threads globals v w all after t a stands others log values same =
 
 -- what is left of history and registers by a call that paused
 paused_stays : (threads globals : ℕ) (v w : View) (all after : ℕ → SoFar) (t : ℕ) (o : Op) (cause : Refusal)
-    → AllStand threads globals v all → Standing true w → KeepsOthers v w t → Refuses v w t o cause
+    → AllStand threads globals v all → Standing true no_homes_on w → KeepsOthers v w t → Refuses v w t o cause
     → ((u : ℕ) → after u ≡ all u) → AllStand threads globals w after
 paused_stays threads globals v w all after t o (refusal.Pause pause.Asked) a stands others refused same =
     event_stays threads globals v w all after t a stands others (ap (λ (x : View). x.log) refused.same)
@@ -118,8 +120,10 @@ paused_stays threads globals v w all after t o (refusal.Damaged damaged) a stand
 
 -- a thread that was answered, and the others
 answered_stands : (threads globals : ℕ) (v w : View) (all after : ℕ → SoFar) (t : ℕ) (o : Op) (reply : Reply)
-    → AllStand threads globals v all → (all t).over ≡ false → t < length v.held → Standing true w → KeepsOthers v w t
-    → IsAnswered v w t o reply → SetsSoFar all after t (with_reply (all t) o reply) → AllStand threads globals w after
+    → AllStand threads globals v all → (all t).over ≡ false → t < length v.held → Standing true no_homes_on w
+    → KeepsOthers v w t
+    → IsAnswered no_homes_on v w t o reply → SetsSoFar all after t (with_reply (all t) o reply)
+    → AllStand threads globals w after
 answered_stands threads globals v w all after t o reply a open_ within stands others answered sets =
     let st : StandsSoFar v t (all t) = a.each t in
     let answers = answered.answers a.stands in
@@ -156,14 +160,15 @@ answered_stands threads globals v w all after t o reply a open_ within stands ot
 
 -- an event
 event_stands : (threads globals : ℕ) (v w : View) (all after : ℕ → SoFar) (t : ℕ) (o : Op) (result : StepResult)
-    → AllStand threads globals v all → (all t).over ≡ false → MayAdvance v t o → Advances v w t o result
+    → AllStand threads globals v all → (all t).over ≡ false → MayAdvance 1 v t o
+    → AdvancesOver no_homes_on v w t o result
     → SetsBy all after t o result → AllStand threads globals w after
 event_stands threads globals v w all after t o Going a open_ may advances sets =
-    let goes : Goes v w t o = advances.outcome in
+    let goes : Goes no_homes_on v w t o = advances.outcome in
     event_stays threads globals v w all after t a
     (advances.keeps true a.stands) advances.others goes.own.history goes.own.values sets
 event_stands threads globals v w all after t o (Answered reply) a open_ may advances sets =
-    answered_stands threads globals v w all after t o reply a open_ may.thread
+    answered_stands threads globals v w all after t o reply a open_ may.asks.thread
     (advances.keeps true a.stands) advances.others advances.outcome sets
 event_stands threads globals v w all after t o (Refused cause) a open_ may advances sets =
     paused_stays threads globals v w all after t o cause a
@@ -204,7 +209,7 @@ dropped_stands threads globals v w all after t a dropped others sets =
       in_registers = λ within open_. absurd (cc);
     } in
     record {
-      stands = dropped.keeps true a.stands;
+      stands = dropped.keeps true no_homes_on a.stands;
       has_threads = others.threads ∙ a.has_threads;
       words = others.globals ∙ a.words;
       each = λ u. elim (cases_eq u t) [
@@ -217,7 +222,8 @@ dropped_stands threads globals v w all after t a dropped others sets =
     }
 
 -- a run begins
-start_stands : (threads globals words forward entries : ℕ) (heap : Heap) (rest : Rest) (all : ℕ → SoFar) → AtRest true heap rest
+start_stands : (threads globals words forward entries : ℕ) (heap : Heap) (rest : Rest) (all : ℕ → SoFar)
+    → AtRest true no_homes_on heap rest
     → IsNewHeap words globals forward true heap → IsNewRest threads entries rest → ((t : ℕ) → all t ≡ nothing_yet)
     → AllStand threads globals (view (core_of heap rest)) all
 start_stands threads globals words forward entries heap rest all at_rest new_heap new_rest none =
@@ -242,7 +248,7 @@ start_stands threads globals words forward entries heap rest all at_rest new_hea
 
 -- a new epoch
 epoch_stands : (threads globals : ℕ) (v : View) (all : ℕ → SoFar) (heap : Heap) (rest : Rest)
-    → AllStand threads globals v all → AtRest true heap rest → HasFinished v (view (core_of heap rest))
+    → AllStand threads globals v all → AtRest true no_homes_on heap rest → HasFinished v (view (core_of heap rest))
     → AllStand threads globals (view (core_of heap rest)) all
 epoch_stands threads globals v all heap rest a at_rest finished =
     all_as threads globals v (view (core_of heap rest)) all a at_rest.stands finished.log (ap length finished.held)
@@ -255,7 +261,7 @@ collection_stands : (threads globals : ℕ) (all : ℕ → SoFar) (heap new : He
     → AllStand threads globals (view (core_of heap rest)) all → IsQuiet (view (core_of heap rest))
     → CollectsRest heap rest new after → AllStand threads globals (view (core_of new after)) all
 collection_stands threads globals all heap new rest after a quiet c =
-    let at_rest : AtRest true heap rest = record { stands = a.stands; quiet = quiet } in
+    let at_rest : AtRest true no_homes_on heap rest = record { stands = a.stands; quiet = quiet } in
     let collected : CoreCollected (view (core_of heap rest)) (view (core_of new after)) =
     rest_collected heap new rest after c.phase c.journal at_rest c.copying c.collects c.threads
     (same_sizes rest.held.items after.held.items c.threads c.before c.behind) c.calls c.log c.made in
@@ -266,18 +272,19 @@ collection_stands threads globals all heap new rest after a quiet c =
 -- they stand after each choice
 chosen_stands : (threads globals : ℕ) (v : View) (all : ℕ → SoFar) → Chosen threads globals v all
     → AllStand threads globals v all
-chosen_stands threads globals v all (Chosen.starts _ _ words forward entries heap rest small few new_heap new_rest is none) =
+chosen_stands threads globals v all (Chosen.starts _ _ words forward entries heap rest small few new_heap new_rest is
+    none) =
     subst (λ (x : View). AllStand threads globals x all) (sym is)
     (start_stands threads globals words forward entries heap rest all
     (start_at_rest true words globals forward threads entries heap rest small few new_heap new_rest) new_heap new_rest
     none)
 chosen_stands threads globals w after (Chosen.event v _ all _ t o result chosen open_ may advances sets) =
     event_stands threads globals v w all after t o result
-    (chosen_stands threads globals v all chosen) open_ may advances sets
+    (chosen_stands threads globals v all chosen) open_ may (advances.over no_homes_on refl) sets
 chosen_stands threads globals w all (Chosen.asks v _ _ chosen is) =
     let a : AllStand threads globals v all = chosen_stands threads globals v all chosen in
     subst (λ (x : View). AllStand threads globals x all) (sym is)
-    (all_as threads globals v (stopped v) all a (stands_stopped true v a.stands) refl refl refl (λ t. refl))
+    (all_as threads globals v (stopped v) all a (stands_stopped no_homes_on true v a.stands) refl refl refl (λ t. refl))
 chosen_stands threads globals v after (Chosen.collect _ all _ t chosen sets) =
     collect_stands threads globals v all after t (chosen_stands threads globals v all chosen) sets
 chosen_stands threads globals w after (Chosen.drops v _ all _ t chosen none dropped sets) =
@@ -286,7 +293,7 @@ chosen_stands threads globals w after (Chosen.drops v _ all _ t chosen none drop
 chosen_stands threads globals w all (Chosen.epoch v _ _ heap rest chosen quiet rests finished is) =
     let a : AllStand threads globals v all = chosen_stands threads globals v all chosen in
     subst (λ (x : View). AllStand threads globals x all) (sym is)
-    (epoch_stands threads globals v all heap rest a (rests true a.stands) finished)
+    (epoch_stands threads globals v all heap rest a (rests true no_homes_on a.stands) finished)
 chosen_stands threads globals w all (Chosen.collection v _ _ heap new rest after chosen was quiet collects is) =
     let a : AllStand threads globals v all = chosen_stands threads globals v all chosen in
     subst (λ (x : View). AllStand threads globals x all) (sym is)

@@ -55,7 +55,7 @@ names_made None words room = tt
 names_made (Some names) words room = room
 
 -- heap and registers may be collected
-pub rest_formed : (heap : Heap) (rest : Rest) → AtRest true heap rest → IsFormed heap rest.held.items
+pub rest_formed : (heap : Heap) (rest : Rest) → AtRest true no_homes_on heap rest → IsFormed heap rest.held.items
 rest_formed heap rest at_rest = record {
   maps = maps_of heap.names;
   disk = no_homes_on;
@@ -121,7 +121,7 @@ collected_view new rest registers = record (view (core_of new rest)) { held = re
 
 -- the collected heap and registers stand for the history of the rest
 collected_stands : (heap new : Heap) (rest : Rest) (registers : List Registers) (phase : Phase) (journal : Journal)
-    → AtRest true heap rest → IsCopying phase → Collects heap rest.held.items new registers phase journal
+    → AtRest true no_homes_on heap rest → IsCopying phase → Collects heap rest.held.items new registers phase journal
     → length registers ≡ length rest.held.items
     → ((t : ℕ) → length (registers_in registers t) ≡ length (registers_in rest.held.items t))
     → CoreCollected (view (core_of heap rest)) (collected_view new rest registers)
@@ -129,15 +129,16 @@ unfolding collected_view
 collected_stands heap new rest registers phase journal at_rest copying collects threads sizes =
     let v : View = view (core_of heap rest) in
     let w : View = collected_view new rest registers in
-    let s : Standing true v = at_rest.stands in
-    let before : Placed v.log (value v) (maps v) (state v) = placed_now v s in
+    let s : Standing true no_homes_on v = at_rest.stands in
+    let before : Placed v.log (value v) (maps v) (state no_homes_on v) = placed_now no_homes_on v s in
     let has : HasCollected (maps v) no_homes_on heap new rest.held.items registers phase journal =
     collects.each (maps v) no_homes_on (names_are heap.names heap.maps s.named) before.formed in
-    let placed_at : Placed v.log (value v) has.after (state w) = has.collected.placed v.log (value v) before in
+    let placed_at : Placed v.log (value v) has.after (state no_homes_on w) = has.collected.placed v.log (value v) before
+    in
     let same : has.after ≡ maps w =
     same_maps heap.names new.names new.maps has.after s.named collects.tables.names has.names in
-    let placed : Placed v.log (value v) (maps w) (state w) =
-    subst (λ (m : Maps). Placed v.log (value v) m (state w)) same placed_at in
+    let placed : Placed v.log (value v) (maps w) (state no_homes_on w) =
+    subst (λ (m : Maps). Placed v.log (value v) m (state no_homes_on w)) same placed_at in
     let values : (t : ℕ) → values_of w t ≡ values_of v t = λ t.
     same_values heap.names new.names (registers_in rest.held.items t) (registers_in registers t) (sizes t)
     (placed.registers t) in
@@ -147,10 +148,10 @@ collected_stands heap new rest registers phase journal at_rest copying collects 
     let globals : length new.globals ≡ length heap.globals = has.collected.words.globals in
     let none : claimed v.calls ≡ 0 = unclaimed v.calls at_rest.quiet in
     let used : journal.live ≡ new.space.used = has.told.live_words in
-    let counted : CountsWords (state w) (IsNamed has.after) new.space.used =
-    subst (CountsWords (state w) (IsNamed has.after)) used has.live in
+    let counted : CountsWords (state no_homes_on w) (IsNamed has.after) new.space.used =
+    subst (CountsWords (state no_homes_on w) (IsNamed has.after)) used has.live in
     let live : CostsSum (words_of v.log) (InUse has.after) new.space.used =
-    in_use_costs v.log (value v) has.after (state w) new.space.used placed_at counted in
+    in_use_costs v.log (value v) has.after (state no_homes_on w) new.space.used placed_at counted in
     let told : Counts v = s.counts refl in
     let fewer : new.space.used ≤ told.in_use =
     CostsSum-part (words_of v.log) (InUse has.after) (InUse (maps v)) new.space.used told.in_use
@@ -158,8 +159,9 @@ collected_stands heap new rest registers phase journal at_rest copying collects 
     told.adds_up in
     let alive : CostsSum (words_of v.log) (Alive v.log (value w)) new.space.used =
     subst (λ (f : ℕ → ℕ → Value). CostsSum (words_of v.log) (Alive v.log f) new.space.used) value_is
-    (live_costs v.log (value v) (maps v) (state v) before phase has.after (state w) has.to has.home has.scion
-    new.space.used (s.legal refl) refl (none_leave phase (state v) copying) has.collected counted) in
+    (live_costs v.log (value v) (maps v) (state no_homes_on v) before phase has.after (state no_homes_on w) has.to
+    has.home has.scion
+    new.space.used (s.legal refl) refl (none_leave phase (state no_homes_on v) copying) has.collected counted) in
     let within : new.space.used ≤ length new.space.list = omega (arith, none, size, fewer, told.within) in
     record {
       stays = record {
@@ -168,7 +170,6 @@ collected_stands heap new rest registers phase journal at_rest copying collects 
           room = keeps_room heap.names new.names collects.tables.names ∙ (s.room ∙ sym size);
           scions_made = scions_kept (length heap.space.list) (length new.space.list) heap.scions new.scions
               collects.tables.scions size s.scions_made;
-          settled = collects.settled;
           few = subst (λ (n : ℕ). n ≤ 8) (sym threads) s.few;
           each = s.each ∙ sym threads;
           counted = s.counted;
@@ -176,7 +177,7 @@ collected_stands heap new rest registers phase journal at_rest copying collects 
           bounded = inl (omega (arith, within));
           holds = record {
             formed = placed.formed.words;
-            no_gaps = settled_gaps (state w) collects.settled;
+            no_gaps = settled_gaps (state no_homes_on w) collects.settled;
             tells = λ is. placed.tells;
           };
           legal = λ is. subst (Legal v.log) (sym globals) (s.legal refl);
@@ -233,7 +234,8 @@ pub same_sizes : (old new : List Registers) → length new ≡ length old → Al
 same_sizes old new threads before after t = sizes_at old new t threads before after (cases_lt t (length old))
 
 -- they were collected, and nothing else of the rest changed
-pub rest_collected : (heap new : Heap) (rest after : Rest) (phase : Phase) (journal : Journal) → AtRest true heap rest
+pub rest_collected : (heap new : Heap) (rest after : Rest) (phase : Phase) (journal : Journal)
+    → AtRest true no_homes_on heap rest
     → IsCopying phase → Collects heap rest.held.items new after.held.items phase journal
     → length after.held.items ≡ length rest.held.items
     → ((t : ℕ) → length (registers_in after.held.items t) ≡ length (registers_in rest.held.items t))
@@ -247,7 +249,7 @@ rest_collected heap new rest after phase journal at_rest copying collects thread
 
 -- the collected heap has names
 pub collected_named : (heap new : Heap) (rest : Rest) (registers : List Registers) (phase : Phase) (journal : Journal)
-    → AtRest true heap rest → Collects heap rest.held.items new registers phase journal → IsSome new.names
+    → AtRest true no_homes_on heap rest → Collects heap rest.held.items new registers phase journal → IsSome new.names
 collected_named heap new rest registers phase journal at_rest collects =
     keeps_some heap.names new.names at_rest.stands.named collects.tables.names
 
@@ -284,14 +286,15 @@ pub record LeavesWords (w : View) (journal : Journal) : Type 0 where
   pub within : journal.live ≤ length w.space.list
 
 -- they are those of what is in use, and what registers hold is a part of that
-pub left_words : (heap new : Heap) (rest after : Rest) (phase : Phase) (journal : Journal) → AtRest true heap rest
+pub left_words : (heap new : Heap) (rest after : Rest) (phase : Phase) (journal : Journal)
+    → AtRest true no_homes_on heap rest
     → IsCopying phase → Collects heap rest.held.items new after.held.items phase journal
     → LeavesWords (view (core_of new after)) journal
 left_words heap new rest after phase journal at_rest copying collects =
     let v : View = view (core_of heap rest) in
-    let s : Standing true v = at_rest.stands in
+    let s : Standing true no_homes_on v = at_rest.stands in
     let t : State = state_of new after.held.items no_homes_on in
-    let before : Placed v.log (value v) (maps v) (state v) = placed_now v s in
+    let before : Placed v.log (value v) (maps v) (state no_homes_on v) = placed_now no_homes_on v s in
     let has : HasCollected (maps v) no_homes_on heap new rest.held.items after.held.items phase journal =
     collects.each (maps v) no_homes_on (names_are heap.names heap.maps s.named) before.formed in
     let placed_at : Placed v.log (value v) has.after t = has.collected.placed v.log (value v) before in
@@ -299,10 +302,11 @@ left_words heap new rest after phase journal at_rest copying collects =
     let live : CostsSum (words_of v.log) (InUse has.after) journal.live =
     in_use_costs v.log (value v) has.after t journal.live placed_at has.live in
     let alive : CostsSum (words_of v.log) (Alive v.log (value v)) journal.live =
-    live_costs v.log (value v) (maps v) (state v) before phase has.after t has.to has.home has.scion journal.live
-    (s.legal refl) refl (none_leave phase (state v) copying) has.collected has.live in
+    live_costs v.log (value v) (maps v) (state no_homes_on v) before phase has.after t has.to has.home has.scion
+    journal.live
+    (s.legal refl) refl (none_leave phase (state no_homes_on v) copying) has.collected has.live in
     let by_registers : CostsSum (words_of v.log) (Held (value v)) journal.held =
-    held_costs v.log (value v) (maps v) (state v) before journal.held has.held_words in
+    held_costs v.log (value v) (maps v) (state no_homes_on v) before journal.held has.held_words in
     let fewer : journal.live ≤ told.in_use =
     CostsSum-part (words_of v.log) (InUse has.after) (InUse (maps v)) journal.live told.in_use
     (λ n is. was_in_use (maps v) has.after has.to n has.collected.names is) live told.adds_up in

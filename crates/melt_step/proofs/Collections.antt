@@ -10,6 +10,7 @@ use Rattle.melt_model.specs.declared.operations.Op.TheVariants.{Collect}
 use Rattle.melt_model.specs.declared.operations.Reply.TheVariants as reply
 use Rattle.melt_model.specs.declared.reports.ThreadEnd.TheVariants as end
 use Rattle.melt_trace.specs.Script.{Script}
+use Rattle.melt_scion.specs.Heaps.{no_homes_on}
 use Rattle.melt_core.specs.Views.{View, view, values_of, call_of, IsQuiet, Standing}
 use Rattle.melt_core.specs.Epochs.{HasDropped}
 use Rattle.melt_step.specs.declared.collector.Collector.{Collector}
@@ -136,11 +137,12 @@ collect_told v w t s after mode next takes history held dropped call = record {
 }
 
 -- the same as an event of the thread
-collect_step : (v w : View) (t : ℕ) (s after : ThreadState) → Standing true v → call_of v t ≡ None → s.mode ≡ Collecting
+collect_step : (v w : View) (t : ℕ) (s after : ThreadState) → Standing true no_homes_on v → call_of v t ≡ None
+    → s.mode ≡ Collecting
     → s.op ≡ Some Collect → TakesReply s after reply.Done → DropsIfEnded v w t after.mode → ThreadStep v w t s after
 collect_step v w t s after stands no_call mode next takes drops = elim (drops_cases v w t after.mode drops) [
   | inl gone ↦ record {
-    stands = gone.1.keeps true stands;
+    stands = gone.1.keeps true no_homes_on stands;
     others = dropped_keeps v w t gone.1;
     what =
         inr (inr (inr (collect_told v w t s after mode next takes (ap (λ (x : View). x.log) gone.1.only) (inl gone.0)

@@ -148,11 +148,11 @@ may_end script config report states t (end.Damaged home at word) same ends = end
 may_end script config report states t end.Halted same ends = ends
 
 -- the heap without the registers of its threads
-placed_left : (heap : Heap) (rest : Rest) → AtRest true heap rest
+placed_left : (heap : Heap) (rest : Rest) → AtRest true no_homes_on heap rest
     → Placed rest.log.items (λ t r. Nil) (maps_of heap.names) (state_of heap [] no_homes_on)
 placed_left heap rest at_rest =
     let v : View = view (core_of heap rest) in
-    let s : State = state v in
+    let s : State = state no_homes_on v in
     let left : State = state_of heap [] no_homes_on in
     let same : SameParts (maps v) s left =
     same_words (maps v) s left (record
@@ -171,7 +171,7 @@ placed_left heap rest at_rest =
 -- the report has the replies and the end of each thread, the journal and the history
 pub has_run : (script : Script) (config : Config) (run : Run) (heap : Heap) (rest : Rest) (report : Report)
     → RunStands script config run → ((t : ℕ) (s : ThreadState) → slice_get run.states.items t ≡ Some s → IsEnded s.mode)
-    → AtRest true heap rest → HasFinished (view run.core) (view (core_of heap rest))
+    → AtRest true no_homes_on heap rest → HasFinished (view run.core) (view (core_of heap rest))
     → length report.threads ≡ length run.states.items
     → ((t : ℕ) (s : ThreadState) (r : ThreadReport) → slice_get run.states.items t ≡ Some s
     → slice_get report.threads t ≡ Some r → (r.replies ≡ s.replies.items) × (s.mode ≡ Ended r.end))
@@ -240,7 +240,8 @@ has_run script config run heap rest report stands ended at_rest finished count t
         named = at_rest.stands.named;
         maps = maps_of heap.names;
         names = names_are heap.names heap.maps at_rest.stands.named;
-        placed = subst (λ (h : List Entry). Placed h (λ t r. Nil) (maps_of heap.names) (state_of heap [] no_homes_on)) (sym log)
+        placed = subst (λ (h : List Entry). Placed h (λ t r. Nil) (maps_of heap.names) (state_of heap [] no_homes_on))
+            (sym log)
             (placed_left heap rest at_rest);
       };
     }

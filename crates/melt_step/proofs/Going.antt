@@ -5,6 +5,7 @@ use Rattle.std.specs.Prelude.{Some, slice_get}
 use Rattle.melt_model.specs.declared.config.Config.{Config}
 use Rattle.melt_model.specs.declared.operations.Op.TheVariants.{Collect}
 use Rattle.melt_trace.specs.Script.{Script}
+use Rattle.melt_scion.specs.Heaps.{no_homes_on}
 use Rattle.melt_core.specs.Views.{View, view, IsQuiet, Standing}
 use Rattle.melt_step.specs.declared.run.Run.{Run}
 use Rattle.melt_step.specs.declared.thread.ThreadState.{ThreadState}
@@ -42,8 +43,8 @@ pub step_less : (script : Script) (config : Config) (v w : View) (states : List 
     (s after : ThreadState) → TableStands script config v states → slice_get states t ≡ Some s → MayGo s.mode
     → ThreadStep v w t s after → potential (set states t after) w.calls < potential states v.calls
 step_less script config v w states t s after table at goes step =
-    let before : Standing true v = table.stands in
-    let behind : Standing true w = step.stands in
+    let before : Standing true no_homes_on v = table.stands in
+    let behind : Standing true no_homes_on w = step.stands in
     step_nearer script config v w states t s after table at goes step
     (behind.each ∙ (step.others.threads ∙ sym before.each))
 

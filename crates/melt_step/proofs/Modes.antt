@@ -13,6 +13,7 @@ use Rattle.melt_model.specs.declared.operations.Op.{Op}
 use Rattle.melt_model.specs.declared.reports.ThreadEnd.{ThreadEnd}
 use Rattle.melt_model.specs.declared.reports.ThreadEnd.TheVariants as end
 use Rattle.melt_trace.specs.Script.{Script, operations}
+use Rattle.melt_scion.specs.Heaps.{no_homes_on}
 use Rattle.melt_core.specs.Views.{View, call_of, registers_in}
 use Rattle.melt_core.proofs.Registers.{registers_other}
 use Rattle.melt_core.specs.Advances.{KeepsOthers}
@@ -119,7 +120,7 @@ Table_gone script config v w states t s e table at goes dropped no_call ends =
       made_last = λ k below last. absurd (omega arith);
       entries = let same : length w.log ≡ length v.log = ap length history in omega arith;
     } in
-    Table_moves script config v w states t s after table at goes (dropped.keeps true table.stands)
+    Table_moves script config v w states t s after table at goes (dropped.keeps true no_homes_on table.stands)
     (dropped_keeps v w t dropped) moves
 
 -- a thread that can go on does not wait

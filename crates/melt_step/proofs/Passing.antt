@@ -14,6 +14,7 @@ use Rattle.melt_trace.specs.Script.{Script, operations}
 use Rattle.melt_scion.specs.declared.heap.Heap.{Heap}
 use Rattle.melt_scion.specs.declared.heap.Names as names_of
 use Rattle.melt_scion.specs.declared.registers.Registers.{Registers}
+use Rattle.melt_scion.specs.Heaps.{no_homes_on}
 use Rattle.melt_core.specs.declared.machine.Rest.{Rest}
 use Rattle.melt_core.specs.Views.{View, view, IsQuiet, registers_in, held_values}
 use Rattle.melt_core.specs.Epochs.{AtRest, HasFinished, core_of}
@@ -239,7 +240,7 @@ again_knows states after n v again all own none = record {
 }
 
 -- what an epoch left begins a new one, in which all stands as before
-pub finished_renewed : (v : View) (heap : Heap) (rest : Rest) → AtRest true heap rest
+pub finished_renewed : (v : View) (heap : Heap) (rest : Rest) → AtRest true no_homes_on heap rest
     → HasFinished v (view (core_of heap rest)) → Renewed v (view (core_of heap rest))
 finished_renewed v heap rest at_rest finished = record {
   stands = at_rest.stands;
@@ -442,7 +443,7 @@ pub begun_same : (v : View) → v.stop ≡ false → Begun v v
 begun_same v none = record { no_stop = none; table = λ script config states table. table }
 
 -- in a new epoch
-pub begun_new : (v : View) (heap : Heap) (rest : Rest) → AtRest true heap rest
+pub begun_new : (v : View) (heap : Heap) (rest : Rest) → AtRest true no_homes_on heap rest
     → HasFinished v (view (core_of heap rest)) → Begun v (view (core_of heap rest))
 begun_new v heap rest at_rest finished = record {
   no_stop = refl;

@@ -17,7 +17,7 @@ use Rattle.melt_model.specs.declared.operations.Op.{Op}
 use Rattle.melt_model.specs.declared.operations.Reply.{Reply}
 use Rattle.melt_model.specs.declared.reports.ThreadEnd.TheVariants as end
 use Rattle.melt_trace.specs.Script.{Script, operations}
-use Rattle.melt_scion.specs.Heaps.{IsNewHeap}
+use Rattle.melt_scion.specs.Heaps.{no_homes_on, IsNewHeap}
 use Rattle.melt_scion.specs.declared.heap.Heap.{Heap}
 use Rattle.melt_scion.specs.declared.registers.Registers.{Registers}
 use Rattle.melt_core.specs.declared.machine.Rest.{Rest}
@@ -64,7 +64,8 @@ Stands_new t ops = record {
 }
 
 -- a thread stands before its first event
-Thread_new : (script : Script) (entries t : ℕ) (heap : Heap) (rest : Rest) (s : ThreadState) → AtRest true heap rest
+Thread_new : (script : Script) (entries t : ℕ) (heap : Heap) (rest : Rest) (s : ThreadState)
+    → AtRest true no_homes_on heap rest
     → IsNewRest (length script.programs) entries rest → t < length script.programs
     → IsNewThread (operations script t) script.globals s → ThreadStands script (view (core_of heap rest)) t s
 Thread_new script entries t heap rest s at_rest new_rest below new =
@@ -112,7 +113,7 @@ pub Table_new : (script : Script) (config : Config) (entries : ℕ) (heap : Heap
     → AreNewThreads script states entries → TableStands script config (view (core_of heap rest)) states
 Table_new script config entries heap rest states small few new_heap new_rest new_states =
     let n : ℕ = length script.programs in
-    let at_rest : AtRest true heap rest =
+    let at_rest : AtRest true no_homes_on heap rest =
     start_at_rest true config.heap script.globals config.forward n entries heap rest small few new_heap new_rest in
     record {
       stands = at_rest.stands;

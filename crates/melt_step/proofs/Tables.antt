@@ -20,6 +20,7 @@ use Rattle.melt_model.specs.declared.operations.Reply.{Reply}
 use Rattle.melt_model.specs.declared.reports.ThreadEnd.TheVariants as end
 use Rattle.melt_trace.specs.Grammar.{InRange}
 use Rattle.melt_trace.specs.Script.{Script, operations}
+use Rattle.melt_scion.specs.Heaps.{no_homes_on}
 use Rattle.melt_core.specs.declared.call.Call.{Call}
 use Rattle.melt_core.specs.Answering.{with_entry}
 use Rattle.melt_core.specs.Changed.{stopped}
@@ -139,7 +140,7 @@ pub record Moves (script : Script) (config : Config) (v w : View) (states : List
 -- all threads stand behind such an event
 pub Table_moves : (script : Script) (config : Config) (v w : View) (states : List ThreadState) (t : ℕ)
     (s after : ThreadState) → TableStands script config v states → slice_get states t ≡ Some s → (IsEnded s.mode → ⊥)
-    → Standing true w → KeepsOthers v w t → Moves script config v w states t s after
+    → Standing true no_homes_on w → KeepsOthers v w t → Moves script config v w states t s after
     → TableStands script config w (set states t after)
 Table_moves script config v w states t s after table at runs stands others m =
     let later : Later states (set states t after) = later_set states t s after m.extra at runs m.replies in
@@ -334,7 +335,7 @@ refused_moves script config v w states t s after st runs refused =
 
 -- a thread that still lacks room stands as before
 pub Table_lacks : (script : Script) (config : Config) (v w : View) (states : List ThreadState) (t : ℕ) (s : ThreadState)
-    → TableStands script config v states → slice_get states t ≡ Some s → s.mode ≡ Lacking → Standing true w
+    → TableStands script config v states → slice_get states t ≡ Some s → s.mode ≡ Lacking → Standing true no_homes_on w
     → KeepsOthers v w t → (call_of w t ≡ None) × (w.log ≡ v.log) × (values_of w t ≡ values_of v t)
     → TableStands script config w states
 Table_lacks script config v w states t s table at lacking stands others behind =
@@ -367,7 +368,8 @@ told_fits s after reply takes =
 
 -- it stands one operation further in the history
 told_stands : (script : Script) (v w : View) (t : ℕ) (s after : ThreadState) → ThreadStands script v t s
-    → (IsEnded s.mode → ⊥) → Standing true v → Standing true w → length w.globals ≡ length v.globals
+    → (IsEnded s.mode → ⊥) → Standing true no_homes_on v → Standing true no_homes_on w
+    → length w.globals ≡ length v.globals
     → ThreadTold v w t s after → ThreadStands script w t after
 told_stands script v w t s after st runs before behind globals told =
     let ops : List Op = operations script t in
@@ -468,7 +470,8 @@ told_due config s after reply due takes owes =
 -- so all threads stand behind its reply
 told_moves : (script : Script) (config : Config) (v w : View) (states : List ThreadState) (t : ℕ)
     (s after : ThreadState) → DueBy config.every s after → TableStands script config v states
-    → slice_get states t ≡ Some s → (IsEnded s.mode → ⊥) → Standing true w → length w.globals ≡ length v.globals
+    → slice_get states t ≡ Some s → (IsEnded s.mode → ⊥) → Standing true no_homes_on w
+    → length w.globals ≡ length v.globals
     → ThreadTold v w t s after → Moves script config v w states t s after
 told_moves script config v w states t s after due table at runs behind globals told =
     let st : ThreadStands script w t after =

@@ -9,7 +9,7 @@ use Rattle.melt_model.specs.declared.operations.Reply.{Reply}
 use Rattle.melt_model.specs.declared.operations.Reply.TheVariants.{Done}
 use Rattle.melt_model.specs.declared.reports.Journal.{Journal}
 use Rattle.melt_model.specs.declared.reports.Phase.{Phase}
-use Rattle.melt_scion.specs.Heaps.{IsNewHeap}
+use Rattle.melt_scion.specs.Heaps.{OnDisk, no_homes_on, IsNewHeap}
 use Rattle.melt_scion.specs.declared.heap.Heap.{Heap}
 use Rattle.melt_scion.specs.declared.registers.Registers.{Registers}
 use Rattle.melt_copy.specs.Copying.{Collects, IsCopying}
@@ -63,10 +63,11 @@ pub record CollectsRest (heap : Heap) (rest : Rest) (new : Heap) (after : Rest) 
 -- registers, a new epoch, and a collection between two epochs.
 pub data Chosen (threads globals : ℕ) : View → (ℕ → SoFar) → Type 0 where
   starts : (v : View) (all : ℕ → SoFar) (words forward entries : ℕ) (heap : Heap) (rest : Rest) → words < 2 ^ 30
-      → threads ≤ 8 → IsNewHeap words globals forward true heap → IsNewRest threads entries rest → v ≡ view (core_of heap rest)
+      → threads ≤ 8 → IsNewHeap words globals forward true heap → IsNewRest threads entries rest
+      → v ≡ view (core_of heap rest)
       → ((t : ℕ) → all t ≡ nothing_yet) → Chosen threads globals v all
   event : (v w : View) (all after : ℕ → SoFar) (t : ℕ) (o : Op) (result : StepResult) → Chosen threads globals v all
-      → (all t).over ≡ false → MayAdvance v t o → Advances v w t o result → SetsBy all after t o result
+      → (all t).over ≡ false → MayAdvance 1 v t o → Advances 1 v w t o result → SetsBy all after t o result
       → Chosen threads globals w after
   asks : (v w : View) (all : ℕ → SoFar) → Chosen threads globals v all → w ≡ stopped v → Chosen threads globals w all
   collect : (v : View) (all after : ℕ → SoFar) (t : ℕ) → Chosen threads globals v all
@@ -74,7 +75,8 @@ pub data Chosen (threads globals : ℕ) : View → (ℕ → SoFar) → Type 0 wh
   drops : (v w : View) (all after : ℕ → SoFar) (t : ℕ) → Chosen threads globals v all → call_of v t ≡ None
       → HasDropped v w t → SetsSoFar all after t (record (all t) { over = true }) → Chosen threads globals w after
   epoch : (v w : View) (all : ℕ → SoFar) (heap : Heap) (rest : Rest) → Chosen threads globals v all → IsQuiet v
-      → ((told : Bool) → Standing told v → AtRest told heap rest) → HasFinished v (view (core_of heap rest))
+      → ((told : Bool) (disk : OnDisk) → Standing told disk v → AtRest told disk heap rest)
+      → HasFinished v (view (core_of heap rest))
       → w ≡ view (core_of heap rest) → Chosen threads globals w all
   collection : (v w : View) (all : ℕ → SoFar) (heap new : Heap) (rest after : Rest) → Chosen threads globals v all
       → v ≡ view (core_of heap rest) → IsQuiet v → CollectsRest heap rest new after → w ≡ view (core_of new after)
@@ -83,7 +85,7 @@ pub data Chosen (threads globals : ℕ) : View → (ℕ → SoFar) → Type 0 wh
 -- There is one legal history, with entries of the threads alone; the replies that each thread has by now are those that
 -- it gives, whatever operations are to come; and the words stand for it.
 pub record AreTold (threads globals : ℕ) (v : View) (all : ℕ → SoFar) : Type 0 where
-  pub stands : Standing true v
+  pub stands : Standing true no_homes_on v
   pub legal : Legal v.log globals
   pub transcripts : (t : ℕ) (more : List Op) → Transcript v.log t ((all t).ops ++ more) (all t).replies
   pub own_threads : All (λ (e : Entry). e.thread < threads) v.log

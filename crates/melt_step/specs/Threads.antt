@@ -14,6 +14,7 @@ use Rattle.melt_model.specs.declared.operations.Reply.{Reply}
 use Rattle.melt_model.specs.declared.reports.ThreadEnd.TheVariants as end
 use Rattle.melt_trace.specs.Grammar.{InRange}
 use Rattle.melt_trace.specs.Script.{Script, operations}
+use Rattle.melt_scion.specs.Heaps.{no_homes_on}
 use Rattle.melt_core.specs.declared.call.Call.{Call}
 use Rattle.melt_core.specs.Answering.{Answers}
 use Rattle.melt_core.specs.Views.{View, view, call_of, value, values_of, Standing, IsQuiet}
@@ -150,7 +151,7 @@ pub record Later (states after : List ThreadState) : Type 0 where
 
 -- All threads stand in the history, for which the core stands; it has room for the entries to come.
 pub record TableStands (script : Script) (config : Config) (v : View) (states : List ThreadState) : Type 0 where
-  pub stands : Standing true v
+  pub stands : Standing true no_homes_on v
   pub count : length states ≡ length script.programs
   pub threads : length v.held ≡ length script.programs
   pub globals : length v.globals ≡ script.globals
@@ -238,7 +239,7 @@ pub record ThreadTold (v w : View) (t : ℕ) (s after : ThreadState) : Type 0 wh
 -- What an event needs of its thread: the call in flight is of its next operation, and there is room for its reply and
 -- its entry.
 pub record IsReady (v : View) (t : ℕ) (s : ThreadState) : Type 0 where
-  pub stands : Standing true v
+  pub stands : Standing true no_homes_on v
   pub thread : t < length v.held
   pub call : (c : Call) → call_of v t ≡ Some c → (s.mode ≡ Running) × (s.op ≡ Some c.op) × (c.op ≢ Collect)
   pub fits : FitsMode s.mode s.op
@@ -251,14 +252,14 @@ pub record IsReady (v : View) (t : ℕ) (s : ThreadState) : Type 0 where
 
 -- one event of a thread
 pub record ThreadStep (v w : View) (t : ℕ) (s after : ThreadState) : Type 0 where
-  pub stands : Standing true w
+  pub stands : Standing true no_homes_on w
   pub others : KeepsOthers v w t
   pub what : ((mode : Mode) × ThreadWaits v w t s after mode)
       ⊎ (ThreadGoes v w t s after ⊎ (ThreadRefused v w t s after ⊎ ThreadTold v w t s after))
 
 -- a new epoch, in which all stands as before: history, values and registers, and no call is in flight
 pub record Renewed (v w : View) : Type 0 where
-  pub stands : Standing true w
+  pub stands : Standing true no_homes_on w
   pub quiet : IsQuiet w
   pub globals : length w.globals ≡ length v.globals
   pub words : length w.space.list ≡ length v.space.list
@@ -306,7 +307,7 @@ pub record LacksAlone (v w : View) (t : ℕ) (s after : ThreadState) (need : ℕ
 
 -- The call of a thread was made alone: it was answered, or its claim of so many words ended past the last one.
 pub record CalledAlone (v w : View) (t : ℕ) (s after : ThreadState) (lacks : Option ℕ) : Type 0 where
-  pub stands : Standing true w
+  pub stands : Standing true no_homes_on w
   pub others : KeepsOthers v w t
   pub what : ((lacks ≡ None) × ThreadTold v w t s after)
       ⊎ ((need : ℕ) × LacksAlone v w t s after need × (lacks ≡ Some need))

@@ -1,6 +1,6 @@
 //! The collections of a run.
 ghost use Rattle.std.specs.Prelude.{◌≡◌, ◌<◌, All, [], length, IfOk, OnOk, true};
-ghost use Rattle.melt_scion.specs.Heaps.{IsFormed, IsSettled};
+ghost use Rattle.melt_scion.specs.Heaps.{no_homes_on, IsFormed, IsSettled};
 ghost use Rattle.melt_copy.specs.Copying.{Collects, IsCopying};
 ghost use Rattle.melt_core.specs.Views.{IsQuiet, Standing, view};
 ghost use Rattle.melt_policy.specs.Policy.{planned};
@@ -83,7 +83,7 @@ impl Collector {
     pub fn collect(&mut self, alloc: Global, core: Core, phase: Phase) -> Result<Core, NoMemory>
         requires planning { IsPlanning self.old }
         requires phase { IsCopying phase }
-        requires stands { Standing true (view core) }
+        requires stands { Standing true no_homes_on (view core) }
         requires quiet { IsQuiet (view core) }
         ensures collected { IfOk result (λ after. CoreCollected (view core) (view after)) }
         ensures plans { IfOk result (λ after. PlansBy self.old self.new (view after) phase) }
@@ -116,7 +116,7 @@ impl Collector {
     /// Makes the collection that is planned.
     pub fn collect_planned(&mut self, alloc: Global, core: Core) -> Result<Core, NoMemory>
         requires planning { IsPlanning self.old }
-        requires stands { Standing true (view core) }
+        requires stands { Standing true no_homes_on (view core) }
         requires quiet { IsQuiet (view core) }
         ensures collected { IfOk result (λ after. CoreCollected (view core) (view after)) }
         ensures plans { IfOk result (λ after. PlansBy self.old self.new (view after) self.old.planned) }

@@ -1,7 +1,8 @@
 //! The events of a thread.
 ghost use Rattle.std.specs.Prelude.{◌≡◌, ◌≢◌, ◌^◌, ◌<◌, length, vec_capacity, false, Some, None, true};
 ghost use Rattle.melt_model.specs.declared.operations.Op.{Op};
-ghost use Rattle.melt_core.specs.Advances.{InBounds};
+ghost use Rattle.melt_scion.specs.Heaps.{no_homes_on};
+ghost use Rattle.melt_core.specs.Advances.{AdvancesOver, Asks, InBounds};
 ghost use Rattle.melt_core.specs.Changed.{HasRoomForEntry};
 ghost use Rattle.melt_core.specs.Views.{Standing, call_of, view};
 ghost use Rattle.melt_step.specs.Threads.{CalledAlone, DropsIfEnded, DueBy, IsReady, MayGo, ThreadStep, SetsStop};
@@ -31,6 +32,14 @@ impl RecordReader for NoDisk {
     }
 }
 
+/// Makes one event of a call over a disk without homes: word 1 is past all of them.
+pub fn advance(core: &mut Core, thread: u32, op: Op) -> StepResult
+    requires { Asks no_homes_on (view core.old) thread op }
+    ensures { AdvancesOver no_homes_on (view core.old) (view core.new) thread op result }
+{
+    core.advance(thread, op, 1, &mut NoDisk)
+}
+
 /// Makes the next event of a thread that can go on.
 pub fn make_event(core: &mut Core, state: &mut ThreadState<'_>, thread: u32, every: u32)
     requires ready { IsReady (view core.old) thread state.old }
@@ -45,7 +54,7 @@ pub fn make_event(core: &mut Core, state: &mut ThreadState<'_>, thread: u32, eve
             state.mode = Mode::Collecting;
         }
         (Mode::Running, Some(op)) => {
-            match core.advance(thread, op, 1, &mut NoDisk) {
+            match advance(core, thread, op) {
                 StepResult::Going => {}
                 StepResult::Answered(reply) => answered(core, state, thread, reply, every),
                 StepResult::Refused(Refusal::Pause(Pause::Asked)) => state.mode = Mode::Asked,
@@ -64,7 +73,7 @@ pub fn make_event(core: &mut Core, state: &mut ThreadState<'_>, thread: u32, eve
 
 /// A thread that has ended drops its registers.
 pub fn drop_if_ended(core: &mut Core, mode: Mode, thread: u32)
-    requires stands { Standing true (view core.old) }
+    requires stands { Standing true no_homes_on (view core.old) }
     requires thread { thread < length (view core.old).held }
     requires no_call { call_of (view core.old) thread ≡ None }
     ensures { DropsIfEnded (view core.old) (view core.new) thread mode }
@@ -76,7 +85,7 @@ pub fn drop_if_ended(core: &mut Core, mode: Mode, thread: u32)
 
 /// A thread got a reply.
 pub fn answered(core: &mut Core, state: &mut ThreadState<'_>, thread: u32, reply: Reply, every: u32)
-    requires stands { Standing true (view core.old) }
+    requires stands { Standing true no_homes_on (view core.old) }
     requires thread { thread < length (view core.old).held }
     requires no_call { call_of (view core.old) thread ≡ None }
     requires room { length state.old.replies.items < vec_capacity state.old.replies }
@@ -96,7 +105,7 @@ pub fn call_alone(
     op: Op,
     every: u32,
 ) -> Option<u32>
-    requires stands { Standing true (view core.old) }
+    requires stands { Standing true no_homes_on (view core.old) }
     requires thread { thread < length (view core.old).held }
     requires waits { state.old.mode ≡ Mode.Lacking }
     requires op { state.old.op ≡ Some op }
@@ -111,7 +120,7 @@ pub fn call_alone(
     ensures due { DueBy every state.old state.new }
 {
     loop {
-        match core.advance(thread, op, 1, &mut NoDisk) {
+        match advance(core, thread, op) {
             StepResult::Going => {}
             StepResult::Answered(reply) => {
                 answered(core, state, thread, reply, every);

@@ -2,6 +2,7 @@
 ghost use Rattle.std.specs.Prelude.{◌≡◌, ℕ, ◌<◌, length, slice_get, false, Some, IfOk, IfSome, IfNone, true};
 ghost use Rattle.melt_model.specs.declared.config.Config.{Config};
 ghost use Rattle.melt_trace.specs.Script.{Script};
+ghost use Rattle.melt_scion.specs.Heaps.{no_homes_on};
 ghost use Rattle.melt_core.specs.Views.{IsQuiet, Standing, view};
 ghost use Rattle.melt_step.specs.declared.thread.ThreadState.{ThreadState};
 ghost use Rattle.melt_step.specs.Threads.{AllWait, CalledAt, CalledFirst, CollectedAll, CollectedAt, ForCollection};
@@ -20,7 +21,7 @@ impl<'a> Run<'a> {
     /// Makes the collection that is planned.
     fn collect(mut self, alloc: Global) -> Result<Run<'a>, NoMemory>
         requires planning { IsPlanning self.collector }
-        requires stands { Standing true (view self.core) }
+        requires stands { Standing true no_homes_on (view self.core) }
         requires quiet { IsQuiet (view self.core) }
         ensures { IfOk result (MakesPlanned self.entry) }
     {

@@ -1,4 +1,5 @@
 use Rattle.std.proofs.Common.{◌≡◌, ◌∙◌, ap, length, arith}
+use Rattle.melt_scion.specs.Heaps.{no_homes_on}
 use Rattle.melt_core.specs.declared.answer.StepResult.TheVariants.{Going}
 use Rattle.melt_core.specs.Views.{view}
 use Rattle.melt_core.specs.Advances.{Goes}
@@ -9,11 +10,11 @@ pub returns-in_default : goal.returns-in_default
 returns-in_default g c =
     let u = view c.args.core.now in
     let v = view c.loop-events.core in
-    let w = view c.advance.new.self in
+    let w = view c.advance.new.core in
     let t = c.args.thread in
     let kept = c.loop-events.invariant in
     let over : IsOver v w t =
-    event_over v w t c.args.op c.advance.result c.in_default.not-Going c.advance.ensures.outcome in
+    event_over no_homes_on v w t c.args.op c.advance.result c.in_default.not-Going c.advance.ensures.outcome in
     record {
       stands = c.advance.ensures.keeps _ kept.0;
       others = KeepsOthers_both u v w t kept.1 c.advance.ensures.others;
@@ -25,14 +26,15 @@ pub loop-events-preserved : goal.loop-events-preserved
 loop-events-preserved g c =
     let u = view c.args.core.now in
     let v = view c.loop-events.core in
-    let w = view c.advance.new.self in
+    let w = view c.advance.new.core in
     let t = c.args.thread in
     let kept = c.loop-events.invariant in
     let is : c.advance.result ≡ Going = c.in-Going.is in
-    let goes : Goes v w t c.args.op = going v w t c.args.op c.advance.result is c.advance.ensures.outcome in (
+    let goes : Goes no_homes_on v w t c.args.op = going no_homes_on v w t c.args.op c.advance.result is
+    c.advance.ensures.outcome in (
       c.advance.ensures.keeps _ kept.0,
       KeepsOthers_both u v w t kept.1 c.advance.ensures.others,
-      going_continues v w t c.args.op goes,
+      going_continues no_homes_on v w t c.args.op goes,
       goes.own.history ∙ kept.3,
-      omega (arith, kept.4, going_nearer v w t c.args.op goes),
+      omega (arith, kept.4, going_nearer no_homes_on v w t c.args.op goes),
     )

@@ -1,5 +1,6 @@
 use Rattle.std.proofs.Common.{◌≡◌, ◌+◌, ◌≤◌}
 use Rattle.std.specs.Prelude.{false}
+use Rattle.melt_scion.specs.Heaps.{no_homes_on}
 use Rattle.melt_core.specs.Advances.{Continues, KeepsOthers}
 use Rattle.melt_core.specs.Stages.{events_left}
 use Rattle.melt_core.specs.Views.{Standing, call_of, stage_of, view}
@@ -7,7 +8,7 @@ use Rattle.melt_core.proofs.tests.run_call.Given as goal
 
 abbrev pub invariant-loop-events : goal.invariant-loop-events
 invariant-loop-events g l =
-    Standing false (view l.core) ×
+    Standing false no_homes_on (view l.core) ×
     KeepsOthers (view l.initial.core) (view l.core) l.thread ×
     Continues (call_of (view l.core) l.thread) l.op ×
     ((view l.core).log ≡ (view l.initial.core).log) ×

@@ -1,23 +1,28 @@
 use Rattle.std.proofs.Common.{sym, subst}
-use Rattle.melt_core.specs.Advances.{Advances}
+use Rattle.melt_core.specs.Advances.{AdvancesOver}
 use Rattle.melt_core.specs.declared.answer.StepResult.TheVariants.{Going}
 use Rattle.melt_core.specs.declared.call.Stage.{Stage}
 use Rattle.melt_core.specs.declared.call.Stage.TheVariants.{Looked}
 use Rattle.melt_core.specs.Views.{View, view}
-use Rattle.melt_core.proofs.Asked.{call_at}
+use Rattle.melt_core.proofs.Asked.{asks_over, call_at}
 use Rattle.melt_core.proofs.Loading.{clear_advances}
 use Rattle.melt_core.proofs.machine.Core.clear.Goals as goal
 
 pub set_stage-requires-clause-call : goal.set_stage-requires-clause-call
 set_stage-requires-clause-call c =
-    let stage : Stage = Looked c.args.looked.place c.args.looked.target c.args.looked.dst in
-    (stage, call_at (view c.args.self.now) c.args.thread c.args.op stage c.requires.asks c.requires.stage)
+    let disk = c.requires.asks.disk in
+    let stage : Stage = Looked c.args.looked.place c.args.looked.found c.args.looked.target c.args.looked.dst in
+    (stage, call_at disk (view c.args.self.now) c.args.thread c.args.op stage c.requires.asks.asks c.requires.stage)
 
 pub returns : goal.returns
-returns c =
-    let v : View = view c.args.self.now in
-    subst (λ (w : View). Advances v w c.args.thread c.args.op Going) (sym c.set_stage.ensures)
-    (clear_advances v c.set_word.new.self c.args.thread c.args.op c.args.looked.place c.args.looked.target
-    c.args.looked.dst
-    c.encode_header.result c.shape.result c.requires.asks c.requires.stage c.shape.ensures c.encode_header.ensures
-    c.set_word.ensures)
+returns c = record {
+  over = λ disk stands.
+      let asks = asks_over (view c.args.self.now) c.args.thread c.args.op c.requires.asks disk stands in
+      let v : View = view c.args.self.now in
+      subst (λ (w : View). AdvancesOver disk v w c.args.thread c.args.op Going) (sym c.set_stage.ensures)
+      (clear_advances disk v c.set_word.new.self c.args.thread c.args.op c.args.looked.place c.args.looked.found
+      c.args.looked.target
+      c.args.looked.dst
+      c.encode_header.result c.shape.result asks c.requires.stage c.shape.ensures c.encode_header.ensures
+      c.set_word.ensures);
+}

@@ -1,14 +1,19 @@
 use Rattle.std.proofs.Common.{sym, subst}
 use Rattle.melt_model.specs.declared.operations.Op.TheVariants as op
 use Rattle.melt_model.specs.declared.operations.Reply.TheVariants as reply
-use Rattle.melt_core.specs.Advances.{Advances}
+use Rattle.melt_core.specs.Advances.{AdvancesOver}
 use Rattle.melt_core.specs.declared.answer.StepResult.TheVariants.{Answered}
 use Rattle.melt_core.specs.Views.{View, view}
+use Rattle.melt_core.proofs.Asked.{asks_over}
 use Rattle.melt_core.proofs.Answered.{drop_advances}
 use Rattle.melt_core.proofs.machine.Core.drop_register.Goals as goal
 
 pub returns : goal.returns
-returns c =
-    subst (λ (w : View). Advances (view c.args.self.now) w c.args.thread (op.Drop c.args.r) (Answered reply.Done))
-    (sym c.set_register.ensures)
-    (drop_advances (view c.args.self.now) c.args.thread c.args.r c.requires.asks c.requires.first)
+returns c = record {
+  over = λ disk stands.
+      let asks = asks_over (view c.args.self.now) c.args.thread (op.Drop c.args.r) c.requires.asks disk stands in
+      subst (λ (w : View). AdvancesOver disk (view c.args.self.now) w c.args.thread (op.Drop c.args.r)
+      (Answered reply.Done))
+      (sym c.set_register.ensures)
+      (drop_advances disk (view c.args.self.now) c.args.thread c.args.r asks c.requires.first);
+}

@@ -5,8 +5,8 @@ use Rattle.melt_core.proofs.Resting.{stands_finish}
 use Rattle.melt_core.proofs.machine.Core.finish.Goals as goal
 
 pub returns-clause-rests : goal.returns-clause-rests
-returns-clause-rests c = λ told stands. record {
-  stands = stands_finish told (view c.args.self) c.set_used.new.self stands c.requires.quiet
+returns-clause-rests c = λ told disk stands. record {
+  stands = stands_finish disk told (view c.args.self) c.set_used.new.self stands c.requires.quiet
       (ap (λ (x : SpaceWords). x.list) c.set_used.ensures)
       (omega (
         arith,

@@ -1,38 +1,47 @@
 use Rattle.std.proofs.Common.{refl, sym, subst}
 use Rattle.melt_model.specs.declared.operations.Reply.TheVariants as reply
-use Rattle.melt_core.specs.Advances.{Advances}
+use Rattle.melt_core.specs.Advances.{AdvancesOver}
 use Rattle.melt_core.specs.Known.{IsObjectAt}
 use Rattle.melt_core.specs.declared.answer.StepResult.TheVariants.{Going, Answered}
 use Rattle.melt_core.specs.declared.call.Stage.{Stage}
 use Rattle.melt_core.specs.declared.call.Stage.TheVariants.{Polled}
 use Rattle.melt_core.specs.declared.call.Task.TheVariants.{Use}
 use Rattle.melt_core.specs.Views.{View, maps, state, view}
-use Rattle.melt_core.proofs.Asked.{call_at}
+use Rattle.melt_core.proofs.Asked.{asks_over, call_at}
 use Rattle.melt_core.proofs.Reading.{head_object, head_advances, range_advances}
 use Rattle.melt_core.proofs.machine.Core.head.Goals as goal
 
 pub set_stage-requires-clause-call : goal.set_stage-requires-clause-call
 set_stage-requires-clause-call c =
+    let disk = c.requires.asks.disk in
     let stage : Stage = Polled (Use c.args.r c.args.access) in
-    (stage, call_at (view c.args.self.now) c.args.thread c.args.op stage c.requires.asks c.requires.stage)
+    (stage, call_at disk (view c.args.self.now) c.args.thread c.args.op stage c.requires.asks.asks c.requires.stage)
 
 pub returns-then-is_within : goal.returns-then-is_within
-returns-then-is_within c =
-    let v : View = view c.args.self.now in
-    subst (λ (w : View). Advances v w c.args.thread c.args.op Going) (sym c.set_stage.ensures)
-    (head_advances v c.args.thread c.args.op c.args.r c.register-address.result c.args.access c.shape-shape.result
-    c.requires.asks c.requires.stage c.register-address.ensures
-    (head_object v c.args.thread c.args.op c.args.r c.register-address.result c.args.access c.shape-shape.result
-    c.requires.asks c.requires.stage c.register-address.ensures c.shape-shape.ensures)
-    (c.if-is_within.ensures.0 refl))
+returns-then-is_within c = record {
+  over = λ disk stands.
+      let asks = asks_over (view c.args.self.now) c.args.thread c.args.op c.requires.asks disk stands in
+      let v : View = view c.args.self.now in
+      subst (λ (w : View). AdvancesOver disk v w c.args.thread c.args.op Going) (sym c.set_stage.ensures)
+      (head_advances disk v c.args.thread c.args.op c.args.r c.register-address.result c.args.access
+      c.shape-shape.result
+      asks c.requires.stage c.register-address.ensures
+      (head_object disk v c.args.thread c.args.op c.args.r c.register-address.result c.args.access c.shape-shape.result
+      asks c.requires.stage c.register-address.ensures c.shape-shape.ensures)
+      (c.if-is_within.ensures.0 refl));
+}
 
 pub returns : goal.returns
-returns c =
-    let v : View = view c.args.self.now in
-    subst (λ (w : View). Advances v w c.args.thread c.args.op (Answered reply.Range)) (sym c.set_call.ensures)
-    (range_advances v c.args.thread c.args.op c.args.r c.args.access c.shape-shape.result c.requires.asks
-    c.requires.stage
-    (subst (λ a. IsObjectAt (maps v) (state v) a c.shape-shape.result) c.register-address.ensures
-    (head_object v c.args.thread c.args.op c.args.r c.register-address.result c.args.access c.shape-shape.result
-    c.requires.asks c.requires.stage c.register-address.ensures c.shape-shape.ensures))
-    (λ part. let e = (c.if-is_within.ensures).1 part in cc))
+returns c = record {
+  over = λ disk stands.
+      let asks = asks_over (view c.args.self.now) c.args.thread c.args.op c.requires.asks disk stands in
+      let v : View = view c.args.self.now in
+      subst (λ (w : View). AdvancesOver disk v w c.args.thread c.args.op (Answered reply.Range))
+      (sym c.set_call.ensures)
+      (range_advances disk v c.args.thread c.args.op c.args.r c.args.access c.shape-shape.result asks
+      c.requires.stage
+      (subst (λ a. IsObjectAt (maps v) (state disk v) a c.shape-shape.result) c.register-address.ensures
+      (head_object disk v c.args.thread c.args.op c.args.r c.register-address.result c.args.access c.shape-shape.result
+      asks c.requires.stage c.register-address.ensures c.shape-shape.ensures))
+      (λ part. let e = (c.if-is_within.ensures).1 part in cc));
+}

@@ -1,15 +1,19 @@
 use Rattle.std.proofs.Common.{sym, subst}
-use Rattle.melt_core.specs.Advances.{Advances}
+use Rattle.melt_core.specs.Advances.{AdvancesOver}
 use Rattle.melt_core.specs.declared.answer.Pause.TheVariants.{Space}
 use Rattle.melt_core.specs.declared.answer.Refusal.TheVariants.{Pause}
 use Rattle.melt_core.specs.declared.answer.StepResult.TheVariants.{Refused}
 use Rattle.melt_core.specs.Views.{View, view}
+use Rattle.melt_core.proofs.Asked.{asks_over}
 use Rattle.melt_core.proofs.Making.{lack_advances}
 use Rattle.melt_core.proofs.machine.Core.lack.Goals as goal
 
 pub returns : goal.returns
-returns c =
-    let v : View = view c.args.self.now in
-    subst (λ (w : View). Advances v w c.args.thread c.args.op (Refused (Pause (Space c.args.need))))
-    (sym c.set_call.ensures)
-    (lack_advances v c.args.thread c.args.need c.args.op c.requires.asks c.requires.stage)
+returns c = record {
+  over = λ disk stands.
+      let asks = asks_over (view c.args.self.now) c.args.thread c.args.op c.requires.asks disk stands in
+      let v : View = view c.args.self.now in
+      subst (λ (w : View). AdvancesOver disk v w c.args.thread c.args.op (Refused (Pause (Space c.args.need))))
+      (sym c.set_call.ensures)
+      (lack_advances disk v c.args.thread c.args.need c.args.op asks c.requires.stage);
+}

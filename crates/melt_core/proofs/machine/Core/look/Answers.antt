@@ -1,46 +1,58 @@
 use Rattle.std.proofs.Common.{sym, subst}
-use Rattle.melt_core.specs.Advances.{Advances}
+use Rattle.melt_core.specs.Advances.{AdvancesOver}
 use Rattle.melt_core.specs.declared.answer.StepResult.TheVariants.{Going}
 use Rattle.melt_core.specs.Views.{View, stage_of, view}
-use Rattle.melt_core.proofs.Asked.{call_at}
+use Rattle.melt_core.proofs.Asked.{asks_over, call_at}
 use Rattle.melt_core.proofs.Loading.{looks_at, looks_stage, look_advances, look_reads, finds_null, finds_clean}
 use Rattle.melt_core.proofs.Objects.{place_no_home, tagged_is}
 use Rattle.melt_core.proofs.machine.Core.look.Goals as goal
 
 pub set_stage-requires-clause-call : goal.set_stage-requires-clause-call
 set_stage-requires-clause-call c =
+    let disk = c.requires.asks.disk in
     let v : View = view c.args.self.now in
     let at = looks_stage (stage_of v c.args.thread) c.args.place c.args.dst c.requires.stage in
-    (at.0, call_at v c.args.thread c.args.op at.0 c.requires.asks at.1)
+    (at.0, call_at disk v c.args.thread c.args.op at.0 c.requires.asks.asks at.1)
 
 pub returns-in-Stale : goal.returns-in-Stale
-returns-in-Stale c =
-    let v : View = view c.args.self.now in
-    subst (λ (w : View). Advances v w c.args.thread c.args.op Going) (sym c.set_stage.ensures)
-    (look_advances v c.args.thread c.args.op c.args.place c.in-Stale.target c.args.dst c.requires.asks c.requires.stage
-    c.in-Stale.ensures)
+returns-in-Stale c = record {
+  over = λ disk stands.
+      let asks = asks_over (view c.args.self.now) c.args.thread c.args.op c.requires.asks disk stands in
+      let v : View = view c.args.self.now in
+      subst (λ (w : View). AdvancesOver disk v w c.args.thread c.args.op Going) (sym c.set_stage.ensures)
+      (look_advances disk v c.args.thread c.args.op c.args.place c.in-Stale.target c.args.dst asks c.requires.stage
+      (c.in-Stale.ensures disk));
+}
 
 pub unreachable-requires : goal.unreachable-requires
 unreachable-requires c =
+    let disk = c.requires.asks.disk in
     let v : View = view c.args.self.now in
-    place_no_home v c.args.place c.in-Disk.field-0 c.requires.asks.stands
-    (looks_at v c.args.thread c.args.op c.args.place c.args.dst c.requires.asks c.requires.stage).1
-    c.in-Disk.ensures
+    place_no_home disk v c.args.place c.in-Disk.field-0 c.requires.asks.no_homes c.requires.asks.asks.stands
+    (looks_at disk v c.args.thread c.args.op c.args.place c.args.dst c.requires.asks.asks c.requires.stage).1
+    (c.in-Disk.ensures disk)
 
 pub returns-in-Null : goal.returns-in-Null
-returns-in-Null c =
-    let v : View = view c.args.self.now in
-    let at = looks_at v c.args.thread c.args.op c.args.place c.args.dst c.requires.asks c.requires.stage in
-    look_reads v (view c.read.new.self) c.args.thread c.args.op c.args.place c.args.dst 0 c.read.result c.requires.asks
-    c.requires.stage
-    (finds_null v c.args.thread c.args.op c.args.place c.args.dst c.requires.asks.stands at.0 at.1 c.in-Null.ensures)
-    (tagged_is _ _ c.in-Null.ensures) c.read.ensures
+returns-in-Null c = record {
+  over = λ disk stands.
+      let asks = asks_over (view c.args.self.now) c.args.thread c.args.op c.requires.asks disk stands in
+      let v : View = view c.args.self.now in
+      let at = looks_at disk v c.args.thread c.args.op c.args.place c.args.dst asks c.requires.stage in
+      look_reads disk v (view c.read.new.self) c.args.thread c.args.op c.args.place c.args.dst 0 c.read.result asks
+      c.requires.stage
+      (finds_null disk v c.args.thread c.args.op c.args.place c.args.dst stands at.0 at.1 (c.in-Null.ensures disk))
+      (tagged_is _ _ (c.in-Null.ensures disk)) c.read.ensures;
+}
 
 pub returns-in-Clean : goal.returns-in-Clean
-returns-in-Clean c =
-    let v : View = view c.args.self.now in
-    let at = looks_at v c.args.thread c.args.op c.args.place c.args.dst c.requires.asks c.requires.stage in
-    look_reads v (view c.read-in-Clean.new.self) c.args.thread c.args.op c.args.place c.args.dst c.in-Clean.address
-    c.read-in-Clean.result c.requires.asks c.requires.stage
-    (finds_clean v c.args.thread c.args.op c.args.place c.args.dst c.in-Clean.address c.requires.asks.stands at.0 at.1
-    c.in-Clean.ensures) (tagged_is _ _ c.in-Clean.ensures) c.read-in-Clean.ensures
+returns-in-Clean c = record {
+  over = λ disk stands.
+      let asks = asks_over (view c.args.self.now) c.args.thread c.args.op c.requires.asks disk stands in
+      let v : View = view c.args.self.now in
+      let at = looks_at disk v c.args.thread c.args.op c.args.place c.args.dst asks c.requires.stage in
+      look_reads disk v (view c.read-in-Clean.new.self) c.args.thread c.args.op c.args.place c.args.dst
+      c.in-Clean.address
+      c.read-in-Clean.result asks c.requires.stage
+      (finds_clean disk v c.args.thread c.args.op c.args.place c.args.dst c.in-Clean.address stands at.0 at.1
+      (c.in-Clean.ensures disk)) (tagged_is _ _ (c.in-Clean.ensures disk)) c.read-in-Clean.ensures;
+}

@@ -1,21 +1,27 @@
 use Rattle.std.proofs.Common.{sym, subst, arith, ◌≡◌}
 use Rattle.std.specs.Prelude.{None}
 use Rattle.melt_model.specs.declared.operations.Reply.TheVariants as reply
-use Rattle.melt_core.specs.Advances.{Advances}
+use Rattle.melt_core.specs.Advances.{AdvancesOver}
 use Rattle.melt_core.specs.Changed.{with_call}
 use Rattle.melt_core.specs.Events.{number_place}
 use Rattle.melt_core.specs.declared.answer.StepResult.TheVariants.{Answered}
 use Rattle.melt_core.specs.Views.{View, view}
+use Rattle.melt_core.proofs.Asked.{asks_over}
 use Rattle.melt_core.proofs.Writing.{put_advances}
 use Rattle.melt_core.proofs.machine.Core.put.Goals as goal
 
 pub returns : goal.returns
-returns c =
-    let v : View = view c.args.self.now in
-    subst (λ (w : View). Advances v w c.args.thread c.args.op (Answered reply.Done)) (sym c.set_call.ensures)
-    (subst (λ (n : View). Advances v (with_call n c.args.thread None) c.args.thread c.args.op (Answered reply.Done))
-    (sym c.note.ensures)
-    (put_advances v c.set_word.new.self c.args.thread c.args.op c.args.cell.address c.args.cell.j c.number_at.result
-    c.args.number _ c.args.cell.shape c.requires.asks c.requires.stage c.number_at.ensures
-    (let e : _ ≡ number_place c.args.cell.address c.args.cell.shape c.args.cell.j =
-    omega (arith, c.from.ensures, c.from-2.ensures) in e) c.set_word.ensures))
+returns c = record {
+  over = λ disk stands.
+      let asks = asks_over (view c.args.self.now) c.args.thread c.args.op c.requires.asks disk stands in
+      let v : View = view c.args.self.now in
+      subst (λ (w : View). AdvancesOver disk v w c.args.thread c.args.op (Answered reply.Done)) (sym c.set_call.ensures)
+      (subst (λ (n : View). AdvancesOver disk v (with_call n c.args.thread None) c.args.thread c.args.op
+      (Answered reply.Done))
+      (sym c.note.ensures)
+      (put_advances disk v c.set_word.new.self c.args.thread c.args.op c.args.cell.address c.args.cell.j
+      c.number_at.result
+      c.args.number _ c.args.cell.shape asks c.requires.stage c.number_at.ensures
+      (let e : _ ≡ number_place c.args.cell.address c.args.cell.shape c.args.cell.j =
+      omega (arith, c.from.ensures, c.from-2.ensures) in e) c.set_word.ensures));
+}

@@ -1,22 +1,26 @@
 use Rattle.std.proofs.Common.{sym, subst}
-use Rattle.melt_core.specs.Advances.{Advances}
+use Rattle.melt_core.specs.Advances.{AdvancesOver}
 use Rattle.melt_core.specs.declared.answer.StepResult.TheVariants.{Going}
 use Rattle.melt_core.specs.declared.call.Stage.{Stage}
 use Rattle.melt_core.specs.declared.call.Stage.TheVariants.{Claimed}
 use Rattle.melt_core.specs.Views.{View, view}
-use Rattle.melt_core.proofs.Asked.{call_at}
+use Rattle.melt_core.proofs.Asked.{asks_over, call_at}
 use Rattle.melt_core.proofs.Making.{store_zero_advances}
 use Rattle.melt_core.proofs.machine.Core.store_zero.Goals as goal
 
 pub set_stage-requires-clause-call : goal.set_stage-requires-clause-call
 set_stage-requires-clause-call c =
+    let disk = c.requires.asks.disk in
     let stage : Stage = Claimed c.args.claim.address c.args.claim.shape c.args.claim.stored c.args.claim.dst in
-    (stage, call_at (view c.args.self.now) c.args.thread c.args.op stage c.requires.asks c.requires.stage)
+    (stage, call_at disk (view c.args.self.now) c.args.thread c.args.op stage c.requires.asks.asks c.requires.stage)
 
 pub returns : goal.returns
-returns c =
-    let v : View = view c.args.self.now in
-    subst (λ (w : View). Advances v w c.args.thread c.args.op Going) (sym c.set_stage.ensures)
-    (store_zero_advances v c.set_word.new.self c.args.thread c.args.op c.args.claim.address
-    c.args.claim.stored c.args.claim.dst c.args.claim.shape c.requires.asks c.requires.stage c.requires.few
-    c.set_word.ensures)
+returns c = record {
+  over = λ disk stands.
+      let asks = asks_over (view c.args.self.now) c.args.thread c.args.op c.requires.asks disk stands in
+      let v : View = view c.args.self.now in
+      subst (λ (w : View). AdvancesOver disk v w c.args.thread c.args.op Going) (sym c.set_stage.ensures)
+      (store_zero_advances disk v c.set_word.new.self c.args.thread c.args.op c.args.claim.address
+      c.args.claim.stored c.args.claim.dst c.args.claim.shape asks c.requires.stage c.requires.few
+      c.set_word.ensures);
+}

@@ -10,6 +10,7 @@ use Rattle.melt_core.specs.Epochs.{core_of}
 use Rattle.melt_core.specs.Lending.{with_held}
 use Rattle.melt_core.specs.declared.machine.Core.{Core}
 use Rattle.melt_core.specs.declared.machine.Rest.{Rest}
+use Rattle.melt_core.proofs.Disks.{stands_settled}
 use Rattle.melt_step.specs.Threads.{CoreCollected}
 use Rattle.melt_step.proofs.Collecting.{names_are, rest_formed, rest_collected, collected_named, finished_collected}
 use Rattle.melt_step.proofs.Collecting.{same_sizes, LeavesWords, left_words, planned_by}
@@ -19,11 +20,13 @@ use Rattle.melt_step.proofs.collector.Collector.collect.Goals.{In_ok-journal}
 pub collect_uncounted-requires-clause-formed : goal.collect_uncounted-requires-clause-formed
 collect_uncounted-requires-clause-formed c =
     subst (IsFormed c.finish-heap.result.0) (sym c.registers.ensures.value)
-    (rest_formed c.finish-heap.result.0 c.finish-heap.result.1 (c.finish-heap.ensures.rests true c.requires.stands))
+    (rest_formed c.finish-heap.result.0 c.finish-heap.result.1 (c.finish-heap.ensures.rests true no_homes_on
+    c.requires.stands))
 
 pub collect_uncounted-requires-clause-settled : goal.collect_uncounted-requires-clause-settled
 collect_uncounted-requires-clause-settled c =
-    (c.finish-heap.ensures.rests true c.requires.stands).stands.settled
+    stands_settled true no_homes_on (view (core_of c.finish-heap.result.0 c.finish-heap.result.1)) refl
+    (c.finish-heap.ensures.rests true no_homes_on c.requires.stands).stands
 
 -- the registers behind the collection are those of the rest
 given_back : (c : In_ok-journal)
@@ -51,7 +54,7 @@ begin-requires c =
     record {
       names = collected_named c.finish-heap.result.0 c.collect_uncounted.new.heap rest
           (with_held rest c.collect_uncounted.new.registers).held.items c.args.phase c.in_ok-journal.journal
-          (c.finish-heap.ensures.rests true c.requires.stands) (collects at);
+          (c.finish-heap.ensures.rests true no_homes_on c.requires.stands) (collects at);
       settled = (collects at).settled;
     }
 
@@ -70,7 +73,7 @@ returns-clause-collected c =
     (finished_collected (view c.args.core) (view (core_of c.finish-heap.result.0 rest))
     (view (core_of c.collect_uncounted.new.heap after)) c.finish-heap.ensures.finished
     (rest_collected c.finish-heap.result.0 c.collect_uncounted.new.heap rest after c.args.phase c.in_ok-journal.journal
-    (c.finish-heap.ensures.rests true c.requires.stands) c.requires.phase (collects at) same
+    (c.finish-heap.ensures.rests true no_homes_on c.requires.stands) c.requires.phase (collects at) same
     (same_sizes rest.held.items after.held.items same before sixteen) refl refl refl))
 
 pub returns-clause-plans : goal.returns-clause-plans
@@ -78,7 +81,7 @@ returns-clause-plans c =
     let at = (goal.at.returns-clause-plans c).In_ok-journal in
     let rest : Rest = c.finish-heap.result.1 in
     let after : Rest = with_held rest c.collect_uncounted.new.registers in
-    let at_rest = c.finish-heap.ensures.rests true c.requires.stands in
+    let at_rest = c.finish-heap.ensures.rests true no_homes_on c.requires.stands in
     let of_phase : c.in_ok-journal.journal.phase ≡ c.args.phase =
     ((collects at).each (maps_of c.finish-heap.result.0.names) no_homes_on
     (names_are c.finish-heap.result.0.names c.finish-heap.result.0.maps at_rest.stands.named)

@@ -2,6 +2,7 @@
 use Rattle.std.proofs.Common.{true, ◌≡◌, ◌∷◌, ◌++◌, [], List, refl, sym, ◌∙◌, ap, subst}
 use Rattle.std.proofs.lemmas.List.{append-nil, append_assoc, nil_from_length}
 use Rattle.melt_model.specs.declared.reports.ThreadReport.{ThreadReport}
+use Rattle.melt_scion.specs.Heaps.{no_homes_on}
 use Rattle.melt_step.specs.Threads.{IsEnded}
 use Rattle.melt_step.specs.declared.thread.ThreadState.{ThreadState}
 use Rattle.melt_step.proofs.Ending.{has_run}
@@ -56,5 +57,6 @@ returns c = λ script config stands.
     let reported : Reported c.args.self.states.items c.loop-state.threads.items =
     subst (λ (xs : List ThreadState). Reported xs c.loop-state.threads.items) all c.loop-state.invariant.0 in
     has_run script config c.args.self c.finish-heap.result.0 c.finish-heap.result.1 _ stands c.requires.ended
-    (c.finish-heap.ensures.rests true c.requires.stands.1.1.table.stands) c.finish-heap.ensures.finished reported.count
+    (c.finish-heap.ensures.rests true no_homes_on c.requires.stands.1.1.table.stands) c.finish-heap.ensures.finished
+    reported.count
     reported.each refl refl c.into_history.ensures

@@ -2,7 +2,10 @@
 use Rattle.std.proofs.Common.{true, ◌<◌, ◌≤◌, length, get_or, refl, sym, ◌∙◌, ap, subst, arith}
 use Rattle.std.proofs.lemmas.Option.{slice_get-get_or}
 use Rattle.std.specs.Vec.{with_items}
+use Rattle.melt_scion.specs.Heaps.{no_homes_on}
+use Rattle.melt_core.specs.Epochs.{core_of}
 use Rattle.melt_core.specs.Views.{view}
+use Rattle.melt_core.proofs.Disks.{stands_settled}
 use Rattle.melt_core.specs.declared.machine.Core.{Core}
 use Rattle.melt_step.specs.declared.thread.ThreadState.{ThreadState}
 use Rattle.melt_step.proofs.Passing.{AgainBelow, again_more, again_done, again_resumed, again_knows, Begun, begun_same}
@@ -34,7 +37,7 @@ begun : (c : After-begin) → Begun (view c.args.self.core) (view c.begin.result
 begun c =
     subst (λ (core : Core). Begun (view c.args.self.core) (view core)) (sym c.begin.ensures)
     (begun_new (view c.args.self.core) c.finish-heap.result.0 c.finish-heap.result.1
-    (c.finish-heap.ensures.rests true c.requires.stands.1.1.table.stands) c.finish-heap.ensures.finished)
+    (c.finish-heap.ensures.rests true no_homes_on c.requires.stands.1.1.table.stands) c.finish-heap.ensures.finished)
 
 pub returns-then-is_stopped-clause-keeps : goal.returns-then-is_stopped-clause-keeps
 returns-then-is_stopped-clause-keeps c =
@@ -72,3 +75,8 @@ pub returns-else-is_stopped-clause-resumed : goal.returns-else-is_stopped-clause
 returns-else-is_stopped-clause-resumed c =
     let at = (goal.at.returns-else-is_stopped-clause-resumed c).After-is_stopped in
     again_resumed c.args.self.states.items _ c.loop-state.state-index (looped at) (over at) c.requires.collected
+
+pub begin-requires-clause-settled : goal.begin-requires-clause-settled
+begin-requires-clause-settled c =
+    stands_settled true no_homes_on (view (core_of c.finish-heap.result.0 c.finish-heap.result.1)) refl
+    (c.finish-heap.ensures.rests true no_homes_on c.requires.stands.1.1.table.stands).stands

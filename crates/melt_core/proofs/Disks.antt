@@ -1,0 +1,274 @@
+-- What is well formed over one disk is so over each that ends at the same word: only that word is looked at.
+use Rattle.std.proofs.Common.{◌≡◌, ℕ, ◌+◌, ◌*◌, ◌<◌, ◌≤◌, ◌^◌, inl, inr, refl, sym, ◌∙◌, subst, arith}
+use Rattle.std.specs.Prelude.{Bool, true, false, List, length, slice_index}
+use Rattle.std.proofs.Common.{get_or}
+use Rattle.std.proofs.lemmas.Bool.{cases_lt}
+use Rattle.std.proofs.lemmas.List.{get_or_past}
+use Rattle.melt_model.specs.declared.history.Entry.{Entry}
+use Rattle.melt_model.specs.declared.operations.Op.{Op}
+use Rattle.melt_core.specs.declared.answer.StepResult.{StepResult}
+use Rattle.melt_word.specs.Words.{cost_of}
+use Rattle.melt_word.specs.declared.header.Shape.{Shape}
+use Rattle.melt_word.specs.declared.header.Header.{Header}
+use Rattle.melt_word.specs.declared.reference.Ref.{Ref}
+use Rattle.melt_word.specs.declared.reference.Ref.TheVariants.{Null, Clean, Stale, Disk}
+use Rattle.melt_scion.specs.State.{Scion, State, HeaderAt, IsFresh, Forwards}
+use Rattle.melt_scion.specs.Placed.{Maps, MayStand, IsReferenceWord, MayHold, IsHomeWord, ScionStands}
+use Rattle.melt_scion.specs.Placed.{ForwardMayStand, FormedWords, Holds}
+use Rattle.melt_scion.specs.Regions.{Region, Owns}
+use Rattle.melt_scion.specs.Heaps.{OnDisk, register_in}
+use Rattle.melt_core.specs.declared.call.Place.{Place}
+use Rattle.melt_core.specs.declared.call.Place.TheVariants.{Field, Global}
+use Rattle.melt_core.specs.declared.call.Stage.{Stage}
+use Rattle.melt_core.specs.declared.call.Stage.TheVariants.{Polled, Headed, Looked, Cleared, Claimed, Lacking}
+use Rattle.melt_core.specs.Known.{IsObjectAt, IsPlace, HasLooked, Known, region, word_in, IsTagged}
+use Rattle.melt_core.specs.Advances.{MayAdvance, Moves, Advances}
+use Rattle.melt_core.specs.Views.{View, Standing, maps, state}
+
+-- the state over another disk
+abbrev pub over_disk : State → OnDisk → State
+over_disk s disk =
+    record s {
+      base = record s.base {
+        end = disk.end;
+        homes = disk.homes;
+        free_homes = disk.free_homes;
+        image = disk.image;
+      };
+    }
+
+module _ (maps : Maps) (s : State) (disk : OnDisk) (ends : disk.end ≡ s.base.end) where
+  abbrev t : State
+  t = over_disk s disk
+
+  pub header_on : (a : ℕ) (header : Header) → HeaderAt s a header → HeaderAt t a header
+  header_on a header starts = record { in_range = starts.in_range; word = starts.word }
+
+  pub header_back : (a : ℕ) (header : Header) → HeaderAt t a header → HeaderAt s a header
+  header_back a header starts = record { in_range = starts.in_range; word = starts.word }
+
+  pub fresh_on : (a : ℕ) → IsFresh s a → IsFresh t a
+  fresh_on a fresh header starts = fresh header (header_back a header starts)
+
+  pub stand_on : (r : Ref) → MayStand maps s r → MayStand maps t r
+  stand_on Null may = tt
+  stand_on (Clean a) may = (may.0, fresh_on a may.1)
+  stand_on (Stale a) may = may
+  stand_on (Disk home) may = (may.0, let below : home < s.base.end = may.1 in omega (arith, below, ends))
+
+  word_on : (word : ℕ) → IsReferenceWord maps s word → IsReferenceWord maps t word
+  word_on word is = record {
+    reference = is.reference;
+    in_range = is.in_range;
+    is = is.is;
+    stands = stand_on is.reference is.stands;
+  }
+
+  pub hold_on : (a : ℕ) → MayHold maps s a → MayHold maps t a
+  hold_on a (inl nothing) = inl nothing
+  hold_on a (inr holds) = inr (holds.0, fresh_on a holds.1)
+
+  forwards_on : (home a : ℕ) → Forwards s home a → Forwards t home a
+  forwards_on home a is = record { place = is.place; within = is.within; sends = is.sends }
+
+  forwards_back : (home a : ℕ) → Forwards t home a → Forwards s home a
+  forwards_back home a is = record { place = is.place; within = is.within; sends = is.sends }
+
+  home_on : (a words : ℕ) → IsHomeWord s a words → IsHomeWord t a words
+  home_on a words (inl none) = inl none
+  home_on a words (inr is) = inr (
+    is.0,
+    is.1,
+    record {
+      in_range = is.2.in_range;
+      is = is.2.is;
+      within = let within : is.0 + words ≤ s.base.end = is.2.within in omega (arith, within, ends);
+      forwarded = (
+        λ none. forwards_on is.0 a (is.2.forwarded.0 none),
+        λ forwards. is.2.forwarded.1 (forwards_back is.0 a forwards),
+      );
+      live = is.2.live;
+    },
+  )
+
+  scion_on : (k : ℕ) (x : Scion) → ScionStands maps s k x → ScionStands maps t k x
+  scion_on k x is = record { first = is.first; small = is.small; named = is.named; home_word = is.home_word }
+
+  forward_on : (word : ℕ) → ForwardMayStand maps s word → ForwardMayStand maps t word
+  forward_on word (inl empty) = inl empty
+  forward_on word (inr is) = inr (
+    is.0,
+    is.1,
+    is.2,
+    record { named = is.3.named; home_word = is.3.home_word; fresh = fresh_on is.1 is.3.fresh },
+  )
+
+  formed_on : FormedWords maps s → FormedWords maps t
+  formed_on formed = record {
+    small = formed.small;
+    first_end = subst (λ (end : ℕ). 1 ≤ end) (sym ends) formed.first_end;
+    small_end = subst (λ (end : ℕ). end ≤ 2 ^ 32) (sym ends) formed.small_end;
+    objects = λ a n named.
+        let object = formed.objects a n named in (
+          object.0,
+          record {
+            starts = header_on a object.0 object.1.starts;
+            first = object.1.first;
+            within = object.1.within;
+            below = object.1.below;
+          },
+        );
+    apart = λ a b n m header named_a named_b starts.
+        formed.apart a b n m header named_a named_b (header_back a header starts);
+    slots = λ a n i header named starts below.
+        word_on (s.word (a + 2 + i)) (formed.slots a n i header named (header_back a header starts) below);
+    home_words = λ a n header named starts.
+        home_on a (cost_of header.shape) (formed.home_words a n header named (header_back a header starts));
+    globals = λ g below. word_on (s.global g) (formed.globals g below);
+    scions = λ k x live. scion_on k x (formed.scions k x live);
+    forwards = λ p below. forward_on (s.forward p) (formed.forwards p below);
+    one_forward = formed.one_forward;
+  }
+
+  pub holds_on : (h : List Entry) → Holds false h maps s → Holds false h maps t
+  holds_on h holds = record {
+    formed = formed_on holds.formed;
+    no_gaps = record { filled = holds.no_gaps.filled };
+    tells = λ (told : false ≡ true). absurd (cc);
+  }
+
+  object_on : (a : ℕ) (shape : Shape) → IsObjectAt maps s a shape → IsObjectAt maps t a shape
+  object_on a shape is = record {
+    number = is.number;
+    named = is.named;
+    header = is.header;
+    starts = header_on a is.header is.starts;
+    shape_is = is.shape_is;
+  }
+
+  place_on : (place : Place) → IsPlace maps s place → IsPlace maps t place
+  place_on (Field object i) is = (is.0, object_on object is.0 is.1, is.2)
+  place_on (Global g) is = is
+
+  word_at_place : (place : Place) → word_in t place ≡ word_in s place
+  word_at_place (Field object i) = refl
+  word_at_place (Global g) = refl
+
+  looked_on : (place : Place) (found : Ref) → HasLooked maps s place found → HasLooked maps t place found
+  looked_on place found is = record {
+    at = place_on place is.at;
+    in_range = is.in_range;
+    tag = is.tag;
+    may_stand = stand_on found is.may_stand;
+    unless_clean = λ tagged. word_at_place place ∙ is.unless_clean (subst IsTagged (word_at_place place) tagged);
+  }
+
+  owns_on : (r : Region) → Owns maps s r → Owns maps t r
+  owns_on r is = record {
+    first = is.first;
+    below = is.below;
+    within = is.within;
+    outside = λ b n header named starts. is.outside b n header named (header_back b header starts);
+  }
+
+  known_on : (stage : Stage) → Known false maps s stage → Known false maps t stage
+  known_on (Polled task) is = tt
+  known_on (Headed address shape access) is = object_on address shape is
+  known_on (Looked place found target dst) is = (looked_on place found is.0, is.1)
+  known_on (Cleared place found target dst) is = (looked_on place found is.0, is.1, fresh_on target is.2)
+  known_on (Claimed address shape stored dst) is = (
+    is.0,
+    record { owns = owns_on (region address shape) is.1.owns; few = is.1.few; are = is.1.are },
+  )
+  known_on (Lacking need) is = is
+
+-- what stands over a disk, untold, stands over each that ends at the same word
+pub stands_over : (disk other : OnDisk) (v : View) → other.end ≡ disk.end → Standing false disk v
+    → Standing false other v
+stands_over disk other v ends s = record {
+  named = s.named;
+  room = s.room;
+  scions_made = s.scions_made;
+  few = s.few;
+  each = s.each;
+  counted = s.counted;
+  first = s.first;
+  bounded = s.bounded;
+  holds = holds_on (maps v) (state disk v) other ends v.log s.holds;
+  legal = λ (told : false ≡ true). absurd (cc);
+  registers = λ t r. hold_on (maps v) (state disk v) other ends (register_in v.held t r) (s.registers t r);
+  known = λ t c is. known_on (maps v) (state disk v) other ends c.stage (s.known t c is);
+  fits = s.fits;
+  apart = s.apart;
+  counts = λ (told : false ≡ true). absurd (cc);
+}
+
+-- an event over each disk over which the words are well formed is one over each that ends where one of them does
+pub moves_advance : (end : ℕ) (v w : View) (t : ℕ) (o : Op) (result : StepResult) → MayAdvance end v t o
+    → Moves v w t o result → Advances end v w t o result
+moves_advance end v w t o result may moves = record {
+  over = λ disk ends. moves.over disk (stands_over may.disk disk v (ends ∙ sym may.ends) may.asks.stands);
+}
+
+-- over a disk that ends where it begins no home has an object, so no forwarding word is filled
+pub none_forwarded : (maps : Maps) (s : State) → s.base.end ≡ 1 → FormedWords maps s → (p : ℕ) → p < s.base.forwards
+    → s.forward p ≡ 0
+none_forwarded maps s ends formed p below = elim (formed.forwards p below) [
+  | inl empty ↦ empty
+  | inr sends ↦
+      let named = sends.3.named in
+      let object = formed.objects sends.1 named.0 named.1 in
+      let home : 0 < sends.0 = sends.2.home_in_range.not_null in
+      absurd (elim (formed.home_words sends.1 named.0 object.0 named.1 object.1.starts) [
+        | inl none ↦ let e : 0 ≡ 4294967296 * sends.0 + 4 * 0 = sym none ∙ sends.3.home_word in omega arith
+        | inr has ↦ let within : has.0 + cost_of object.0.shape ≤ s.base.end = has.2.within in
+            omega (arith, within, ends)
+      ])
+]
+
+pub settled_words : (words : List ℕ) → ((p : ℕ) → p < length words → get_or words p 0 ≡ 0) → (p : ℕ)
+    → get_or words p 0 ≡ 0
+settled_words words each p = elim (cases_lt p (length words)) [
+  | inl below ↦ each p below
+  | inr past ↦ get_or_past words p 0 past
+]
+
+-- and so it is of a view
+pub stands_settled : (told : Bool) (disk : OnDisk) (v : View) → disk.end ≡ 1 → Standing told disk v → (p : ℕ)
+    → slice_index v.forward p ≡ 0
+stands_settled told disk v ends s =
+    settled_words v.forward (none_forwarded (maps v) (state disk v) ends s.holds.formed)
+
+known_untold : (told : Bool) (m : Maps) (s : State) (stage : Stage) → Known told m s stage → Known false m s stage
+known_untold told m s (Polled task) is = tt
+known_untold told m s (Headed address shape access) is = is
+known_untold told m s (Looked place found target dst) is =
+    (is.0, record { named = is.1.named; same = λ (tells : false ≡ true). absurd (cc) })
+known_untold told m s (Cleared place found target dst) is =
+    (is.0, record { named = is.1.named; same = λ (tells : false ≡ true). absurd (cc) }, is.2)
+known_untold told m s (Claimed address shape stored dst) is = is
+known_untold told m s (Lacking need) is = is
+
+-- what stands, told or not, stands untold
+pub stands_untold : (told : Bool) (disk : OnDisk) (v : View) → Standing told disk v → Standing false disk v
+stands_untold told disk v s = record {
+  named = s.named;
+  room = s.room;
+  scions_made = s.scions_made;
+  few = s.few;
+  each = s.each;
+  counted = s.counted;
+  first = s.first;
+  bounded = s.bounded;
+  holds = record {
+    formed = s.holds.formed;
+    no_gaps = s.holds.no_gaps;
+    tells = λ (tells : false ≡ true). absurd (cc);
+  };
+  legal = λ (tells : false ≡ true). absurd (cc);
+  registers = s.registers;
+  known = λ t c is. known_untold told (maps v) (state disk v) c.stage (s.known t c is);
+  fits = s.fits;
+  apart = s.apart;
+  counts = λ (tells : false ≡ true). absurd (cc);
+}
