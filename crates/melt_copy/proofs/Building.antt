@@ -21,6 +21,7 @@ use Rattle.melt_scion.specs.Heaps.{AreScionsFor, HasNames, NamesMade}
 use Rattle.melt_scion.specs.declared.registers.Registers.{Registers}
 use Rattle.melt_scion.specs.declared.heap.Names as heap
 use Rattle.melt_scion.specs.declared.heap.Heap.{Heap}
+use Rattle.melt_copy.specs.Settling.{IsFormedTo}
 use Rattle.melt_scion.proofs.Geometry.{one_header}
 use Rattle.melt_scion.proofs.Tables.{scions_made}
 use Rattle.melt_scion.proofs.Starting.{Formed_start, new_heap_empty, nothing_at, no_scion_in}
@@ -53,6 +54,21 @@ new_formed words globals forward h held small new registers =
       };
       formed = Formed_start maps (state_of h held no_homes_on) (record { address = λ k. refl; home = λ k. refl })
           (new_heap_empty h held words globals forward true small new) registers;
+    }
+
+-- and over a disk without homes
+pub new_formed_to : (words globals forward : ℕ) (h : Heap) → words < 2 ^ 30 → IsNewHeap words globals forward true h
+    → IsFormedTo h 1
+unfolding new_formed
+new_formed_to words globals forward h small new =
+    let is : IsFormed h [] = new_formed words globals forward h [] small new (λ t r. refl) in
+    record {
+      maps = is.maps;
+      disk = is.disk;
+      ends = refl;
+      names = is.names;
+      made = is.made;
+      formed = is.formed.words;
     }
 
 pub new_settled : (words globals forward : ℕ) (named : Bool) (h : Heap) → IsNewHeap words globals forward named h

@@ -23,6 +23,7 @@ pub mod Pairs
 pub mod Collects
 pub mod Building
 pub mod BuildingScion
+pub mod BuildingForwarded
 pub mod Costs
 pub mod Stubs
 pub mod SettlingOne

@@ -1,9 +1,13 @@
-ghost use Rattle.std.specs.Prelude.{◌≡◌, ◌<◌, IfOk};
+ghost use Rattle.std.specs.Prelude.{◌≡◌, ◌<◌, length, IfOk};
 ghost use Rattle.melt_word.specs.Words.{IsShape};
 ghost use Rattle.melt_scion.specs.Heaps.{IsFormed, IsSettled};
 ghost use Rattle.melt_copy.specs.Copying.{IsCopying};
+ghost use Rattle.melt_copy.specs.Settling.{IsFormedTo};
 
 use super::*;
+use melt_disk::StaleSpace;
+use melt_forward::pack;
+use melt_io::{Failed, MemDisk, SteadyDisk};
 use melt_model::{Journal, NoMemory, Phase, Steps};
 use melt_scion::{
     AddressNames, Forwards, GhostMaps, Globals, Heap, HomeNames, Names, Registers, ScionTable,
@@ -278,5 +282,96 @@ fn an_object_that_a_scion_alone_names_is_found(rt: HostRuntime) -> Result<(), Fa
     for (address, want) in [(1, 0), (3, 1)] {
         assert_eq!(rt; live.forwarding.forwarded(address), want, "at {address}");
     }
+    Ok(())
+}
+
+/// A heap of 4 words with two leaves that came back from the homes 1 and 3. The second of its three forwarding words is
+/// empty.
+fn two_forwarded(alloc: Global) -> Result<Heap, Fail>
+    ensures formed { IfOk result (λ heap. IsFormedTo heap 5) }
+    ensures size { IfOk result (λ heap. length heap.space.list ≡ 4) }
+{
+    let mut space = Space::new(alloc, 4)?;
+    let first = space.make(LEAF)?;
+    let second = space.make(LEAF)?;
+    space.set_word(2, encode_home(Some(HomeWord { home: 1, scion: 0 })));
+    space.set_word(4, encode_home(Some(HomeWord { home: 3, scion: 0 })));
+    let mut addresses = AddressNames::new(alloc, 4)?;
+    addresses.set(first, 0);
+    addresses.set(second, 1);
+    let scions = ScionTable::new(alloc, 2)?;
+    let items = vec![in alloc; pack(1, 1), 0, pack(3, 3)]?;
+    Ok(Heap {
+        space,
+        scions,
+        globals: Globals {
+            items: Vec::new(alloc),
+        },
+        forward: Forwards { items },
+        names: Some(Names {
+            addresses,
+            homes: HomeNames::new(alloc),
+        }),
+        maps: GhostMaps::none(),
+    })
+}
+
+#[test]
+fn objects_that_came_back_are_settled(rt: HostRuntime) -> Result<(), Fail> {
+    let alloc = rt.alloc();
+    let mut heap = two_forwarded(alloc)?;
+    let mut disk = SteadyDisk::new(alloc);
+    let mut space = StaleSpace::new(&mut disk, 9);
+    assert_eq!(rt; space.reserve_home(LEAF), Ok(1));
+    assert_eq!(rt; space.reserve_home(LEAF), Ok(3));
+    let settled = settle(&mut heap, &mut space)?;
+    assert_eq!(rt; settled, 2);
+    assert_eq!(rt; heap.forward.items.as_slice(), [0, 0, 0].as_slice());
+    assert_eq!(rt; heap.scions.get(1), Some((1, 1)));
+    assert_eq!(rt; heap.scions.get(2), Some((3, 3)));
+    assert_eq!(rt;
+        heap.space.words_at(1, 4),
+        [1, 4_294_967_300, 1, 12_884_901_896].as_slice()
+    );
+    assert_eq!(rt;
+        disk.image.as_slice(),
+        [0, 4_294_967_298, 1, 12_884_901_890, 2].as_slice()
+    );
+    Ok(())
+}
+
+#[test]
+fn a_stub_that_cannot_be_written_leaves_its_object_forwarded(rt: HostRuntime) -> Result<(), Fail> {
+    let alloc = rt.alloc();
+    let mut heap = two_forwarded(alloc)?;
+    let mut disk = MemDisk::new(alloc);
+    disk.fail_writes.push(2)?;
+    let mut space = StaleSpace::new(&mut disk, 9);
+    assert_eq!(rt; space.reserve_home(LEAF), Ok(1));
+    assert_eq!(rt; space.reserve_home(LEAF), Ok(3));
+    assert_eq!(rt; settle(&mut heap, &mut space), Err(Failed));
+    assert_eq!(rt;
+        heap.forward.items.as_slice(),
+        [0, 0, 12_884_901_900].as_slice()
+    );
+    assert_eq!(rt; heap.scions.get(2), None);
+    assert_eq!(rt; settle(&mut heap, &mut space), Ok(1));
+    assert_eq!(rt; heap.scions.get(2), Some((3, 3)));
+    assert_eq!(rt;
+        disk.image.as_slice(),
+        [0, 4_294_967_298, 1, 12_884_901_890, 2].as_slice()
+    );
+    assert_eq!(rt; (disk.writes, disk.faults.count()), (3, 1));
+    Ok(())
+}
+
+#[test]
+fn a_heap_without_forwardings_is_settled(rt: HostRuntime) -> Result<(), Fail> {
+    let alloc = rt.alloc();
+    let mut heap = Heap::new(alloc, 4, 1, 2, true)?;
+    let mut disk = SteadyDisk::new(alloc);
+    let mut space = StaleSpace::new(&mut disk, 9);
+    assert_eq!(rt; settle(&mut heap, &mut space), Ok(0));
+    assert_eq!(rt; disk.writes, 0);
     Ok(())
 }
