@@ -26,7 +26,8 @@ slot_in refs object i below = get_or-take (2 + refs - 2) (drop 2 object) i 0 (om
     ∙ get_or-drop 2 object i 0
 
 -- the words of the slots are those from the third on
-pub slots_are : (space : SpaceWords) (from refs nums : ℕ) (object : List ℕ) → AreWords space from (2 + refs + nums) object
+pub slots_are : (space : SpaceWords) (from refs nums : ℕ) (object : List ℕ)
+    → AreWords space from (2 + refs + nums) object
     → AreWords space (from + 2) refs (take (2 + refs - 2) (drop 2 object))
 slots_are space from refs nums object are = record {
   count_is = slots_length refs nums object are.count_is;
@@ -41,7 +42,8 @@ pub object_slot : (space : SpaceWords) (s : State) (from refs nums : ℕ) (objec
     → ((k : ℕ) → s.word k ≡ word_at space k) → AreWords space from (2 + refs + nums) object → i < refs
     → slice_index (take (2 + refs - 2) (drop 2 object)) i ≡ s.word (from + 2 + i)
 object_slot space s from refs nums object i word are below =
-    slot_word space s from refs (take (2 + refs - 2) (drop 2 object)) i word (slots_are space from refs nums object are) below
+    slot_word space s from refs (take (2 + refs - 2) (drop 2 object)) i word (slots_are space from refs nums object are)
+    below
 
 -- what the slots of an object refer to is found
 pub object_slots : (space : SpaceWords) (s : State) (forwarding : Forwarding) (m : Relocation) (object : List ℕ)

@@ -164,7 +164,8 @@ module _ (old now : Heap) (place : ℕ) (so_far : SettlesBelow old now place) wh
       }
 
   module _ (new : Heap) (home address : ℕ) (maps : Maps) (disk : OnDisk)
-      (formed : FormedWords maps (state_of now [] disk)) (within : place < length now.forward) (sends : Sends (slice_index now.forward place) home address)
+      (formed : FormedWords maps (state_of now [] disk)) (within : place < length now.forward)
+      (sends : Sends (slice_index now.forward place) home address)
       (settles : SettlesAt now new place home address) where
     it_stands : ForwardStands maps (state_of now [] disk) home address
     it_stands = stands maps now [] disk place home address formed within sends

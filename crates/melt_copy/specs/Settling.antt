@@ -1,6 +1,7 @@
 -- What it is to settle the objects of a heap that came back from a disk: each gets a scion, a Stub stands at its home,
 -- its home word names both, and its forwarding word is empty.
-use Rattle.std.specs.Prelude.{◌≡◌, ◌≢◌, ◌⊎◌, ℕ, ◌+◌, ◌<◌, ◌≤◌, zero, suc, nat_lt, List, [], length, count_by, take, slice_index}
+use Rattle.std.specs.Prelude.{◌≡◌, ◌≢◌, ◌⊎◌, ℕ, ◌+◌, ◌<◌, ◌≤◌, zero, suc, nat_lt, List, [], length, count_by, take}
+use Rattle.std.specs.Prelude.{slice_index}
 use Rattle.std.specs.Prelude.{slice_set, Option, Some}
 use Rattle.melt_model.specs.declared.history.Entry.{Entry}
 use Rattle.melt_word.specs.Words.{home_word}

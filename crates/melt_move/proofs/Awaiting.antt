@@ -1,5 +1,6 @@
 -- The objects that stay await their scions, once their words were put into the space.
-use Rattle.std.proofs.Common.{◌≡◌, ◌≢◌, ◌⊎◌, inl, inr, ℕ, zero, suc, ◌+◌, ◌-◌, ◌*◌, ◌<◌, ◌≤◌, List, length, refl, sym, ◌∙◌, ap}
+use Rattle.std.proofs.Common.{◌≡◌, ◌≢◌, ◌⊎◌, inl, inr, ℕ, zero, suc, ◌+◌, ◌-◌, ◌*◌, ◌<◌, ◌≤◌, List, length, refl, sym}
+use Rattle.std.proofs.Common.{◌∙◌, ap}
 use Rattle.std.proofs.Common.{subst, arith}
 use Rattle.std.specs.Prelude.{◌^◌, ◌/◌, slice_get, slice_index, Option, None, Some}
 use Rattle.std.specs.Option.{option_map}
@@ -40,7 +41,8 @@ pub pair_of : (o : Option (ℕ × ℕ)) (x : Scion)
     → o ≡ Some (x.home, x.address)
 pair_of None x is = absurd (cc)
 pair_of (Some pair) x is =
-    let same : record { home = pair.0; address = pair.1 } ≡ x = same_Some (record { home = pair.0; address = pair.1 }) x is in
+    let same : record { home = pair.0; address = pair.1 } ≡ x =
+    same_Some (record { home = pair.0; address = pair.1 }) x is in
     ap (λ (y : Scion). Some (y.home, y.address)) same
 
 module _ (heap : Heap) (held : List Registers) (disk : OnDisk) (decision : Decision)
@@ -66,7 +68,8 @@ module _ (heap : Heap) (held : List Registers) (disk : OnDisk) (decision : Decis
   stays_reached k m at = (decided.choice.stay.whole k m at).reached
 
   -- an object that stays does not leave
-  pub not_leaving : (k : ℕ) (m : Relocation) → slice_get decision.choice.stay.moves.items k ≡ Some m → Leaves Move s m.from → ⊥
+  pub not_leaving : (k : ℕ) (m : Relocation) → slice_get decision.choice.stay.moves.items k ≡ Some m
+      → Leaves Move s m.from → ⊥
   not_leaving k m at =
       (decided.choice.chooses.stay m.from
       (place_found s (goes decision.choice.stay) moves decision.choice.stay.next k m decided.choice.stay at)).1
@@ -97,17 +100,20 @@ module _ (heap : Heap) (held : List Registers) (disk : OnDisk) (decision : Decis
 
   module _ (maps : Maps) (formed : Formed maps (state_of heap held disk)) (made : TablesMade heap)
       (freed : Scions) (frees : FreesScions (word_at heap.space) decision.choice.leaving.items heap.scions freed)
-      (new : Heap) (after : List Registers) (copied : Copied) (stand : StandIn (state_of heap held disk) decision copied.words.items)
+      (new : Heap) (after : List Registers) (copied : Copied)
+      (stand : StandIn (state_of heap held disk) decision copied.words.items)
       (put : IsPutBack (record heap { scions = freed }) new held after decision copied) where
     -- a word of what was put into the space
-    pub put_word : (at : ℕ) → 1 ≤ at → at ≤ length copied.words.items → word_at new.space at ≡ word_in copied.words.items at
+    pub put_word : (at : ℕ) → 1 ≤ at → at ≤ length copied.words.items
+        → word_at new.space at ≡ word_in copied.words.items at
     put_word zero first last = absurd (omega (arith, first))
     put_word (suc at) first last = put.space.front at (omega (arith, last))
 
     pub within : (k : ℕ) (m : Relocation) → slice_get decision.choice.stay.moves.items k ≡ Some m
         → (1 ≤ m.to) × (m.to + cost_of m.shape ≤ length copied.words.items + 1)
     within k m at =
-        let place = place_below s (goes decision.choice.stay) moves decision.choice.stay.next k m decided.choice.stay at in
+        let place = place_below s (goes decision.choice.stay) moves decision.choice.stay.next k m
+        decided.choice.stay at in
         let behind = decided.choice.stay.behind in
         let size = stand.size in
         (place.0, (let below = place.1 in omega (arith, below, behind, size)))
@@ -146,7 +152,8 @@ module _ (heap : Heap) (held : List Registers) (disk : OnDisk) (decision : Decis
         let is = decided.scions scion (record { home = pair.0; address = pair.1 }) before in
         elim (decided.choice.chooses.go pair.1 is.reached) [
           | inl some ↦
-              let g = goes_to s (goes decision.choice.stay) moves decision.choice.stay.next pair.1 decided.choice.stay some in (
+              let g = goes_to s (goes decision.choice.stay) moves decision.choice.stay.next pair.1
+              decided.choice.stay some in (
                 g.index,
                 g.move,
                 g.is,
@@ -190,7 +197,8 @@ module _ (heap : Heap) (held : List Registers) (disk : OnDisk) (decision : Decis
         let g = decided.homes.only m.from offset in
         let each = decided.homes.each g.0 g.1 g.2 in
         let none : s.word (m.from + 1) ≡ 0 = ap (λ (a : ℕ). s.word (a + 1)) (sym g.3) ∙ each.0.had_none in
-        let starts : HeaderAt s m.from each.1.header = subst (λ (a : ℕ). HeaderAt s a each.1.header) g.3 each.1.starts in
+        let starts : HeaderAt s m.from each.1.header =
+        subst (λ (a : ℕ). HeaderAt s a each.1.header) g.3 each.1.starts in
         let shape = source_shape s m each.1.header (decided.choice.stay.whole k m at) starts in
         record {
           index = g.0;
@@ -219,10 +227,12 @@ module _ (heap : Heap) (held : List Registers) (disk : OnDisk) (decision : Decis
               absurd (differ (same_source s (goes decision.choice.stay) moves decision.choice.stay.next i j m n
               decided.choice.stay at also from).0)
           | inr (inl less) ↦
-              inl (let order = given_order s decision decided.homes some_first x.index y.index x.given y.given x.is y.is less in
+              inl (let order = given_order s decision decided.homes some_first x.index y.index
+              x.given y.given x.is y.is less in
               omega (arith, order, home, its, cost))
           | inr (inr less) ↦
-              inr (let order = given_order s decision decided.homes some_first y.index x.index y.given x.given y.is x.is less in
+              inr (let order = given_order s decision decided.homes some_first y.index x.index
+              y.given x.given y.is x.is less in
               omega (arith, order, home, its, costs))
         ]
 
@@ -239,9 +249,11 @@ module _ (heap : Heap) (held : List Registers) (disk : OnDisk) (decision : Decis
           let all = stand.size in
           (place.0, (let below = place.1 in omega (arith, below, size, inside, words, all)));
       apart = λ i j m n at also less.
-          place_behind s (goes decision.choice.stay) moves decision.choice.stay.next i j m n decided.choice.stay at also less;
+          place_behind s (goes decision.choice.stay) moves decision.choice.stay.next i j m n
+          decided.choice.stay at also less;
       once = λ i j m n at also same.
-          (same_source s (goes decision.choice.stay) moves decision.choice.stay.next i j m n decided.choice.stay at also same).0;
+          (same_source s (goes decision.choice.stay) moves decision.choice.stay.next i j m n
+          decided.choice.stay at also same).0;
       old_homes = λ k m at. elim (decided.old_homes m.from (stays_reached k m at)) [
         | inl none ↦ inl (put_home k m at ∙ none)
         | inr old ↦ inr (old.0, old.1, put_names k m old.0 old.1 at old.2, kept_live k m old.0 old.1 at old.2)

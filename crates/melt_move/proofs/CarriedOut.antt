@@ -1,5 +1,6 @@
 -- What was decided was done: the heap, the registers and the disk behind a Move collection.
-use Rattle.std.proofs.Common.{◌≡◌, ◌≢◌, ◌⊎◌, inl, inr, ℕ, zero, suc, ◌+◌, ◌-◌, ◌*◌, ◌<◌, ◌≤◌, List, length, refl, sym, ◌∙◌, ap}
+use Rattle.std.proofs.Common.{◌≡◌, ◌≢◌, ◌⊎◌, inl, inr, ℕ, zero, suc, ◌+◌, ◌-◌, ◌*◌, ◌<◌, ◌≤◌, List, length, refl, sym}
+use Rattle.std.proofs.Common.{◌∙◌, ap}
 use Rattle.std.proofs.Common.{subst, arith}
 use Rattle.std.specs.Prelude.{◌^◌, nat_lt, Bool, slice_get, slice_index, Option, None, Some}
 use Rattle.std.specs.Option.{option_map}
@@ -34,12 +35,14 @@ use Rattle.melt_move.specs.Bodies.{HasBody, HomesApart, IsOutside, WritesBodies}
 use Rattle.melt_move.specs.GivenScions.{NamesScion, FreesScions, HaveScions, WritesStubs, given_home}
 use Rattle.melt_move.specs.Moved.{StandsAt, NamedByStaying, HasNewScion, IsMove}
 use Rattle.melt_move.specs.Collecting.{IsPutBack, CarriesOut, disk_after}
-use Rattle.melt_move.proofs.HomesBy.{home-none, home-old, home-cases, given_within, given_order, gets_given, wants_given}
+use Rattle.melt_move.proofs.HomesBy.{home-none, home-old, home-cases, given_within, given_order, gets_given}
+use Rattle.melt_move.proofs.HomesBy.{wants_given}
 use Rattle.melt_move.proofs.Awaiting.{pair_of, stays_within, not_leaving, put_word, put_names, within, given_to}
 use Rattle.melt_move.proofs.NamedOut.{names_out}
 
 module _ (maps : Maps) (heap : Heap) (held : List Registers) (disk : OnDisk) (decision : Decision)
-    (decided : IsDecision heap.space (state_of heap held disk) decision) (formed : Formed maps (state_of heap held disk))
+    (decided : IsDecision heap.space (state_of heap held disk) decision)
+    (formed : Formed maps (state_of heap held disk))
     (made : TablesMade heap) (settled : IsSettled heap) (freed : Scions)
     (frees : FreesScions (word_at heap.space) decision.choice.leaving.items heap.scions freed) (mid : Heap)
     (after : List Registers) (copied : Copied) (stand : StandIn (state_of heap held disk) decision copied.words.items)
@@ -60,19 +63,23 @@ module _ (maps : Maps) (heap : Heap) (held : List Registers) (disk : OnDisk) (de
       → at < m.to + cost_of m.shape → (at ≡ m.to + 1 → given_home decision.homes m ≡ 0)
       → word_at new.space at ≡ word_in copied.words.items at
   word_kept k m at there from to home =
-      let place = within heap held disk decision decided maps formed made freed frees mid after copied stand put k m there in
+      let place = within heap held disk decision decided maps formed made freed frees
+      mid after copied stand put k m there in
       let first = place.0 in let last = place.1 in
       have.words at (λ j n other some same. elim (cases_order j k) [
         | inl is ↦
-            let one : n ≡ m = same_Some n m (sym other ∙ (ap (slice_get decision.choice.stay.moves.items) is ∙ there)) in
+            let one : n ≡ m = same_Some n m
+            (sym other ∙ (ap (slice_get decision.choice.stay.moves.items) is ∙ there)) in
             let to_is : n.to ≡ m.to = ap (λ (x : Relocation). x.to) one in
             some (ap (given_home decision.homes) one ∙ home (omega (arith, same, to_is)))
         | inr (inl less) ↦
-            let apart = place_behind s (goes decision.choice.stay) moves decision.choice.stay.next j k n m decided.choice.stay
+            let apart = place_behind s (goes decision.choice.stay) moves decision.choice.stay.next j k n m
+            decided.choice.stay
             other there less in
             omega (arith, apart, same, from)
         | inr (inr less) ↦
-            let apart = place_behind s (goes decision.choice.stay) moves decision.choice.stay.next k j m n decided.choice.stay
+            let apart = place_behind s (goes decision.choice.stay) moves decision.choice.stay.next k j m n
+            decided.choice.stay
             there other less in
             omega (arith, apart, same, to)
       ])
@@ -115,7 +122,11 @@ module _ (maps : Maps) (heap : Heap) (held : List Registers) (disk : OnDisk) (de
         → given_home decision.homes m ≢ 0 → HasNewScion t m (given_home decision.homes m)
     new_scion k m at some =
         let has = have.new_homes k m at some in
-        record { scion = has.scion; names = has.names; live = live_is has.scion (given_home decision.homes m) m.to has.live }
+        record {
+          scion = has.scion;
+          names = has.names;
+          live = live_is has.scion (given_home decision.homes m) m.to has.live;
+        }
 
     only_scions : (scion : ℕ) (x : Scion) → t.base.scion scion ≡ Some x
         → NamedByStaying t decision.choice.stay.moves.items scion x
@@ -124,12 +135,14 @@ module _ (maps : Maps) (heap : Heap) (held : List Registers) (disk : OnDisk) (de
         record { index = is.0; move = is.1; is = is.2; at = is.3; names = is.4 }
 
     -- the home of an object that leaves has no word of a new home of one that stays
-    apart_from_stubs : (j : ℕ) (d : Departure) → slice_get decision.choice.leaving.items j ≡ Some d → (k : ℕ) (m : Relocation)
+    apart_from_stubs : (j : ℕ) (d : Departure) → slice_get decision.choice.leaving.items j ≡ Some d
+        → (k : ℕ) (m : Relocation)
         → slice_get decision.choice.stay.moves.items k ≡ Some m → given_home decision.homes m ≢ 0
         → (home d.from + cost_of d.shape ≤ given_home decision.homes m)
         ⊎ (given_home decision.homes m + cost_of m.shape ≤ home d.from)
     apart_from_stubs j d there k m at some =
-        let x = given_to heap held disk decision decided maps formed made freed frees mid after copied stand put k m at some in
+        let x = given_to heap held disk decision decided maps formed made freed frees
+        mid after copied stand put k m at some in
         let between = given_within s decision decided.homes some_first x.index x.given x.is in
         let departs = decided.choice.leave.each j d there in
         let leaves = departs.0 in
@@ -142,10 +155,12 @@ module _ (maps : Maps) (heap : Heap) (held : List Registers) (disk : OnDisk) (de
               let from = between.0 in
               inl (omega (arith, within_end, its, first, from, given))
           | inr none ↦
-              let g = wants_given s decision decided.homes some_first d.from (record { why = inl leaves; had_none = none }) in
+              let g = wants_given s decision decided.homes some_first d.from
+              (record { why = inl leaves; had_none = none }) in
               let shaped = (decided.homes.each g.index g.given g.is).1 in
               let costs : cost_of g.given.shape ≡ cost_of d.shape =
-              ap cost_of (sym shaped.is ∙ (ap (λ (h : Header). h.shape) (one_header s d.from shaped.header departs.1.header
+              ap cost_of (sym shaped.is
+              ∙ (ap (λ (h : Header). h.shape) (one_header s d.from shaped.header departs.1.header
               (subst (λ (a : ℕ). HeaderAt s a shaped.header) g.from shaped.starts) departs.1.starts) ∙ departs.1.is)) in
               let same : home g.given.from ≡ home d.from = ap home g.from in
               elim (cases_order g.index x.index) [
@@ -155,16 +170,19 @@ module _ (maps : Maps) (heap : Heap) (held : List Registers) (disk : OnDisk) (de
                     let from : d.from ≡ m.from = sym g.from ∙ (ap (λ (y : Given). y.from) one ∙ x.from) in
                     absurd (not_leaving heap held disk decision decided k m at (subst (Leaves Move s) from leaves))
                 | inr (inl less) ↦
-                    let order = given_order s decision decided.homes some_first g.index x.index g.given x.given g.is x.is less in
+                    let order = given_order s decision decided.homes some_first g.index x.index
+                    g.given x.given g.is x.is less in
                     inl (omega (arith, order, same, costs, given))
                 | inr (inr less) ↦
-                    let order = given_order s decision decided.homes some_first x.index g.index x.given g.given x.is g.is less in
+                    let order = given_order s decision decided.homes some_first x.index g.index
+                    x.given g.given x.is g.is less in
                     inr (omega (arith, order, same, cost, given))
               ]
         ]
 
     -- so the Stubs leave its Body
-    body_stays : (j : ℕ) (d : Departure) (at : ℕ) → slice_get decision.choice.leaving.items j ≡ Some d → home d.from ≤ at
+    body_stays : (j : ℕ) (d : Departure) (at : ℕ) → slice_get decision.choice.leaving.items j ≡ Some d
+        → home d.from ≤ at
         → at < home d.from + cost_of d.shape → stubs_image at ≡ bodies_image at
     body_stays j d at there from to =
         stubs.others at (λ k m stays some. elim (apart_from_stubs j d there k m stays some) [
@@ -188,17 +206,20 @@ module _ (maps : Maps) (heap : Heap) (held : List Registers) (disk : OnDisk) (de
               (record { shape = d.shape; kind = Body })) (sym (stays 1 (omega arith))) body.head);
           slots = λ i below.
               subst (WordBecomes (body_ref home) (s.word (d.from + 2 + i)))
-              (sym (body_stays j d (home d.from + 2 + i) there (omega arith) (omega (arith, below)))) (body.slots i below);
+              (sym (body_stays j d (home d.from + 2 + i) there (omega arith) (omega (arith, below))))
+              (body.slots i below);
           numbers = λ n below.
               body_stays j d (home d.from + 2 + d.shape.refs + n) there (omega arith) (omega (arith, below))
               ∙ body.numbers n below;
         }
 
-    image_stays : (at : ℕ) → at < disk.end → ((k : ℕ) (d : Departure) → slice_get decision.choice.leaving.items k ≡ Some d
+    image_stays : (at : ℕ) → at < disk.end
+        → ((k : ℕ) (d : Departure) → slice_get decision.choice.leaving.items k ≡ Some d
         → IsOutside home at d) → stubs_image at ≡ disk.image at
     image_stays at below outside =
         stubs.others at (λ k m stays some.
-        let x = given_to heap held disk decision decided maps formed made freed frees mid after copied stand put k m stays some in
+        let x = given_to heap held disk decision decided maps formed made freed frees
+        mid after copied stand put k m stays some in
         let between = given_within s decision decided.homes some_first x.index x.given x.is in
         let from = between.0 in let first = decided.first in let given = x.home in
         inl (omega (arith, from, first, given, below)))
@@ -224,7 +245,8 @@ module _ (maps : Maps) (heap : Heap) (held : List Registers) (disk : OnDisk) (de
       new_home = new_scion;
       old_scion = λ k m home scion at old.
           live_is scion home m.to (have.old_homes k m home scion at
-          (put_names heap held disk decision decided maps formed made freed frees mid after copied stand put k m home scion at
+          (put_names heap held disk decision decided maps formed made freed frees mid after copied stand put k m home
+          scion at
           old));
       only_scions = only_scions;
       global = λ g below.

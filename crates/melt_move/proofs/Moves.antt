@@ -1,5 +1,6 @@
 -- What was decided and done is the law of a collection, as far as it speaks of words.
-use Rattle.std.proofs.Common.{◌≡◌, ◌≢◌, ◌⊎◌, inl, inr, ℕ, ◌+◌, ◌*◌, ◌<◌, ◌≤◌, List, [], ◌∷◌, ◌++◌, length, take, refl, sym}
+use Rattle.std.proofs.Common.{◌≡◌, ◌≢◌, ◌⊎◌, inl, inr, ℕ, ◌+◌, ◌*◌, ◌<◌, ◌≤◌, List, [], ◌∷◌, ◌++◌, length, take, refl}
+use Rattle.std.proofs.Common.{sym}
 use Rattle.std.proofs.Common.{◌∙◌, ap, subst, arith}
 use Rattle.std.specs.Prelude.{◌^◌, nat_lt, slice_get, slice_index, Some}
 use Rattle.std.proofs.lemmas.Bool.{cases_eq}
@@ -9,7 +10,8 @@ use Rattle.melt_word.specs.declared.header.Shape.{Shape}
 use Rattle.melt_word.specs.declared.header.Header.{Header}
 use Rattle.melt_scion.specs.State.{Scion, Home, State, HeaderAt, IsReserved, Reached, in_slot}
 use Rattle.melt_scion.specs.Placed.{Maps, Formed}
-use Rattle.melt_scion.specs.Moves.{Leaves, IsNamedByLeaving, GetsHome, moved_ref, WordBecomes, IsNewHome, GivesHomes, Arrives}
+use Rattle.melt_scion.specs.Moves.{Leaves, IsNamedByLeaving, GetsHome, moved_ref, WordBecomes, IsNewHome, GivesHomes}
+use Rattle.melt_scion.specs.Moves.{Arrives}
 use Rattle.melt_scion.specs.Moves.{TakesScion, MovesWords}
 use Rattle.melt_scion.proofs.Geometry.{one_header}
 use Rattle.melt_scion.proofs.NobodyLeaves.{parts_of_word}
@@ -25,7 +27,8 @@ use Rattle.melt_move.specs.declared.decision.Decision.{Decision}
 use Rattle.melt_move.specs.Plans.{HasOldHome, OldHome, WantsHome, IsShaped, home_by, need_for, new_home}
 use Rattle.melt_move.specs.GivenScions.{NamesScion, given_home}
 use Rattle.melt_move.specs.Moved.{IsMove, homes_from}
-use Rattle.melt_move.proofs.HomesBy.{IsGiven, home-none, home-old, home-cases, gets_given, given_within, home-given, some_new}
+use Rattle.melt_move.proofs.HomesBy.{IsGiven, home-none, home-old, home-cases, gets_given, given_within, home-given}
+use Rattle.melt_move.proofs.HomesBy.{some_new}
 use Rattle.melt_move.proofs.HomesBy.{wants_some}
 use Rattle.melt_move.proofs.Reserved.{new_reserved}
 
@@ -48,7 +51,8 @@ module _ (maps : Maps) (s t : State) (live : LiveSet) (decision : Decision) (for
   pub move_carries : Carries Move s t (to_by decision) decision.choice.stay.moves.items decision.front
   move_carries = record {
     whole = is.whole;
-    found = subst (λ (free : ℕ). Relocates s (to_by decision) decision.choice.stay.moves.items free) (sym is.free) is.choice.stay;
+    found = subst (λ (free : ℕ). Relocates s (to_by decision) decision.choice.stay.moves.items free) (sym is.free)
+        is.choice.stay;
     header = λ k m header at starts. (is.objects k m at).header header starts;
     held = subst (λ (front : ℕ). AreHeld s decision.choice.stay.moves.items front) (sym is.front) is.choice.held;
     size = is.size;
@@ -60,7 +64,8 @@ module _ (maps : Maps) (s t : State) (live : LiveSet) (decision : Decision) (for
     | inl none ↦ ap (new_home decision.homes.first) none
     | inr some ↦
         let g = is.gives.only m.from some in
-        let none : s.word (m.from + 1) ≡ 0 = subst (λ (a : ℕ). s.word (a + 1) ≡ 0) g.3 (is.gives.each g.0 g.1 g.2).0.had_none in
+        let none : s.word (m.from + 1) ≡ 0 =
+        subst (λ (a : ℕ). s.word (a + 1) ≡ 0) g.3 (is.gives.each g.0 g.1 g.2).0.had_none in
         let word : s.word (m.from + 1) ≡ 4294967296 * home + 4 * scion = old.is in
         absurd (omega (arith, none, word, old.in_range.home.not_null))
   ]
@@ -202,7 +207,8 @@ module _ (maps : Maps) (s t : State) (live : LiveSet) (decision : Decision) (for
   ]
 
   pub named_reached : (a : ℕ) → IsNamedByLeaving Move s a → Reached s a
-  named_reached a named = in_slot named.object named.slot a named.header named.leaves.0 named.starts named.below named.refers
+  named_reached a named =
+      in_slot named.object named.slot a named.header named.leaves.0 named.starts named.below named.refers
 
   new_home_is : (a : ℕ) (header : Header) → GetsHome s (home_by s.word decision) a → HeaderAt s a header
       → IsNewHome s t (home_by s.word decision) a header
@@ -226,9 +232,11 @@ module _ (maps : Maps) (s t : State) (live : LiveSet) (decision : Decision) (for
         within = omega (arith, within.1, same, first, cost, end);
         reserved =
             subst (λ (hs : List Home). IsReserved hs (home a) header.shape) (sym is.homes)
-            (subst (λ (z : Shape). IsReserved (s.base.homes ++ homes_from s.base.end decision.homes.given.items) (home a) z)
+            (subst (λ (z : Shape).
+            IsReserved (s.base.homes ++ homes_from s.base.end decision.homes.given.items) (home a) z)
             (sym shape)
-            (subst (λ (n : ℕ). IsReserved (s.base.homes ++ homes_from s.base.end decision.homes.given.items) n g.given.shape)
+            (subst (λ (n : ℕ).
+            IsReserved (s.base.homes ++ homes_from s.base.end decision.homes.given.items) n g.given.shape)
             (sym at)
             (new_reserved s.base.homes s.base.end g.index decision.homes.given.items g.given g.is)));
       }
@@ -243,7 +251,8 @@ module _ (maps : Maps) (s t : State) (live : LiveSet) (decision : Decision) (for
       | inr old ↦
           let parts = parts_of_word (s.word (a + 1)) h k range.scion word in
           let others = parts_of_word (s.word (a + 1)) old.0 old.1 old.2.in_range.scion old.2.is in
-          let home : home_by s.word decision a ≡ h = home-old s decision a old.0 old.1 old.2 ∙ (sym others.0 ∙ parts.0) in (
+          let home : home_by s.word decision a ≡ h = home-old s decision a old.0 old.1 old.2
+          ∙ (sym others.0 ∙ parts.0) in (
             home,
             λ some.
                 let there : OldHome s a (home_by s.word decision a) old.1 =

@@ -44,7 +44,8 @@ names_out homes moves maps None None final pairs mid_pairs final_pairs apart has
       after = maps_after between moves;
       names = has_names between None final mid_pairs final_pairs moves apart had renamed;
       addresses = λ k. refl;
-      given = given_same homes maps.address (named pairs.addresses) maps.home (named pairs.homes) (named mid_pairs.homes)
+      given = given_same homes maps.address (named pairs.addresses) maps.home (named pairs.homes)
+          (named mid_pairs.homes)
           has.0 has.1 is.0;
     }
 names_out homes moves maps (Some old) (Some mid) final pairs mid_pairs final_pairs apart has is renamed =
@@ -57,7 +58,8 @@ names_out homes moves maps (Some old) (Some mid) final pairs mid_pairs final_pai
       after = maps_after between moves;
       names = has_names between (Some mid) final mid_pairs final_pairs moves apart had renamed;
       addresses = λ k. refl;
-      given = given_same homes maps.address (name_at old.addresses) maps.home (home_name old.homes) (home_name mid.homes)
+      given = given_same homes maps.address (name_at old.addresses) maps.home (home_name old.homes)
+          (home_name mid.homes)
           has.0 has.1 is.0;
     }
 names_out homes moves maps None (Some mid) final pairs mid_pairs final_pairs apart has is renamed = absurd is

@@ -42,17 +42,21 @@ decides_still heap space names held decision same decides =
 
 -- A heap as the code sees its parts, which is the heap as it is; and words that are its globals.
 module _ (inside now : Heap) (held : List Registers) (is : inside ≡ now) (decision : Decision)
-    (decides : Decides now held decision) (room : HasRoom decision) (words : List ℕ) (same : words ≡ inside.globals) where
-  decided_inside : (maps : Maps) (disk : OnDisk) → disk.end ≡ decision.homes.first → Formed maps (state_of now held disk)
+    (decides : Decides now held decision) (room : HasRoom decision) (words : List ℕ)
+    (same : words ≡ inside.globals) where
+  decided_inside : (maps : Maps) (disk : OnDisk) → disk.end ≡ decision.homes.first
+      → Formed maps (state_of now held disk)
       → IsDecision inside.space (state_of now held disk) decision
   decided_inside maps disk end formed =
       subst (λ (heap : Heap). IsDecision heap.space (state_of now held disk) decision) (sym is)
       (decides maps disk end formed)
 
-  sources_inside : (maps : Maps) (disk : OnDisk) → disk.end ≡ decision.homes.first → Formed maps (state_of now held disk)
+  sources_inside : (maps : Maps) (disk : OnDisk) → disk.end ≡ decision.homes.first
+      → Formed maps (state_of now held disk)
       → AreSources inside.space (state_of now held disk) decision words
   sources_inside maps disk end formed =
-      subst (AreSources inside.space (state_of now held disk) decision) (sym (same ∙ ap (λ (heap : Heap). heap.globals) is))
+      subst (AreSources inside.space (state_of now held disk) decision)
+      (sym (same ∙ ap (λ (heap : Heap). heap.globals) is))
       (subst (λ (heap : Heap). AreSources heap.space (state_of now held disk) decision now.globals) (sym is)
       (global_sources now held disk decision (decides maps disk end formed) room))
 
@@ -61,7 +65,8 @@ module _ (inside now : Heap) (held : List Registers) (is : inside ≡ now) (deci
   may_copy formed = (state_of now held formed.disk, decided_inside formed.maps formed.disk formed.end_is formed.formed)
 
   -- and for which the globals can be copied
-  pub may_copy_globals : IsFormedOn now held decision.homes.first → (s : State) × AreSources inside.space s decision words
+  pub may_copy_globals : IsFormedOn now held decision.homes.first
+      → (s : State) × AreSources inside.space s decision words
   may_copy_globals formed =
       (state_of now held formed.disk, sources_inside formed.maps formed.disk formed.end_is formed.formed)
 

@@ -29,7 +29,8 @@ IsOutside home at d = (at < home d.from) ⊎ (home d.from + cost_of d.shape ≤ 
 
 -- the homes of these objects have no word in common
 abbrev pub HomesApart : (ℕ → ℕ) → List Departure → Type 0
-HomesApart home leaving = (i j : ℕ) (d e : Departure) → slice_get leaving i ≡ Some d → slice_get leaving j ≡ Some e → i < j
+HomesApart home leaving = (i j : ℕ) (d e : Departure)
+    → slice_get leaving i ≡ Some d → slice_get leaving j ≡ Some e → i < j
     → (home d.from + cost_of d.shape ≤ home e.from) ⊎ (home e.from + cost_of e.shape ≤ home d.from)
 
 -- The Bodies of the first objects, so many of them, were written, and words of no home of theirs are as before. A disk

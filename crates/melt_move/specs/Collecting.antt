@@ -140,8 +140,8 @@ pub record HasMoved (maps : Maps) (disk : OnDisk) (old new : Heap) (held held_af
   pub grows : end ≡ disk.end + need
 
 -- What a Move collection made of heap, registers and disk, whatever they stood for.
-pub record Moves (old new : Heap) (held held_after : List Registers) (end end_after : ℕ) (told told_after : Option (List ℕ))
-    (journal : Journal) : Type 0 where
+pub record Moves (old new : Heap) (held held_after : List Registers) (end end_after : ℕ)
+    (told told_after : Option (List ℕ)) (journal : Journal) : Type 0 where
   pub each : (maps : Maps) (disk : OnDisk) → disk.end ≡ end → Shows told disk.image → HasMaps old maps
       → Formed maps (state_of old held disk)
       → HasMoved maps disk old new held held_after end_after told_after journal

@@ -1,5 +1,6 @@
 -- A state behind a Move collection, beside the one before it: what was decided was done.
-use Rattle.std.specs.Prelude.{◌≡◌, ◌≢◌, ◌⊎◌, ◌^◌, ℕ, ◌+◌, ◌<◌, ◌≤◌, nat_lt, Bool, List, [], ◌∷◌, ◌++◌, slice_get, slice_index}
+use Rattle.std.specs.Prelude.{◌≡◌, ◌≢◌, ◌⊎◌, ◌^◌, ℕ, ◌+◌, ◌<◌, ◌≤◌, nat_lt, Bool, List, [], ◌∷◌, ◌++◌, slice_get}
+use Rattle.std.specs.Prelude.{slice_index}
 use Rattle.std.specs.Prelude.{map, Some}
 use Rattle.melt_model.specs.declared.reports.Phase.TheVariants.{Move}
 use Rattle.melt_word.specs.Words.{header_word, cost_of}
@@ -29,7 +30,8 @@ homes_from from (g ∷ given) = record { at = from; shape = g.shape } ∷ homes_
 pub record StandsAt (s t : State) (decision : Decision) (held : Bool) (m : Relocation) : Type 0 where
   pub header : (header : Header) → HeaderAt s m.from header → t.word m.to ≡ header_word (header_after Move held header)
   pub slots : (i : ℕ) → i < m.shape.refs → StaysAs s decision (s.word (m.from + 2 + i)) (t.word (m.to + 2 + i))
-  pub numbers : (j : ℕ) → j < m.shape.nums → t.word (m.to + 2 + m.shape.refs + j) ≡ s.word (m.from + 2 + m.shape.refs + j)
+  pub numbers : (j : ℕ) → j < m.shape.nums
+      → t.word (m.to + 2 + m.shape.refs + j) ≡ s.word (m.from + 2 + m.shape.refs + j)
 
 -- one of the objects that stay names the scion, and the scion names it
 pub record NamedByStaying (t : State) (moves : List Relocation) (scion : ℕ) (x : Scion) : Type 0 where

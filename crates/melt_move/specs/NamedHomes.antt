@@ -24,7 +24,8 @@ abbrev pub NamesHomesOf : NewHomes → Option Names → NamePairs → Option Nam
 NamesHomesOf homes None old None new =
     NamesGiven homes (named old.addresses) (named old.homes) (named new.homes) × (new.addresses ≡ old.addresses)
 NamesHomesOf homes (Some old) pairs (Some new) pairs_after =
-    NamesGiven homes (name_at old.addresses) (home_name old.homes) (home_name new.homes) × (new.addresses ≡ old.addresses)
+    NamesGiven homes (name_at old.addresses) (home_name old.homes) (home_name new.homes)
+    × (new.addresses ≡ old.addresses)
 NamesHomesOf homes None old (Some new) pairs = ⊥
 NamesHomesOf homes (Some old) pairs None new = ⊥
 

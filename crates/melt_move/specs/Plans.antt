@@ -58,7 +58,8 @@ need_for given = sum (map (λ (g : Given). cost_of g.shape) given)
 -- Exactly the objects that want a home are given one, one home behind the other. The table has, at the address of each,
 -- one more than the words of the homes before it.
 pub record GivesNew (s : State) (homes : NewHomes) : Type 0 where
-  pub each : (k : ℕ) (g : Given) → slice_get homes.given.items k ≡ Some g → WantsHome s g.from × IsShaped s g.from g.shape
+  pub each : (k : ℕ) (g : Given) → slice_get homes.given.items k ≡ Some g
+      → WantsHome s g.from × IsShaped s g.from g.shape
   pub all : (a : ℕ) → WantsHome s a → (k : ℕ) × (g : Given) × (slice_get homes.given.items k ≡ Some g) × (g.from ≡ a)
   pub offset : (k : ℕ) (g : Given) → slice_get homes.given.items k ≡ Some g
       → slice_index homes.offsets.items g.from ≡ 1 + need_for (take k homes.given.items)

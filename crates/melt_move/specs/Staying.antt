@@ -42,8 +42,8 @@ pub record Stays (space : SpaceWords) (s : State) (decision : Decision) (m : Rel
 abbrev pub StaysAs : State → Decision → ℕ → ℕ → Type 0
 StaysAs s decision = WordBecomes (moved_ref Move (goes decision.choice.stay) (home_by s.word decision))
 
--- An object that stays is at its new place in these words: its header with the mark that the phase leaves, its home word
--- as it was, its references to what stays stale and those to what leaves homes, and its number words.
+-- An object that stays is at its new place in these words: its header with the mark that the phase leaves, its home
+-- word as it was, its references to what stays stale and those to what leaves homes, and its number words.
 pub record ObjectStays (s : State) (decision : Decision) (held : Bool) (word : ℕ → ℕ) (m : Relocation) : Type 0 where
   pub header : (header : Header) → HeaderAt s m.from header → word m.to ≡ header_word (header_after Move held header)
   pub home : word (m.to + 1) ≡ s.word (m.from + 1)

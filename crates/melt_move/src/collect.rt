@@ -3,13 +3,15 @@
 //! All that can be refused is refused before the first change: memory is taken while everything is decided and copied,
 //! and the disk is asked for room for all new homes at once. Then only a write to the disk may fail, and since homes
 //! from before may be written by then, the heap is given up where one does.
-ghost use Rattle.std.specs.Prelude.{◌≡◌, ◌≤◌, ◌<◌, ◌+◌, ◌^◌, ℕ, [], length, IfOk, IfErr, OnOk, OnErr, MatchOption, IsErrOf};
+ghost use Rattle.std.specs.Prelude.{◌≡◌, ◌≤◌, ◌<◌, ◌+◌, ◌^◌, ℕ, [], length, IfOk, IfErr, OnOk, OnErr, MatchOption};
+ghost use Rattle.std.specs.Prelude.{IsErrOf};
 ghost use Rattle.melt_io.specs.Outside.{Rose};
 ghost use Rattle.melt_disk.specs.Homes.{need_of};
 ghost use Rattle.melt_word.specs.Words.{IsShape};
 ghost use Rattle.melt_scion.specs.Heaps.{HasMaps, IsFormed, IsSettled, KeepsTables, OnDisk, Shows, state_of};
 ghost use Rattle.melt_scion.specs.Placed.{Maps, Formed};
-ghost use Rattle.melt_move.specs.Collecting.{CarriesOut, CopiesOut, Decides, HoldNothing, IsAsBefore, IsFormedOn, LacksDisk};
+ghost use Rattle.melt_move.specs.Collecting.{CarriesOut, CopiesOut, Decides, HoldNothing, IsAsBefore, IsFormedOn};
+ghost use Rattle.melt_move.specs.Collecting.{LacksDisk};
 ghost use Rattle.melt_move.specs.Collecting.{Moves, AreShapes, HasRoomFor, IsRefused, SameNames};
 ghost use Rattle.melt_copy.specs.Copied.{NumbersAre};
 ghost use Rattle.melt_move.specs.GivenScions.{given_count};
@@ -159,8 +161,10 @@ fn carry_out<D: StaleDisk, L: Ledger>(
     requires room { disk.old.end + need_for decision.now.homes.given.items ≤ disk.old.limit }
     requires small { HasRoom decision.now }
     ensures carries { OnOk result ((maps : Maps) (later : OnDisk) → later.end ≡ disk.old.end
-        → Shows (D.image disk.old.disk.now) later.image → HasMaps heap.old maps → Formed maps (state_of heap.old held.old later)
-        → CarriesOut maps later heap.old heap.new held.old held.new decision.now disk.new.end (D.image disk.new.disk.now)) }
+        → Shows (D.image disk.old.disk.now) later.image → HasMaps heap.old maps
+        → Formed maps (state_of heap.old held.old later)
+        → CarriesOut maps later heap.old heap.new held.old held.new decision.now disk.new.end
+        (D.image disk.new.disk.now)) }
     ensures tables { OnOk result (KeepsTables heap.old heap.new) }
     ensures settled { OnOk result (IsSettled heap.new) }
     ensures stubs { IfOk result (λ count. count ≡ given_count decision.now.homes decision.now.choice.stay.moves.items) }
@@ -191,8 +195,8 @@ fn drop_held<L: Ledger>(held: &mut [Registers], steps: &mut Steps<L>)
 
 /// Collects a heap, and moves to the disk what has the stale bit and is in no register: a Body is written for each such
 /// object that can be reached, and for no other. An object that stays and to which one that left refers gets a home
-/// with a Stub. What stays is marked as in phase Mark. Nothing is read from the disk. Counts one step for each turn of a
-/// loop.
+/// with a Stub. What stays is marked as in phase Mark. Nothing is read from the disk. Counts one step for each turn of
+/// a loop.
 ///
 /// Takes all its memory before the first change, and asks for all its room on the disk before the first write.
 pub fn collect_move<D: StaleDisk, L: Ledger>(
@@ -208,7 +212,8 @@ pub fn collect_move<D: StaleDisk, L: Ledger>(
         (D.image disk.old.disk.now) (D.image disk.new.disk.now) done.1) }
     ensures fits { OnOk result (disk.new.end ≤ disk.old.limit) }
     ensures refused { IfErr result (λ refusal. IsRefused heap held.old held.new disk.old disk.new refusal) }
-    ensures failed { IsErrOf result MoveRefusal.DiskFault → Rose (D.faults disk.old.disk.now) (D.faults disk.new.disk.now) }
+    ensures failed { IsErrOf result MoveRefusal.DiskFault
+        → Rose (D.faults disk.old.disk.now) (D.faults disk.new.disk.now) }
     ensures count { D.faults disk.old.disk.now ≤ D.faults disk.new.disk.now }
     ensures read_faults { D.read_faults disk.new.disk.now ≡ D.read_faults disk.old.disk.now }
     ensures lends { D.lends disk.new.disk.now ≡ D.lends disk.old.disk.now }

@@ -120,7 +120,8 @@ pub fn copy_staying<L: Ledger>(
     requires empty { out.items ≡ [] }
     requires room { HasRoom decision.now }
     requires decided { (s : State) × IsDecision space.now s decision.now }
-    ensures { IfOk result (λ out. (s : State) → IsDecision space.now s decision.now → StandIn s decision.now out.items) }
+    ensures { IfOk result (λ out. (s : State) → IsDecision space.now s decision.now
+        → StandIn s decision.now out.items) }
 {
     for (k, m) in decision.choice.stay.moves.iter().enumerate() {
         steps.tick();

@@ -64,7 +64,8 @@ give_scions-requires-after_bounds g c = λ κs within.
     c.reserve_homes.ensures.end ∙ ap (λ (l : List Given). c.args.disk.now.end + need_for l) c.deref.ensures.value in
     let kept = c.write_bodies.ensures.end in
     await_scions c.args.heap.now c.args.held.now formed.disk c.args.decision.now decided formed.maps formed.formed
-    formed.made c.free_scions.new.scions c.free_scions.ensures c.put_back.new.heap c.put_back.new.held c.args.copied stand
+    formed.made c.free_scions.new.scions c.free_scions.ensures c.put_back.new.heap c.put_back.new.held
+    c.args.copied stand
     c.put_back.ensures c.write_bodies.new.disk.end (omega (arith, first, grown, kept))
     (let small = c.requires.small in omega (arith, first, grown, kept, small))
 
@@ -86,7 +87,8 @@ returns-clause-carries g c =
     carries_out maps c.args.heap.now c.args.held.now disk c.args.decision.now decided formed c.requires.formed.made
     c.requires.settled c.free_scions.new.scions c.free_scions.ensures c.put_back.new.heap c.put_back.new.held
     c.args.copied stand stay c.put_back.ensures c.give_scions.new.heap have c.give_scions.new.disk.end
-    (omega (arith, first, grown, kept, last)) (let small = c.requires.small in omega (arith, first, grown, kept, last, small))
+    (omega (arith, first, grown, kept, last))
+    (let small = c.requires.small in omega (arith, first, grown, kept, last, small))
     disk.image bodies.0 stubs.0 (λ k. refl)
     (subst (λ e. WritesBodies (state_of c.args.heap.now c.args.held.now disk)
     (home_by (word_at c.args.heap.now.space) c.args.decision.now) e c.args.decision.now.choice.leaving.items

@@ -14,7 +14,8 @@ loop-g-preserved g c =
     let given = c.args.given.now in
     let i = c.loop-g.g-index in
     let is : Given = slice_index_or given i (record { from = 0; shape = record { refs = 0; nums = 0 } }) in
-    let at = read_at given given i (record { from = 0; shape = record { refs = 0; nums = 0 } }) refl c.loop-g-test.true in
+    let at = read_at given given i (record { from = 0; shape = record { refs = 0; nums = 0 } }) refl
+    c.loop-g-test.true in
     let front = need-front given i is at in
     let before = c.loop-g.invariant in
     let raised : c.reserve_home-home.new.self.end ≡ c.loop-g.disk.end + cost_of is.shape =
@@ -25,7 +26,8 @@ loop-g-preserved g c =
       end =
           (let end = before.end in
           let next : need_for (take (i + 1) given) ≡ need_for (take i given) + cost_of is.shape =
-          (let same : i + 1 ≡ suc i = omega arith in ap (λ (n : ℕ). need_for (take n given)) same) ∙ need-next given i is at in
+          (let same : i + 1 ≡ suc i = omega arith in ap (λ (n : ℕ). need_for (take n given)) same)
+          ∙ need-next given i is at in
           omega (arith, raised, end, next));
       limit = c.reserve_home-home.ensures.limit ∙ before.limit;
       same_disk = c.reserve_home-home.ensures.same_disk ∙ before.same_disk;
