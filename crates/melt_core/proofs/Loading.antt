@@ -375,9 +375,9 @@ look_reads disk v w t o place dst address result asks looks finds clean read =
 
 -- The next event of the thread is the exchange of its load, which found the reference at the place.
 pub record IsCleared (disk : OnDisk) (v : View) (t : ℕ) (o : Op) (place : Place) (found : Ref) (target dst : ℕ) : Type 0
-    where
-  pub asks : Asks disk v t o
-  pub at : stage_of v t ≡ Some (Cleared place found target dst)
+  where
+    pub asks : Asks disk v t o
+    pub at : stage_of v t ≡ Some (Cleared place found target dst)
 
 -- it has no event behind it
 cleared_ends : (disk : OnDisk) {v : View} {t : ℕ} {o : Op} {place : Place} {found : Ref} {target dst : ℕ}
