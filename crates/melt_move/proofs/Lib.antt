@@ -23,6 +23,7 @@ pub mod TwoObjects
 pub mod Encoding
 pub mod Written
 pub mod BuildingTwo
+pub mod BuildingBox
 pub mod ScionRoom
 pub mod GivingScions
 pub mod Awaiting

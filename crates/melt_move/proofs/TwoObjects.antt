@@ -68,29 +68,29 @@ module _ (space : SpaceWords) (has : HasTwo space) where
     register = λ t r. 1;
   }
 
-  at_leaf : has.leaf ≡ 1
+  pub at_leaf : has.leaf ≡ 1
   at_leaf = omega (arith, has.makes_leaf.place, has.fresh.used)
 
-  used_one : has.one.used ≡ 2
+  pub used_one : has.one.used ≡ 2
   used_one = omega (arith, has.makes_leaf.used, has.fresh.used)
 
-  at_box : has.box ≡ 3
+  pub at_box : has.box ≡ 3
   at_box = omega (arith, has.makes_box.place, used_one)
 
-  used : space.used ≡ 5
+  pub used : space.used ≡ 5
   used = omega (arith, has.refers.used, has.marks.used, has.makes_box.used, used_one)
 
-  size : length space.list ≡ 5
+  pub size : length space.list ≡ 5
   size = has.refers.size
       ∙ (has.marks.size ∙ (has.makes_box.size ∙ (has.makes_leaf.size ∙ has.fresh.size)))
 
-  leaf_word : word_at space 1 ≡ header_word leaf_header
+  pub leaf_word : word_at space 1 ≡ header_word leaf_header
   leaf_word =
       has.refers.others 1 (omega arith) ∙ (has.marks.others 1 (omega arith)
       ∙ (has.makes_box.before 1 (omega (arith, at_box))
       ∙ subst (λ (a : ℕ). word_at has.one a ≡ header_word leaf_header) at_leaf has.makes_leaf.header))
 
-  box_word : word_at space 3 ≡ header_word box_header
+  pub box_word : word_at space 3 ≡ header_word box_header
   box_word = has.refers.others 3 (omega arith) ∙ has.marks.here
 
   leaf_starts : HeaderAt state 1 leaf_header

@@ -1,5 +1,6 @@
 use super::*;
 
 mod choice;
+mod collect;
 mod given;
 mod moved;
