@@ -10,7 +10,8 @@ use Rattle.melt_scion.specs.Placed.{Maps, Formed}
 use Rattle.melt_scion.specs.GhostMaps.{NamePairs, named}
 use Rattle.melt_scion.specs.HomeNames.{home_name}
 use Rattle.melt_scion.specs.Names.{name_at}
-use Rattle.melt_scion.specs.Heaps.{OnDisk, AreScionsFor, HasNames, NamesMade, TablesMade, IsSettled, KeepsTables, KeepsNames}
+use Rattle.melt_scion.specs.Heaps.{OnDisk, AreScionsFor, HasNames, NamesMade, TablesMade, IsSettled, KeepsTables}
+use Rattle.melt_scion.specs.Heaps.{KeepsNames}
 use Rattle.melt_scion.specs.Heaps.{state_of}
 use Rattle.melt_scion.specs.declared.registers.Registers.{Registers}
 use Rattle.melt_scion.specs.declared.heap.Names.{Names}

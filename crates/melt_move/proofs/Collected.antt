@@ -5,7 +5,8 @@ use Rattle.melt_model.specs.declared.reports.Phase.TheVariants.{Move}
 use Rattle.melt_model.specs.declared.reports.Journal.{Journal}
 use Rattle.melt_scion.specs.State.{State}
 use Rattle.melt_scion.specs.Placed.{Maps, IsNamed, Formed}
-use Rattle.melt_scion.specs.Heaps.{OnDisk, Shows, HasMaps, HasNames, NamesMade, TablesMade, IsSettled, KeepsTables, KeepsNames, state_of}
+use Rattle.melt_scion.specs.Heaps.{OnDisk, Shows, HasMaps, HasNames, NamesMade, TablesMade, IsSettled, KeepsTables}
+use Rattle.melt_scion.specs.Heaps.{KeepsNames, state_of}
 use Rattle.melt_scion.specs.Moves.{Leaves, MovesNames}
 use Rattle.melt_scion.specs.Collected.{Collected, CountsWords, HeldAt, Taken}
 use Rattle.melt_scion.specs.GhostMaps.{NamePairs}
@@ -23,7 +24,8 @@ use Rattle.melt_copy.proofs.Counted.{live_words, held_words}
 use Rattle.melt_move.specs.declared.decision.Decision.{Decision}
 use Rattle.melt_move.specs.Plans.{IsDecision, WantsHome, home_by, need_for}
 use Rattle.melt_move.specs.GivenScions.{given_count}
-use Rattle.melt_move.specs.Collecting.{IsFormedOn, IsAsBefore, SameNames, CarriesOut, Counts, Decides, HasMoved, disk_after}
+use Rattle.melt_move.specs.Collecting.{IsFormedOn, IsAsBefore, SameNames, CarriesOut, Counts, Decides, HasMoved}
+use Rattle.melt_move.specs.Collecting.{disk_after}
 use Rattle.melt_move.specs.Collecting.{LacksDisk}
 use Rattle.melt_move.proofs.Moves.{to_by, scion_by, move_carries, move_words}
 use Rattle.melt_move.proofs.MovesDisk.{move_disk, names_given}
