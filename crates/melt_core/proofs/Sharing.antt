@@ -1,5 +1,5 @@
 -- The laws of events for plain words that threads share.
-use Rattle.std.proofs.Common.{◌≡◌, ℕ, ◌+◌, ◌*◌, refl, arith}
+use Rattle.std.proofs.Common.{ℕ, ◌+◌, ◌*◌, refl, arith}
 use Rattle.std.specs.Prelude.{Bool, List}
 use Rattle.melt_model.specs.declared.history.Entry.{Entry}
 use Rattle.melt_word.specs.declared.reference.Ref.TheVariants.{Stale}

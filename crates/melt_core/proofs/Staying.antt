@@ -1,7 +1,7 @@
 -- What every event leaves of what is known: of objects, of registers, of values, and of calls.
 use Rattle.std.proofs.Common.{◌≡◌, ◌≢◌, ℕ, zero, suc, ◌+◌, ◌<◌, ◌≤◌, inl, inr, refl, sym, ◌∙◌, ap, subst, arith}
 use Rattle.std.proofs.lemmas.Bool.Decides.{eqb_tells}
-use Rattle.std.specs.Prelude.{Bool, true, false, List, Option, None, Some}
+use Rattle.std.specs.Prelude.{Bool, false, List, Option, None, Some}
 use Rattle.std.specs.Option.{option_map}
 use Rattle.melt_model.specs.declared.history.Value.{Value}
 use Rattle.melt_model.specs.declared.history.Value.TheVariants.{Ref}
