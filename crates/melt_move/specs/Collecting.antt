@@ -157,6 +157,13 @@ pub record LacksDisk (heap : Heap) (held : List Registers) (end limit : ℕ) (fu
   pub needs : (maps : Maps) (disk : OnDisk) → disk.end ≡ end → Formed maps (state_of heap held disk)
       → CountsWords (state_of heap held disk) (WantsHome (state_of heap held disk)) full.need
 
+-- The homes that the collection would give have room below the limit of the disk.
+pub record HasDisk (heap : Heap) (held : List Registers) (end limit : ℕ) : Type 0 where
+  pub need : ℕ
+  pub fits : end + need ≤ limit
+  pub needs : (maps : Maps) (disk : OnDisk) → disk.end ≡ end → Formed maps (state_of heap held disk)
+      → CountsWords (state_of heap held disk) (WantsHome (state_of heap held disk)) need
+
 -- no register holds anything
 abbrev pub HoldNothing : List Registers → Type 0
 HoldNothing held = (t r : ℕ) → register_in held t r ≡ 0
@@ -170,7 +177,8 @@ abbrev pub HasRoomFor : ℕ → Option Names → Type 0
 HasRoomFor more None = Unit {0}
 HasRoomFor more (Some names) = more ≤ names.homes.spare
 
--- What stands behind a refusal. Only a fault of the disk gives the heap up, and then no register holds anything.
+-- What stands behind a refusal. Only a fault of the disk gives the heap up, and then no register holds anything; it is a
+-- fault in writing what had room.
 abbrev pub IsRefused : {Disk : Type 0} → Heap → List Registers → List Registers → Stale Disk → Stale Disk → MoveRefusal
     → Type 0
 IsRefused heap held held_after disk disk_after (NoMemory back) = IsAsBefore heap back × (held_after ≡ held)
@@ -178,4 +186,5 @@ IsRefused heap held held_after disk disk_after (NoMemory back) = IsAsBefore heap
 IsRefused heap held held_after disk disk_after (DiskFull back full) = IsAsBefore heap back × (held_after ≡ held)
     × (disk_after.end ≡ disk.end) × (disk_after.disk.now ≡ disk.disk.now)
     × LacksDisk heap held disk.end disk.limit full
-IsRefused heap held held_after disk disk_after DiskFault = HoldNothing held_after
+IsRefused heap held held_after disk disk_after DiskFault =
+    HoldNothing held_after × HasDisk heap held disk.end disk.limit

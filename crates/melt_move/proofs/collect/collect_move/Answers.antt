@@ -5,7 +5,7 @@ use Rattle.melt_scion.specs.Heaps.{OnDisk, state_of}
 use Rattle.melt_disk.specs.declared.space.DiskFull.{DiskFull}
 use Rattle.melt_scion.specs.Collected.{CountsWords}
 use Rattle.melt_disk.specs.Homes.{need_of}
-use Rattle.melt_move.specs.Plans.{IsDecision, WantsHome}
+use Rattle.melt_move.specs.Plans.{IsDecision, WantsHome, need_for}
 use Rattle.melt_move.specs.Collecting.{IsFormedOn}
 use Rattle.melt_move.proofs.AsBefore.{formed_on, formed_same, maps_same, moved_same, state_same, tables_same}
 use Rattle.melt_move.proofs.Collected.{has_moved}
@@ -27,6 +27,20 @@ decided_some : (g : Over) (c : In-Ok g)
     c.in-Ok.prepared.0
 decided_some g c =
     let formed = c.requires.formed in decided_for g c formed.maps formed.disk formed.end_is formed.formed
+
+-- the words of the homes that the heap would give
+need_counted : (g : Over) (c : In-Ok g) → (maps : Maps) (disk : OnDisk) → disk.end ≡ c.args.disk.now.end
+    → Formed maps (state_of c.args.heap c.args.held.now disk)
+    → CountsWords (state_of c.args.heap c.args.held.now disk) (WantsHome (state_of c.args.heap c.args.held.now disk))
+    (need_for c.in-Ok.prepared.0.homes.given.items)
+need_counted g c maps disk end formed =
+    let decided = decided_for g c maps disk end formed in
+    let first = decided.first in
+    let some = decided.first_end in
+    subst (λ (state : State). CountsWords state (WantsHome state) (need_for c.in-Ok.prepared.0.homes.given.items))
+    (state_same c.args.heap c.prepare.new.heap c.in-Ok.ensures.as_before c.args.held.now disk)
+    (needs_counted (state_of c.prepare.new.heap c.args.held.now disk) c.in-Ok.prepared.0 decided.homes
+    (omega (arith, first, some)))
 
 pub lacks_room-requires-clause-small : goal.lacks_room-requires-clause-small
 lacks_room-requires-clause-small g c = λ κs within.
@@ -61,14 +75,10 @@ returns-in-Some-clause-refused g c =
         limit_is = ap (λ (f : DiskFull). f.limit) full;
         above = omega (arith, lacks, need);
         needs = λ maps disk end formed.
-            let decided = decided_for g (goal.at.returns-in-Some-clause-refused g c).In-Ok maps disk end formed in
-            let s : State = state_of c.prepare.new.heap c.args.held.now disk in
-            let first = decided.first in
-            let some = decided.first_end in
-            subst (λ (state : State). CountsWords state (WantsHome state) c.in-Some.full.need)
-            (state_same c.args.heap c.prepare.new.heap c.in-Ok.ensures.as_before c.args.held.now disk)
-            (subst (CountsWords s (WantsHome s)) (sym (need ∙ decided.homes.counts))
-            (needs_counted s c.in-Ok.prepared.0 decided.homes (omega (arith, first, some))));
+            subst (CountsWords (state_of c.args.heap c.args.held.now disk)
+            (WantsHome (state_of c.args.heap c.args.held.now disk)))
+            (sym (need ∙ (decided_some g (goal.at.returns-in-Some-clause-refused g c).In-Ok).homes.counts))
+            (need_counted g (goal.at.returns-in-Some-clause-refused g c).In-Ok maps disk end formed);
       },
     )
 
@@ -96,6 +106,18 @@ carry_out-requires-clause-small g c = λ κs within.
     let first = c.in-Ok.ensures.first in
     let end = c.end.ensures in
     omega (arith, counts, room, limit, first, end)
+
+pub returns-in_default-carry_out-clause-refused : goal.returns-in_default-carry_out-clause-refused
+returns-in_default-carry_out-clause-refused g c =
+    let at = goal.at.returns-in_default-carry_out-clause-refused g c in (
+      c.drop_held.ensures,
+      record {
+        need = need_for c.in-Ok.prepared.0.homes.given.items;
+        fits = let counts = (decided_some g at.In-Ok).homes.counts in let room = c.in_default.ensures.room in
+            omega (arith, counts, room);
+        needs = need_counted g at.In-Ok;
+      },
+    )
 
 pub overflow_cast-journal : goal.overflow_cast-journal
 overflow_cast-journal g c =
