@@ -1,5 +1,5 @@
 -- A heap that is as before, but that there may be room for more names, shows the same states.
-use Rattle.std.proofs.Common.{◌≡◌, ◌≢◌, ℕ, List, [], length, refl, sym, ◌∙◌, ap, subst}
+use Rattle.std.proofs.Common.{◌≡◌, ◌≢◌, ℕ, List, [], length, sym, ◌∙◌, ap, subst}
 use Rattle.std.specs.Prelude.{Option, None, Some}
 use Rattle.std.specs.Ordering.{nat_cmp}
 use Rattle.std.specs.FinMap.{FinMap, get}
@@ -7,16 +7,14 @@ use Rattle.melt_space.specs.Space.{SpaceWords}
 use Rattle.melt_scion.specs.State.{State}
 use Rattle.melt_scion.specs.Scions.{Scions}
 use Rattle.melt_scion.specs.Placed.{Maps, Formed}
-use Rattle.melt_scion.specs.GhostMaps.{NamePairs, named}
-use Rattle.melt_scion.specs.HomeNames.{home_name}
+use Rattle.melt_scion.specs.GhostMaps.{NamePairs}
 use Rattle.melt_scion.specs.Names.{name_at}
-use Rattle.melt_scion.specs.Heaps.{OnDisk, AreScionsFor, HasNames, NamesMade, TablesMade, IsSettled, KeepsTables}
+use Rattle.melt_scion.specs.Heaps.{OnDisk, AreScionsFor, HasNames, NamesMade, KeepsTables}
 use Rattle.melt_scion.specs.Heaps.{KeepsNames}
 use Rattle.melt_scion.specs.Heaps.{state_of}
 use Rattle.melt_scion.specs.declared.registers.Registers.{Registers}
 use Rattle.melt_scion.specs.declared.heap.Names.{Names}
 use Rattle.melt_scion.specs.declared.heap.Heap.{Heap}
-use Rattle.melt_move.specs.declared.decision.Decision.{Decision}
 use Rattle.melt_scion.specs.Moves.{Leaves}
 use Rattle.melt_scion.specs.Collected.{Collected, CountsWords, HeldAt}
 use Rattle.melt_model.specs.declared.reports.Phase.TheVariants.{Move}

@@ -1,15 +1,14 @@
 -- The objects that stay await their scions, once their words were put into the space.
-use Rattle.std.proofs.Common.{◌≡◌, ◌≢◌, ◌⊎◌, inl, inr, ℕ, zero, suc, ◌+◌, ◌-◌, ◌*◌, ◌<◌, ◌≤◌, List, length, refl, sym}
+use Rattle.std.proofs.Common.{◌≡◌, ◌≢◌, ◌⊎◌, inl, inr, ℕ, zero, suc, ◌+◌, ◌*◌, ◌≤◌, List, length, sym}
 use Rattle.std.proofs.Common.{◌∙◌, ap}
 use Rattle.std.proofs.Common.{subst, arith}
 use Rattle.std.specs.Prelude.{◌^◌, ◌/◌, slice_get, slice_index, Option, None, Some}
 use Rattle.std.specs.Option.{option_map}
-use Rattle.std.proofs.lemmas.Bool.{cases_eq, cases_order}
+use Rattle.std.proofs.lemmas.Bool.{cases_order}
 use Rattle.std.proofs.lemmas.Option.{same_Some}
 use Rattle.melt_model.specs.declared.reports.Phase.TheVariants.{Move}
-use Rattle.melt_word.specs.Words.{IsShape, cost_of, home_word}
-use Rattle.melt_word.specs.declared.header.Shape.{Shape}
-use Rattle.melt_space.specs.Space.{word_at, Replaces}
+use Rattle.melt_word.specs.Words.{IsShape, cost_of}
+use Rattle.melt_space.specs.Space.{word_at}
 use Rattle.melt_scion.specs.State.{Scion, State, HeaderAt, Reached}
 use Rattle.melt_scion.specs.Scions.{Scions, IsTable, scion_at}
 use Rattle.melt_scion.specs.Placed.{Maps, Formed}
@@ -25,15 +24,14 @@ use Rattle.melt_copy.specs.Moving.{words_in}
 use Rattle.melt_copy.proofs.Collects.{can_rename, none_behind}
 use Rattle.melt_copy.proofs.Places.{place_behind, place_below, place_found, same_place, same_source}
 use Rattle.melt_copy.proofs.Sources.{found_words, source_shape, goes as goes_to}
-use Rattle.melt_move.specs.declared.choice.Departure.{Departure}
 use Rattle.melt_move.specs.declared.commit.Copied.{Copied}
 use Rattle.melt_move.specs.declared.decision.Decision.{Decision}
 use Rattle.melt_move.specs.declared.homes.Given.{Given}
-use Rattle.melt_move.specs.Plans.{HasOldHome, OldHome, IsDecision, home_by, need_for, new_home}
+use Rattle.melt_move.specs.Plans.{OldHome, IsDecision, home_by, need_for, new_home}
 use Rattle.melt_move.specs.Staying.{StandIn}
 use Rattle.melt_move.specs.GivenScions.{NamesScion, IsOfLeaving, FreesScions, AwaitScions, given_home}
 use Rattle.melt_move.specs.Collecting.{IsPutBack, AreShapes}
-use Rattle.melt_move.proofs.HomesBy.{IsGiven, home-none, given_within, given_order}
+use Rattle.melt_move.proofs.HomesBy.{home-none, given_within, given_order}
 
 -- the pair of a scion in a table
 pub pair_of : (o : Option (ℕ × ℕ)) (x : Scion)

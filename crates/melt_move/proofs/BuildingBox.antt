@@ -2,7 +2,7 @@
 -- refers.
 use Rattle.std.proofs.Common.{◌≡◌, ◌≢◌, ◌⊎◌, inl, inr, ℕ, ◌+◌, ◌<◌, zero, suc, List, [], ◌∷◌, length, replicate, refl}
 use Rattle.std.proofs.Common.{ap, sym, subst, ◌∙◌, arith, lit≤}
-use Rattle.std.specs.Prelude.{Option, None, Some, false, slice_index}
+use Rattle.std.specs.Prelude.{Option, None, Some, slice_index}
 use Rattle.std.specs.FinMap.{FinMap, empty, get, get-empty}
 use Rattle.std.specs.Ordering.{nat_cmp}
 use Rattle.std.proofs.lemmas.List.{length-replicate, get_or-replicate}
@@ -10,7 +10,7 @@ use Rattle.std.proofs.lemmas.Bool.Decides.{eqb_tells}
 use Rattle.melt_word.specs.Words.{cost_of, header_word, ref_word}
 use Rattle.melt_word.specs.declared.header.Header.{Header}
 use Rattle.melt_word.specs.declared.reference.Ref.TheVariants.{Clean, Stale}
-use Rattle.melt_space.specs.Space.{SpaceWords, word_at}
+use Rattle.melt_space.specs.Space.{word_at}
 use Rattle.melt_scion.specs.State.{State, HeaderAt, ObjectAt, IsFresh}
 use Rattle.melt_scion.specs.Placed.{Maps, FormedWords, Formed}
 use Rattle.melt_scion.specs.Names.{name_at, SetsName}
@@ -25,7 +25,7 @@ use Rattle.melt_scion.proofs.Tables.{scions_made}
 use Rattle.melt_scion.proofs.Starting.{nothing_at, no_scion_in}
 use Rattle.melt_copy.proofs.Building.{none_at}
 use Rattle.melt_move.specs.Collecting.{IsFormedOn}
-use Rattle.melt_move.proofs.TwoObjects.{HasTwo, leaf_header, box_header, at_leaf, at_box, used_one, used, size}
+use Rattle.melt_move.proofs.TwoObjects.{HasTwo, leaf_header, box_header, at_leaf, at_box, used, size}
 use Rattle.melt_move.proofs.TwoObjects.{leaf_word, box_word}
 
 -- the third register of one thread holds the leaf

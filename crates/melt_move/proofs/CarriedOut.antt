@@ -1,17 +1,17 @@
 -- What was decided was done: the heap, the registers and the disk behind a Move collection.
-use Rattle.std.proofs.Common.{◌≡◌, ◌≢◌, ◌⊎◌, inl, inr, ℕ, zero, suc, ◌+◌, ◌-◌, ◌*◌, ◌<◌, ◌≤◌, List, length, refl, sym}
+use Rattle.std.proofs.Common.{◌≡◌, ◌≢◌, ◌⊎◌, inl, inr, ℕ, ◌+◌, ◌<◌, ◌≤◌, List, length, refl, sym}
 use Rattle.std.proofs.Common.{◌∙◌, ap}
 use Rattle.std.proofs.Common.{subst, arith}
-use Rattle.std.specs.Prelude.{◌^◌, nat_lt, Bool, slice_get, slice_index, Option, None, Some}
+use Rattle.std.specs.Prelude.{◌^◌, nat_lt, slice_get, slice_index, Option, Some}
 use Rattle.std.specs.Option.{option_map}
-use Rattle.std.proofs.lemmas.Bool.{cases_eq, cases_order}
+use Rattle.std.proofs.lemmas.Bool.{cases_order}
 use Rattle.std.proofs.lemmas.Option.{same_Some, slice_get_within}
 use Rattle.melt_word.specs.Words.{cost_of}
 use Rattle.melt_word.specs.declared.header.Header.{Header}
 use Rattle.melt_record.specs.Records.{IsHead}
 use Rattle.melt_record.specs.declared.head.Kind.TheVariants.{Body}
 use Rattle.melt_space.specs.Space.{word_at}
-use Rattle.melt_scion.specs.State.{Scion, State, HeaderAt, Reached}
+use Rattle.melt_scion.specs.State.{Scion, State, HeaderAt}
 use Rattle.melt_scion.specs.Scions.{Scions, scion_at}
 use Rattle.melt_scion.specs.Placed.{Maps, Formed}
 use Rattle.melt_model.specs.declared.reports.Phase.TheVariants.{Move}
@@ -29,15 +29,15 @@ use Rattle.melt_move.specs.declared.choice.Departure.{Departure}
 use Rattle.melt_move.specs.declared.commit.Copied.{Copied}
 use Rattle.melt_move.specs.declared.decision.Decision.{Decision}
 use Rattle.melt_move.specs.declared.homes.Given.{Given}
-use Rattle.melt_move.specs.Plans.{HasOldHome, OldHome, IsDecision, home_by, need_for}
+use Rattle.melt_move.specs.Plans.{IsDecision, home_by, need_for}
 use Rattle.melt_move.specs.Staying.{StandIn, StaysAs, WordsStay}
 use Rattle.melt_move.specs.Bodies.{HasBody, HomesApart, IsOutside, WritesBodies}
-use Rattle.melt_move.specs.GivenScions.{NamesScion, FreesScions, HaveScions, WritesStubs, given_home}
+use Rattle.melt_move.specs.GivenScions.{FreesScions, HaveScions, WritesStubs, given_home}
 use Rattle.melt_move.specs.Moved.{StandsAt, NamedByStaying, HasNewScion, IsMove}
 use Rattle.melt_move.specs.Collecting.{IsPutBack, CarriesOut, disk_after}
-use Rattle.melt_move.proofs.HomesBy.{home-none, home-old, home-cases, given_within, given_order, gets_given}
+use Rattle.melt_move.proofs.HomesBy.{home-cases, given_within, given_order}
 use Rattle.melt_move.proofs.HomesBy.{wants_given}
-use Rattle.melt_move.proofs.Awaiting.{pair_of, stays_within, not_leaving, put_word, put_names, within, given_to}
+use Rattle.melt_move.proofs.Awaiting.{pair_of, not_leaving, put_word, put_names, within, given_to}
 use Rattle.melt_move.proofs.NamedOut.{names_out}
 
 module _ (maps : Maps) (heap : Heap) (held : List Registers) (disk : OnDisk) (decision : Decision)

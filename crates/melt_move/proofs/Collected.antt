@@ -1,32 +1,26 @@
 -- A decision that was carried out is a Move collection.
-use Rattle.std.proofs.Common.{◌≡◌, ◌≢◌, ℕ, ◌+◌, ◌<◌, ◌≤◌, List, length, take, refl, sym, ◌∙◌, ap, subst, arith}
-use Rattle.std.specs.Prelude.{Option, None, Some, slice_index}
+use Rattle.std.proofs.Common.{◌≡◌, ◌≢◌, ℕ, ◌+◌, ◌<◌, ◌≤◌, List, length, refl, sym, ◌∙◌, subst, arith}
+use Rattle.std.specs.Prelude.{Option}
 use Rattle.melt_model.specs.declared.reports.Phase.TheVariants.{Move}
 use Rattle.melt_model.specs.declared.reports.Journal.{Journal}
 use Rattle.melt_scion.specs.State.{State}
 use Rattle.melt_scion.specs.Placed.{Maps, IsNamed, Formed}
-use Rattle.melt_scion.specs.Heaps.{OnDisk, Shows, HasMaps, HasNames, NamesMade, TablesMade, IsSettled, KeepsTables}
-use Rattle.melt_scion.specs.Heaps.{KeepsNames, state_of}
+use Rattle.melt_scion.specs.Heaps.{OnDisk}
+use Rattle.melt_scion.specs.Heaps.{state_of}
 use Rattle.melt_scion.specs.Moves.{Leaves, MovesNames}
 use Rattle.melt_scion.specs.Collected.{Collected, CountsWords, HeldAt, Taken}
-use Rattle.melt_scion.specs.GhostMaps.{NamePairs}
 use Rattle.melt_scion.specs.declared.registers.Registers.{Registers}
-use Rattle.melt_scion.specs.declared.heap.Names.{Names}
 use Rattle.melt_scion.specs.declared.heap.Heap.{Heap}
 use Rattle.melt_scion.proofs.Moving.{moves_formed}
 use Rattle.melt_scion.proofs.MovingTells.{moves_placed}
-use Rattle.melt_scion.specs.HomeNames.{home_name}
-use Rattle.melt_scion.specs.Names.{name_at}
-use Rattle.melt_copy.specs.Moving.{maps_after, name_after, words_in}
-use Rattle.melt_copy.specs.Tracking.{goes}
+use Rattle.melt_copy.specs.Moving.{maps_after, words_in}
 use Rattle.melt_copy.proofs.Carried.{carried_names, word_taken}
 use Rattle.melt_copy.proofs.Counted.{live_words, held_words}
 use Rattle.melt_move.specs.declared.decision.Decision.{Decision}
 use Rattle.melt_move.specs.Plans.{IsDecision, WantsHome, home_by, need_for}
 use Rattle.melt_move.specs.GivenScions.{given_count}
-use Rattle.melt_move.specs.Collecting.{IsFormedOn, IsAsBefore, SameNames, CarriesOut, Counts, Decides, HasMoved}
+use Rattle.melt_move.specs.Collecting.{CarriesOut, Counts, HasMoved}
 use Rattle.melt_move.specs.Collecting.{disk_after}
-use Rattle.melt_move.specs.Collecting.{LacksDisk}
 use Rattle.melt_move.proofs.Moves.{to_by, scion_by, move_carries, move_words}
 use Rattle.melt_move.proofs.MovesDisk.{move_disk, names_given}
 use Rattle.melt_move.proofs.Numbers.{needs_counted, stubs_counted, bodies_counted}

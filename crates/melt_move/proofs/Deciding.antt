@@ -1,11 +1,11 @@
 -- What is known of a heap before a Move collection decides.
-use Rattle.std.proofs.Common.{◌≡◌, ◌≢◌, ◌⊎◌, inl, inr, ℕ, ◌+◌, ◌*◌, ◌<◌, ◌≤◌, List, take, refl, sym, ◌∙◌, ap, subst}
+use Rattle.std.proofs.Common.{◌≡◌, inl, inr, ℕ, ◌+◌, ◌*◌, ◌≤◌, List, refl, sym, ◌∙◌, ap, subst}
 use Rattle.std.proofs.Common.{arith}
-use Rattle.std.specs.Prelude.{◌^◌, Some}
+use Rattle.std.specs.Prelude.{Some}
 use Rattle.std.proofs.lemmas.Bool.{cases_eq}
 use Rattle.melt_word.specs.Words.{home_word}
 use Rattle.melt_forward.specs.Forwarding.{forward_word}
-use Rattle.melt_scion.specs.State.{Scion, State, Forwards, Reached, at_scion, HeaderAt}
+use Rattle.melt_scion.specs.State.{Scion, State, Forwards, Reached, at_scion}
 use Rattle.melt_scion.specs.Placed.{Maps, Formed}
 use Rattle.melt_scion.specs.Heaps.{OnDisk, state_of, IsSettled}
 use Rattle.melt_scion.specs.declared.registers.Registers.{Registers}

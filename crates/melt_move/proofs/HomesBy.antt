@@ -1,12 +1,11 @@
 -- The home of each object when a Move collection is over: the one from before, or the one that was given, or none.
-use Rattle.std.proofs.Common.{◌≡◌, ◌≢◌, ◌⊎◌, inl, inr, ℕ, zero, suc, ◌+◌, ◌<◌, ◌≤◌, List, length, take, refl, sym, ◌∙◌}
+use Rattle.std.proofs.Common.{◌≡◌, ◌≢◌, ◌⊎◌, inl, inr, ℕ, zero, suc, ◌+◌, ◌<◌, ◌≤◌, take, refl, sym, ◌∙◌}
 use Rattle.std.proofs.Common.{ap}
 use Rattle.std.proofs.Common.{subst, arith}
 use Rattle.std.specs.Prelude.{slice_get, slice_index, Some}
-use Rattle.std.proofs.lemmas.Bool.{cases_eq, cases_order}
-use Rattle.std.proofs.lemmas.Option.{same_Some}
+use Rattle.std.proofs.lemmas.Bool.{cases_order}
 use Rattle.melt_word.specs.Words.{home_part, cost_of}
-use Rattle.melt_scion.specs.State.{State, Reached}
+use Rattle.melt_scion.specs.State.{State}
 use Rattle.melt_scion.specs.Moves.{GetsHome}
 use Rattle.melt_scion.proofs.NobodyLeaves.{parts_of_word}
 use Rattle.melt_move.specs.declared.homes.Given.{Given}

@@ -1,11 +1,11 @@
 -- What was decided and done is the law of a collection, as far as it speaks of words.
-use Rattle.std.proofs.Common.{◌≡◌, ◌≢◌, ◌⊎◌, inl, inr, ℕ, ◌+◌, ◌*◌, ◌<◌, ◌≤◌, List, [], ◌∷◌, ◌++◌, length, take, refl}
+use Rattle.std.proofs.Common.{◌≡◌, ◌≢◌, ◌⊎◌, inl, inr, ℕ, ◌+◌, ◌*◌, ◌≤◌, List, ◌++◌, take, refl}
 use Rattle.std.proofs.Common.{sym}
 use Rattle.std.proofs.Common.{◌∙◌, ap, subst, arith}
-use Rattle.std.specs.Prelude.{◌^◌, nat_lt, slice_get, slice_index, Some}
+use Rattle.std.specs.Prelude.{nat_lt, slice_get, slice_index, Some}
 use Rattle.std.proofs.lemmas.Bool.{cases_eq}
 use Rattle.melt_model.specs.declared.reports.Phase.TheVariants.{Move}
-use Rattle.melt_word.specs.Words.{cost_of, home_word, home_part, scion_part, IsHomeAndScion}
+use Rattle.melt_word.specs.Words.{cost_of, home_word, scion_part}
 use Rattle.melt_word.specs.declared.header.Shape.{Shape}
 use Rattle.melt_word.specs.declared.header.Header.{Header}
 use Rattle.melt_scion.specs.State.{Scion, Home, State, HeaderAt, IsReserved, Reached, in_slot}
@@ -21,14 +21,12 @@ use Rattle.melt_copy.specs.Moving.{AreHeld, Carries, Relocates, header_after}
 use Rattle.melt_copy.specs.Tracking.{goes}
 use Rattle.melt_copy.proofs.Places.{place_found}
 use Rattle.melt_copy.proofs.Sources.{goes as goes_to}
-use Rattle.melt_copy.proofs.Carried.{FoundAt, found_at, free_within, in_order, marked, place_within}
-use Rattle.melt_move.specs.declared.homes.Given.{Given}
+use Rattle.melt_copy.proofs.Carried.{found_at, free_within, in_order, marked, place_within}
 use Rattle.melt_move.specs.declared.decision.Decision.{Decision}
-use Rattle.melt_move.specs.Plans.{HasOldHome, OldHome, WantsHome, IsShaped, home_by, need_for, new_home}
+use Rattle.melt_move.specs.Plans.{OldHome, home_by, need_for, new_home}
 use Rattle.melt_move.specs.GivenScions.{NamesScion, given_home}
 use Rattle.melt_move.specs.Moved.{IsMove, homes_from}
-use Rattle.melt_move.proofs.HomesBy.{IsGiven, home-none, home-old, home-cases, gets_given, given_within, home-given}
-use Rattle.melt_move.proofs.HomesBy.{some_new}
+use Rattle.melt_move.proofs.HomesBy.{home-none, home-old, home-cases, gets_given, given_within, home-given}
 use Rattle.melt_move.proofs.HomesBy.{wants_some}
 use Rattle.melt_move.proofs.Reserved.{new_reserved}
 

@@ -1,6 +1,6 @@
 -- The names after a Move collection: those of addresses go with their objects, and new homes have theirs.
-use Rattle.std.proofs.Common.{◌≡◌, ◌≢◌, ℕ, List, refl, sym, ◌∙◌, ap}
-use Rattle.std.specs.Prelude.{Option, None, Some, slice_get}
+use Rattle.std.proofs.Common.{◌≡◌, ℕ, List, refl, sym, ◌∙◌, ap}
+use Rattle.std.specs.Prelude.{Option, None, Some}
 use Rattle.melt_scion.specs.GhostMaps.{NamePairs, named}
 use Rattle.melt_scion.specs.HomeNames.{home_name}
 use Rattle.melt_scion.specs.Names.{name_at}

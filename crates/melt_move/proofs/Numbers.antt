@@ -1,9 +1,8 @@
 -- The numbers of a Move collection: the words that its new homes take, the Bodies and the Stubs.
-use Rattle.std.proofs.Common.{◌≡◌, ◌≢◌, ℕ, zero, suc, ◌+◌, ◌-◌, ◌<◌, ◌≤◌, true, List, [], ◌∷◌, length, map, refl, sym}
+use Rattle.std.proofs.Common.{◌≡◌, ◌≢◌, ℕ, zero, suc, ◌-◌, ◌≤◌, true, List, [], ◌∷◌, length, map, refl, sym}
 use Rattle.std.proofs.Common.{◌∙◌, ap, subst, arith}
 use Rattle.std.specs.Prelude.{Bool, false, nat_lt, slice_get, slice_index, Some, filter}
-use Rattle.std.proofs.lemmas.Bool.{lt-ltb, le-ltb, cases_lt, cases_eq}
-use Rattle.std.proofs.Common.{inl, inr}
+use Rattle.std.proofs.lemmas.Bool.{lt-ltb, le-ltb}
 use Rattle.std.proofs.lemmas.List.{length-map}
 use Rattle.std.proofs.lemmas.Option.{same_Some}
 use Rattle.melt_model.specs.declared.reports.Phase.TheVariants.{Move}
@@ -25,7 +24,7 @@ use Rattle.melt_move.specs.declared.decision.Decision.{Decision}
 use Rattle.melt_move.specs.Plans.{GivesNew, IsChoice, IsShaped, AreDepartures, WantsHome, need_for, home_by, new_home}
 use Rattle.melt_move.specs.GivenScions.{given_home, given_count}
 use Rattle.melt_move.specs.Collecting.{Counts}
-use Rattle.melt_move.proofs.HomesBy.{IsGiven, given_once, home-none, given_some, wants_given}
+use Rattle.melt_move.proofs.HomesBy.{given_once, home-none, given_some, wants_given}
 use Rattle.melt_move.proofs.Needs.{as_move, move_words, move_at, needs_fit}
 use Rattle.melt_move.proofs.Prepared.{count_need}
 use Rattle.melt_move.proofs.Counts.{counts_those, kept_in, found_in, differ_kept}

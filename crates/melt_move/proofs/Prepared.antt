@@ -1,7 +1,6 @@
 -- What is known of a heap for which all was decided.
-use Rattle.std.proofs.Common.{◌≡◌, ℕ, ◌+◌, ◌≤◌, List, [], ◌∷◌, length, sym, ◌∙◌, ap, subst, arith}
+use Rattle.std.proofs.Common.{◌≡◌, ℕ, ◌≤◌, List, [], ◌∷◌, length, sym, ◌∙◌, ap, subst, arith}
 use Rattle.std.specs.Prelude.{Option}
-use Rattle.melt_word.specs.Words.{cost_of}
 use Rattle.melt_space.specs.Space.{SpaceWords}
 use Rattle.melt_scion.specs.State.{State, in_global}
 use Rattle.melt_scion.specs.Placed.{Maps, Formed}

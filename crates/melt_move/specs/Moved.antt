@@ -1,10 +1,8 @@
 -- A state behind a Move collection, beside the one before it: what was decided was done.
-use Rattle.std.specs.Prelude.{◌≡◌, ◌≢◌, ◌⊎◌, ◌^◌, ℕ, ◌+◌, ◌<◌, ◌≤◌, nat_lt, Bool, List, [], ◌∷◌, ◌++◌, slice_get}
-use Rattle.std.specs.Prelude.{slice_index}
-use Rattle.std.specs.Prelude.{map, Some}
+use Rattle.std.specs.Prelude.{◌≡◌, ◌≢◌, ◌^◌, ℕ, ◌+◌, ◌<◌, ◌≤◌, nat_lt, Bool, List, [], ◌∷◌, ◌++◌, slice_get}
+use Rattle.std.specs.Prelude.{Some}
 use Rattle.melt_model.specs.declared.reports.Phase.TheVariants.{Move}
 use Rattle.melt_word.specs.Words.{header_word, cost_of}
-use Rattle.melt_word.specs.declared.header.Shape.{Shape}
 use Rattle.melt_word.specs.declared.header.Header.{Header}
 use Rattle.melt_record.specs.Records.{IsHead}
 use Rattle.melt_record.specs.declared.head.Kind.TheVariants.{Stub}

@@ -1,10 +1,9 @@
-use Rattle.std.proofs.Common.{◌≡◌, ◌+◌, ◌≤◌, ℕ, arith, refl, sym, ap, subst, ◌∙◌, List, length}
+use Rattle.std.proofs.Common.{◌≡◌, arith, refl, sym, ap, subst, ◌∙◌}
 use Rattle.melt_scion.specs.State.{State}
 use Rattle.melt_scion.specs.Placed.{Maps, Formed}
 use Rattle.melt_scion.specs.Heaps.{OnDisk, state_of}
 use Rattle.melt_disk.specs.declared.space.DiskFull.{DiskFull}
 use Rattle.melt_scion.specs.Collected.{CountsWords}
-use Rattle.melt_disk.specs.Homes.{need_of}
 use Rattle.melt_move.specs.Plans.{IsDecision, WantsHome, need_for}
 use Rattle.melt_move.specs.Collecting.{IsFormedOn}
 use Rattle.melt_move.proofs.AsBefore.{formed_on, formed_same, maps_same, moved_same, state_same, tables_same}
