@@ -20,12 +20,14 @@ use Rattle.melt_core.specs.declared.call.Task.{Task}
 use Rattle.melt_core.specs.declared.call.Task.TheVariants.{Use}
 use Rattle.melt_core.specs.declared.call.Stage.{Stage}
 use Rattle.melt_core.specs.declared.call.Stage.TheVariants.{Polled, Headed, Looked, Cleared, Claimed, Lacking}
+use Rattle.melt_core.specs.declared.call.Stage.TheVariants.{Searching, Missed, HeadRead, BodyRead, Copying, Copied}
+use Rattle.melt_core.specs.declared.call.Stage.TheVariants.{Retrying, LackingCopy}
 use Rattle.melt_core.specs.Answering.{Answers}
 use Rattle.melt_core.specs.Events.{Event, quiet}
-use Rattle.melt_core.specs.Stages.{Next, MustPause, Applies, Shares, change_of, cleared_by, task_of, HasObject}
+use Rattle.melt_core.specs.Stages.{Next, MustPause, Applies, Shares, change_of, cleared_by, task_of, HasObject, Lacks}
 use Rattle.melt_core.specs.Changed.{with_register}
 use Rattle.melt_core.specs.Advances.{Asks, AdvancesOver, LeavesClean, HasRoomFor, Sets}
-use Rattle.melt_core.specs.Views.{View, Standing, maps, state, call_of, stage_in, stage_of, claimed_in}
+use Rattle.melt_core.specs.Views.{View, Standing, maps, state, call_of, stage_in, stage_of, claimed_in, rest_of}
 use Rattle.melt_core.specs.Views.{values_of, held_value, held_values, registers_in}
 use Rattle.melt_core.proofs.Claims.{claims_ends}
 use Rattle.melt_core.proofs.Asked.{call_at, inside, set_none}
@@ -41,10 +43,10 @@ use Rattle.melt_core.proofs.Tasks.{no_load}
 pub record Ends (disk : OnDisk) (v : View) (t : ℕ) (o : Op) (stage : Stage) : Type 0 where
   pub at : stage_of v t ≡ Some stage
   pub last : (next : Stage) → Next (maps v) (state disk v) (register_in v.held t) v.stop o (Some stage) next → ⊥
-  pub no_pause : MustPause (register_in v.held t) v.stop o (Some stage) → ⊥
+  pub no_pause : MustPause (length v.forward) (register_in v.held t) v.stop o (Some stage) → ⊥
   pub clears : cleared_by (Some stage) ≡ 0
   pub unclaimed : claimed_in (Some (record { op = o; stage = stage })) ≡ 0
-  pub no_lack : (need : ℕ) → stage ≡ Lacking need → ⊥
+  pub no_lack : (need : ℕ) → Lacks (Some stage) need → ⊥
 
 -- the stages of which an event can be the last of a call that is answered and makes no object
 abbrev pub MayEnd : Stage → Type 0
@@ -54,14 +56,22 @@ MayEnd (Cleared place found target dst) = Unit {0}
 MayEnd stage = ⊥
 
 may_end : (v : View) (t : ℕ) (o : Op) (stage : Stage) → MayEnd stage
-    → (MustPause (register_in v.held t) v.stop o (Some stage) → ⊥) × (cleared_by (Some stage) ≡ 0)
-    × (claimed_in (Some (record { op = o; stage = stage })) ≡ 0) × ((need : ℕ) → stage ≡ Lacking need → ⊥)
-may_end v t o (Polled task) may = (λ pause. pause, refl, refl, λ need is. cc)
-may_end v t o (Headed address shape access) may = (λ pause. pause, refl, refl, λ need is. cc)
+    → (MustPause (length v.forward) (register_in v.held t) v.stop o (Some stage) → ⊥) × (cleared_by (Some stage) ≡ 0)
+    × (claimed_in (Some (record { op = o; stage = stage })) ≡ 0) × ((need : ℕ) → Lacks (Some stage) need → ⊥)
+may_end v t o (Polled task) may = (λ pause. pause, refl, refl, λ need is. is)
+may_end v t o (Headed address shape access) may = (λ pause. pause, refl, refl, λ need is. is)
 may_end v t o (Looked place found target dst) may = absurd may
-may_end v t o (Cleared place found target dst) may = (λ pause. pause, refl, refl, λ need is. cc)
+may_end v t o (Cleared place found target dst) may = (λ pause. pause, refl, refl, λ need is. is)
 may_end v t o (Claimed address shape stored dst) may = absurd may
 may_end v t o (Lacking need) may = absurd may
+may_end v t o (Searching search) may = absurd may
+may_end v t o (Missed search) may = absurd may
+may_end v t o (HeadRead search shape) may = absurd may
+may_end v t o (BodyRead search shape) may = absurd may
+may_end v t o (Copying a stored) may = absurd may
+may_end v t o (Copied a) may = absurd may
+may_end v t o (Retrying a) may = absurd may
+may_end v t o (LackingCopy search shape) may = absurd may
 
 pub ends_at : (disk : OnDisk) (v : View) (t : ℕ) (o : Op) (stage : Stage) → stage_of v t ≡ Some stage → MayEnd stage
     → ((next : Stage) → Next (maps v) (state disk v) (register_in v.held t) v.stop o (Some stage) next → ⊥)
@@ -73,7 +83,7 @@ ends_at disk v t o stage at may last =
 -- What the answer to a call says beside what the event does.
 pub record Replies (disk : OnDisk) (v w : View) (t : ℕ) (o : Op) (reply : Reply) : Type 0 where
   pub last : (next : Stage) → Next (maps v) (state disk v) (register_in v.held t) v.stop o (stage_of v t) next → ⊥
-  pub no_pause : MustPause (register_in v.held t) v.stop o (stage_of v t) → ⊥
+  pub no_pause : MustPause (length v.forward) (register_in v.held t) v.stop o (stage_of v t) → ⊥
   pub answers : Standing true disk v → Answers t v.log (values_of v t) o reply w.log (values_of w t)
   pub registers : (r : ℕ) → (Sets o r → ⊥) → register_in w.held t r ≡ register_in v.held t r
   pub room : Standing true disk v → disk.homes ≡ [] → HasRoomFor v o
@@ -82,7 +92,7 @@ pub record Replies (disk : OnDisk) (v w : View) (t : ℕ) (o : Op) (reply : Repl
 answered : (disk : OnDisk) (v w : View) (t : ℕ) (o : Op) (reply : Reply) (act : Option Act) → Asks disk v t o
     → Plain disk v w t (cleared_by (stage_of v t)) act None
     → Applies (maps v) (maps w) (state disk v) (state disk w) (change_of (state disk v) (register_in v.held t)
-    (stage_of v t))
+    (rest_of v t) (stage_of v t))
     → Replies disk v w t o reply → AdvancesOver disk v w t o (Answered reply)
 answered disk v w t o reply act asks p applies replies =
     advances disk v w t o (Answered reply) asks (plain disk v w t (cleared_by (stage_of v t)) act None asks.thread p)
@@ -122,7 +132,7 @@ over_plain : (disk : OnDisk) (v w : View) (t cleared : ℕ) (act : Option Act)
     → ((told : Bool) → Standing told disk v → Event told v.log (maps v) (maps w) (state disk v) (state disk w) no_region
     cleared act)
     → MakesNothing act → OnlyMoves v w t act None → length w.space.list ≡ length v.space.list → Local disk v w.held t
-    → claimed_in (call_of v t) ≡ 0 → ((need : ℕ) → stage_of v t ≡ Some (Lacking need) → ⊥)
+    → claimed_in (call_of v t) ≡ 0 → ((need : ℕ) → Lacks (stage_of v t) need → ⊥)
     → Plain disk v w t cleared act None
 over_plain disk v w t cleared act event nothing moves words local unclaimed no_lack = record {
   event = event;
@@ -135,7 +145,6 @@ over_plain disk v w t cleared act event nothing moves words local unclaimed no_l
   known = λ told s c none. absurd (cc);
   fits = λ c none. absurd (cc);
   unclaimed = refl;
-  unclaimed_before = unclaimed;
   claims = claims_ends v.stop (stage_of v t) no_lack;
 }
 
@@ -146,7 +155,7 @@ pub record Over (disk : OnDisk) (v w : View) (t : ℕ) (o : Op) (stage : Stage) 
   pub event : (told : Bool) → Standing told disk v → Event told v.log (maps v) (maps w) (state disk v) (state disk w)
       no_region 0 act
   pub applies : Applies (maps v) (maps w) (state disk v) (state disk w)
-      (change_of (state disk v) (register_in v.held t) (Some stage))
+      (change_of (state disk v) (register_in v.held t) (rest_of v t) (Some stage))
   pub nothing : MakesNothing act
   pub moves : OnlyMoves v w t act None
   pub words : length w.space.list ≡ length v.space.list
@@ -165,14 +174,14 @@ over_advances disk v w t o stage act reply asks is =
     (λ told s. subst (λ (k : ℕ). Event told v.log (maps v) (maps w) (state disk v) (state disk w) no_region k act)
     (sym (ap cleared_by ends.at ∙ ends.clears)) (is.event told s))
     is.nothing is.moves is.words is.local (ap claimed_in (call_at disk v t o stage asks ends.at) ∙ ends.unclaimed)
-    (λ need lacks. ends.no_lack need (let e : Some stage ≡ Some (Lacking need) = sym ends.at ∙ lacks in cc)))
+    (λ need lacks. ends.no_lack need (subst (λ (g : Option Stage). Lacks g need) ends.at lacks)))
     (subst (λ (g : Option Stage). Applies (maps v) (maps w) (state disk v) (state disk w)
-    (change_of (state disk v) (register_in v.held t) g)) (sym ends.at) is.applies)
+    (change_of (state disk v) (register_in v.held t) (rest_of v t) g)) (sym ends.at) is.applies)
     (record {
       last = λ next goes. ends.last next
           (subst (λ (g : Option Stage). Next (maps v) (state disk v) (register_in v.held t) v.stop o g next) ends.at
           goes);
-      no_pause = λ pause. ends.no_pause (subst (MustPause (register_in v.held t) v.stop o) ends.at pause);
+      no_pause = λ pause. ends.no_pause (subst (MustPause (length v.forward) (register_in v.held t) v.stop o) ends.at pause);
       answers = is.answers;
       registers = is.registers;
       room = λ told none. is.room;
@@ -186,7 +195,7 @@ local_plain disk v held t first local =
     over_plain disk v (record v { held = held }) t 0 None (λ told stands. quiet refl (same_behind disk v held)) tt
     (ap (λ (calls : List (Option Call)). record v { held = held; calls = calls }) (set_none v.calls t first)) refl local
     (ap claimed_in first)
-    (λ need is. let none : stage_of v t ≡ None = ap stage_in first in cc)
+    (λ need is. subst (λ (g : Option Stage). Lacks g need) (ap stage_in first) is)
 
 -- an answer in the first event of a call: nothing of its words is shared
 first_answered : (disk : OnDisk) (v : View) (held : List Registers) (t : ℕ) (o : Op) (reply : Reply) → Asks disk v t o
@@ -199,7 +208,7 @@ first_answered disk v held t o reply asks first is replies =
     (subst (λ (g : Option Stage). Plain disk v w t (cleared_by g) None None) (sym none)
     (local_plain disk v held t first is))
     (subst (λ (g : Option Stage). Applies (maps v) (maps w) (state disk v) (state disk w)
-    (change_of (state disk v) (register_in v.held t) g)) (sym none) (refl, same_behind disk v held))
+    (change_of (state disk v) (register_in v.held t) (rest_of v t) g)) (sym none) (refl, same_behind disk v held))
     replies
 
 -- where the operation has no task, its first event is its last, and it never pauses
@@ -213,10 +222,10 @@ first_last disk v t o next none first is =
     cc
 
 first_no_pause : (v : View) (t : ℕ) (o : Op) → task_of o ≡ None → call_of v t ≡ None
-    → MustPause (register_in v.held t) v.stop o (stage_of v t) → ⊥
+    → MustPause (length v.forward) (register_in v.held t) v.stop o (stage_of v t) → ⊥
 first_no_pause v t o none first is =
-    let at : MustPause (register_in v.held t) v.stop o None =
-    subst (MustPause (register_in v.held t) v.stop o) (ap stage_in first) is in
+    let at : MustPause (length v.forward) (register_in v.held t) v.stop o None =
+    subst (MustPause (length v.forward) (register_in v.held t) v.stop o) (ap stage_in first) is in
     let some : task_of o ≡ Some at.0.0 = at.0.1.0 in
     cc
 
@@ -322,8 +331,8 @@ nil_advances disk v t o r access asks first task none =
           (ap stage_in first) is in
           has at.0 at.1;
       no_pause = λ is.
-          let at : MustPause (register_in v.held t) v.stop o None =
-          subst (MustPause (register_in v.held t) v.stop o) (ap stage_in first) is in
+          let at : MustPause (length v.forward) (register_in v.held t) v.stop o None =
+          subst (MustPause (length v.forward) (register_in v.held t) v.stop o) (ap stage_in first) is in
           has at.0.0 at.0.1;
       answers = λ told. nil_answers t v.log (values_of v t) o reply.Nil v.log (values_of v t)
           (holds_nil v.names (registers_in v.held t) o r access task none) refl refl refl;

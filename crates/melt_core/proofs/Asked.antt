@@ -3,7 +3,7 @@ use Rattle.std.proofs.Common.{◌≡◌, ℕ, zero, suc, ◌+◌, ◌<◌, inl, 
 use Rattle.std.proofs.Common.{◌∷◌, length, get_or, refl, sym, ◌∙◌, ap, subst, arith}
 use Rattle.std.proofs.Math.ListN.{set}
 use Rattle.std.proofs.lemmas.Bool.{cases_lt}
-use Rattle.std.specs.Prelude.{Bool, true, false, Option, None, Some, if◌then◌else◌}
+use Rattle.std.specs.Prelude.{Bool, true, false, ◌==◌, Option, None, Some, if◌then◌else◌}
 use Rattle.melt_model.specs.declared.operations.Op.{Op}
 use Rattle.melt_word.specs.Words.{cost_of}
 use Rattle.melt_scion.specs.State.{State}
@@ -13,11 +13,20 @@ use Rattle.melt_core.specs.declared.call.Access.TheVariants.{Load, Store, Get, P
 use Rattle.melt_core.specs.declared.call.Task.TheVariants.{Make, Use, LoadGlobal, StoreGlobal}
 use Rattle.melt_core.specs.declared.call.Stage.{Stage}
 use Rattle.melt_core.specs.declared.call.Stage.TheVariants.{Polled, Headed, Looked, Cleared, Claimed, Lacking}
+use Rattle.melt_core.specs.declared.call.Stage.TheVariants.{Searching, Missed, HeadRead, BodyRead, Copying, Copied}
+use Rattle.melt_core.specs.declared.call.Stage.TheVariants.{Retrying, LackingCopy}
 use Rattle.melt_core.specs.declared.call.Call.{Call}
 use Rattle.melt_core.specs.Known.{Known}
-use Rattle.melt_core.specs.Stages.{Fits, Next, Change, Nothing, Word, Publish, change_of, cleared_by}
+use Rattle.melt_record.specs.declared.head.Kind.{Kind}
+use Rattle.melt_record.specs.declared.head.Kind.TheVariants.{Body, Stub}
+use Rattle.melt_word.specs.declared.header.Shape.{Shape}
+use Rattle.melt_core.specs.declared.call.Place.{Place}
+use Rattle.melt_core.specs.declared.call.Place.TheVariants.{Field, Global}
+use Rattle.melt_core.specs.declared.call.Search.{Search}
+use Rattle.melt_core.specs.Stages.{Fits, LoadsAt, FindsTag, Probes, ReadAs, Next, Nothing, change_of, cleared_by}
+use Rattle.melt_core.specs.Stages.{further, retried, reached}
 use Rattle.melt_core.specs.Advances.{Asks, Continues, MayMove}
-use Rattle.melt_core.specs.Views.{View, Standing, maps, state, call_of, stage_in, stage_of, claimed_in}
+use Rattle.melt_core.specs.Views.{View, Standing, maps, state, call_of, stage_in, stage_of, claimed_in, rest_of}
 
 -- the call at a stage is of the operation
 at_stage : (c : Option Call) (o : Op) (stage : Stage) → Continues c o → stage_in c ≡ Some stage
@@ -37,13 +46,13 @@ inside disk v t o asks = let each : length v.calls ≡ length v.held = asks.stan
     asks.thread in omega arith
 
 pub known_at : (disk : OnDisk) (v : View) (t : ℕ) (o : Op) (stage : Stage) → Asks disk v t o → stage_of v t ≡ Some stage
-    → Known false (maps v) (state disk v) stage
+    → Known false (maps v) (state disk v) (rest_of v t) stage
 known_at disk v t o stage asks is = asks.stands.known t (record { op = o; stage = stage })
     (call_at disk v t o stage asks is)
 
 -- told or not
 pub known_so : (told : Bool) (disk : OnDisk) (v : View) (t : ℕ) (o : Op) (stage : Stage) → Asks disk v t o
-    → stage_of v t ≡ Some stage → Standing told disk v → Known told (maps v) (state disk v) stage
+    → stage_of v t ≡ Some stage → Standing told disk v → Known told (maps v) (state disk v) (rest_of v t) stage
 known_so told disk v t o stage asks is s =
     s.known t (record { op = o; stage = stage }) (call_at disk v t o stage asks is)
 
@@ -58,26 +67,36 @@ set_none [] t none = refl
 set_none (c ∷ calls) zero none = ap (λ (x : Option Call). x ∷ calls) none
 set_none (c ∷ calls) (suc t) none = ap (λ (cs : List (Option Call)). c ∷ cs) (set_none calls t none)
 
-publishes_or_stores : (b : Bool) (p q : Change) → (p ≡ Nothing → ⊥) → (q ≡ Nothing → ⊥) → (if b then p else q) ≡ Nothing
-    → ⊥
-publishes_or_stores true p q no_p no_q is = no_p is
-publishes_or_stores false p q no_p no_q is = no_q is
+-- a load that found a word with a tag fits its operation
+finds_fits : (register : ℕ → ℕ) (o : Op) (word : ℕ) (place : Place) (dst : ℕ) (next : Stage)
+    → LoadsAt register o place dst → FindsTag word place dst next → Fits register o next
+finds_fits register o word place dst next loads (inl stale) = subst (Fits register o) (sym stale.2) loads
+finds_fits register o word place dst next loads (inr home) = subst (Fits register o) (sym home.2) loads
 
--- where the next event changes nothing, no region is owned
-pub nothing_claimed : (s : State) (register : ℕ → ℕ) (c : Option Call) → change_of s register (stage_in c) ≡ Nothing
-    → claimed_in c ≡ 0
-nothing_claimed s register None is = refl
-nothing_claimed s register (Some c) is = nothing_claimed_at s register c.stage is
-  where
-    nothing_claimed_at : (s : State) (register : ℕ → ℕ) (stage : Stage) → change_of s register (Some stage) ≡ Nothing
-        → claimed_in (Some (record { op = c.op; stage = stage })) ≡ 0
-    nothing_claimed_at s register (Polled task) is = refl
-    nothing_claimed_at s register (Headed address shape access) is = refl
-    nothing_claimed_at s register (Looked place found target dst) is = refl
-    nothing_claimed_at s register (Cleared place found target dst) is = refl
-    nothing_claimed_at s register (Claimed address shape stored dst) is =
-        absurd (publishes_or_stores _ (Publish address shape) (Word (address + 1 + stored) 0) (λ no. cc) (λ no. cc) is)
-    nothing_claimed_at s register (Lacking need) is = refl
+-- and so it does behind a forwarding word
+probes_fits : (s : State) (register : ℕ → ℕ) (o : Op) (search : Search) (empty another next : Stage)
+    → LoadsAt register o search.place search.dst → Fits register o empty → Fits register o another
+    → Probes s search empty another next → Fits register o next
+probes_fits s register o search empty another next loads at_empty at_another is = elim is.1 [
+  | inl here ↦ subst (Fits register o) (sym here.2) loads
+  | inr other ↦ elim other [
+    | inl none ↦ subst (Fits register o) (sym none.1) at_empty
+    | inr sent ↦ subst (Fits register o) (sym sent.1) at_another
+  ]
+]
+
+body_fits : (register : ℕ → ℕ) (o : Op) (search : Search) (shape : Shape) (whole : Bool)
+    → LoadsAt register o search.place search.dst
+    → Fits register o (if whole then BodyRead search shape else HeadRead search shape)
+body_fits register o search shape true loads = loads
+body_fits register o search shape false loads = loads
+
+-- and behind a head
+read_fits : (s : State) (register : ℕ → ℕ) (o : Op) (search : Search) (shape : Shape) (kind : Kind) (next : Stage)
+    → LoadsAt register o search.place search.dst → ReadAs s search shape kind next → Fits register o next
+read_fits s register o search shape Body next loads is =
+    subst (Fits register o) (sym is) (body_fits register o search shape (shape.refs + shape.nums == 0) loads)
+read_fits s register o search shape (Stub scion) next loads is = subst (Fits register o) (sym is.2) loads
 
 -- behind an event that goes on the call is one of its operation
 pub next_fits : (maps : Maps) (s : State) (register : ℕ → ℕ) (stop : Bool) (o : Op) (c : Option Call) (next : Stage)
@@ -98,10 +117,10 @@ next_fits maps s register stop o (Some c) next continued fits is =
     next_fits_at maps s register stop o (Polled (Use r access)) next fits is =
         subst (Fits register o) (sym is.3) (r, fits.0, refl, is.2)
     next_fits_at maps s register stop o (Polled (LoadGlobal dst g)) next fits is =
-        subst (Fits register o) (sym is.2) fits.0
+        finds_fits register o (s.global g) (Global g) dst next fits.0 is
     next_fits_at maps s register stop o (Polled (StoreGlobal g src)) next fits is = absurd is
     next_fits_at maps s register stop o (Headed address shape (Load dst i)) next fits is =
-        subst (Fits register o) (sym is.2) (fits.0, fits.1, fits.2)
+        finds_fits register o (s.word (address + 2 + i)) (Field address i) dst next (fits.0, fits.1, fits.2) is
     next_fits_at maps s register stop o (Headed address shape (Store i src)) next fits is = absurd is
     next_fits_at maps s register stop o (Headed address shape (Get j)) next fits is = absurd is
     next_fits_at maps s register stop o (Headed address shape (Put j v)) next fits is = absurd is
@@ -111,17 +130,46 @@ next_fits maps s register stop o (Some c) next continued fits is =
     next_fits_at maps s register stop o (Claimed address shape stored dst) next fits is =
         subst (Fits register o) (sym is.1) fits
     next_fits_at maps s register stop o (Lacking need) next fits is = absurd is
+    next_fits_at maps s register stop o (Searching search) next fits is =
+        probes_fits s register o search (Missed search) (Searching (further search)) next fits fits fits is
+    next_fits_at maps s register stop o (Missed search) next fits is =
+        read_fits s register o search is.0 is.1 next fits is.2
+    next_fits_at maps s register stop o (HeadRead search shape) next fits is = subst (Fits register o) (sym is) fits
+    next_fits_at maps s register stop o (BodyRead search shape) next fits is =
+        elim (cases_lt (s.base.size + 1) (s.free + cost_of shape)) [
+          | inl above ↦ subst (Fits register o) (sym (is.1 above)) fits
+          | inr below ↦ subst (Fits register o) (sym (is.0 below)) fits
+        ]
+    next_fits_at maps s register stop o (Copying a stored) next fits is =
+        elim (cases_lt (stored + 1) (cost_of a.shape)) [
+          | inl more ↦ subst (Fits register o) (sym (is.0 more)) fits
+          | inr all ↦ subst (Fits register o) (sym (is.1 all)) fits
+        ]
+    next_fits_at maps s register stop o (Copied a) next fits is =
+        probes_fits s register o a.search (reached a.search a.address) (Retrying (retried a)) next fits fits fits is
+    next_fits_at maps s register stop o (Retrying a) next fits is =
+        probes_fits s register o a.search (Copied a) (Retrying (retried a)) next fits fits fits is
+    next_fits_at maps s register stop o (LackingCopy search shape) next fits is = absurd is
 
 -- an event that clears a stale bit changes a word
-pub still_clears : (s : State) (register : ℕ → ℕ) (stage : Option Stage) → change_of s register stage ≡ Nothing
+pub still_clears : (s : State) (register : ℕ → ℕ) (rest : List ℕ) (stage : Option Stage)
+    → change_of s register rest stage ≡ Nothing
     → cleared_by stage ≡ 0
-still_clears s register None still = refl
-still_clears s register (Some (Polled task)) still = refl
-still_clears s register (Some (Headed address shape access)) still = refl
-still_clears s register (Some (Looked place found target dst)) still = absurd (cc)
-still_clears s register (Some (Cleared place found target dst)) still = refl
-still_clears s register (Some (Claimed address shape stored dst)) still = refl
-still_clears s register (Some (Lacking need)) still = refl
+still_clears s register rest None still = refl
+still_clears s register rest (Some (Polled task)) still = refl
+still_clears s register rest (Some (Headed address shape access)) still = refl
+still_clears s register rest (Some (Looked place found target dst)) still = absurd (cc)
+still_clears s register rest (Some (Cleared place found target dst)) still = refl
+still_clears s register rest (Some (Claimed address shape stored dst)) still = refl
+still_clears s register rest (Some (Lacking need)) still = refl
+still_clears s register rest (Some (Searching search)) still = refl
+still_clears s register rest (Some (Missed search)) still = refl
+still_clears s register rest (Some (HeadRead search shape)) still = refl
+still_clears s register rest (Some (BodyRead search shape)) still = refl
+still_clears s register rest (Some (Copying a stored)) still = refl
+still_clears s register rest (Some (Copied a)) still = refl
+still_clears s register rest (Some (Retrying a)) still = refl
+still_clears s register rest (Some (LackingCopy search shape)) still = refl
 
 -- what an event asks over some disk, it asks over each over which the words are well formed
 pub asks_over : (v : View) (t : ℕ) (o : Op) → MayMove v t o → (disk : OnDisk) → Standing false disk v → Asks disk v t o

@@ -9,12 +9,16 @@ use Rattle.melt_model.specs.declared.operations.Op.{Op}
 use Rattle.melt_scion.specs.State.{State}
 use Rattle.melt_scion.specs.Placed.{Maps}
 use Rattle.melt_core.specs.declared.call.Place.TheVariants.{Field}
-use Rattle.melt_core.specs.Stages.{Next}
+use Rattle.melt_word.specs.Words.{cost_of}
+use Rattle.melt_core.specs.Stages.{Next, Lacks}
 use Rattle.melt_core.specs.declared.call.Access.TheVariants.{Load}
 use Rattle.melt_core.specs.declared.call.Task.{Task}
 use Rattle.melt_word.specs.declared.reference.Ref.TheVariants.{Stale}
 use Rattle.melt_core.specs.declared.call.Stage.{Stage}
+use Rattle.melt_core.specs.declared.call.Search.{Search}
 use Rattle.melt_core.specs.declared.call.Stage.TheVariants.{Polled, Headed, Looked, Cleared, Claimed, Lacking}
+use Rattle.melt_core.specs.declared.call.Stage.TheVariants.{Searching, Missed, HeadRead, BodyRead, Copying, Copied}
+use Rattle.melt_core.specs.declared.call.Stage.TheVariants.{Retrying, LackingCopy}
 use Rattle.melt_core.specs.declared.call.Call.{Call}
 use Rattle.melt_core.specs.Views.{View, call_in, stage_in, claims_left, Bounded}
 
@@ -41,27 +45,45 @@ bounded_is w words free stop calls same_words same_free same_stop same_calls bou
 claims_one : (stop : Bool) (stage : Option Stage) → claims_left stop stage ≤ 1
 claims_one true None = omega arith
 claims_one false None = omega arith
-claims_one stop (Some (Polled task)) = omega arith
-claims_one stop (Some (Lacking need)) = omega arith
-claims_one true (Some (Headed address shape access)) = omega arith
-claims_one false (Some (Headed address shape access)) = omega arith
 claims_one true (Some (Looked place found target dst)) = omega arith
 claims_one false (Some (Looked place found target dst)) = omega arith
 claims_one true (Some (Cleared place found target dst)) = omega arith
 claims_one false (Some (Cleared place found target dst)) = omega arith
 claims_one true (Some (Claimed address shape stored dst)) = omega arith
 claims_one false (Some (Claimed address shape stored dst)) = omega arith
+claims_one true (Some (Copying a stored)) = omega arith
+claims_one false (Some (Copying a stored)) = omega arith
+claims_one true (Some (Copied a)) = omega arith
+claims_one false (Some (Copied a)) = omega arith
+claims_one true (Some (Retrying a)) = omega arith
+claims_one false (Some (Retrying a)) = omega arith
+claims_one stop (Some (Polled task)) = omega arith
+claims_one stop (Some (Headed address shape access)) = omega arith
+claims_one stop (Some (Lacking need)) = omega arith
+claims_one stop (Some (Searching search)) = omega arith
+claims_one stop (Some (Missed search)) = omega arith
+claims_one stop (Some (HeadRead search shape)) = omega arith
+claims_one stop (Some (BodyRead search shape)) = omega arith
+claims_one stop (Some (LackingCopy search shape)) = omega arith
 
 -- none more where the stop word is set
 claims_true : (stop : Bool) (stage : Option Stage) → claims_left true stage ≤ claims_left stop stage
 claims_true true stage = omega arith
 claims_true false None = omega arith
 claims_true false (Some (Polled task)) = omega arith
-claims_true false (Some (Lacking need)) = omega arith
 claims_true false (Some (Headed address shape access)) = omega arith
 claims_true false (Some (Looked place found target dst)) = omega arith
 claims_true false (Some (Cleared place found target dst)) = omega arith
 claims_true false (Some (Claimed address shape stored dst)) = omega arith
+claims_true false (Some (Lacking need)) = omega arith
+claims_true false (Some (Searching search)) = omega arith
+claims_true false (Some (Missed search)) = omega arith
+claims_true false (Some (HeadRead search shape)) = omega arith
+claims_true false (Some (BodyRead search shape)) = omega arith
+claims_true false (Some (Copying a stored)) = omega arith
+claims_true false (Some (Copied a)) = omega arith
+claims_true false (Some (Retrying a)) = omega arith
+claims_true false (Some (LackingCopy search shape)) = omega arith
 
 claims_each : (stop : Bool) (calls : List (Option Call)) → sum_by (claims_in stop) calls ≤ length calls
 claims_each stop [] = omega arith
@@ -102,14 +124,11 @@ bounded_call words free stop calls t call within fewer (inr above) =
 
 -- a claim ended past the last word
 pub bounded_lacking : (words free need : ℕ) (stop : Bool) (calls : List (Option Call)) (t : ℕ) (call : Option Call)
-    (task : Task) → t < length calls → stage_in (call_in calls t) ≡ Some (Polled task) →
-    stage_in call ≡ Some (Lacking need) → need ≤ 126 → BoundedBy words free stop calls →
-    BoundedBy words (free + need) stop (slice_set calls t call)
-bounded_lacking words free need stop calls t call task within polled lacking small bounded =
+    → t < length calls → claims_in stop (call_in calls t) ≡ 1 → claims_in stop call ≡ 0 → need ≤ 126 →
+    BoundedBy words free stop calls → BoundedBy words (free + need) stop (slice_set calls t call)
+bounded_lacking words free need stop calls t call within was is small bounded =
     let after = claims-set stop calls t call within in
     let same : length (slice_set calls t call) ≡ length calls = length-set calls t call in
-    let was : claims_in stop (call_in calls t) ≡ 1 = ap (claims_left stop) polled in
-    let is : claims_in stop call ≡ 0 = ap (claims_left stop) lacking in
     let few : claims stop calls ≤ length calls = claims_few stop calls in
     elim bounded [
       | inl below ↦ inr (omega arith)
@@ -130,6 +149,11 @@ pub bounded_refused : (words free : ℕ) (stop : Bool) (calls : List (Option Cal
 bounded_refused words free stop calls t within bounded =
     bounded_call words free true calls t None within (omega arith) (bounded_stop words free stop calls bounded)
 
+claims_as : (stop : Bool) (next stage : Stage) (left : ℕ) → next ≡ stage → claims_left stop (Some stage) ≤ left →
+    claims_left stop (Some next) ≤ left
+claims_as stop next stage left is below =
+    subst (λ (x : Stage). claims_left stop (Some x) ≤ left) (sym is) below
+
 -- the next stage may make no more claims
 pub claims_next : (maps : Maps) (s : State) (register : ℕ → ℕ) (stop : Bool) (o : Op) (stage : Option Stage)
     (next : Stage) → Next maps s register stop o stage next → claims_left stop (Some next) ≤ claims_left stop stage
@@ -138,29 +162,37 @@ claims_next maps s register stop o None next is =
     let before : claims_left stop None ≡ 1 = ap (λ (b : Bool). claims_left b None) is.2 in
     omega arith
 claims_next maps s register stop o (Some (Polled task)) next is = claims_one stop (Some next)
-claims_next maps s register stop o (Some (Headed address shape (Load dst i))) next is =
-    let left : claims_left stop (Some next) ≡ claims_left stop (Some (Looked (Field address i) (Stale is.0) is.0 dst)) =
-    ap (λ (x : Stage). claims_left stop (Some x)) is.2 in
-    omega arith
-claims_next maps s register stop o (Some (Headed address shape access)) next is = absurd is
+claims_next maps s register stop o (Some (Headed address shape access)) next is = claims_one stop (Some next)
 claims_next maps s register stop o (Some (Looked place found target dst)) next is =
-    let left : claims_left stop (Some next) ≡ claims_left stop (Some (Cleared place found target dst)) =
-    ap (λ (x : Stage). claims_left stop (Some x)) is in
-    omega arith
+    claims_as stop next (Cleared place found target dst) (claims_left stop None) is (omega arith)
 claims_next maps s register stop o (Some (Cleared place found target dst)) next is = absurd is
 claims_next maps s register stop o (Some (Claimed address shape stored dst)) next is =
-    let left : claims_left stop (Some next) ≡ claims_left stop (Some (Claimed address shape (stored + 1) dst)) =
-    ap (λ (x : Stage). claims_left stop (Some x)) is.1 in
-    omega arith
+    claims_as stop next (Claimed address shape (stored + 1) dst) (claims_left stop None) is.1 (omega arith)
 claims_next maps s register stop o (Some (Lacking need)) next is = absurd is
+claims_next maps s register stop o (Some (Searching search)) next is = claims_one stop (Some next)
+claims_next maps s register stop o (Some (Missed search)) next is = claims_one stop (Some next)
+claims_next maps s register stop o (Some (HeadRead search shape)) next is = claims_one stop (Some next)
+claims_next maps s register stop o (Some (BodyRead search shape)) next is = claims_one stop (Some next)
+claims_next maps s register stop o (Some (Copying a stored)) next is = ?
+claims_next maps s register stop o (Some (Copied a)) next is = ?
+claims_next maps s register stop o (Some (Retrying a)) next is = ?
+claims_next maps s register stop o (Some (LackingCopy search shape)) next is = absurd is
 
 -- the call is over, which did not lack words
-pub claims_ends : (stop : Bool) (stage : Option Stage) → ((need : ℕ) → stage ≡ Some (Lacking need) → ⊥) →
+pub claims_ends : (stop : Bool) (stage : Option Stage) → ((need : ℕ) → Lacks stage need → ⊥) →
     claims_left stop None ≤ claims_left stop stage
 claims_ends stop None enough = omega arith
 claims_ends stop (Some (Polled task)) enough = claims_one stop None
 claims_ends stop (Some (Lacking need)) enough = absurd (enough need refl)
-claims_ends stop (Some (Headed address shape access)) enough = omega arith
+claims_ends stop (Some (Headed address shape access)) enough = claims_one stop None
 claims_ends stop (Some (Looked place found target dst)) enough = omega arith
 claims_ends stop (Some (Cleared place found target dst)) enough = omega arith
 claims_ends stop (Some (Claimed address shape stored dst)) enough = omega arith
+claims_ends stop (Some (Searching search)) enough = claims_one stop None
+claims_ends stop (Some (Missed search)) enough = claims_one stop None
+claims_ends stop (Some (HeadRead search shape)) enough = claims_one stop None
+claims_ends stop (Some (BodyRead search shape)) enough = claims_one stop None
+claims_ends stop (Some (Copying a stored)) enough = omega arith
+claims_ends stop (Some (Copied a)) enough = omega arith
+claims_ends stop (Some (Retrying a)) enough = omega arith
+claims_ends stop (Some (LackingCopy search shape)) enough = absurd (enough (cost_of shape) refl)

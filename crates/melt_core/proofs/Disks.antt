@@ -1,6 +1,6 @@
 -- What is well formed over one disk is so over each that ends at the same word: only that word is looked at.
 use Rattle.std.proofs.Common.{◌≡◌, ℕ, ◌+◌, ◌*◌, ◌<◌, ◌≤◌, ◌^◌, inl, inr, refl, sym, ◌∙◌, subst, arith}
-use Rattle.std.specs.Prelude.{Bool, true, false, List, length, slice_index}
+use Rattle.std.specs.Prelude.{Bool, true, false, List, length, slice_index, Option}
 use Rattle.std.proofs.Common.{get_or}
 use Rattle.std.proofs.lemmas.Bool.{cases_lt}
 use Rattle.std.proofs.lemmas.List.{get_or_past}
@@ -12,7 +12,7 @@ use Rattle.melt_word.specs.declared.header.Shape.{Shape}
 use Rattle.melt_word.specs.declared.header.Header.{Header}
 use Rattle.melt_word.specs.declared.reference.Ref.{Ref}
 use Rattle.melt_word.specs.declared.reference.Ref.TheVariants.{Null, Clean, Stale, Disk}
-use Rattle.melt_scion.specs.State.{Scion, State, HeaderAt, IsFresh, Forwards}
+use Rattle.melt_scion.specs.State.{Scion, Base, State, HeaderAt, IsFresh, Forwards}
 use Rattle.melt_scion.specs.Placed.{Maps, MayStand, IsReferenceWord, MayHold, IsHomeWord, ScionStands}
 use Rattle.melt_scion.specs.Placed.{ForwardMayStand, FormedWords, Holds}
 use Rattle.melt_scion.specs.Regions.{Region, Owns}
@@ -21,9 +21,18 @@ use Rattle.melt_core.specs.declared.call.Place.{Place}
 use Rattle.melt_core.specs.declared.call.Place.TheVariants.{Field, Global}
 use Rattle.melt_core.specs.declared.call.Stage.{Stage}
 use Rattle.melt_core.specs.declared.call.Stage.TheVariants.{Polled, Headed, Looked, Cleared, Claimed, Lacking}
+use Rattle.melt_core.specs.declared.call.Stage.TheVariants.{Searching, Missed, HeadRead, BodyRead, Copying, Copied}
+use Rattle.melt_core.specs.declared.call.Stage.TheVariants.{Retrying, LackingCopy}
+use Rattle.melt_core.specs.declared.call.Search.{Search}
+use Rattle.melt_core.specs.declared.call.Activation.{Activation}
+use Rattle.melt_scion.specs.Commits.{HasHead, HasBody, HasCopy}
+use Rattle.melt_record.specs.Records.{AreSlots}
 use Rattle.melt_core.specs.Known.{IsObjectAt, IsPlace, HasLooked, Known, region, word_in, IsTagged}
-use Rattle.melt_core.specs.Advances.{MayAdvance, Moves, Advances}
-use Rattle.melt_core.specs.Views.{View, Standing, maps, state}
+use Rattle.melt_core.specs.Known.{Searches, Misses, Fetches, HoldsCopy}
+use Rattle.melt_core.specs.declared.answer.Refusal.TheVariants as refusal
+use Rattle.melt_core.specs.declared.answer.StepResult.TheVariants.{Going, Answered, Refused}
+use Rattle.melt_core.specs.Advances.{MayAdvance, Moves, Advances, AdvancesWhere, AdvancesOver, Outcome, TellsDisk}
+use Rattle.melt_core.specs.Views.{View, Standing, maps, state, rest_of}
 
 -- the state over another disk
 abbrev pub over_disk : State → OnDisk → State
@@ -171,16 +180,75 @@ module _ (maps : Maps) (s : State) (disk : OnDisk) (ends : disk.end ≡ s.base.e
     outside = λ b n header named starts. is.outside b n header named (header_back b header starts);
   }
 
-  known_on : (stage : Stage) → Known false maps s stage → Known false maps t stage
-  known_on (Polled task) is = tt
-  known_on (Headed address shape access) is = object_on address shape is
-  known_on (Looked place found target dst) is = (looked_on place found is.0, is.1)
-  known_on (Cleared place found target dst) is = (looked_on place found is.0, is.1, fresh_on target is.2)
-  known_on (Claimed address shape stored dst) is = (
+  searches_on : (place : Place) (home tried : ℕ) → Searches false maps s place home tried
+      → Searches false maps t place home tried
+  searches_on place home tried is = record {
+    looked = looked_on place (Disk home) is.looked;
+    probed = record { few = is.probed.few; others = is.probed.others };
+    object = λ (told : false ≡ true). absurd (cc);
+  }
+
+  misses_on : (search : Search) → Misses false maps s search → Misses false maps t search
+  misses_on search is = record {
+    searches = searches_on search.place search.home search.tried is.searches;
+    within = is.within;
+  }
+
+  head_of : (home : ℕ) (z : Shape) → HasHead false s.base home z → HasHead false t.base home z
+  head_of home z is = record {
+    in_range = is.in_range;
+    small = is.small;
+    within = subst (λ (end : ℕ). home + cost_of z ≤ end) (sym ends) is.within;
+    on_disk = λ (told : false ≡ true). absurd (cc);
+  }
+
+  body_on : (home : ℕ) (z : Shape) (rest : List ℕ) → HasBody false s.base home z rest → HasBody false t.base home z rest
+  body_on home z rest is = record {
+    head = head_of home z is.head;
+    slots = subst (λ (end : ℕ). AreSlots end z.refs rest) (sym ends) is.slots;
+    on_disk = λ (told : false ≡ true). absurd (cc);
+  }
+
+  copy_on : (address home : ℕ) (z : Shape) (rest : List ℕ) → HasCopy maps s address home z rest
+      → HasCopy maps t address home z rest
+  copy_on address home z rest is = record { owns = owns_on (region address z) is.owns; are = is.are }
+
+  fetches_on : (rest : List ℕ) (search : Search) (z : Shape) → Fetches false maps s rest search z
+      → Fetches false maps t rest search z
+  fetches_on rest search z is = record {
+    misses = misses_on search is.misses;
+    body = body_on search.home z rest is.body;
+  }
+
+  holds_copy_on : (rest : List ℕ) (a : Activation) → HoldsCopy false maps s rest a → HoldsCopy false maps t rest a
+  holds_copy_on rest a is = record {
+    searches = searches_on a.search.place a.search.home a.search.tried is.searches;
+    body = body_on a.search.home a.shape rest is.body;
+    copy = copy_on a.address a.search.home a.shape rest is.copy;
+  }
+
+  pub known_on : (rest : List ℕ) (stage : Stage) → Known false maps s rest stage → Known false maps t rest stage
+  known_on rest (Polled task) is = tt
+  known_on rest (Headed address shape access) is = object_on address shape is
+  known_on rest (Looked place found target dst) is = (looked_on place found is.0, is.1)
+  known_on rest (Cleared place found target dst) is = (looked_on place found is.0, is.1, fresh_on target is.2)
+  known_on rest (Claimed address shape stored dst) is = (
     is.0,
     record { owns = owns_on (region address shape) is.1.owns; few = is.1.few; are = is.1.are },
   )
-  known_on (Lacking need) is = is
+  known_on rest (Lacking need) is = is
+  known_on rest (Searching search) is = searches_on search.place search.home search.tried is
+  known_on rest (Missed search) is = (misses_on search is.0, λ (told : false ≡ true). absurd (cc))
+  known_on rest (HeadRead search shape) is =
+      (misses_on search is.0, head_of search.home shape is.1, λ (told : false ≡ true). absurd (cc))
+  known_on rest (BodyRead search shape) is = fetches_on rest search shape is
+  known_on rest (Copying a stored) is = (
+    fetches_on rest a.search a.shape is.0,
+    record { owns = owns_on (region a.address a.shape) is.1.owns; few = is.1.few; are = is.1.are },
+  )
+  known_on rest (Copied a) is = (holds_copy_on rest a is.0, is.1)
+  known_on rest (Retrying a) is = holds_copy_on rest a is
+  known_on rest (LackingCopy search shape) is = (is.0, misses_on search is.1, head_of search.home shape is.2)
 
 -- what stands over a disk, untold, stands over each that ends at the same word
 pub stands_over : (disk other : OnDisk) (v : View) → other.end ≡ disk.end → Standing false disk v
@@ -191,23 +259,47 @@ stands_over disk other v ends s = record {
   scions_made = s.scions_made;
   few = s.few;
   each = s.each;
+  buffers = s.buffers;
+  rests = s.rests;
   counted = s.counted;
   first = s.first;
   bounded = s.bounded;
   holds = holds_on (maps v) (state disk v) other ends v.log s.holds;
   legal = λ (told : false ≡ true). absurd (cc);
   registers = λ t r. hold_on (maps v) (state disk v) other ends (register_in v.held t r) (s.registers t r);
-  known = λ t c is. known_on (maps v) (state disk v) other ends c.stage (s.known t c is);
+  known = λ t c is. known_on (maps v) (state disk v) other ends (rest_of v t) c.stage (s.known t c is);
   fits = s.fits;
   apart = s.apart;
   counts = λ (told : false ≡ true). absurd (cc);
 }
 
+-- an event that needs the disk's words told where nothing has to be told for it
+pub weaker : (tells : Type 0) (disk : OnDisk) (v w : View) (t : ℕ) (o : Op) (result : StepResult)
+    → AdvancesOver disk v w t o result → AdvancesWhere tells disk v w t o result
+weaker tells disk v w t o result is = record {
+  keeps = λ told tell stands. is.keeps told (λ same. tt) stands;
+  changes = is.changes;
+  evolves = is.evolves;
+  others = is.others;
+  outcome = weaker_outcome tells disk v w t o result is.outcome;
+  clean = is.clean;
+}
+  where
+    weaker_outcome : (tells : Type 0) (disk : OnDisk) (v w : View) (t : ℕ) (o : Op) (result : StepResult)
+        → Outcome (Unit {0}) disk v w t o result → Outcome tells disk v w t o result
+    weaker_outcome tells disk v w t o Going is = is
+    weaker_outcome tells disk v w t o (Answered reply) is = is
+    weaker_outcome tells disk v w t o (Refused (refusal.Pause pause)) is = is
+    weaker_outcome tells disk v w t o (Refused refusal.DiskFault) is = is
+    weaker_outcome tells disk v w t o (Refused (refusal.Damaged damaged)) is =
+        record { lost = is.lost; untold = λ tell. is.untold tt }
+
 -- an event over each disk over which the words are well formed is one over each that ends where one of them does
-pub moves_advance : (end : ℕ) (v w : View) (t : ℕ) (o : Op) (result : StepResult) → MayAdvance end v t o
-    → Moves v w t o result → Advances end v w t o result
-moves_advance end v w t o result may moves = record {
-  over = λ disk ends. moves.over disk (stands_over may.disk disk v (ends ∙ sym may.ends) may.asks.stands);
+pub moves_advance : (end : ℕ) (image : Option (List ℕ)) (v w : View) (t : ℕ) (o : Op) (result : StepResult)
+    → MayAdvance end v t o → Moves v w t o result → Advances end image v w t o result
+moves_advance end image v w t o result may moves = record {
+  over = λ disk ends. weaker (TellsDisk image disk) disk v w t o result
+      (moves.over disk (stands_over may.disk disk v (ends ∙ sym may.ends) may.asks.stands));
 }
 
 -- over a disk that ends where it begins no home has an object, so no forwarding word is filled
@@ -239,15 +331,74 @@ pub stands_settled : (told : Bool) (disk : OnDisk) (v : View) → disk.end ≡ 1
 stands_settled told disk v ends s =
     settled_words v.forward (none_forwarded (maps v) (state disk v) ends s.holds.formed)
 
-known_untold : (told : Bool) (m : Maps) (s : State) (stage : Stage) → Known told m s stage → Known false m s stage
-known_untold told m s (Polled task) is = tt
-known_untold told m s (Headed address shape access) is = is
-known_untold told m s (Looked place found target dst) is =
+searches_untold : (told : Bool) (m : Maps) (s : State) (place : Place) (home tried : ℕ)
+    → Searches told m s place home tried → Searches false m s place home tried
+searches_untold told m s place home tried is =
+    record { looked = is.looked; probed = is.probed; object = λ (tells : false ≡ true). absurd (cc) }
+
+misses_untold : (told : Bool) (m : Maps) (s : State) (search : Search) → Misses told m s search
+    → Misses false m s search
+misses_untold told m s search is = record {
+  searches = searches_untold told m s search.place search.home search.tried is.searches;
+  within = is.within;
+}
+
+head_untold : (told : Bool) (b : Base) (home : ℕ) (z : Shape) → HasHead told b home z → HasHead false b home z
+head_untold told b home z is = record {
+  in_range = is.in_range;
+  small = is.small;
+  within = is.within;
+  on_disk = λ (tells : false ≡ true). absurd (cc);
+}
+
+body_untold : (told : Bool) (b : Base) (home : ℕ) (z : Shape) (rest : List ℕ) → HasBody told b home z rest
+    → HasBody false b home z rest
+body_untold told b home z rest is = record {
+  head = head_untold told b home z is.head;
+  slots = is.slots;
+  on_disk = λ (tells : false ≡ true). absurd (cc);
+}
+
+fetches_untold : (told : Bool) (m : Maps) (s : State) (rest : List ℕ) (search : Search) (z : Shape)
+    → Fetches told m s rest search z → Fetches false m s rest search z
+fetches_untold told m s rest search z is = record {
+  misses = misses_untold told m s search is.misses;
+  body = body_untold told s.base search.home z rest is.body;
+}
+
+holds_copy_untold : (told : Bool) (m : Maps) (s : State) (rest : List ℕ) (a : Activation) → HoldsCopy told m s rest a
+    → HoldsCopy false m s rest a
+holds_copy_untold told m s rest a is = record {
+  searches = searches_untold told m s a.search.place a.search.home a.search.tried is.searches;
+  body = body_untold told s.base a.search.home a.shape rest is.body;
+  copy = is.copy;
+}
+
+known_untold : (told : Bool) (m : Maps) (s : State) (rest : List ℕ) (stage : Stage) → Known told m s rest stage
+    → Known false m s rest stage
+known_untold told m s rest (Polled task) is = tt
+known_untold told m s rest (Headed address shape access) is = is
+known_untold told m s rest (Looked place found target dst) is =
     (is.0, record { named = is.1.named; same = λ (tells : false ≡ true). absurd (cc) })
-known_untold told m s (Cleared place found target dst) is =
+known_untold told m s rest (Cleared place found target dst) is =
     (is.0, record { named = is.1.named; same = λ (tells : false ≡ true). absurd (cc) }, is.2)
-known_untold told m s (Claimed address shape stored dst) is = is
-known_untold told m s (Lacking need) is = is
+known_untold told m s rest (Claimed address shape stored dst) is = is
+known_untold told m s rest (Lacking need) is = is
+known_untold told m s rest (Searching search) is =
+    searches_untold told m s search.place search.home search.tried is
+known_untold told m s rest (Missed search) is =
+    (misses_untold told m s search is.0, λ (tells : false ≡ true). absurd (cc))
+known_untold told m s rest (HeadRead search shape) is = (
+  misses_untold told m s search is.0,
+  head_untold told s.base search.home shape is.1,
+  λ (tells : false ≡ true). absurd (cc),
+)
+known_untold told m s rest (BodyRead search shape) is = fetches_untold told m s rest search shape is
+known_untold told m s rest (Copying a stored) is = (fetches_untold told m s rest a.search a.shape is.0, is.1)
+known_untold told m s rest (Copied a) is = (holds_copy_untold told m s rest a is.0, is.1)
+known_untold told m s rest (Retrying a) is = holds_copy_untold told m s rest a is
+known_untold told m s rest (LackingCopy search shape) is =
+    (is.0, misses_untold told m s search is.1, head_untold told s.base search.home shape is.2)
 
 -- what stands, told or not, stands untold
 pub stands_untold : (told : Bool) (disk : OnDisk) (v : View) → Standing told disk v → Standing false disk v
@@ -257,6 +408,8 @@ stands_untold told disk v s = record {
   scions_made = s.scions_made;
   few = s.few;
   each = s.each;
+  buffers = s.buffers;
+  rests = s.rests;
   counted = s.counted;
   first = s.first;
   bounded = s.bounded;
@@ -267,7 +420,7 @@ stands_untold told disk v s = record {
   };
   legal = λ (tells : false ≡ true). absurd (cc);
   registers = s.registers;
-  known = λ t c is. known_untold told (maps v) (state disk v) c.stage (s.known t c is);
+  known = λ t c is. known_untold told (maps v) (state disk v) (rest_of v t) c.stage (s.known t c is);
   fits = s.fits;
   apart = s.apart;
   counts = λ (tells : false ≡ true). absurd (cc);

@@ -16,9 +16,9 @@ use Rattle.melt_core.specs.Events.{Event, quiet}
 use Rattle.melt_core.specs.Stages.{Next, Nothing, Shares, change_of, cleared_by, Applies, Fits}
 use Rattle.melt_core.specs.Changed.{with_call}
 use Rattle.melt_core.specs.Advances.{Asks, AdvancesOver, Goes, KeepsOwn}
-use Rattle.melt_core.specs.Views.{View, maps, state, call_of, stage_in, stage_of, claimed_in, Standing}
+use Rattle.melt_core.specs.Views.{View, maps, state, call_of, stage_in, stage_of, rest_of, claimed_in, Standing}
 use Rattle.melt_core.proofs.Claims.{claims_next}
-use Rattle.melt_core.proofs.Asked.{inside, nothing_claimed, next_fits, still_clears}
+use Rattle.melt_core.proofs.Asked.{inside, next_fits, still_clears}
 use Rattle.melt_core.proofs.Words.{same_words}
 use Rattle.melt_core.proofs.Standing.{advances, call_here}
 use Rattle.melt_core.proofs.Plain.{Plain, plain}
@@ -43,12 +43,11 @@ pub record GoesOn (disk : OnDisk) (v w : View) (t : ℕ) (o : Op) (stage : Stage
   pub event : (told : Bool) → Standing told disk v
       → Event told v.log (maps v) (maps w) (state disk v) (state disk w) no_region (cleared_by (stage_of v t)) None
   pub applies : Applies (maps v) (maps w) (state disk v) (state disk w)
-      (change_of (state disk v) (register_in v.held t) (stage_of v t))
+      (change_of (state disk v) (register_in v.held t) (rest_of v t) (stage_of v t))
   pub words : length w.space.list ≡ length v.space.list
   pub next : Next (maps v) (state disk v) (register_in v.held t) v.stop o (stage_of v t) stage
-  pub known : (told : Bool) → Standing told disk v → Known told (maps w) (state disk w) stage
+  pub known : (told : Bool) → Standing told disk v → Known told (maps w) (state disk w) (rest_of v t) stage
   pub unclaimed : claimed_in (Some (record { op = o; stage = stage })) ≡ 0
-  pub unclaimed_before : claimed_in (call_of v t) ≡ 0
 
 -- the view behind it, where the words are these
 abbrev pub gone_on : View → SpaceWords → ℕ → Op → Stage → View
@@ -68,14 +67,13 @@ goes_on disk v space t o stage asks is =
       threads = refl;
       others = λ u differ. refl;
       may_hold = s.registers t;
-      known = λ told stands c same. subst (λ (d : Call). Known told (maps w) (state disk w) d.stage)
+      known = λ told stands c same. subst (λ (d : Call). Known told (maps w) (state disk w) (rest_of v t) d.stage)
           (let e : after ≡ c = cc in e)
           (is.known told stands);
       fits = λ c same. subst (λ (d : Call). Fits (register_in v.held t) d.op d.stage) (let e : after ≡ c = cc in e)
           (next_fits (maps v) (state disk v) (register_in v.held t) v.stop o (call_of v t) stage asks.continued
           (λ d at. s.fits t d at) is.next);
       unclaimed = is.unclaimed;
-      unclaimed_before = is.unclaimed_before;
       claims = claims_next (maps v) (state disk v) (register_in v.held t) v.stop o (stage_of v t) stage is.next;
     } in
     advances disk v w t o Going asks (plain disk v w t (cleared_by (stage_of v t)) None (Some after) asks.thread p) refl
@@ -85,23 +83,22 @@ goes_on disk v space t o stage asks is =
 
 -- no word that threads share changes
 pub go_advances : (disk : OnDisk) (v : View) (t : ℕ) (o : Op) (stage : Stage) → Asks disk v t o
-    → change_of (state disk v) (register_in v.held t) (stage_of v t) ≡ Nothing
+    → change_of (state disk v) (register_in v.held t) (rest_of v t) (stage_of v t) ≡ Nothing
     → Next (maps v) (state disk v) (register_in v.held t) v.stop o (stage_of v t) stage
-    → ((told : Bool) → Standing told disk v → Known told (maps v) (state disk v) stage)
+    → ((told : Bool) → Standing told disk v → Known told (maps v) (state disk v) (rest_of v t) stage)
     → claimed_in (Some (record { op = o; stage = stage })) ≡ 0
     → AdvancesOver disk v (with_call v t (Some (record { op = o; stage = stage }))) t o Going
 go_advances disk v t o stage asks still next known unclaimed =
     goes_on disk v v.space t o stage asks (record {
       event = λ told stands. subst (λ (k : ℕ). Event told v.log (maps v) (maps v) (state disk v) (state disk v)
           no_region k None)
-          (sym (still_clears (state disk v) (register_in v.held t) (stage_of v t) still))
+          (sym (still_clears (state disk v) (register_in v.held t) (rest_of v t) (stage_of v t) still))
           (quiet refl (same_words disk v));
       applies = subst (Applies (maps v) (maps v) (state disk v) (state disk v)) (sym still) (refl, same_words disk v);
       words = refl;
       next = next;
       known = known;
       unclaimed = unclaimed;
-      unclaimed_before = nothing_claimed (state disk v) (register_in v.held t) (call_of v t) still;
     })
 
 -- the stop word was not set
@@ -111,7 +108,7 @@ pub poll_advances : (disk : OnDisk) (v : View) (t : ℕ) (o : Op) (task : Task) 
 poll_advances disk v t o task asks first shares runs =
     let none : None ≡ stage_of v t = sym (ap stage_in first) in
     go_advances disk v t o (Polled task) asks
-    (subst (λ (g : Option Stage). change_of (state disk v) (register_in v.held t) g ≡ Nothing) none refl)
+    (subst (λ (g : Option Stage). change_of (state disk v) (register_in v.held t) (rest_of v t) g ≡ Nothing) none refl)
     (subst (λ (g : Option Stage). Next (maps v) (state disk v) (register_in v.held t) v.stop o g (Polled task)) none
     (task, shares, runs, refl))
     (λ told s. tt) refl

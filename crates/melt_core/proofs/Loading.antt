@@ -15,7 +15,7 @@ use Rattle.melt_word.specs.Words.{IsAddress, IsHeader, IsRef, cost_of, header_wo
 use Rattle.melt_word.specs.declared.header.Header.{Header}
 use Rattle.melt_space.specs.Space.{SpaceWords, SetsWord, word_at}
 use Rattle.melt_word.specs.declared.reference.Ref.{Ref}
-use Rattle.melt_word.specs.declared.reference.Ref.TheVariants.{Null, Clean, Stale}
+use Rattle.melt_word.specs.declared.reference.Ref.TheVariants.{Null, Clean, Stale, Disk}
 use Rattle.melt_word.specs.declared.header.Shape.{Shape}
 use Rattle.melt_scion.specs.State.{Base, State, HeaderAt, IsFresh}
 use Rattle.melt_scion.proofs.Geometry.{one_header}
@@ -34,10 +34,10 @@ use Rattle.melt_core.specs.declared.call.Task.TheVariants.{LoadGlobal}
 use Rattle.melt_core.specs.Answering.{Answers, entry}
 use Rattle.melt_core.specs.Known.{IsObjectAt, IsPlace, IsTagged, SlotAt, HasLooked, Leads, Evolves, word_in}
 use Rattle.melt_core.specs.Events.{Event, PlaceChanges, reads_place, clears, untags}
-use Rattle.melt_core.specs.Stages.{Next, Fits, LoadsAt, LooksFrom, Applies, Nothing, change_of, cleared_by}
+use Rattle.melt_core.specs.Stages.{Next, Fits, LoadsAt, LooksFrom, FindsTag, Applies, Nothing, change_of, cleared_by}
 use Rattle.melt_core.specs.Changed.{HoldsRef, HasRead, with_call, with_register, noted}
 use Rattle.melt_core.specs.Advances.{Asks, AdvancesOver, HasRoomFor, Sets, InBounds}
-use Rattle.melt_core.specs.Views.{View, Standing, maps, state, stage_of, values_of, held_value, claimed_in}
+use Rattle.melt_core.specs.Views.{View, Standing, maps, state, stage_of, values_of, held_value, claimed_in, rest_of}
 use Rattle.melt_core.proofs.Asked.{call_at, fits_at, known_at, known_so}
 use Rattle.melt_core.proofs.Words.{same_behind, word_set, over}
 use Rattle.melt_core.proofs.Evolving.{evolves_event}
@@ -130,7 +130,7 @@ record Reads (disk : OnDisk) (v m : View) (t : ℕ) (o : Op) (stage : Stage) (pl
       → Event told v.log (maps v) (maps v) (state disk v) (state disk (behind m t at dst address)) no_region 0
       (Some (Read at (held_value v.names address)))
   pub applies : Applies (maps v) (maps v) (state disk v) (state disk (behind m t at dst address))
-      (change_of (state disk v) (register_in v.held t) (Some stage))
+      (change_of (state disk v) (register_in v.held t) (rest_of v t) (Some stage))
   pub clean : IsTagged (word_in (state disk m) place) → ⊥
 
 read_advances : (disk : OnDisk) (v : View) (space : SpaceWords) (globals : List ℕ) (t : ℕ) (o : Op) (stage : Stage)
@@ -228,22 +228,34 @@ stale_tagged : (disk : OnDisk) (v : View) (place : Place) (target : ℕ) → Sta
 stale_tagged disk v place target s there is =
     record { reference = Stale target; in_range = stale_address disk v place target s there is; tag = tt; is = is }
 
+-- and so has a home
+home_tagged : (disk : OnDisk) (v : View) (place : Place) (home : ℕ) → Standing false disk v
+    → IsPlace (maps v) (state disk v) place
+    → word_in (state disk v) place ≡ ref_word (Disk home) → IsTagged (word_in (state disk v) place)
+home_tagged disk v place home s there is = ?
+
+finds_tagged : (disk : OnDisk) (v : View) (place : Place) (dst : ℕ) (next : Stage) → Standing false disk v
+    → IsPlace (maps v) (state disk v) place → FindsTag (word_in (state disk v) place) place dst next
+    → IsTagged (word_in (state disk v) place)
+finds_tagged disk v place dst next s there (inl stale) = stale_tagged disk v place stale.0 s there stale.1
+finds_tagged disk v place dst next s there (inr home) = home_tagged disk v place home.0 s there home.1
+
 -- a look that found no tag is the last event of its load
 look_stage : (disk : OnDisk) (v : View) (t : ℕ) (o : Op) (place : Place) (dst : ℕ) → Standing false disk v
     → IsPlace (maps v) (state disk v) place
     → LooksFrom (stage_of v t) place dst → (IsTagged (word_in (state disk v) place) → ⊥)
     → (stage : Stage) × Ends disk v t o stage
-    × (change_of (state disk v) (register_in v.held t) (Some stage) ≡ Nothing)
+    × (change_of (state disk v) (register_in v.held t) (rest_of v t) (Some stage) ≡ Nothing)
 look_stage disk v t o (Field object i) dst s there looks clean = (
   Headed object looks.0 (Load dst i),
   ends_at disk v t o (Headed object looks.0 (Load dst i)) looks.1 tt
-      (λ next goes. clean (stale_tagged disk v (Field object i) goes.0 s there goes.1)),
+      (λ next goes. clean (finds_tagged disk v (Field object i) dst next s there goes)),
   refl,
 )
 look_stage disk v t o (Global g) dst s there looks clean = (
   Polled (LoadGlobal dst g),
   ends_at disk v t o (Polled (LoadGlobal dst g)) looks tt
-      (λ next goes. clean (stale_tagged disk v (Global g) goes.0 s there goes.1)),
+      (λ next goes. clean (finds_tagged disk v (Global g) dst next s there goes)),
   refl,
 )
 
@@ -295,7 +307,7 @@ clear_advances disk v space t o place found target dst word shape asks at shaped
           no_region k None)
           (sym (ap cleared_by at)) (event told);
       applies = subst (λ (g : Option Stage). Applies (maps v) (maps w) (state disk v) (state disk w)
-          (change_of (state disk v) (register_in v.held t) g)) (sym at) (
+          (change_of (state disk v) (register_in v.held t) (rest_of v t) g)) (sym at) (
             refl,
             λ header stands. subst
                 (λ (h : Header). WordChanges (state disk v) (state disk w) target
@@ -314,7 +326,6 @@ clear_advances disk v space t o place found target dst word shape asks at shaped
                 (evolves.clears named.0 object.0 named.1 starts)),
           );
       unclaimed = refl;
-      unclaimed_before = ap claimed_in (call_at disk v t o stage asks at);
     })
 
 -- the look found a stale address
@@ -332,18 +343,18 @@ look_advances disk v t o place target dst asks looks holds =
   where
     look_next : (v : View) (t : ℕ) (o : Op) (place : Place) (target dst : ℕ) → LooksFrom (stage_of v t) place dst
         → word_in (state disk v) place ≡ ref_word (Stale target)
-        → (change_of (state disk v) (register_in v.held t) (stage_of v t) ≡ Nothing)
+        → (change_of (state disk v) (register_in v.held t) (rest_of v t) (stage_of v t) ≡ Nothing)
         × Next (maps v) (state disk v) (register_in v.held t) v.stop o (stage_of v t)
         (Looked place (Stale target) target dst)
     look_next v t o (Field object i) target dst looks is = (
-      subst (λ (g : Option Stage). change_of (state disk v) (register_in v.held t) g ≡ Nothing) (sym looks.1) refl,
+      subst (λ (g : Option Stage). change_of (state disk v) (register_in v.held t) (rest_of v t) g ≡ Nothing) (sym looks.1) refl,
       subst (λ (g : Option Stage). Next (maps v) (state disk v) (register_in v.held t) v.stop o g
-          (Looked (Field object i) (Stale target) target dst)) (sym looks.1) (target, is, refl),
+          (Looked (Field object i) (Stale target) target dst)) (sym looks.1) (inl (target, is, refl)),
     )
     look_next v t o (Global g) target dst looks is = (
-      subst (λ (g : Option Stage). change_of (state disk v) (register_in v.held t) g ≡ Nothing) (sym looks) refl,
+      subst (λ (g : Option Stage). change_of (state disk v) (register_in v.held t) (rest_of v t) g ≡ Nothing) (sym looks) refl,
       subst (λ (x : Option Stage). Next (maps v) (state disk v) (register_in v.held t) v.stop o x
-          (Looked (Global g) (Stale target) target dst)) (sym looks) (target, is, refl),
+          (Looked (Global g) (Stale target) target dst)) (sym looks) (inl (target, is, refl)),
     )
 
 -- the stage at which a load looks

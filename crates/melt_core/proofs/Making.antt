@@ -32,15 +32,17 @@ use Rattle.melt_core.specs.declared.answer.Pause.TheVariants.{Space}
 use Rattle.melt_core.specs.declared.call.Call.{Call}
 use Rattle.melt_core.specs.declared.call.Stage.{Stage}
 use Rattle.melt_core.specs.declared.call.Stage.TheVariants.{Polled, Headed, Looked, Cleared, Claimed, Lacking}
+use Rattle.melt_core.specs.declared.call.Stage.TheVariants.{Searching, Missed, HeadRead, BodyRead, Copying, Copied}
+use Rattle.melt_core.specs.declared.call.Stage.TheVariants.{Retrying, LackingCopy}
 use Rattle.melt_core.specs.declared.call.Task.TheVariants.{Make as Making}
 use Rattle.melt_core.specs.Answering.{Answers, entry}
 use Rattle.melt_core.specs.Known.{Known, Evolves, region, region_of}
 use Rattle.melt_core.specs.Events.{Event, quiet, claims as claims_words, stores, publishes}
-use Rattle.melt_core.specs.Stages.{Next, Fits, MustPause, Applies, Word, Publish, change_of, cleared_by, task_of}
+use Rattle.melt_core.specs.Stages.{Next, Fits, MustPause, Applies, Word, Publish, change_of, cleared_by, task_of, Lacks}
 use Rattle.melt_core.specs.Changed.{with_call, with_register, noted}
 use Rattle.melt_core.specs.Advances.{Asks, AdvancesOver, InBounds, HasRoomFor, Sets}
-use Rattle.melt_core.specs.Views.{View, Standing, maps, state, shown}
-use Rattle.melt_core.specs.Views.{call_of, stage_of, claimed_in, maps_of, numbers_of}
+use Rattle.melt_core.specs.Views.{View, Standing, maps, state, shown, rest_of}
+use Rattle.melt_core.specs.Views.{call_of, stage_of, claimed_in, claims_left, maps_of, numbers_of}
 use Rattle.melt_core.specs.Views.{registers_in, held_value, held_values, values_of}
 use Rattle.melt_core.proofs.Asked.{call_at, fits_at, known_at, inside, next_fits}
 use Rattle.melt_core.proofs.Claims.{bounded_is, bounded_lacking, bounded_call}
@@ -55,7 +57,7 @@ use Rattle.melt_core.proofs.Values.{held_is, named_value}
 use Rattle.melt_core.proofs.Going.{goes}
 use Rattle.melt_core.proofs.Plain.{as_told}
 use Rattle.melt_core.proofs.Regions.{apart_sym, no_region_apart, claimed_owned, claimed_apart}
-use Rattle.melt_core.proofs.Standing.{Happens, Made, advances, call_here, kept_own, values_stay}
+use Rattle.melt_core.proofs.Standing.{Happens, Made, advances, call_here, kept_own, same_rests, values_stay}
 use Rattle.melt_core.proofs.Tasks.{LoadsNothing, new_is, no_load}
 
 -- the view behind a claim
@@ -87,26 +89,49 @@ hold_words m s t address same (inr holds) =
     )
 
 -- new words are apart from what a call owns
-claimed_from : (told : Bool) (disk : OnDisk) (v : View) (words : ℕ) (stage : Stage)
-    → FormedWords (maps v) (state disk v)
-    → Known told (maps v) (state disk v) stage
+claimed_from : (told : Bool) (disk : OnDisk) (v : View) (words : ℕ) (rest : List ℕ) (stage : Stage)
+    → Known told (maps v) (state disk v) rest stage
     → Apart (record { at = v.free; words = words }) (region_of stage)
-claimed_from told disk v words (Polled task) formed known =
+claimed_from told disk v words rest (Polled task) known =
     apart_sym no_region (record { at = v.free; words = words })
     (no_region_apart (record { at = v.free; words = words }))
-claimed_from told disk v words (Headed address shape access) formed known =
+claimed_from told disk v words rest (Headed address shape access) known =
     apart_sym no_region (record { at = v.free; words = words })
     (no_region_apart (record { at = v.free; words = words }))
-claimed_from told disk v words (Looked place found target dst) formed known =
+claimed_from told disk v words rest (Looked place found target dst) known =
     apart_sym no_region (record { at = v.free; words = words })
     (no_region_apart (record { at = v.free; words = words }))
-claimed_from told disk v words (Cleared place found target dst) formed known =
+claimed_from told disk v words rest (Cleared place found target dst) known =
     apart_sym no_region (record { at = v.free; words = words })
     (no_region_apart (record { at = v.free; words = words }))
-claimed_from told disk v words (Claimed address shape stored dst) formed known =
+claimed_from told disk v words rest (Claimed address shape stored dst) known =
     apart_sym (region address shape) (record { at = v.free; words = words })
     (claimed_apart (maps v) (state disk v) words (region address shape) known.1.owns)
-claimed_from told disk v words (Lacking need) formed known =
+claimed_from told disk v words rest (Lacking need) known =
+    apart_sym no_region (record { at = v.free; words = words })
+    (no_region_apart (record { at = v.free; words = words }))
+claimed_from told disk v words rest (Searching search) known =
+    apart_sym no_region (record { at = v.free; words = words })
+    (no_region_apart (record { at = v.free; words = words }))
+claimed_from told disk v words rest (Missed search) known =
+    apart_sym no_region (record { at = v.free; words = words })
+    (no_region_apart (record { at = v.free; words = words }))
+claimed_from told disk v words rest (HeadRead search shape) known =
+    apart_sym no_region (record { at = v.free; words = words })
+    (no_region_apart (record { at = v.free; words = words }))
+claimed_from told disk v words rest (BodyRead search shape) known =
+    apart_sym no_region (record { at = v.free; words = words })
+    (no_region_apart (record { at = v.free; words = words }))
+claimed_from told disk v words rest (Copying a stored) known =
+    apart_sym (region a.address a.shape) (record { at = v.free; words = words })
+    (claimed_apart (maps v) (state disk v) words (region a.address a.shape) known.1.owns)
+claimed_from told disk v words rest (Copied a) known =
+    apart_sym (region a.address a.shape) (record { at = v.free; words = words })
+    (claimed_apart (maps v) (state disk v) words (region a.address a.shape) known.0.copy.owns)
+claimed_from told disk v words rest (Retrying a) known =
+    apart_sym (region a.address a.shape) (record { at = v.free; words = words })
+    (claimed_apart (maps v) (state disk v) words (region a.address a.shape) known.copy.owns)
+claimed_from told disk v words rest (LackingCopy search shape) known =
     apart_sym no_region (record { at = v.free; words = words })
     (no_region_apart (record { at = v.free; words = words }))
 
@@ -174,15 +199,16 @@ claim_happens disk {v} {t} {free} {need} {o} {shape} {dst} {stage} told claim s 
             bounded_is w (length v.space.list) (v.free + need) v.stop (set v.calls t (Some after)) refl
             (sym sum) refl refl
             (bounded_lacking (length v.space.list) v.free need v.stop v.calls t (Some after)
-            (Making dst shape) (inside disk v t o claim.asks) claim.at (ap Some (claim.lacks above)) few s.bounded)
+            (inside disk v t o claim.asks) (ap (claims_left v.stop) claim.at)
+            (ap (λ (g : Stage). claims_left v.stop (Some g)) (claim.lacks above)) few s.bounded)
         | inr below ↦ inl below
       ];
       may_hold = λ r. hold_words (maps v) (state disk v) (state disk w) (register_in v.held t r) (λ k. refl)
           (s.registers t r);
-      known = λ c is. subst (λ (d : Call). Known told (maps w) (state disk w) d.stage) (let e : after ≡ c = cc in e)
+      known = λ c is. subst (λ (d : Call). Known told (maps w) (state disk w) (rest_of v t) d.stage) (let e : after ≡ c = cc in e)
           (elim (cases_lt (length v.space.list + 1) free) [
-            | inl above ↦ subst (Known told (maps w) (state disk w)) (sym (claim.lacks above)) above
-            | inr below ↦ subst (Known told (maps w) (state disk w)) (sym (claim.fits below)) (
+            | inl above ↦ subst (Known told (maps w) (state disk w) (rest_of v t)) (sym (claim.lacks above)) above
+            | inr below ↦ subst (Known told (maps w) (state disk w) (rest_of v t)) (sym (claim.fits below)) (
               small,
               record {
                 owns = claimed_owned (maps v) (state disk v) (state disk w) (cost_of shape) s.holds.formed first
@@ -202,7 +228,7 @@ claim_happens disk {v} {t} {free} {need} {o} {shape} {dst} {stage} told claim s 
             | inl above ↦ subst (λ (g : Stage). Apart (region_of g) (region_of d.stage)) (sym (claim.lacks above))
                 (no_region_apart (region_of d.stage))
             | inr below ↦ subst (λ (g : Stage). Apart (region_of g) (region_of d.stage)) (sym (claim.fits below))
-                (claimed_from told disk v (cost_of shape) d.stage s.holds.formed (s.known u d other))
+                (claimed_from told disk v (cost_of shape) (rest_of v u) d.stage (s.known u d other))
           ]);
       counts = λ is. elim (cases_lt (length v.space.list + 1) free) [
         | inl above ↦
@@ -237,7 +263,7 @@ claim_advances disk {v} {t} {free} {need} {o} {shape} {dst} {stage} claim =
     } in
     advances disk v w t o Going claim.asks made refl
     (subst (λ (g : Option Stage). Applies (maps v) (maps w) (state disk v) (state disk w)
-    (change_of (state disk v) (register_in v.held t) g)) (sym claim.at) (refl, claim_moves disk claim))
+    (change_of (state disk v) (register_in v.held t) (rest_of v t) g)) (sym claim.at) (refl, claim_moves disk claim))
     (goes disk v w t o stage claim.asks (claim_next disk claim) refl
     (record { history = refl; registers = refl; values = refl }) refl)
     tt
@@ -331,7 +357,7 @@ store_zero_advances disk v space t o address stored dst shape asks at few sets =
             (stores (region address shape) (address + 1 + stored) 0 refl known.1.owns (omega arith)
             (omega arith) changes))
             (register_in v.held t r) (s.registers t r);
-        known = λ c is. subst (λ (d : Call). Known told (maps w) (state disk w) d.stage) (let e : after ≡ c = cc in e) (
+        known = λ c is. subst (λ (d : Call). Known told (maps w) (state disk w) (rest_of v t) d.stage) (let e : after ≡ c = cc in e) (
           known.0,
           record {
             owns = owns;
@@ -360,7 +386,7 @@ store_zero_advances disk v space t o address stored dst shape asks at few sets =
     } in
     advances disk v w t o Going asks made refl
     (subst (λ (g : Option Stage). Applies (maps v) (maps w) (state disk v) (state disk w)
-    (change_of (state disk v) (register_in v.held t) g)) (sym at)
+    (change_of (state disk v) (register_in v.held t) (rest_of v t) g)) (sym at)
     (subst (λ (b : Bool). Applies (maps v) (maps w) (state disk v) (state disk w)
     (if b then Publish address shape else Word (address + 1 + stored) 0))
     (sym (ne_eqb (stored + 1) (cost_of shape) (λ e. omega arith))) (refl, changes)))
@@ -396,9 +422,9 @@ lack_advances disk v t need o asks at =
     } in
     advances disk v w t o (Refused (Pause (Space need))) asks made refl
     (subst (λ (g : Option Stage). Applies (maps v) (maps w) (state disk v) (state disk w)
-    (change_of (state disk v) (register_in v.held t) g)) (sym at) (refl, same_words disk v))
+    (change_of (state disk v) (register_in v.held t) (rest_of v t) g)) (sym at) (refl, same_words disk v))
     (record {
-      stage = at;
+      lacks = subst (λ (g : Option Stage). Lacks g need) (sym at) refl;
       call = call_here v w t None refl within;
       own =
           record { history = refl; registers = refl; values = refl };
@@ -478,14 +504,13 @@ publish_advances disk {v} {space} {names} {t} {word} {o} {address} {stored} {dst
           named = made_it.named;
           room = made_it.size;
           scions = refl;
-          forward = refl;
+          rests = same_rests v w t refl;
           made = ap (λ (n : ℕ). n + 1) stands.counted ∙ made_one v.log t shape;
         };
         first = stands.first;
         bounded = bounded_is w (length v.space.list) v.free v.stop (set v.calls t None) made_it.sets.size refl refl refl
             (bounded_call (length v.space.list) v.free v.stop v.calls t None within
-            (claims_ends v.stop (stage_of v t) (λ need lacks. let e : Some stage ≡ Some (Lacking need) =
-            sym at ∙ lacks in cc)) stands.bounded);
+            (claims_ends v.stop (stage_of v t) (λ need lacks. subst (λ (g : Option Stage). Lacks g need) at lacks)) stands.bounded);
         may_hold = register_keeps (MayHold (maps w) (state disk w)) v t dst address asks.thread
             (inr ((makes v.log, named.here), fresh))
             (λ k. hold_stays (maps v) (maps w) (state disk v) (state disk w) 0 s.holds.formed evolves
@@ -507,7 +532,7 @@ publish_advances disk {v} {space} {names} {t} {word} {o} {address} {stored} {dst
     (publishes address stored shape known.0 known.1 all (changed v.held) named)) refl in
     advances disk v w t o (Answered reply.Done) asks made refl
     (subst (λ (g : Option Stage). Applies (maps v) (maps w) (state disk v) (state disk w)
-    (change_of (state disk v) (register_in v.held t) g)) (sym at)
+    (change_of (state disk v) (register_in v.held t) (rest_of v t) g)) (sym at)
     (subst (λ (b : Bool). Applies (maps v) (maps w) (state disk v) (state disk w)
     (if b then Publish address shape else Word (address + 1 + stored) 0))
     (sym (eq-eqb (stored + 1) (cost_of shape) all)) (changes, (v.made, appears))))
@@ -515,7 +540,7 @@ publish_advances disk {v} {space} {names} {t} {word} {o} {address} {stored} {dst
       last = λ next goes. let more : (stored + 1 < cost_of shape) × (next ≡ Claimed address shape (stored + 1) dst) =
           subst (λ (g : Option Stage). Next (maps v) (state disk v) (register_in v.held t) v.stop o g next) at goes in
           let few : stored + 1 < cost_of shape = more.0 in omega arith;
-      no_pause = λ pause. subst (MustPause (register_in v.held t) v.stop o) at pause;
+      no_pause = λ pause. subst (MustPause (length v.forward) (register_in v.held t) v.stop o) at pause;
       call = call_here v w t None refl within;
       answers = λ told. subst (λ (p : Op). Answers t v.log (values_of v t) p reply.Done w.log (values_of w t))
           (sym same)

@@ -2,7 +2,7 @@
 use Rattle.std.proofs.Common.{◌≡◌, ℕ, ◌+◌, ◌≤◌, inl, inr, List, [], ◌∷◌, ◌++◌}
 use Rattle.std.proofs.Common.{length, refl, sym, ◌∙◌, ap, subst, arith, length-append}
 use Rattle.std.proofs.lemmas.Bool.{cases_eq}
-use Rattle.std.specs.Prelude.{false, Option, None, Some}
+use Rattle.std.specs.Prelude.{true, false, Option, None, Some}
 use Rattle.melt_model.specs.declared.history.Entry.{Entry}
 use Rattle.melt_model.specs.declared.history.Act.{Act}
 use Rattle.melt_model.specs.declared.operations.Op.{Op}
@@ -14,7 +14,7 @@ use Rattle.melt_core.specs.declared.answer.StepResult.{StepResult}
 use Rattle.melt_core.specs.declared.answer.StepResult.TheVariants.{Going, Answered, Refused}
 use Rattle.melt_core.specs.declared.call.Call.{Call}
 use Rattle.melt_core.specs.Answering.{entry, with_entry}
-use Rattle.melt_core.specs.Advances.{AdvancesOver, Continues, Goes, KeepsOthers, Outcome}
+use Rattle.melt_core.specs.Advances.{AdvancesWhere, Continues, Goes, KeepsOthers, KeepsOwn, Outcome}
 use Rattle.melt_core.specs.Stages.{events_left}
 use Rattle.melt_core.specs.Views.{View, call_of, stage_in, stage_of, Standing}
 
@@ -25,6 +25,7 @@ KeepsOthers_both u v w t one two = record {
   threads = two.threads ∙ one.threads;
   capacity = two.capacity ∙ one.capacity;
   calls = λ k differ. two.calls k differ ∙ one.calls k differ;
+  records = λ k differ. two.records k differ ∙ one.records k differ;
   registers = λ k differ. two.registers k differ ∙ one.registers k differ;
   values = λ k differ. two.values k differ ∙ one.values k differ;
 }
@@ -41,42 +42,40 @@ entry_longer t log after (Some act) is =
     let same : length after ≡ length (log ++ entry t act ∷ []) = ap length is in
     omega (arith, length-append log (entry t act ∷ []))
 
-refused_over : (disk : OnDisk) (v w : View) (t : ℕ) (o : Op) (why : Refusal) → Outcome disk v w t o (Refused why)
-    → IsOver v w t
-refused_over disk v w t o (refusal.Pause Asked) is =
+own_over : (v w : View) (t : ℕ) → call_of w t ≡ None → KeepsOwn v w t → IsOver v w t
+own_over v w t over own =
+    record { call = over; history = let same : length w.log ≡ length v.log = ap length own.history in omega arith }
+
+refused_over : (tells : Type 0) (disk : OnDisk) (v w : View) (t : ℕ) (o : Op) (why : Refusal)
+    → Outcome tells disk v w t o (Refused why) → IsOver v w t
+refused_over tells disk v w t o (refusal.Pause Asked) is =
     subst (λ (x : View). IsOver v x t) (sym is.same) (record { call = is.first; history = omega arith })
-refused_over disk v w t o (refusal.Pause (Space need)) is =
-    record {
-      call = is.call;
-      history = let same : length w.log ≡ length v.log =
-          ap length is.own.history in omega arith;
-    }
-refused_over disk v w t o (refusal.Pause Forward) is = absurd is
-refused_over disk v w t o refusal.DiskFault is = absurd is
-refused_over disk v w t o (refusal.Damaged damaged) is = absurd is
+refused_over tells disk v w t o (refusal.Pause (Space need)) is = own_over v w t is.call is.own
+refused_over tells disk v w t o (refusal.Pause Forward) is = own_over v w t is.call is.own
+refused_over tells disk v w t o refusal.DiskFault is = own_over v w t is.1.call is.1.own
+refused_over tells disk v w t o (refusal.Damaged damaged) is = own_over v w t is.lost.call is.lost.own
 
 -- an event that does not leave the call going ends it
-pub event_over : (disk : OnDisk) (v w : View) (t : ℕ) (o : Op) (result : StepResult) → (result ≡ Going → ⊥)
-    → Outcome disk v w t o result
-    → IsOver v w t
-event_over disk v w t o Going ends is = absurd (ends refl)
-event_over disk v w t o (Answered reply) ends is =
+pub event_over : (tells : Type 0) (disk : OnDisk) (v w : View) (t : ℕ) (o : Op) (result : StepResult)
+    → (result ≡ Going → ⊥) → Outcome tells disk v w t o result → IsOver v w t
+event_over tells disk v w t o Going ends is = absurd (ends refl)
+event_over tells disk v w t o (Answered reply) ends is =
     record { call = is.call; history = entry_longer t v.log w.log is.history.0 is.history.1 }
-event_over disk v w t o (Refused why) ends is = refused_over disk v w t o why is
+event_over tells disk v w t o (Refused why) ends is = refused_over tells disk v w t o why is
 
 -- an event after which the call goes on
-pub going : (disk : OnDisk) (v w : View) (t : ℕ) (o : Op) (result : StepResult) → result ≡ Going
-    → Outcome disk v w t o result → Goes disk v w t o
-going disk v w t o result is outcome = subst (Outcome disk v w t o) is outcome
+pub going : (tells : Type 0) (disk : OnDisk) (v w : View) (t : ℕ) (o : Op) (result : StepResult) → result ≡ Going
+    → Outcome tells disk v w t o result → Goes disk v w t o
+going tells disk v w t o result is outcome = subst (Outcome tells disk v w t o) is outcome
 
 pub going_continues : (disk : OnDisk) (v w : View) (t : ℕ) (o : Op) → Goes disk v w t o → Continues (call_of w t) o
 going_continues disk v w t o is = subst (λ (c : Option Call). Continues c o) (sym is.call) refl
 
 pub going_nearer : (disk : OnDisk) (v w : View) (t : ℕ) (o : Op) → Goes disk v w t o
-    → events_left (stage_of w t) + 1 ≤ events_left (stage_of v t)
+    → events_left (length v.forward) (stage_of w t) + 1 ≤ events_left (length v.forward) (stage_of v t)
 going_nearer disk v w t o is =
-    let at : events_left (stage_of w t) ≡ events_left (Some is.stage) =
-    ap (λ (c : Option Call). events_left (stage_in c)) is.call in
+    let at : events_left (length v.forward) (stage_of w t) ≡ events_left (length v.forward) (Some is.stage) =
+    ap (λ (c : Option Call). events_left (length v.forward) (stage_in c)) is.call in
     omega (arith, at, is.nearer)
 
 -- what an event leaves of the call, and of the history
@@ -88,15 +87,16 @@ over_leaves : (v w : View) (t : ℕ) (o : Op) → IsOver v w t → Leaves v w t 
 over_leaves v w t o over =
     record { continues = subst (λ (c : Option Call). Continues c o) (sym over.call) tt; history = over.history }
 
-leaves : (disk : OnDisk) (v w : View) (t : ℕ) (o : Op) (result : StepResult) → Outcome disk v w t o result
-    → Leaves v w t o
-leaves disk v w t o Going is = record {
+leaves : (tells : Type 0) (disk : OnDisk) (v w : View) (t : ℕ) (o : Op) (result : StepResult)
+    → Outcome tells disk v w t o result → Leaves v w t o
+leaves tells disk v w t o Going is = record {
   continues = going_continues disk v w t o is;
   history = let same : length w.log ≡ length v.log = ap length is.own.history in omega arith;
 }
-leaves disk v w t o (Answered reply) is =
-    over_leaves v w t o (event_over disk v w t o (Answered reply) (λ e. absurd (cc)) is)
-leaves disk v w t o (Refused why) is = over_leaves v w t o (event_over disk v w t o (Refused why) (λ e. absurd (cc)) is)
+leaves tells disk v w t o (Answered reply) is =
+    over_leaves v w t o (event_over tells disk v w t o (Answered reply) (λ e. absurd (cc)) is)
+leaves tells disk v w t o (Refused why) is =
+    over_leaves v w t o (event_over tells disk v w t o (Refused why) (λ e. absurd (cc)) is)
 
 -- The words stand after some events, each call in flight is of the operation, the history has at most so many entries
 -- more, and all else that a call needs is as before.
@@ -109,13 +109,13 @@ pub record Onward (disk : OnDisk) (u w : View) (o : Op) (entries : ℕ) : Type 0
   pub history : length w.log ≤ length u.log + entries
 
 -- so it is after one event more
-pub onward_event : (disk : OnDisk) (u v w : View) (t : ℕ) (o : Op) (entries : ℕ) (result : StepResult)
-    → AdvancesOver disk v w t o result
+pub onward_event : (tells : Type 0) (disk : OnDisk) (u v w : View) (t : ℕ) (o : Op) (entries : ℕ) (result : StepResult)
+    → AdvancesWhere tells disk v w t o result
     → Onward disk u v o entries → Onward disk u w o (entries + 1)
-onward_event disk u v w t o entries result event before =
-    let left : Leaves v w t o = leaves disk v w t o result event.outcome in
+onward_event tells disk u v w t o entries result event before =
+    let left : Leaves v w t o = leaves tells disk v w t o result event.outcome in
     record {
-      stands = event.keeps false before.stands;
+      stands = event.keeps false (λ (told : false ≡ true). absurd (cc)) before.stands;
       globals = event.others.globals ∙ before.globals;
       threads = event.others.threads ∙ before.threads;
       capacity = event.others.capacity ∙ before.capacity;

@@ -14,18 +14,20 @@ use Rattle.melt_scion.specs.Heaps.{OnDisk, register_in}
 use Rattle.melt_core.specs.declared.call.Call.{Call}
 use Rattle.melt_core.specs.declared.call.Stage.{Stage}
 use Rattle.melt_core.specs.declared.call.Stage.TheVariants.{Polled, Headed, Looked, Cleared, Claimed, Lacking}
+use Rattle.melt_core.specs.declared.call.Stage.TheVariants.{Searching, Missed, HeadRead, BodyRead, Copying, Copied}
+use Rattle.melt_core.specs.declared.call.Stage.TheVariants.{Retrying, LackingCopy}
 use Rattle.melt_core.specs.Answering.{entry, with_entry}
 use Rattle.melt_core.specs.Known.{Known, region_of}
 use Rattle.melt_core.specs.Stages.{Fits}
 use Rattle.melt_core.specs.Events.{Event}
 use Rattle.melt_core.specs.Views.{View, Standing, Counts, maps, state, numbers_of, registers_in}
-use Rattle.melt_core.specs.Views.{call_of, stage_in, stage_of, claimed_in, claims_left}
+use Rattle.melt_core.specs.Views.{call_of, stage_in, stage_of, rest_of, claimed_in, claims_left}
 use Rattle.melt_core.proofs.Keeping.{event_keeps}
 use Rattle.melt_core.proofs.Staying.{hold_stays}
 use Rattle.melt_core.proofs.Regions.{no_region_apart}
 use Rattle.melt_core.proofs.Claims.{bounded_is, bounded_call}
 use Rattle.melt_core.proofs.Counting.{Claims, Counts_same, Counts_entry}
-use Rattle.melt_core.proofs.Standing.{Made}
+use Rattle.melt_core.proofs.Standing.{Made, same_rests}
 
 -- an act that makes no object, or none at all
 abbrev pub MakesNothing : Option Act → Type 0
@@ -53,10 +55,9 @@ pub record Plain (disk : OnDisk) (v w : View) (t : ℕ) (cleared : ℕ) (act : O
     pub others : (u : ℕ) → u ≢ t → registers_in w.held u ≡ registers_in v.held u
     pub may_hold : (r : ℕ) → MayHold (maps v) (state disk v) (register_in w.held t r)
     pub known : (told : Bool) → Standing told disk v → (c : Call) → after ≡ Some c
-        → Known told (maps w) (state disk w) c.stage
+        → Known told (maps w) (state disk w) (rest_of v t) c.stage
     pub fits : (c : Call) → after ≡ Some c → Fits (register_in w.held t) c.op c.stage
     pub unclaimed : claimed_in after ≡ 0
-    pub unclaimed_before : claimed_in (call_of v t) ≡ 0
     pub claims : claims_left v.stop (stage_in after) ≤ claims_left v.stop (stage_of v t)
 
 made_none : (t : ℕ) (act : Act) → shape_made act ≡ None → makes (entry t act ∷ []) ≡ 0
@@ -76,6 +77,14 @@ unclaimed_region (Looked place found target dst) none = refl
 unclaimed_region (Cleared place found target dst) none = refl
 unclaimed_region (Claimed address shape stored dst) none = absurd (omega arith)
 unclaimed_region (Lacking need) none = refl
+unclaimed_region (Searching search) none = refl
+unclaimed_region (Missed search) none = refl
+unclaimed_region (HeadRead search shape) none = refl
+unclaimed_region (BodyRead search shape) none = refl
+unclaimed_region (Copying a stored) none = absurd (omega arith)
+unclaimed_region (Copied a) none = absurd (omega arith)
+unclaimed_region (Retrying a) none = absurd (omega arith)
+unclaimed_region (LackingCopy search shape) none = refl
 
 plain_claims : (disk : OnDisk) (v w : View) (t cleared : ℕ) (act : Option Act) (after : Option Call)
     → Plain disk v w t cleared act after
@@ -85,8 +94,8 @@ plain_claims disk v w t cleared act after p = record {
   words = p.words;
   calls = ap (λ (x : View). x.calls) p.moves;
   below = let free : w.free ≡ v.free = ap (λ (x : View). x.free) p.moves in
-      omega (arith, p.unclaimed, p.unclaimed_before);
-  within = inl (omega (arith, p.unclaimed, p.unclaimed_before));
+      omega (arith, p.unclaimed);
+  within = inl (omega (arith, p.unclaimed));
 }
 
 counts_plain : (disk : OnDisk) (v w : View) (t cleared : ℕ) (act : Option Act) (after : Option Call)
@@ -124,7 +133,7 @@ plain disk v w t cleared act after within p = record {
           named = subst IsSome (sym (ap (λ (x : View). x.names) p.moves)) s.named;
           room = ap (λ (x : View). length (numbers_of x.names)) p.moves;
           scions = ap (λ (x : View). x.scions) p.moves;
-          forward = ap (λ (x : View). x.forward) p.moves;
+          rests = same_rests v w t (ap (λ (x : View). x.records) p.moves);
           made = ap (λ (x : View). x.made) p.moves
               ∙ (s.counted ∙ (made_same v.log t act p.nothing ∙ ap makes (sym log)));
         };
@@ -136,7 +145,8 @@ plain disk v w t cleared act after within p = record {
             (event_keeps told t v.log (maps v) (maps w) (state disk v) (state disk w) no_region cleared act s.legal
             s.holds
             (p.event told s)).evolves (register_in w.held t r) (p.may_hold r);
-        known = p.known told s;
+        known = λ c is. subst (λ (rest : List ℕ). Known told (maps w) (state disk w) rest c.stage)
+            (sym (ap (λ (x : View). rest_of x t) p.moves)) (p.known told s c is);
         fits = p.fits;
         mine_is = λ u d differ is. no_region_apart (region_of d.stage);
         apart = λ c is u d differ other.

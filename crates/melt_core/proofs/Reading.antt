@@ -31,7 +31,7 @@ use Rattle.melt_core.specs.Events.{Event, quiet, reads_number, number_place}
 use Rattle.melt_core.specs.Stages.{Next, Nothing, HasPart, Fits, change_of, task_of}
 use Rattle.melt_core.specs.Changed.{with_call, noted}
 use Rattle.melt_core.specs.Advances.{Asks, AdvancesOver, LeavesClean}
-use Rattle.melt_core.specs.Views.{View, maps, state, stage_of, values_of}
+use Rattle.melt_core.specs.Views.{View, maps, state, stage_of, values_of, rest_of}
 use Rattle.melt_core.proofs.Asked.{fits_at, known_at}
 use Rattle.melt_core.proofs.Words.{same_words}
 use Rattle.melt_core.proofs.Going.{go_advances}
@@ -172,7 +172,7 @@ pub head_advances : (disk : OnDisk) (v : View) (t : ℕ) (o : Op) (r address : �
     → AdvancesOver disk v (with_call v t (Some (record { op = o; stage = Headed address shape access }))) t o Going
 head_advances disk v t o r address access shape asks at is object part =
     go_advances disk v t o (Headed address shape access) asks
-    (subst (λ (g : Option Stage). change_of (state disk v) (register_in v.held t) g ≡ Nothing) (sym at) refl)
+    (subst (λ (g : Option Stage). change_of (state disk v) (register_in v.held t) (rest_of v t) g ≡ Nothing) (sym at) refl)
     (subst (λ (g : Option Stage). Next (maps v) (state disk v) (register_in v.held t) v.stop o g
     (Headed address shape access)) (sym at) (
       shape,

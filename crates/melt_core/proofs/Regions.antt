@@ -1,7 +1,7 @@
 -- Regions apart, what is claimed, and how a call comes nearer to its end.
 use Rattle.std.proofs.Common.{◌≡◌, ℕ, ◌+◌, ◌<◌, ◌≤◌, refl, sym, ap, subst, arith, ◌-◌, inl, inr}
 use Rattle.std.proofs.lemmas.Bool.{cases_lt}
-use Rattle.std.specs.Prelude.{false, Bool, Option, None, Some}
+use Rattle.std.specs.Prelude.{false, Bool, List, Option, None, Some, length}
 use Rattle.melt_model.specs.declared.operations.Op.{Op}
 use Rattle.melt_model.specs.declared.operations.Op.TheVariants as op
 use Rattle.melt_word.specs.Words.{IsShape, cost_of}
@@ -17,10 +17,13 @@ use Rattle.melt_core.specs.declared.call.Access.TheVariants.{Load}
 use Rattle.melt_core.specs.declared.call.Task.TheVariants.{Make, Use, LoadGlobal, StoreGlobal}
 use Rattle.melt_core.specs.declared.call.Stage.{Stage}
 use Rattle.melt_core.specs.declared.call.Stage.TheVariants.{Polled, Headed, Looked, Cleared, Claimed, Lacking}
+use Rattle.melt_core.specs.declared.call.Stage.TheVariants.{Searching, Missed, HeadRead, BodyRead, Copying, Copied}
+use Rattle.melt_core.specs.declared.call.Stage.TheVariants.{Retrying, LackingCopy}
 use Rattle.melt_core.specs.declared.call.Call.{Call}
 use Rattle.melt_core.specs.Known.{Known}
-use Rattle.melt_core.specs.Stages.{task_of, Fits, Next, events_left}
-use Rattle.melt_core.specs.Views.{View, maps, state, call_of, stage_in, stage_of}
+use Rattle.melt_core.specs.declared.call.Search.{Search}
+use Rattle.melt_core.specs.Stages.{task_of, Fits, Next, Probes, events_left}
+use Rattle.melt_core.specs.Views.{View, maps, state, call_of, stage_in, stage_of, rest_of}
 use Rattle.melt_core.specs.Advances.{InBounds, Continues, Asks}
 
 pub apart_sym : (a b : Region) → Apart a b → Apart b a
@@ -71,9 +74,9 @@ claimed_apart maps s words r owns =
     }
 
 -- what is known where a call is at this stage, if it is at one
-abbrev pub AtStage : Maps → State → (ℕ → ℕ) → Op → Option Stage → Type 0
-AtStage maps s register o None = Unit {0}
-AtStage maps s register o (Some stage) = Known false maps s stage × Fits register o stage
+abbrev pub AtStage : Maps → State → List ℕ → (ℕ → ℕ) → Op → Option Stage → Type 0
+AtStage maps s rest register o None = Unit {0}
+AtStage maps s rest register o (Some stage) = Known false maps s rest stage × Fits register o stage
 
 -- an object that an operation in bounds makes is small
 made_small : (globals : ℕ) (o : Op) (dst : ℕ) (shape : Shape) → InBounds globals o → task_of o ≡ Some (Make dst shape) →
@@ -84,43 +87,30 @@ made_small globals (op.New d refs nums) dst shape bounds makes =
     subst IsShape is (record { refs = bounds.1; nums = bounds.2 })
 made_small globals o dst shape bounds makes = absurd (cc)
 
+left_is : (forwards : ℕ) (next stage : Stage) → next ≡ stage
+    → events_left forwards (Some next) ≡ events_left forwards (Some stage)
+left_is forwards next stage is = ap (λ (x : Stage). events_left forwards (Some x)) is
+
+-- a search that has read fewer than all forwarding words comes nearer to its end
+probes_nearer : (s : State) (search : Search) (empty another next : Stage) (left : ℕ)
+    → Probes s search empty another next
+    → (search.tried < s.base.forwards → events_left s.base.forwards (Some empty) < left)
+    → (search.tried < s.base.forwards → events_left s.base.forwards (Some another) < left)
+    → (search.tried < s.base.forwards → 2 < left)
+    → events_left s.base.forwards (Some next) < left
+probes_nearer s search empty another next left is first second found =
+    ?
+
 -- an event that is not the last of its call brings it nearer to its end
-pub Next_nearer : (maps : Maps) (s : State) (register : ℕ → ℕ) (stop : Bool) (globals : ℕ) (o : Op)
-    (stage : Option Stage) (next : Stage) → InBounds globals o → AtStage maps s register o stage →
-    Next maps s register stop o stage next → events_left (Some next) < events_left stage
-Next_nearer maps s register stop globals o None next bounds at is =
-    let left : events_left (Some next) ≡ 130 = ap (λ (x : Stage). events_left (Some x)) is.3 in omega arith
-Next_nearer maps s register stop globals o (Some (Polled (Make dst shape))) next bounds at is =
-    let small : IsShape shape = made_small globals o dst shape bounds at.1.0 in
-    elim (cases_lt (s.base.size + 1) (s.free + cost_of shape)) [
-      | inl past ↦
-          let left : events_left (Some next) ≡ 1 = ap (λ (x : Stage). events_left (Some x)) (is.1 past) in omega arith
-      | inr fits ↦
-          let left : events_left (Some next) ≡ cost_of shape - 0 =
-          ap (λ (x : Stage). events_left (Some x)) (is.0 fits) in
-          omega arith
-    ]
-Next_nearer maps s register stop globals o (Some (Polled (Use r access))) next bounds at is =
-    let left : events_left (Some next) ≡ 4 = ap (λ (x : Stage). events_left (Some x)) is.3 in omega arith
-Next_nearer maps s register stop globals o (Some (Polled (LoadGlobal dst g))) next bounds at is =
-    let left : events_left (Some next) ≡ 3 = ap (λ (x : Stage). events_left (Some x)) is.2 in omega arith
-Next_nearer maps s register stop globals o (Some (Polled (StoreGlobal g src))) next bounds at is = absurd is
-Next_nearer maps s register stop globals o (Some (Headed address shape (Load dst i))) next bounds at is =
-    let left : events_left (Some next) ≡ 3 = ap (λ (x : Stage). events_left (Some x)) is.2 in omega arith
-Next_nearer maps s register stop globals o (Some (Headed address shape access)) next bounds at is = absurd is
-Next_nearer maps s register stop globals o (Some (Looked place found target dst)) next bounds at is =
-    let left : events_left (Some next) ≡ 2 = ap (λ (x : Stage). events_left (Some x)) is in omega arith
-Next_nearer maps s register stop globals o (Some (Cleared place found target dst)) next bounds at is = absurd is
-Next_nearer maps s register stop globals o (Some (Claimed address shape stored dst)) next bounds at is =
-    let left : events_left (Some next) ≡ cost_of shape - (stored + 1) =
-    ap (λ (x : Stage). events_left (Some x)) is.1 in
-    let below : stored + 1 < cost_of shape = is.0 in
-    omega arith
-Next_nearer maps s register stop globals o (Some (Lacking need)) next bounds at is = absurd is
+pub Next_nearer : (maps : Maps) (s : State) (rest : List ℕ) (register : ℕ → ℕ) (stop : Bool) (globals : ℕ) (o : Op)
+    (stage : Option Stage) (next : Stage) → InBounds globals o → AtStage maps s rest register o stage →
+    Next maps s register stop o stage next →
+    events_left s.base.forwards (Some next) < events_left s.base.forwards stage
+Next_nearer maps s rest register stop globals o stage next bounds at is = ?
 
 -- what stands of a view is known of the call of a thread
 at_stage_in : (disk : OnDisk) (v : View) (t : ℕ) (o : Op) (call : Option Call) → Asks disk v t o → call_of v t ≡ call →
-    AtStage (maps v) (state disk v) (register_in v.held t) o (stage_in call)
+    AtStage (maps v) (state disk v) (rest_of v t) (register_in v.held t) o (stage_in call)
 at_stage_in disk v t o None may is = tt
 at_stage_in disk v t o (Some c) may is =
     let continued : o ≡ c.op = subst (λ (x : Option Call). Continues x o) is may.continued in (
@@ -130,13 +120,13 @@ at_stage_in disk v t o (Some c) may is =
     )
 
 pub at_stage : (disk : OnDisk) (v : View) (t : ℕ) (o : Op) → Asks disk v t o →
-    AtStage (maps v) (state disk v) (register_in v.held t) o (stage_of v t)
+    AtStage (maps v) (state disk v) (rest_of v t) (register_in v.held t) o (stage_of v t)
 at_stage disk v t o may = at_stage_in disk v t o (call_of v t) may refl
 
 -- and so the next event of a thread does
 pub nearer_in : (disk : OnDisk) (v : View) (t : ℕ) (o : Op) (next : Stage) → Asks disk v t o →
     Next (maps v) (state disk v) (register_in v.held t) v.stop o (stage_of v t) next →
-    events_left (Some next) < events_left (stage_of v t)
+    events_left (length v.forward) (Some next) < events_left (length v.forward) (stage_of v t)
 nearer_in disk v t o next may is =
-    Next_nearer (maps v) (state disk v) (register_in v.held t) v.stop _ o (stage_of v t) next may.bounds
+    Next_nearer (maps v) (state disk v) (rest_of v t) (register_in v.held t) v.stop _ o (stage_of v t) next may.bounds
     (at_stage disk v t o may) is

@@ -31,7 +31,7 @@ use Rattle.melt_core.proofs.Staying.{known_stays}
 use Rattle.melt_core.proofs.Regions.{no_region_apart}
 use Rattle.melt_core.specs.Stages.{Fits}
 use Rattle.melt_core.specs.Epochs.{no_registers, IsNewRest, core_of, AtRest, HasDropped}
-use Rattle.melt_core.specs.Views.{View, InUse, view, maps, state, call_of}
+use Rattle.melt_core.specs.Views.{View, InUse, view, maps, state, call_of, rest_of, max_rest}
 use Rattle.melt_core.specs.Views.{held_values, claimed_in, claimed, Standing, IsQuiet}
 use Rattle.melt_core.specs.Changed.{stopped}
 use Rattle.melt_core.proofs.Claims.{bounded_stop}
@@ -90,6 +90,8 @@ stands_finish disk told v space s still words used =
       scions_made = subst (λ (n : ℕ). AreScionsFor n v.scions) (sym size) s.scions_made;
       few = s.few;
       each = s.each;
+      buffers = s.buffers;
+      rests = s.rests;
       counted = s.counted;
       first = omega arith;
       bounded = inl (omega (arith, used, size));
@@ -111,11 +113,11 @@ stands_finish disk told v space s still words used =
     }
 
 -- what is known of a call stays where only registers change
-known_words : (told : Bool) (m : Maps) (s t : State) (stage : Stage) → SameWords s t → FormedWords m s
-    → Known told m s stage → Known told m t stage
-known_words told m s t stage same formed known =
+known_words : (told : Bool) (m : Maps) (s t : State) (rest : List ℕ) (stage : Stage) → SameWords s t → FormedWords m s
+    → Known told m s rest stage → Known told m t rest stage
+known_words told m s t rest stage same formed known =
     let event : Event false [] m m s t no_region 0 None = quiet refl same in
-    known_stays m m s t 0 formed (evolves_event false [] m m s t no_region 0 None formed event) told stage
+    known_stays m m s t 0 formed (evolves_event false [] m m s t no_region 0 None formed event) told rest stage
     (λ owns. regions_event false [] m m s t no_region 0 None formed event (region_of stage) owns
     (no_region_apart (region_of stage))) known
 
@@ -141,6 +143,8 @@ dropped v t within none = record {
           scions_made = s.scions_made;
           few = omega (arith, s.few, size);
           each = s.each ∙ sym size;
+          buffers = s.buffers ∙ sym size;
+          rests = λ u below. s.rests u (subst (λ (n : ℕ). u < n) size below);
           counted = s.counted;
           first = s.first;
           bounded = s.bounded;
@@ -156,7 +160,7 @@ dropped v t within none = record {
                 | inr other ↦ subst (λ (regs : List ℕ). MayHold (maps v) (state disk v) (get_or regs r 0))
                     (sym (registers_other v.held t u (replicate 16 0) other)) (s.registers u r)
               ]);
-          known = λ u c is. known_words told (maps v) (state disk v) (state disk w) c.stage
+          known = λ u c is. known_words told (maps v) (state disk v) (state disk w) (rest_of v u) c.stage
               (same_behind disk v w.held) s.holds.formed (s.known u c is);
           fits = λ u c is. elim (cases_eq u t) [
             | inl same ↦ absurd (let e : None ≡ Some c = sym none ∙ (ap (call_of v) (sym same) ∙ is) in cc)
@@ -176,6 +180,8 @@ stands_stopped disk told v s = record {
   scions_made = s.scions_made;
   few = s.few;
   each = s.each;
+  buffers = s.buffers;
+  rests = s.rests;
   counted = s.counted;
   first = s.first;
   bounded = bounded_stop (length v.space.list) v.free v.stop v.calls s.bounded;
@@ -199,6 +205,12 @@ no_name : (words k : ℕ) → name_at (replicate words None) k ≡ None
 no_name words zero = refl
 no_name words (suc k) = get_or_replicate words k None
 
+-- a new buffer
+rest_new : (threads u : ℕ) → u < threads → length (get_or (replicate threads (replicate max_rest 0)) u []) ≡ max_rest
+rest_new zero u below = absurd (omega arith)
+rest_new (suc threads) zero below = length-replicate max_rest 0
+rest_new (suc threads) (suc u) below = rest_new threads u (omega arith)
+
 -- a new heap of these words, under threads that made nothing
 new_view : SpaceWords → ℕ → ℕ → ℕ → ℕ → ℕ → View
 new_view space words globals forward threads capacity = record {
@@ -209,6 +221,7 @@ new_view space words globals forward threads capacity = record {
   names = Some (no_names words);
   held = replicate threads no_registers;
   calls = replicate threads None;
+  records = replicate threads (replicate max_rest 0);
   log = [];
   capacity = capacity;
   made = 0;
@@ -242,6 +255,8 @@ stands_new told space words globals forward threads capacity size unused small f
       scions_made = subst (λ (n : ℕ). AreScionsFor n v.scions) (sym size) (scions_made words v.scions refl);
       few = omega (arith, length-replicate threads no_registers, few);
       each = length-replicate threads None ∙ sym (length-replicate threads no_registers);
+      buffers = length-replicate threads (replicate max_rest 0) ∙ sym (length-replicate threads no_registers);
+      rests = λ u below. rest_new threads u (subst (λ (n : ℕ). u < n) (length-replicate threads no_registers) below);
       counted = refl;
       first = omega arith;
       bounded = inl (omega (arith, unused));

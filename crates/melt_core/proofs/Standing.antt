@@ -3,7 +3,7 @@ use Rattle.std.proofs.Common.{◌≡◌, ◌≢◌, ℕ, ◌<◌, ◌≤◌, ◌
 use Rattle.std.proofs.Math.ListN.{set, length-set}
 use Rattle.std.proofs.lemmas.Bool.{cases_eq, cases_lt}
 use Rattle.std.proofs.lemmas.List.{get_or-set_same, get_or-set_other, get_or_past}
-use Rattle.std.specs.Prelude.{Bool, true, false, Option, None, Some, IsSome, slice_index}
+use Rattle.std.specs.Prelude.{Bool, true, false, [], Option, None, Some, IsSome, slice_index}
 use Rattle.melt_model.specs.History.{made as makes, Legal}
 use Rattle.melt_model.specs.declared.history.Entry.{Entry}
 use Rattle.melt_model.specs.Thread.{value_in}
@@ -17,16 +17,29 @@ use Rattle.melt_scion.specs.Heaps.{AreScionsFor, OnDisk, register_in}
 use Rattle.melt_core.specs.declared.call.Call.{Call}
 use Rattle.melt_core.specs.declared.answer.StepResult.{StepResult}
 use Rattle.melt_core.specs.Answering.{with_entry}
-use Rattle.melt_core.specs.Advances.{AdvancesOver, Asks, Outcome, LeavesClean}
+use Rattle.melt_core.specs.Advances.{AdvancesWhere, AdvancesOver, Asks, Outcome, LeavesClean}
 use Rattle.melt_core.specs.Known.{Known, Evolves, region_of}
 use Rattle.melt_core.specs.Stages.{Fits, Applies, change_of, cleared_by}
 use Rattle.melt_core.specs.Events.{Event, Keeps}
 use Rattle.melt_core.specs.Views.{View, Standing, Counts, Bounded, maps, state, maps_of, numbers_of}
-use Rattle.melt_core.specs.Views.{registers_in, call_of, stage_of, values_of, held_value, held_values}
+use Rattle.melt_core.specs.Views.{registers_in, call_of, stage_of, rest_of, values_of, held_value, held_values}
 use Rattle.melt_core.proofs.Keeping.{event_keeps}
 use Rattle.melt_core.proofs.Staying.{known_stays, hold_stays, held_value_stays}
 use Rattle.melt_core.proofs.Values.{same_values, value_held, may_value}
 use Rattle.melt_core.proofs.Regions.{apart_sym}
+
+-- the buffers are as long as before, and those of the other threads stay
+pub record KeepsRests (v w : View) (t : ℕ) : Type 0 where
+  pub buffers : length w.records ≡ length v.records
+  pub size : (u : ℕ) → length (rest_of w u) ≡ length (rest_of v u)
+  pub others : (u : ℕ) → u ≢ t → rest_of w u ≡ rest_of v u
+
+pub same_rests : (v w : View) (t : ℕ) → w.records ≡ v.records → KeepsRests v w t
+same_rests v w t same = record {
+  buffers = ap length same;
+  size = λ u. ap (λ (rs : List (List ℕ)). length (get_or rs u [])) same;
+  others = λ u differ. ap (λ (rs : List (List ℕ)). get_or rs u []) same;
+}
 
 -- What an event keeps: calls and registers of the others, the count of objects, and a table of names as long as before.
 pub record Kept (v w : View) (t : ℕ) (act : Option Act) (after : Option Call) : Type 0 where
@@ -37,7 +50,7 @@ pub record Kept (v w : View) (t : ℕ) (act : Option Act) (after : Option Call) 
   pub named : IsSome w.names
   pub room : length (numbers_of w.names) ≡ length (numbers_of v.names)
   pub scions : w.scions ≡ v.scions
-  pub forward : w.forward ≡ v.forward
+  pub rests : KeepsRests v w t
   pub made : w.made ≡ makes w.log
 
 -- an event that leaves registers, names and history
@@ -52,7 +65,7 @@ kept_own disk told v w t after s moves = record {
   named = subst (λ (x : View). IsSome x.names) (sym moves) s.named;
   room = ap (λ (x : View). length (numbers_of x.names)) moves;
   scions = ap (λ (x : View). x.scions) moves;
-  forward = ap (λ (x : View). x.forward) moves;
+  rests = same_rests v w t (ap (λ (x : View). x.records) moves);
   made = subst (λ (x : View). x.made ≡ makes x.log) (sym moves) s.counted;
 }
 
@@ -64,7 +77,7 @@ pub record Happens (disk : OnDisk) (told : Bool) (v w : View) (t : ℕ) (mine : 
   pub first : 1 ≤ w.free
   pub bounded : Bounded w
   pub may_hold : (r : ℕ) → MayHold (maps w) (state disk w) (register_in w.held t r)
-  pub known : (c : Call) → after ≡ Some c → Known told (maps w) (state disk w) c.stage
+  pub known : (c : Call) → after ≡ Some c → Known told (maps w) (state disk w) (rest_of w t) c.stage
   pub fits : (c : Call) → after ≡ Some c → Fits (register_in w.held t) c.op c.stage
   pub mine_is : (u : ℕ) (d : Call) → u ≢ t → call_of v u ≡ Some d → Apart mine (region_of d.stage)
   pub apart : (c : Call) → after ≡ Some c → (u : ℕ) (d : Call) → u ≢ t → call_of v u ≡ Some d
@@ -123,6 +136,8 @@ stands_behind disk told v w t mine cleared act after s e =
           (subst (λ (n : ℕ). AreScionsFor n v.scions) (sym size) s.scions_made);
       few = omega (arith, s.few, e.kept.threads);
       each = ap length e.kept.calls ∙ (length-set v.calls t after ∙ (s.each ∙ sym e.kept.threads));
+      buffers = e.kept.rests.buffers ∙ (s.buffers ∙ sym e.kept.threads);
+      rests = λ u below. e.kept.rests.size u ∙ s.rests u (subst (λ (n : ℕ). u < n) e.kept.threads below);
       counted = e.kept.made;
       first = e.first;
       bounded = e.bounded;
@@ -139,10 +154,13 @@ stands_behind disk told v w t mine cleared act after s e =
             (s.registers u r))
       ];
       known = λ u c is. elim (call_behind v w t u after c e.kept.calls is) [
-        | inl here ↦ e.known c here.1
-        | inr there ↦ known_stays (maps v) (maps w) (state disk v) (state disk w) cleared s.holds.formed evolves told
+        | inl here ↦ subst (λ (k : ℕ). Known told (maps w) (state disk w) (rest_of w k) c.stage) (sym here.0)
+            (e.known c here.1)
+        | inr there ↦ subst (λ (rest : List ℕ). Known told (maps w) (state disk w) rest c.stage)
+            (sym (e.kept.rests.others u there.0))
+            (known_stays (maps v) (maps w) (state disk v) (state disk w) cleared s.holds.formed evolves told (rest_of v u)
             c.stage
-            (λ owns. keeps.regions (region_of c.stage) owns (e.mine_is u c there.0 there.1)) (s.known u c there.1)
+            (λ owns. keeps.regions (region_of c.stage) owns (e.mine_is u c there.0 there.1)) (s.known u c there.1))
       ];
       fits = λ u c is. elim (call_behind v w t u after c e.kept.calls is) [
         | inl here ↦ subst (λ (k : ℕ). Fits (register_in w.held k) c.op c.stage) (sym here.0) (e.fits c here.1)
@@ -162,7 +180,15 @@ stands_behind disk told v w t mine cleared act after s e =
       counts = e.counts;
     }
 
--- What an event does, by what it has to show: each form of it, told or not.
+-- What an event does, by what it has to show: each form of it, told or not. It may be told only where so much is.
+pub record MadeWhere (tells : Type 0) (disk : OnDisk) (v w : View) (t : ℕ) (cleared : ℕ) : Type 0 where
+  pub mine : Region
+  pub act : Option Act
+  pub after : Option Call
+  pub happens : (told : Bool) → (told ≡ true → tells) → Standing told disk v
+      → Happens disk told v w t mine cleared act after
+
+-- and without the disk
 pub record Made (disk : OnDisk) (v w : View) (t : ℕ) (cleared : ℕ) : Type 0 where
   pub mine : Region
   pub act : Option Act
@@ -185,22 +211,23 @@ values_stay disk v w u cleared s evolves same =
     (held_value v.names (register_in v.held u r)) (may_value v.names (state disk v) (register_in v.held u r) (may r)))))
 
 -- One event was made.
-pub advances : (disk : OnDisk) (v w : View) (t : ℕ) (o : Op) (result : StepResult) → (asks : Asks disk v t o)
-    → (made : Made disk v w t (cleared_by (stage_of v t))) → w.capacity ≡ v.capacity
+pub advances_where : (tells : Type 0) (disk : OnDisk) (v w : View) (t : ℕ) (o : Op) (result : StepResult)
+    → (asks : Asks disk v t o) → (made : MadeWhere tells disk v w t (cleared_by (stage_of v t))) → w.capacity ≡ v.capacity
     → Applies (maps v) (maps w) (state disk v) (state disk w) (change_of (state disk v) (register_in v.held t)
-    (stage_of v t))
-    → Outcome disk v w t o result → LeavesClean disk v w t o result → AdvancesOver disk v w t o result
-advances disk v w t o result asks made capacity applies outcome clean =
+    (rest_of v t) (stage_of v t))
+    → Outcome tells disk v w t o result → LeavesClean disk v w t o result → AdvancesWhere tells disk v w t o result
+advances_where tells disk v w t o result asks made capacity applies outcome clean =
     let s : Standing false disk v = asks.stands in
     let cleared : ℕ = cleared_by (stage_of v t) in
-    let h : Happens disk false v w t made.mine cleared made.act made.after = made.happens false s in
+    let h : Happens disk false v w t made.mine cleared made.act made.after =
+    made.happens false (λ (told : false ≡ true). absurd (cc)) s in
     let evolves : Evolves (maps v) (maps w) (state disk v) (state disk w) cleared =
     (event_keeps false t v.log (maps v) (maps w) (state disk v) (state disk w) made.mine cleared made.act s.legal
     s.holds
     h.event).evolves in
     record {
-      keeps = λ told stands. stands_behind disk told v w t made.mine cleared made.act made.after stands
-          (made.happens told stands);
+      keeps = λ told tell stands. stands_behind disk told v w t made.mine cleared made.act made.after stands
+          (made.happens told tell stands);
       changes = applies;
       evolves = evolves;
       others = record {
@@ -209,9 +236,25 @@ advances disk v w t o result asks made capacity applies outcome clean =
         threads = h.kept.threads;
         capacity = capacity;
         calls = λ u differ. call_there v w t u made.after h.kept.calls differ;
+        records = h.kept.rests.others;
         registers = h.kept.others;
         values = λ u differ. values_stay disk v w u cleared s evolves (h.kept.others u differ);
       };
       outcome = outcome;
       clean = clean;
     }
+
+pub advances : (disk : OnDisk) (v w : View) (t : ℕ) (o : Op) (result : StepResult) → (asks : Asks disk v t o)
+    → (made : Made disk v w t (cleared_by (stage_of v t))) → w.capacity ≡ v.capacity
+    → Applies (maps v) (maps w) (state disk v) (state disk w) (change_of (state disk v) (register_in v.held t)
+    (rest_of v t) (stage_of v t))
+    → Outcome (Unit {0}) disk v w t o result → LeavesClean disk v w t o result → AdvancesOver disk v w t o result
+advances disk v w t o result asks made capacity applies outcome clean =
+    advances_where (Unit {0}) disk v w t o result asks
+    (record {
+      mine = made.mine;
+      act = made.act;
+      after = made.after;
+      happens = λ told tell stands. made.happens told stands;
+    })
+    capacity applies outcome clean

@@ -1,7 +1,7 @@
 -- What every event leaves of what is known: of objects, of registers, of values, and of calls.
 use Rattle.std.proofs.Common.{◌≡◌, ◌≢◌, ℕ, zero, suc, ◌+◌, ◌<◌, ◌≤◌, inl, inr, refl, sym, ◌∙◌, ap, subst, arith}
 use Rattle.std.proofs.lemmas.Bool.Decides.{eqb_tells}
-use Rattle.std.specs.Prelude.{Bool, false, List, Option, None, Some}
+use Rattle.std.specs.Prelude.{Bool, true, false, List, Option, None, Some}
 use Rattle.std.specs.Option.{option_map}
 use Rattle.melt_model.specs.declared.history.Value.{Value}
 use Rattle.melt_model.specs.declared.history.Value.TheVariants.{Ref}
@@ -15,13 +15,17 @@ use Rattle.melt_scion.specs.Regions.{Region, Owns, HasStored}
 use Rattle.melt_forward.specs.Forwarding.{SendsAnother, probe}
 use Rattle.melt_forward.proofs.Pairs.{forward_word-filled}
 use Rattle.melt_forward.proofs.Probing.{probe_within}
-use Rattle.melt_scion.specs.Commits.{Probed, HasBody, HasCopy}
+use Rattle.melt_scion.specs.Commits.{Probed, HasHead, HasBody, HasCopy, HasRecord, copy_word}
 use Rattle.melt_scion.proofs.Geometry.{one_header}
 use Rattle.melt_core.specs.declared.call.Place.{Place}
 use Rattle.melt_core.specs.declared.call.Place.TheVariants.{Field, Global}
 use Rattle.melt_core.specs.declared.call.Stage.{Stage}
 use Rattle.melt_core.specs.declared.call.Stage.TheVariants.{Polled, Headed, Looked, Cleared, Claimed, Lacking}
-use Rattle.melt_core.specs.Known.{IsObjectAt, word_in, IsPlace, IsTagged}
+use Rattle.melt_core.specs.declared.call.Stage.TheVariants.{Searching, Missed, HeadRead, BodyRead, Copying, Copied}
+use Rattle.melt_core.specs.declared.call.Stage.TheVariants.{Retrying, LackingCopy}
+use Rattle.melt_core.specs.declared.call.Search.{Search}
+use Rattle.melt_core.specs.declared.call.Activation.{Activation}
+use Rattle.melt_core.specs.Known.{IsObjectAt, word_in, IsPlace, IsTagged, Misses, Fetches, HoldsCopy}
 use Rattle.melt_core.specs.Known.{Searches, HasLooked, Leads, region, Known, region_of, Evolves, RegionStays}
 
 -- the header without the stale bit
@@ -195,23 +199,72 @@ module _ (maps new : Maps) (s t : State) (cleared : ℕ) (formed : FormedWords m
         stays.word (r.at + k) (omega arith) (omega arith) ∙ has.are k first to;
   }
 
+  pub tried_within : (tried : ℕ) → tried < s.base.forwards → tried < t.base.forwards
+  tried_within tried below = subst (λ (b : Base). tried < b.forwards) (sym evolves.base) below
+
+  pub misses_stays : (told : Bool) (search : Search) → Misses told maps s search → Misses told new t search
+  misses_stays told search is = record {
+    searches = searches_stays told search.place search.home search.tried is.searches;
+    within = tried_within search.tried is.within;
+  }
+
+  head_stays : (told : Bool) (home : ℕ) (z : Shape) → HasHead told s.base home z → HasHead told t.base home z
+  head_stays told home z is = subst (λ (b : Base). HasHead told b home z) (sym evolves.base) is
+
+  record_stays : (told : Bool) (home : ℕ) → (told ≡ true → HasRecord s.base home) → told ≡ true → HasRecord t.base home
+  record_stays told home is tells = subst (λ (b : Base). HasRecord b home) (sym evolves.base) (is tells)
+
+  pub fetches_stays : (told : Bool) (rest : List ℕ) (search : Search) (z : Shape) → Fetches told maps s rest search z →
+      Fetches told new t rest search z
+  fetches_stays told rest search z is = record {
+    misses = misses_stays told search is.misses;
+    body = body_stays told search.home z rest is.body;
+  }
+
+  pub holds_copy_stays : (told : Bool) (rest : List ℕ) (a : Activation) →
+      (Owns maps s (region a.address a.shape) → RegionStays new s t (region a.address a.shape)) →
+      HoldsCopy told maps s rest a → HoldsCopy told new t rest a
+  holds_copy_stays told rest a stays is = record {
+    searches = searches_stays told a.search.place a.search.home a.search.tried is.searches;
+    body = body_stays told a.search.home a.shape rest is.body;
+    copy = copy_stays a.address a.search.home a.shape rest (stays is.copy.owns) is.copy;
+  }
+
+  size_below : s.base.size + 1 < s.free → t.base.size + 1 < t.free
+  size_below above =
+      let later : s.free ≤ t.free = evolves.free in
+      let size : t.base.size ≡ s.base.size = ap (λ (b : Base). b.size) evolves.base in
+      omega arith
+
   -- what is known of a call stays
   pub known_stays : (told : Bool) (stage : Stage) →
       (Owns maps s (region_of stage) → RegionStays new s t (region_of stage)) →
       Known told maps s stage → Known told new t stage
-  known_stays told (Polled task) stays is = tt
-  known_stays told (Headed address shape access) stays is = object_stays address shape is
-  known_stays told (Looked place found target dst) stays is =
+  known_stays told rest (Polled task) stays is = tt
+  known_stays told rest (Headed address shape access) stays is = object_stays address shape is
+  known_stays told rest (Looked place found target dst) stays is =
       (looked_stays place found is.0, leads_stays told found target is.1)
-  known_stays told (Cleared place found target dst) stays is = (
+  known_stays told rest (Cleared place found target dst) stays is = (
     looked_stays place found is.0,
     leads_stays told found target is.1,
     fresh_stays target is.1.named is.2,
   )
-  known_stays told (Claimed address shape stored dst) stays is =
+  known_stays told rest (Claimed address shape stored dst) stays is =
       (is.0, stored_stays (region address shape) (λ k. 0) stored (stays is.1.owns) is.1)
-  known_stays told (Lacking need) stays is =
-      let above : s.base.size + 1 < s.free = is in
-      let later : s.free ≤ t.free = evolves.free in
-      let size : t.base.size ≡ s.base.size = ap (λ (b : Base). b.size) evolves.base in
-      omega arith
+  known_stays told rest (Lacking need) stays is = size_below is
+  known_stays told rest (Searching search) stays is =
+      searches_stays told search.place search.home search.tried is
+  known_stays told rest (Missed search) stays is =
+      (misses_stays told search is.0, record_stays told search.home is.1)
+  known_stays told rest (HeadRead search shape) stays is =
+      (misses_stays told search is.0, head_stays told search.home shape is.1, record_stays told search.home is.2)
+  known_stays told rest (BodyRead search shape) stays is = fetches_stays told rest search shape is
+  known_stays told rest (Copying a stored) stays is = (
+    fetches_stays told rest a.search a.shape is.0,
+    stored_stays (region a.address a.shape) (copy_word a.search.home a.shape rest) stored (stays is.1.owns) is.1,
+  )
+  known_stays told rest (Copied a) stays is =
+      (holds_copy_stays told rest a stays is.0, tried_within a.search.tried is.1)
+  known_stays told rest (Retrying a) stays is = holds_copy_stays told rest a stays is
+  known_stays told rest (LackingCopy search shape) stays is =
+      (size_below is.0, misses_stays told search is.1, head_stays told search.home shape is.2)

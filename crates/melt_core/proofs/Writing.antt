@@ -29,7 +29,7 @@ use Rattle.melt_core.specs.Events.{Event, PlaceChanges, writes_place, writes_num
 use Rattle.melt_core.specs.Stages.{Fits, LoadsAt, StoresFrom, Applies, change_of}
 use Rattle.melt_core.specs.Changed.{with_call, noted}
 use Rattle.melt_core.specs.Advances.{Asks, AdvancesOver, HasRoomFor, InBounds}
-use Rattle.melt_core.specs.Views.{View, Standing, maps, state, stage_of, values_of, held_value, registers_in}
+use Rattle.melt_core.specs.Views.{View, Standing, maps, state, stage_of, values_of, held_value, registers_in, rest_of}
 use Rattle.melt_core.proofs.Asked.{fits_at, known_at}
 use Rattle.melt_core.proofs.Words.{over, word_set}
 use Rattle.melt_core.proofs.Plain.{MakesNothing}
@@ -51,7 +51,7 @@ record Writes (disk : OnDisk) (v w : View) (t : ℕ) (o : Op) (stage : Stage) (a
   pub event : (told : Bool) → Standing told disk v
       → Event told v.log (maps v) (maps v) (state disk v) (state disk w) no_region 0 (Some act)
   pub applies : Applies (maps v) (maps v) (state disk v) (state disk w)
-      (change_of (state disk v) (register_in v.held t) (Some stage))
+      (change_of (state disk v) (register_in v.held t) (rest_of v t) (Some stage))
   pub answers : Standing true disk v
       → Answers t v.log (values_of v t) o reply.Done (v.log ++ entry t act ∷ []) (values_of v t)
   pub room : HasRoomFor v o

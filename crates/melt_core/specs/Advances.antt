@@ -1,11 +1,20 @@
 -- What one event does to a core.
-use Rattle.std.specs.Prelude.{◌≡◌, ◌≢◌, ℕ, ◌+◌, ◌^◌, ◌<◌, ◌≤◌, Bool, true, false, [], length, Option, None, Some}
+use Rattle.std.specs.Prelude.{◌≡◌, ◌≢◌, ◌⊎◌, ℕ, ◌+◌, ◌^◌, ◌<◌, ◌≤◌, Bool, true, false, List, [], length}
+use Rattle.std.specs.Prelude.{Option, None, Some, IfSome, IsSome, slice_index}
 use Rattle.melt_model.specs.Alive.{Alive, words_of, CostsSum}
 use Rattle.melt_model.specs.declared.history.Act.{Act}
 use Rattle.melt_model.specs.declared.operations.Op.{Op}
 use Rattle.melt_model.specs.declared.operations.Op.TheVariants as op
 use Rattle.melt_model.specs.declared.operations.Reply.{Reply}
-use Rattle.melt_scion.specs.Heaps.{OnDisk, register_in}
+use Rattle.melt_word.specs.Words.{cost_of}
+use Rattle.melt_word.specs.declared.header.Shape.{Shape}
+use Rattle.melt_record.specs.declared.damage.Damaged.{Damaged}
+use Rattle.melt_record.specs.declared.head.Kind.TheVariants.{Stub}
+use Rattle.melt_record.specs.Records.{IsHead, IsHeadDamage, IsSlotDamage}
+use Rattle.melt_forward.specs.Forwarding.{AllSendOthers}
+use Rattle.melt_io.specs.Outside.{Rose, words_at}
+use Rattle.melt_scion.specs.Scions.{Scions}
+use Rattle.melt_scion.specs.Heaps.{OnDisk, Shows, register_in, scion_in}
 use Rattle.melt_core.specs.declared.answer.Pause.{Pause}
 use Rattle.melt_core.specs.declared.answer.Pause.TheVariants.{Asked, Space, Forward}
 use Rattle.melt_core.specs.declared.answer.Refusal.{Refusal}
@@ -13,14 +22,16 @@ use Rattle.melt_core.specs.declared.answer.Refusal.TheVariants as refusal
 use Rattle.melt_core.specs.declared.answer.StepResult.{StepResult}
 use Rattle.melt_core.specs.declared.answer.StepResult.TheVariants.{Going, Answered, Refused}
 use Rattle.melt_core.specs.declared.call.Place.{Place}
+use Rattle.melt_core.specs.declared.call.Search.{Search}
 use Rattle.melt_core.specs.declared.call.Stage.{Stage}
-use Rattle.melt_core.specs.declared.call.Stage.TheVariants.{Lacking}
+use Rattle.melt_core.specs.declared.call.Stage.TheVariants.{Missed, HeadRead}
 use Rattle.melt_core.specs.declared.call.Call.{Call}
 use Rattle.melt_core.specs.Answering.{Answers, with_entry}
 use Rattle.melt_core.specs.Known.{Evolves, IsPlace, IsTagged, word_in}
-use Rattle.melt_core.specs.Stages.{LoadsAt, Applies, change_of, cleared_by, Next, MustPause, events_left}
+use Rattle.melt_core.specs.Stages.{LoadsAt, Applies, change_of, cleared_by, Next, MustPause, events_left, reads_left}
+use Rattle.melt_core.specs.Stages.{Lacks, SearchesOn, ReadsAt}
 use Rattle.melt_core.specs.Changed.{HasRoomForEntry}
-use Rattle.melt_core.specs.Views.{View, maps, state, values_of, value, registers_in, call_of, stage_of, Standing}
+use Rattle.melt_core.specs.Views.{View, maps, state, values_of, value, registers_in, call_of, stage_of, rest_of, Standing}
 
 -- registers and globals that the operation names are there, and the object that it makes is small enough
 abbrev pub InBounds : ℕ → Op → Type 0
@@ -52,17 +63,15 @@ pub record Asks (disk : OnDisk) (v : View) (t : ℕ) (o : Op) : Type 0 where
   pub room : HasRoomForEntry v
   pub few : length v.log < 2 ^ 32
 
--- over a disk that ends at this word; it has no homes yet
+-- over a disk that ends at this word
 pub record MayAdvance (end : ℕ) (v : View) (t : ℕ) (o : Op) : Type 0 where
   pub disk : OnDisk
   pub ends : disk.end ≡ end
-  pub no_homes : end ≡ 1
   pub asks : Asks disk v t o
 
 -- over some disk
 pub record MayMove (v : View) (t : ℕ) (o : Op) : Type 0 where
   pub disk : OnDisk
-  pub no_homes : disk.end ≡ 1
   pub asks : Asks disk v t o
 
 -- what an event of one thread leaves to the others
@@ -72,6 +81,7 @@ pub record KeepsOthers (v w : View) (t : ℕ) : Type 0 where
   pub threads : length w.held ≡ length v.held
   pub capacity : w.capacity ≡ v.capacity
   pub calls : (u : ℕ) → u ≢ t → call_of w u ≡ call_of v u
+  pub records : (u : ℕ) → u ≢ t → rest_of w u ≡ rest_of v u
   pub registers : (u : ℕ) → u ≢ t → registers_in w.held u ≡ registers_in v.held u
   pub values : (u : ℕ) → u ≢ t → values_of w u ≡ values_of v u
 
@@ -86,7 +96,7 @@ pub record Goes (disk : OnDisk) (v w : View) (t : ℕ) (o : Op) : Type 0 where
   pub stage : Stage
   pub next : Next (maps v) (state disk v) (register_in v.held t) v.stop o (stage_of v t) stage
   pub call : call_of w t ≡ Some (record { op = o; stage = stage })
-  pub nearer : events_left (Some stage) < events_left (stage_of v t)
+  pub nearer : events_left (length v.forward) (Some stage) < events_left (length v.forward) (stage_of v t)
   pub own : KeepsOwn v w t
   pub stop : w.stop ≡ v.stop
 
@@ -115,7 +125,7 @@ Sets o r = ⊥
 -- the operation made had room, where no object is on disk.
 pub record IsAnswered (disk : OnDisk) (v w : View) (t : ℕ) (o : Op) (reply : Reply) : Type 0 where
   pub last : (next : Stage) → Next (maps v) (state disk v) (register_in v.held t) v.stop o (stage_of v t) next → ⊥
-  pub no_pause : MustPause (register_in v.held t) v.stop o (stage_of v t) → ⊥
+  pub no_pause : MustPause (length v.forward) (register_in v.held t) v.stop o (stage_of v t) → ⊥
   pub call : call_of w t ≡ None
   pub answers : Standing true disk v → Answers t v.log (values_of v t) o reply w.log (values_of w t)
   pub history : (act : Option Act) × (w.log ≡ with_entry t v.log act)
@@ -126,12 +136,24 @@ pub record IsAnswered (disk : OnDisk) (v w : View) (t : ℕ) (o : Op) (reply : R
 -- the call of the thread is refused, as the stop word is set; nothing changes
 pub record IsAsked (v w : View) (t : ℕ) (o : Op) : Type 0 where
   pub first : call_of v t ≡ None
-  pub pauses : MustPause (register_in v.held t) v.stop o None
+  pub pauses : MustPause (length v.forward) (register_in v.held t) v.stop o None
   pub same : w ≡ v
 
--- the call of the thread is refused, as its region ended past the last word of the heap; the stop word is set
+-- The call of the thread is refused, as the words that it claimed end past the last word of the heap; the stop word is
+-- set.
 pub record IsRefused (v w : View) (t : ℕ) (o : Op) (need : ℕ) : Type 0 where
-  pub stage : stage_of v t ≡ Some (Lacking need)
+  pub lacks : Lacks (stage_of v t) need
+  pub call : call_of w t ≡ None
+  pub own : KeepsOwn v w t
+  pub stop : w.stop ≡ true
+
+-- The call of the thread is refused, as each forwarding word sends another home than that for which it searches; the stop
+-- word is set.
+pub record IsFull (v w : View) (t : ℕ) (o : Op) : Type 0 where
+  pub search : Search
+  pub searches : SearchesOn (stage_of v t) search
+  pub all : search.tried ≡ length v.forward
+  pub others : AllSendOthers v.forward search.home
   pub call : call_of w t ≡ None
   pub own : KeepsOwn v w t
   pub stop : w.stop ≡ true
@@ -139,17 +161,29 @@ pub record IsRefused (v w : View) (t : ℕ) (o : Op) (need : ℕ) : Type 0 where
 abbrev pub Pauses : View → View → ℕ → Op → Pause → Type 0
 Pauses v w t o Asked = IsAsked v w t o
 Pauses v w t o (Space need) = IsRefused v w t o need
-Pauses v w t o Forward = ⊥
+Pauses v w t o Forward = IsFull v w t o
 
-abbrev pub Refuses : View → View → ℕ → Op → Refusal → Type 0
-Refuses v w t o (refusal.Pause pause) = Pauses v w t o pause
-Refuses v w t o refusal.DiskFault = ⊥
-Refuses v w t o (refusal.Damaged damaged) = ⊥
+-- The call of the thread is refused, in an event that was to read the disk at this home; the stop word stays.
+pub record IsLost (v w : View) (t home : ℕ) : Type 0 where
+  pub reads : ReadsAt (stage_of v t) home
+  pub call : call_of w t ≡ None
+  pub own : KeepsOwn v w t
+  pub stop : w.stop ≡ v.stop
 
-abbrev pub Outcome : OnDisk → View → View → ℕ → Op → StepResult → Type 0
-Outcome disk v w t o Going = Goes disk v w t o
-Outcome disk v w t o (Answered reply) = IsAnswered disk v w t o reply
-Outcome disk v w t o (Refused refusal) = Refuses v w t o refusal
+-- And it was read, where the disk does not tell its words or they are not those of the history.
+pub record IsDamaged (tells : Type 0) (disk : OnDisk) (v w : View) (t : ℕ) (damaged : Damaged) : Type 0 where
+  pub lost : IsLost v w t damaged.home
+  pub untold : tells → Standing true disk v → ⊥
+
+abbrev pub Refuses : Type 0 → OnDisk → View → View → ℕ → Op → Refusal → Type 0
+Refuses tells disk v w t o (refusal.Pause pause) = Pauses v w t o pause
+Refuses tells disk v w t o refusal.DiskFault = (home : ℕ) × IsLost v w t home
+Refuses tells disk v w t o (refusal.Damaged damaged) = IsDamaged tells disk v w t damaged
+
+abbrev pub Outcome : Type 0 → OnDisk → View → View → ℕ → Op → StepResult → Type 0
+Outcome tells disk v w t o Going = Goes disk v w t o
+Outcome tells disk v w t o (Answered reply) = IsAnswered disk v w t o reply
+Outcome tells disk v w t o (Refused refusal) = Refuses tells disk v w t o refusal
 
 -- where a load was answered, the reference that it read has no tag
 abbrev pub LeavesClean : OnDisk → View → View → ℕ → Op → StepResult → Type 0
@@ -158,21 +192,73 @@ LeavesClean disk v w t o (Answered reply) = (place : Place) (dst : ℕ) → Load
 LeavesClean disk v w t o Going = Unit {0}
 LeavesClean disk v w t o (Refused refusal) = Unit {0}
 
--- One event of a thread was made, over a disk: what stood before, told or not, stands after; the shared words changed
--- as that event changes them, and in no other way.
-pub record AdvancesOver (disk : OnDisk) (v w : View) (t : ℕ) (o : Op) (result : StepResult) : Type 0 where
-  pub keeps : (told : Bool) → Standing told disk v → Standing told disk w
+-- One event of a thread was made, over a disk: what stood before, told or not, stands after, told only where the words of
+-- the disk are told in the event; the shared words changed as that event changes them, and in no other way.
+pub record AdvancesWhere (tells : Type 0) (disk : OnDisk) (v w : View) (t : ℕ) (o : Op) (result : StepResult)
+    : Type 0 where
+  pub keeps : (told : Bool) → (told ≡ true → tells) → Standing told disk v → Standing told disk w
   pub changes : Applies (maps v) (maps w) (state disk v) (state disk w)
-      (change_of (state disk v) (register_in v.held t) (stage_of v t))
+      (change_of (state disk v) (register_in v.held t) (rest_of v t) (stage_of v t))
   pub evolves : Evolves (maps v) (maps w) (state disk v) (state disk w) (cleared_by (stage_of v t))
   pub others : KeepsOthers v w t
-  pub outcome : Outcome disk v w t o result
+  pub outcome : Outcome tells disk v w t o result
   pub clean : LeavesClean disk v w t o result
+
+-- in an event that reads nothing of the disk
+abbrev pub AdvancesOver : OnDisk → View → View → ℕ → Op → StepResult → Type 0
+AdvancesOver disk v w t o result = AdvancesWhere (Unit {0}) disk v w t o result
 
 -- over each disk over which the words are well formed
 pub record Moves (v w : View) (t : ℕ) (o : Op) (result : StepResult) : Type 0 where
   pub over : (disk : OnDisk) → Standing false disk v → AdvancesOver disk v w t o result
 
--- over each disk that ends at this word
-pub record Advances (end : ℕ) (v w : View) (t : ℕ) (o : Op) (result : StepResult) : Type 0 where
-  pub over : (disk : OnDisk) → disk.end ≡ end → AdvancesOver disk v w t o result
+-- the words that a reader tells, if it tells any, are those of the disk
+abbrev pub TellsDisk : Option (List ℕ) → OnDisk → Type 0
+TellsDisk image disk = IsSome image × Shows image disk.image
+
+-- In an event that may read of the disk what a reader tells, over each disk that ends at this word.
+pub record Advances (end : ℕ) (image : Option (List ℕ)) (v w : View) (t : ℕ) (o : Op) (result : StepResult)
+    : Type 0 where
+  pub over : (disk : OnDisk) → disk.end ≡ end → AdvancesWhere (TellsDisk image disk) disk v w t o result
+
+-- a Stub of a home names a scion that is not live, or is of another home
+pub record NamesNoScion (scions : Scions) (home end first second : ℕ) (damaged : Damaged) : Type 0 where
+  pub shape : Shape
+  pub scion : ℕ
+  pub head : IsHead home end first second (record { shape = shape; kind = Stub scion })
+  pub dead : (address : ℕ) → scion_in scions scion ≢ Some (record { home = home; address = address })
+  pub is : damaged ≡ record { home = home; at = 1; word = second }
+
+-- What was read at a home breaks the form of a record at this word, or names no scion of the home.
+abbrev pub Breaks : Scions → ℕ → Option Stage → List ℕ → Damaged → Type 0
+Breaks scions end (Some (Missed search)) words damaged =
+    IsHeadDamage search.home end (slice_index words 0) (slice_index words 1) damaged
+    ⊎ NamesNoScion scions search.home end (slice_index words 0) (slice_index words 1) damaged
+Breaks scions end (Some (HeadRead search shape)) words damaged =
+    IsSlotDamage search.home end shape.refs words damaged
+Breaks scions end stage words damaged = ⊥
+
+-- where an event reads, and how many words
+abbrev pub reads_from : Option Stage → ℕ × ℕ
+reads_from (Some (Missed search)) = (search.home, 2)
+reads_from (Some (HeadRead search shape)) = (search.home + 2, shape.refs + shape.nums)
+reads_from stage = (0, 0)
+
+-- The record that was read is damaged. Its words are those that the reader tells.
+pub record IsDamage (image : Option (List ℕ)) (end : ℕ) (v : View) (t : ℕ) (damaged : Damaged) : Type 0 where
+  pub words : List ℕ
+  pub read : IfSome image (λ told. words ≡ words_at told (reads_from (stage_of v t)).0 (reads_from (stage_of v t)).1)
+  pub breaks : Breaks v.scions end (stage_of v t) words damaged
+
+-- how often a call may read behind an event
+abbrev pub reads_after : StepResult → Option Stage → ℕ
+reads_after Going stage = reads_left stage
+reads_after result stage = 0
+
+-- What an event leaves of a reader: it is used only where the disk is to be read, and a call reads twice at most. A fault
+-- has its count.
+pub record Uses (v w : View) (t : ℕ) (result : StepResult) (faults_before faults_after reads_before reads_after_it : ℕ)
+    : Type 0 where
+  pub few : reads_after_it + reads_after result (stage_of w t) ≤ reads_before + reads_left (stage_of v t)
+  pub fault : result ≡ Refused refusal.DiskFault → Rose faults_before faults_after
+  pub count : faults_before ≤ faults_after

@@ -7,7 +7,7 @@ use Rattle.melt_scion.specs.declared.registers.Registers.{Registers}
 use Rattle.melt_scion.specs.declared.heap.Heap.{Heap}
 use Rattle.melt_core.specs.declared.machine.Core.{Core}
 use Rattle.melt_core.specs.declared.machine.Rest.{Rest}
-use Rattle.melt_core.specs.Views.{View, view, values_of, Standing, IsQuiet}
+use Rattle.melt_core.specs.Views.{View, view, values_of, max_rest, Standing, IsQuiet}
 
 -- registers that hold nothing
 abbrev pub no_registers : Registers
@@ -17,6 +17,7 @@ no_registers = record { regs = replicate 16 0 }
 pub record IsNewRest (threads entries : ℕ) (rest : Rest) : Type 0 where
   pub held : rest.held.items ≡ replicate threads no_registers
   pub calls : rest.calls.items ≡ replicate threads None
+  pub records : rest.records.items ≡ replicate threads (replicate max_rest 0)
   pub history : rest.log.items ≡ []
   pub room : entries ≤ vec_capacity rest.log
   pub made : rest.made ≡ 0
@@ -41,6 +42,7 @@ pub record HasFinished (v w : View) : Type 0 where
   pub names : w.names ≡ v.names
   pub held : w.held ≡ v.held
   pub calls : w.calls ≡ v.calls
+  pub records : w.records ≡ v.records
   pub log : w.log ≡ v.log
   pub capacity : w.capacity ≡ v.capacity
   pub made : w.made ≡ v.made

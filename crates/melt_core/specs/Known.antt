@@ -1,6 +1,6 @@
 -- What is known of a call between two of its events, whatever other threads did since; without its operation and
 -- without its thread's registers. And what every event leaves, so that this stays.
-use Rattle.std.specs.Prelude.{◌≡◌, ◌≢◌, ℕ, ◌+◌, ◌<◌, ◌≤◌, Bool, true, false, Some}
+use Rattle.std.specs.Prelude.{◌≡◌, ◌≢◌, ℕ, ◌+◌, ◌<◌, ◌≤◌, Bool, true, false, List, Some}
 use Rattle.melt_model.specs.declared.history.Slot.{Slot}
 use Rattle.melt_model.specs.declared.history.Slot.TheVariants as slot
 use Rattle.melt_word.specs.Words.{IsShape, IsRef, ref_word, cost_of}
@@ -10,12 +10,16 @@ use Rattle.melt_word.specs.declared.reference.Ref.{Ref}
 use Rattle.melt_word.specs.declared.reference.Ref.TheVariants.{Null, Clean, Stale, Disk}
 use Rattle.melt_scion.specs.State.{State, HeaderAt, IsFresh}
 use Rattle.melt_scion.specs.Placed.{Maps, IsNamed, HasObject, MayStand, value_of}
-use Rattle.melt_scion.specs.Commits.{Probed}
+use Rattle.melt_scion.specs.Commits.{Probed, HasHead, HasBody, HasCopy, HasRecord, copy_word}
 use Rattle.melt_scion.specs.Regions.{Region, no_region, Owns, HasStored}
 use Rattle.melt_core.specs.declared.call.Place.{Place}
 use Rattle.melt_core.specs.declared.call.Place.TheVariants.{Field, Global}
+use Rattle.melt_core.specs.declared.call.Search.{Search}
+use Rattle.melt_core.specs.declared.call.Activation.{Activation}
 use Rattle.melt_core.specs.declared.call.Stage.{Stage}
 use Rattle.melt_core.specs.declared.call.Stage.TheVariants.{Polled, Headed, Looked, Cleared, Claimed, Lacking}
+use Rattle.melt_core.specs.declared.call.Stage.TheVariants.{Searching, Missed, HeadRead, BodyRead, Copying, Copied}
+use Rattle.melt_core.specs.declared.call.Stage.TheVariants.{Retrying, LackingCopy}
 
 -- an object of this shape stands at the address
 pub record IsObjectAt (maps : Maps) (s : State) (address : ℕ) (shape : Shape) : Type 0 where
@@ -78,20 +82,51 @@ pub record Leads (told : Bool) (maps : Maps) (found : Ref) (target : ℕ) : Type
   pub named : IsNamed maps target
   pub same : told ≡ true → value_of maps found ≡ value_of maps (Clean target)
 
--- by the stage of the call; what it says of values is told where the disk tells its words
-abbrev pub Known : Bool → Maps → State → Stage → Type 0
-Known told maps s (Polled task) = Unit {0}
-Known told maps s (Headed address shape access) = IsObjectAt maps s address shape
-Known told maps s (Looked place found target dst) = HasLooked maps s place found × Leads told maps found target
-Known told maps s (Cleared place found target dst) =
+-- The search came to a forwarding word that was empty.
+pub record Misses (told : Bool) (maps : Maps) (s : State) (search : Search) : Type 0 where
+  pub searches : Searches told maps s search.place search.home search.tried
+  pub within : search.tried < s.base.forwards
+
+-- And the Body at the home was read, of this shape and with these words behind its head.
+pub record Fetches (told : Bool) (maps : Maps) (s : State) (rest : List ℕ) (search : Search) (shape : Shape) : Type 0 where
+  pub misses : Misses told maps s search
+  pub body : HasBody told s.base search.home shape rest
+
+-- The whole copy was stored. Its search goes on.
+pub record HoldsCopy (told : Bool) (maps : Maps) (s : State) (rest : List ℕ) (a : Activation) : Type 0 where
+  pub searches : Searches told maps s a.search.place a.search.home a.search.tried
+  pub body : HasBody told s.base a.search.home a.shape rest
+  pub copy : HasCopy maps s a.address a.search.home a.shape rest
+
+-- By the stage of the call, with the words that it read behind the head of a record; what it says of values is told where
+-- the disk tells its words.
+abbrev pub Known : Bool → Maps → State → List ℕ → Stage → Type 0
+Known told maps s rest (Polled task) = Unit {0}
+Known told maps s rest (Headed address shape access) = IsObjectAt maps s address shape
+Known told maps s rest (Looked place found target dst) = HasLooked maps s place found × Leads told maps found target
+Known told maps s rest (Cleared place found target dst) =
     HasLooked maps s place found × Leads told maps found target × IsFresh s target
-Known told maps s (Claimed address shape stored dst) =
+Known told maps s rest (Claimed address shape stored dst) =
     IsShape shape × HasStored maps s (region address shape) (λ k. 0) stored
-Known told maps s (Lacking need) = s.base.size + 1 < s.free
+Known told maps s rest (Lacking need) = s.base.size + 1 < s.free
+Known told maps s rest (Searching search) = Searches told maps s search.place search.home search.tried
+Known told maps s rest (Missed search) = Misses told maps s search × (told ≡ true → HasRecord s.base search.home)
+Known told maps s rest (HeadRead search shape) = Misses told maps s search × HasHead told s.base search.home shape
+    × (told ≡ true → HasRecord s.base search.home)
+Known told maps s rest (BodyRead search shape) = Fetches told maps s rest search shape
+Known told maps s rest (Copying a stored) = Fetches told maps s rest a.search a.shape
+    × HasStored maps s (region a.address a.shape) (copy_word a.search.home a.shape rest) stored
+Known told maps s rest (Copied a) = HoldsCopy told maps s rest a × (a.search.tried < s.base.forwards)
+Known told maps s rest (Retrying a) = HoldsCopy told maps s rest a
+Known told maps s rest (LackingCopy search shape) = (s.base.size + 1 < s.free) × Misses told maps s search
+    × HasHead told s.base search.home shape
 
 -- the words that a call owns
 abbrev pub region_of : Stage → Region
 region_of (Claimed address shape stored dst) = region address shape
+region_of (Copying a stored) = region a.address a.shape
+region_of (Copied a) = region a.address a.shape
+region_of (Retrying a) = region a.address a.shape
 region_of stage = no_region
 
 -- a word of a reference changes only to one without a tag

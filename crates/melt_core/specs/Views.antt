@@ -1,5 +1,5 @@
 -- What a core shows, and when it stands for its history.
-use Rattle.std.specs.Prelude.{◌≡◌, ◌≢◌, ◌⊎◌, ℕ, ◌+◌, ◌*◌, ◌≤◌, Bool, true, List, [], length, map}
+use Rattle.std.specs.Prelude.{◌≡◌, ◌≢◌, ◌⊎◌, ℕ, ◌+◌, ◌*◌, ◌<◌, ◌≤◌, Bool, true, List, [], length, map}
 use Rattle.std.specs.Prelude.{sum, slice_index, slice_index_or, vec_capacity}
 use Rattle.std.specs.Prelude.{Option, None, Some, IsSome, unwrap_or, if◌then◌else◌}
 use Rattle.std.specs.FinMap.{empty}
@@ -20,15 +20,16 @@ use Rattle.melt_scion.specs.Heaps.{AreScionsFor, OnDisk, scion_in, register_in}
 use Rattle.melt_scion.specs.declared.registers.Registers.{Registers}
 use Rattle.melt_scion.specs.declared.heap.Names as heap
 use Rattle.melt_core.specs.declared.call.Stage.{Stage}
-use Rattle.melt_core.specs.declared.call.Stage.TheVariants.{Polled, Lacking}
+use Rattle.melt_core.specs.declared.call.Stage.TheVariants.{Polled, Headed, Lacking, Searching, Missed, HeadRead}
+use Rattle.melt_core.specs.declared.call.Stage.TheVariants.{BodyRead, LackingCopy}
 use Rattle.melt_core.specs.declared.call.Call.{Call}
 use Rattle.melt_core.specs.declared.machine.Core.{Core}
 use Rattle.melt_core.specs.Known.{Known, region_of}
 use Rattle.melt_core.specs.Stages.{Fits}
 
 -- The words of the space, the scions, the globals, the forwarding words, the names of objects, the registers and the call
--- in flight of each thread, the history, how many entries it has room for and how many objects were made in it, the first
--- free place, and whether the stop word is set.
+-- in flight of each thread, the words that each read behind the head of a record, the history, how many entries it has
+-- room for and how many objects were made in it, the first free place, and whether the stop word is set.
 pub record View : Type 0 where
   pub space : SpaceWords
   pub scions : Scions
@@ -37,6 +38,7 @@ pub record View : Type 0 where
   pub names : Option heap.Names
   pub held : List Registers
   pub calls : List (Option Call)
+  pub records : List (List ℕ)
   pub log : List Entry
   pub capacity : ℕ
   pub made : ℕ
@@ -52,6 +54,7 @@ view core = record {
   names = core.heap.names;
   held = core.rest.held.items;
   calls = core.rest.calls.items;
+  records = core.rest.records.items;
   log = core.rest.log.items;
   capacity = vec_capacity core.rest.log;
   made = core.rest.made;
@@ -134,6 +137,14 @@ stage_in (Some c) = Some c.stage
 abbrev pub stage_of : View → ℕ → Option Stage
 stage_of v t = stage_in (call_of v t)
 
+-- the words that the call of a thread read behind the head of a record
+abbrev pub rest_of : View → ℕ → List ℕ
+rest_of v t = slice_index_or v.records t []
+
+-- so many words has a record behind its head at most
+abbrev pub max_rest : ℕ
+max_rest = 124
+
 -- the words of the region that a call owns
 abbrev pub claimed_in : Option Call → ℕ
 claimed_in None = 0
@@ -157,7 +168,13 @@ pub record Counts (v : View) : Type 0 where
 -- how many claims that end past the last word a call may still make, with what its thread does behind it
 abbrev pub claims_left : Bool → Option Stage → ℕ
 claims_left stop (Some (Polled task)) = 1
+claims_left stop (Some (Headed address shape access)) = 1
+claims_left stop (Some (Searching search)) = 1
+claims_left stop (Some (Missed search)) = 1
+claims_left stop (Some (HeadRead search shape)) = 1
+claims_left stop (Some (BodyRead search shape)) = 1
 claims_left stop (Some (Lacking need)) = 0
+claims_left stop (Some (LackingCopy search shape)) = 0
 claims_left stop stage = if stop then 0 else 1
 
 -- The first free place lies past the last word only by claims that ended there, at most one for each thread: with such
@@ -175,13 +192,15 @@ pub record Standing (told : Bool) (disk : OnDisk) (v : View) : Type 0 where
   pub scions_made : AreScionsFor (length v.space.list) v.scions
   pub few : length v.held ≤ 8
   pub each : length v.calls ≡ length v.held
+  pub buffers : length v.records ≡ length v.held
+  pub rests : (t : ℕ) → t < length v.held → length (rest_of v t) ≡ max_rest
   pub counted : v.made ≡ makes v.log
   pub first : 1 ≤ v.free
   pub bounded : Bounded v
   pub holds : Holds told v.log (maps v) (state disk v)
   pub legal : told ≡ true → Legal v.log (length v.globals)
   pub registers : (t r : ℕ) → MayHold (maps v) (state disk v) (register_in v.held t r)
-  pub known : (t : ℕ) (c : Call) → call_of v t ≡ Some c → Known told (maps v) (state disk v) c.stage
+  pub known : (t : ℕ) (c : Call) → call_of v t ≡ Some c → Known told (maps v) (state disk v) (rest_of v t) c.stage
   pub fits : (t : ℕ) (c : Call) → call_of v t ≡ Some c → Fits (register_in v.held t) c.op c.stage
   pub apart : (t u : ℕ) (c d : Call) → t ≢ u → call_of v t ≡ Some c → call_of v u ≡ Some d
       → Apart (region_of c.stage) (region_of d.stage)

@@ -1,9 +1,11 @@
 //! One event of a call: which it is, by the stage that the call has reached.
 ghost use Rattle.std.specs.Prelude.{◌≡◌, Some};
-ghost use Rattle.melt_core.specs.Advances.{Advances, MayAdvance, Moves, MayMove};
+ghost use Rattle.melt_record.specs.declared.damage.Damaged.{Damaged};
+ghost use Rattle.melt_core.specs.Advances.{Advances, IsDamage, MayAdvance, Moves, MayMove, Uses};
+ghost use Rattle.melt_core.specs.Stages.{ComesBack, NeedsNoRead};
 ghost use Rattle.melt_core.specs.Views.{stage_of, view};
 
-use crate::answer::StepResult;
+use crate::answer::{Refusal, StepResult};
 use crate::call::{Access, Place, Stage, Task};
 use crate::load::Looked;
 use crate::machine::Core;
@@ -11,7 +13,7 @@ use crate::make::Claim;
 use crate::parts::Cell;
 use melt_io::RecordReader;
 use melt_model::Op;
-use melt_word::Shape;
+use melt_word::{Shape, cost};
 
 impl Core {
     /// The event after the stop word was read.
@@ -50,26 +52,34 @@ impl Core {
         }
     }
 
-    /// Makes one event of a thread: begins the call of an operation, or goes on with the one that is in flight, which
-    /// is to be of the same operation. An answer changes the registers and the history as the operation does; a refused
-    /// call changes neither. It takes no memory.
-    ///
-    /// No object has a home on disk yet: the disk is to end at word 1, past its homes, and the reader is not used.
-    #[tactic(auto, using(crate::proofs::Disks::moves_advance))]
-    pub fn advance<R: RecordReader>(
-        &mut self,
-        thread: u32,
-        op: Op,
-        end: u32,
-        _reader: &mut R,
-    ) -> StepResult
-        requires { MayAdvance end (view self.old) thread op }
-        ensures { Advances end (view self.old) (view self.new) thread op result }
+    /// The event of a load that found a home, without the disk.
+    fn after_search(&mut self, thread: u32, op: Op, stage: Stage) -> StepResult
+        requires asks { MayMove (view self.old) thread op }
+        requires stage { stage_of (view self.old) thread ≡ Some stage }
+        requires comes_back { ComesBack stage }
+        ensures { Moves (view self.old) (view self.new) thread op result }
     {
-        let Some(call) = &self.rest.calls[thread as usize] else {
-            return self.begin_call(thread, op);
-        };
-        match call.stage {
+        match stage {
+            Stage::Searching { search } => self.search(thread, op, search),
+            Stage::BodyRead { search, shape } => self.claim_copy(thread, op, search, shape),
+            Stage::Copying { activation, stored } => {
+                self.store_copy(thread, op, activation, stored)
+            }
+            Stage::Copied { activation } => self.commit(thread, op, activation),
+            Stage::Retrying { activation } => self.retry(thread, op, activation),
+            Stage::LackingCopy { shape, .. } => self.lack(thread, op, cost(shape)),
+            _ => unreachable!(),
+        }
+    }
+
+    /// The event behind a stage that needs nothing of the disk.
+    fn after_stage(&mut self, thread: u32, op: Op, stage: Stage) -> StepResult
+        requires asks { MayMove (view self.old) thread op }
+        requires stage { stage_of (view self.old) thread ≡ Some stage }
+        requires no_read { NeedsNoRead (Some stage) }
+        ensures { Moves (view self.old) (view self.new) thread op result }
+    {
+        match stage {
             Stage::Polled { task } => self.after_poll(thread, op, task),
             Stage::Headed {
                 address,
@@ -119,6 +129,41 @@ impl Core {
                 self.fill(thread, op, claim)
             }
             Stage::Lacking { need } => self.lack(thread, op, need),
+            stage => self.after_search(thread, op, stage),
+        }
+    }
+
+    /// Makes one event of a thread: begins the call of an operation, or goes on with the one that is in flight, which
+    /// is to be of the same operation. An answer changes the registers and the history as the operation does; a refused
+    /// call changes neither. It takes no memory.
+    ///
+    /// The disk ends at word `end`, past all homes. The reader is used only where the record of a home is to be read: at
+    /// most twice in a call, and once where the object left a Stub there or has no slots and numbers.
+    pub fn advance<R: RecordReader>(
+        &mut self,
+        thread: u32,
+        op: Op,
+        end: u32,
+        reader: &mut R,
+    ) -> StepResult
+        requires { MayAdvance end (view self.old) thread op }
+        ensures advances { Advances end (R.image reader.old) (view self.old) (view self.new) thread op result }
+        ensures uses { Uses (view self.old) (view self.new) thread result (R.faults reader.old) (R.faults reader.new)
+            (R.reads reader.old) (R.reads reader.new) }
+        ensures unused { NeedsNoRead (stage_of (view self.old) thread) → reader.new ≡ reader.old }
+        ensures image { R.image reader.new ≡ R.image reader.old }
+        ensures damage { (damaged : Damaged) → result ≡ StepResult.Refused (Refusal.Damaged damaged)
+            → IsDamage (R.image reader.old) end (view self.old) thread damaged }
+    {
+        let Some(call) = &self.rest.calls[thread as usize] else {
+            return self.begin_call(thread, op);
+        };
+        match call.stage {
+            Stage::Missed { search } => self.read_head(thread, op, end, search, reader),
+            Stage::HeadRead { search, shape } => {
+                self.read_rest(thread, op, end, search, shape, reader)
+            }
+            stage => self.after_stage(thread, op, stage),
         }
     }
 }

@@ -2,11 +2,14 @@
 //!
 //! A stage holds all that the rest of the call needs, so that no event looks at the operation again. What a stage
 //! claims of the words stays true whatever other threads do between two events.
-ghost use Rattle.std.specs.Prelude.{◌↔◌, IsTrue};
-ghost use Rattle.melt_core.specs.Stages.{HasPart};
+ghost use Rattle.std.specs.Prelude.{◌≡◌, ◌↔◌, ◌+◌, ◌^◌, ◌<◌, IsTrue};
+ghost use Rattle.melt_core.specs.Stages.{HasPart, further, reached, retried};
 
 use melt_model::Op;
 use melt_word::{Ref, Shape};
+
+/// How many words a record has at most behind its head: 62 slots and 62 numbers.
+pub(crate) const MAX_REST: usize = 124;
 
 /// Where the word of a reference stands.
 #[derive(Clone, Copy, Debug, PartialEq, Eq)]
@@ -55,6 +58,63 @@ pub enum Task {
     StoreGlobal { g: u8, src: u8 },
 }
 
+/// The search for the object of a home, by the forwarding words: so many of them were read, and each names another home.
+/// The home was found at the place, in a load into register `dst`.
+#[derive(Clone, Copy, Debug, PartialEq, Eq)]
+pub struct Search {
+    pub place: Place,
+    pub home: u32,
+    pub tried: u32,
+    pub dst: u8,
+}
+
+impl Search {
+    /// The search behind one forwarding word more.
+    pub(crate) fn further(self) -> Search
+        requires { self.tried + 1 < 2 ^ 32 }
+        ensures { result ≡ further self }
+    {
+        Search {
+            tried: self.tried + 1,
+            ..self
+        }
+    }
+
+    /// The stage of the load, now that the object is known to be at the address, and to have no stale bit.
+    pub(crate) fn reached(self, target: u32) -> Stage
+        ensures { result ≡ reached self target }
+    {
+        Stage::Cleared {
+            place: self.place,
+            found: Ref::Disk(self.home),
+            target,
+            dst: self.dst,
+        }
+    }
+}
+
+/// How an object comes back: the words from the address on are for a copy of the Body, of this shape, at the home that is
+/// searched for.
+#[derive(Clone, Copy, Debug, PartialEq, Eq)]
+pub struct Activation {
+    pub search: Search,
+    pub address: u32,
+    pub shape: Shape,
+}
+
+impl Activation {
+    /// The copy at hand, behind one forwarding word more.
+    pub(crate) fn retried(self) -> Activation
+        requires { self.search.tried + 1 < 2 ^ 32 }
+        ensures { result ≡ retried self }
+    {
+        Activation {
+            search: self.search.further(),
+            ..self
+        }
+    }
+}
+
 /// How far a call has come, and what it knows.
 #[derive(Clone, Copy, Debug, PartialEq, Eq)]
 pub enum Stage {
@@ -68,8 +128,8 @@ pub enum Stage {
         shape: Shape,
         access: Access,
     },
-    /// The word at the place, which is loaded into register `dst`, was that of a reference with a tag. Its object is at
-    /// the address `target`.
+    /// The word at the place, which is loaded into register `dst`, was that of a reference with a tag: a stale address, or
+    /// a home with a Stub. Its object is at the address `target`.
     Looked {
         place: Place,
         found: Ref,
@@ -94,6 +154,42 @@ pub enum Stage {
     /// The `need` words that were claimed end past the last word of the heap.
     Lacking {
         need: u32,
+    },
+    /// A home was found. Where all forwarding words were read, no object can come back before the next collection.
+    Searching {
+        search: Search,
+    },
+    /// The next forwarding word was empty, so that none names the home. Its record is to be read.
+    Missed {
+        search: Search,
+    },
+    /// The record is a Body of this shape, with slots or numbers that are to be read.
+    HeadRead {
+        search: Search,
+        shape: Shape,
+    },
+    /// And they were read: they lie in the buffer of the thread.
+    BodyRead {
+        search: Search,
+        shape: Shape,
+    },
+    /// Words were claimed for a copy, and so many of those behind its header were stored.
+    Copying {
+        activation: Activation,
+        stored: u32,
+    },
+    /// All words of the copy were stored. The forwarding word that was empty is to name its address.
+    Copied {
+        activation: Activation,
+    },
+    /// That word names another home by now, so that the search goes on with the copy at hand.
+    Retrying {
+        activation: Activation,
+    },
+    /// The words that were claimed for a copy of an object of this shape end past the last word of the heap.
+    LackingCopy {
+        search: Search,
+        shape: Shape,
     },
 }
 

@@ -3,6 +3,7 @@
 
 mod advance;
 pub mod answer;
+mod body;
 pub mod call;
 mod laws;
 mod load;
@@ -10,6 +11,8 @@ pub mod machine;
 mod make;
 mod parts;
 mod poll;
+mod probing;
+mod record;
 mod write;
 
 pub use answer::{Pause, Refusal, StepResult};

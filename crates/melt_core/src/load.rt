@@ -4,7 +4,8 @@
 //! slow path, one event after the other: the stale bit of the object is cleared first, and then the word is exchanged
 //! for the clean one, if it is still what was found. So no clean address is ever that of an object with the stale bit,
 //! and the word that the exchange finds is always one that may be answered: a word with a tag can only have become one
-//! without.
+//! without. Where the word was a home, its object is searched for first, and made if it must be: `probing`, `record` and
+//! `body` have those events.
 ghost use Rattle.std.specs.Prelude.{◌≡◌, ◌<◌, length, Some, None};
 ghost use Rattle.melt_scion.specs.Heaps.{OnDisk};
 ghost use Rattle.melt_core.specs.Advances.{Moves, MayMove};
@@ -14,7 +15,7 @@ ghost use Rattle.melt_core.specs.Stages.{LooksFrom};
 ghost use Rattle.melt_core.specs.Views.{stage_of, state, view};
 
 use crate::answer::StepResult;
-use crate::call::{Access, Place, Stage, Task};
+use crate::call::{Access, Place, Search, Stage, Task};
 use crate::machine::Core;
 use crate::parts::{Cell, found, reference, value_at};
 use melt_model::{Act, Op, Reply, Slot, Value};
@@ -117,8 +118,16 @@ impl Core {
                 self.set_stage(thread, op, stage);
                 StepResult::Going
             }
-            // (no object has a home yet)
-            Ref::Disk(_) => unreachable!(),
+            Ref::Disk(home) => {
+                let search = Search {
+                    place,
+                    home,
+                    tried: 0,
+                    dst,
+                };
+                self.set_stage(thread, op, Stage::Searching { search });
+                StepResult::Going
+            }
         }
     }
 

@@ -6,17 +6,18 @@ ghost use Rattle.melt_core.specs.Views.{IsQuiet, Standing, call_of, view};
 ghost use Rattle.melt_core.specs.Epochs.{AtRest, HasDropped, HasFinished, IsNewRest, core_of};
 ghost use Rattle.melt_core.specs.Lending.{LendsHeld};
 
-use crate::call::Call;
+use crate::call::{Call, MAX_REST};
 use melt_model::{Entries, Entry, NoMemory};
 use melt_scion::{Heap, Registers};
 use std::alloc::Global;
 
-/// What a core has beside its heap: the registers of all threads, their calls in flight, and the history with the
-/// number of objects that were made in it.
+/// What a core has beside its heap: the registers of all threads, their calls in flight with a buffer each for what they
+/// read of a record behind its head, and the history with the number of objects that were made in it.
 #[derive(Debug, Drop)]
 pub struct Rest {
     pub(crate) held: Vec<Registers>,
     pub(crate) calls: Vec<Option<Call>>,
+    pub(crate) records: Vec<[u64; MAX_REST]>,
     pub(crate) log: Vec<Entry>,
     pub(crate) made: u64,
 }
@@ -31,6 +32,7 @@ impl Rest {
         Ok(Rest {
             held: vec![in alloc; none; threads as usize]?,
             calls: vec![in alloc; None; threads as usize]?,
+            records: vec![in alloc; [0; MAX_REST]; threads as usize]?,
             log: Vec::with_capacity(alloc, entries as usize)?,
             made: 0,
         })

@@ -1,11 +1,11 @@
 //! How an object is made while other threads run: bump allocation in events.
 //!
 //! The claim moves the first free place on, and from then on the words belong to one thread. It stores 0 in all of them
-//! but the first, and the header last: with that word the object is there, whole. A claim that ends past the last word
-//! takes its words too, so that no two threads are ever given one word.
+//! but the first, and the header last: with that word the object is there, whole.
 ghost use Rattle.std.specs.Prelude.{◌≡◌, ◌+◌, ◌<◌, Some};
 ghost use Rattle.melt_word.specs.Words.{cost_of};
 ghost use Rattle.melt_core.specs.Advances.{Moves, MayMove};
+ghost use Rattle.melt_core.specs.Stages.{Lacks};
 ghost use Rattle.melt_core.specs.Views.{stage_of, view};
 
 use crate::answer::{Pause, Refusal, StepResult};
@@ -32,19 +32,15 @@ impl Core {
         requires stage { stage_of (view self.old) thread ≡ Some (Stage.Polled (Task.Make dst shape)) }
         ensures { Moves (view self.old) (view self.new) thread op result }
     {
-        let address = self.free;
         let need = cost(shape);
-        // Each thread claims past the last word at most once before it reads the stop word: the sum stays small.
-        self.free = address + need;
-        let stage = if self.free > self.heap.space.words() + 1 {
-            Stage::Lacking { need }
-        } else {
-            Stage::Claimed {
+        let stage = match self.claim_words(need) {
+            Some(address) => Stage::Claimed {
                 address,
                 shape,
                 stored: 0,
                 dst,
-            }
+            },
+            None => Stage::Lacking { need },
         };
         self.set_stage(thread, op, stage);
         StepResult::Going
@@ -120,7 +116,7 @@ impl Core {
     /// Sets the stop word, as the words that were claimed end past the last one.
     pub(crate) fn lack(&mut self, thread: u32, op: Op, need: u32) -> StepResult
         requires asks { MayMove (view self.old) thread op }
-        requires stage { stage_of (view self.old) thread ≡ Some (Stage.Lacking need) }
+        requires stage { Lacks (stage_of (view self.old) thread) need }
         ensures { Moves (view self.old) (view self.new) thread op result }
     {
         self.stop = true;

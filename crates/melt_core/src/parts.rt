@@ -1,5 +1,5 @@
 //! Steps on the parts of a core, each of which changes one of them and says nothing of the others' meaning.
-ghost use Rattle.std.specs.Prelude.{◌≡◌, ◌*◌, ◌^◌, ◌<◌, ◌≤◌, length, slice_set, Some, None, IsSome};
+ghost use Rattle.std.specs.Prelude.{◌≡◌, ℕ, ◌+◌, ◌*◌, ◌^◌, ◌<◌, ◌≤◌, length, slice_set, Some, None, IsSome, MatchOption};
 ghost use Rattle.melt_model.specs.Thread.{found as found_in};
 ghost use Rattle.melt_word.specs.declared.reference.Ref.{Ref};
 ghost use Rattle.melt_scion.specs.Changes.{NameAppears};
@@ -151,6 +151,29 @@ impl Core {
             Value::Ref(number) => number,
             Value::Nil | Value::Num(_) => unreachable!(),
         }
+    }
+
+    /// The number of the object that has a home, or 0 where the home has no name.
+    pub(crate) fn number_of_home(&self, home: u32) -> u32
+        ensures { (n : ℕ) → (maps (view self.now)).home home ≡ Some n → result ≡ n }
+    {
+        let names = self.heap.names.as_ref();
+        names.and_then(|names| names.homes.get(home)).unwrap_or(0)
+    }
+
+    /// Claims so many words, and answers their address. Where they end past the last word of the heap they are claimed
+    /// too, so that no two threads are ever given one word, but are of no use. Each thread claims past the last word at
+    /// most once before it reads the stop word, so that the sum stays small.
+    pub(crate) fn claim_words(&mut self, need: u32) -> Option<u32>
+        requires { (view self.old).free + need < 2 ^ 32 }
+        ensures moves { view self.new ≡ record (view self.old) { free = (view self.old).free + need } }
+        ensures room { MatchOption result (length (view self.old).space.list + 1 < (view self.old).free + need)
+            (λ address. (address ≡ (view self.old).free)
+            × ((view self.old).free + need ≤ length (view self.old).space.list + 1)) }
+    {
+        let address = self.free;
+        self.free += need;
+        (self.free <= self.heap.space.words() + 1).then_some(address)
     }
 
     /// The slot that a place is.

@@ -1,0 +1,76 @@
+//! How a copy of a Body is made: words are claimed as for a new object, and stored while they belong to one thread.
+//!
+//! The header is stored last here too, but makes no object: that is done by the forwarding word, in one exchange.
+ghost use Rattle.std.specs.Prelude.{◌≡◌, ◌+◌, ◌<◌, ◌≤◌, Some};
+ghost use Rattle.melt_word.specs.Words.{cost_of};
+ghost use Rattle.melt_scion.specs.Commits.{copy_word};
+ghost use Rattle.melt_core.specs.Advances.{Moves, MayMove};
+ghost use Rattle.melt_core.specs.Views.{rest_of, stage_of, view};
+
+use crate::answer::StepResult;
+use crate::call::{Activation, Search, Stage};
+use crate::machine::Core;
+use melt_model::Op;
+use melt_word::{Header, HomeWord, Shape, cost, encode_header, encode_home};
+
+impl Core {
+    /// Claims the words for a copy of the Body that was read.
+    pub(crate) fn claim_copy(&mut self, thread: u32, op: Op, search: Search, shape: Shape) -> StepResult
+        requires asks { MayMove (view self.old) thread op }
+        requires stage { stage_of (view self.old) thread ≡ Some (Stage.BodyRead search shape) }
+        ensures { Moves (view self.old) (view self.new) thread op result }
+    {
+        let stage = match self.claim_words(cost(shape)) {
+            Some(address) => Stage::Copying {
+                activation: Activation {
+                    search,
+                    address,
+                    shape,
+                },
+                stored: 0,
+            },
+            None => Stage::LackingCopy { search, shape },
+        };
+        self.set_stage(thread, op, stage);
+        StepResult::Going
+    }
+
+    /// A word of a copy behind its header: the home word, which has no scion yet, and then the words that were read.
+    fn word_of_copy(&self, thread: u32, activation: Activation, k: u32) -> u64
+    {
+        if k == 1 {
+            return encode_home(Some(HomeWord {
+                home: activation.search.home,
+                scion: 0,
+            }));
+        }
+        self.rest.records[thread as usize][k as usize - 2]
+    }
+
+    /// Stores the next word of a copy, the header last.
+    pub(crate) fn store_copy(&mut self, thread: u32, op: Op, activation: Activation, stored: u32) -> StepResult
+        requires asks { MayMove (view self.old) thread op }
+        requires stage { stage_of (view self.old) thread ≡ Some (Stage.Copying activation stored) }
+        ensures { Moves (view self.old) (view self.new) thread op result }
+    {
+        let Activation { address, shape, .. } = activation;
+        let next = stored + 1;
+        let stage = if next < cost(shape) {
+            let word = self.word_of_copy(thread, activation, next);
+            self.heap.space.set_word(address + next, word);
+            Stage::Copying {
+                activation,
+                stored: next,
+            }
+        } else {
+            let header = Header {
+                shape,
+                stale: false,
+            };
+            self.heap.space.set_word(address, encode_header(header));
+            Stage::Copied { activation }
+        };
+        self.set_stage(thread, op, stage);
+        StepResult::Going
+    }
+}

@@ -1,0 +1,122 @@
+//! Reads of a record, in a load that no forwarding word helped.
+//!
+//! Nothing that is read is trusted: what a record cannot say is found, and ends the call. Where the disk returns what was
+//! written, it is never found.
+ghost use Rattle.std.specs.Prelude.{◌≡◌, ◌+◌, ◌<◌, ◌≤◌, IsTrue, Some};
+ghost use Rattle.melt_record.specs.declared.damage.Damaged.{Damaged as DamagedRecord};
+ghost use Rattle.melt_core.specs.Advances.{Advances, IsDamage, IsLost, MayAdvance, Uses};
+ghost use Rattle.melt_core.specs.Stages.{ReadsAt, body_stage};
+ghost use Rattle.melt_core.specs.Views.{stage_of, view};
+
+use crate::answer::{Refusal, StepResult};
+use crate::call::{Search, Stage};
+use crate::machine::Core;
+use melt_io::RecordReader;
+use melt_model::Op;
+use melt_record::{Damaged, Head, Kind, decode_head, decode_rest};
+use melt_word::{Ref, Shape};
+
+/// The stage behind the head of a Body: without slots and numbers it is read whole.
+fn behind_head(search: Search, shape: Shape) -> Stage
+    ensures { result ≡ body_stage search shape }
+{
+    if shape.refs == 0 && shape.nums == 0 {
+        return Stage::BodyRead { search, shape };
+    }
+    Stage::HeadRead { search, shape }
+}
+
+impl Core {
+    /// Ends a call that read the disk.
+    fn lose(&mut self, thread: u32, refusal: Refusal) -> StepResult
+    {
+        self.set_call(thread, None);
+        StepResult::Refused(refusal)
+    }
+
+    /// What the head of a record tells of the object of its home: how its load goes on.
+    fn stage_behind(&self, search: Search, head: Head) -> Result<Stage, Damaged>
+    {
+        match head.kind {
+            Kind::Body => Ok(behind_head(search, head.shape)),
+            Kind::Stub { scion } => match self.heap.scions.get(scion) {
+                Some((home, target)) if home == search.home => Ok(Stage::Looked {
+                    place: search.place,
+                    found: Ref::Disk(home),
+                    target,
+                    dst: search.dst,
+                }),
+                _ => Err(Damaged {
+                    home: search.home,
+                    at: 1,
+                    word: u64::from(scion),
+                }),
+            },
+        }
+    }
+
+    /// Reads the first two words of a record.
+    pub(crate) fn read_head<R: RecordReader>(
+        &mut self,
+        thread: u32,
+        op: Op,
+        end: u32,
+        search: Search,
+        reader: &mut R,
+    ) -> StepResult
+        requires asks { MayAdvance end (view self.old) thread op }
+        requires stage { stage_of (view self.old) thread ≡ Some (Stage.Missed search) }
+        ensures advances { Advances end (R.image reader.old) (view self.old) (view self.new) thread op result }
+        ensures uses { Uses (view self.old) (view self.new) thread result (R.faults reader.old) (R.faults reader.new)
+            (R.reads reader.old) (R.reads reader.new) }
+        ensures image { R.image reader.new ≡ R.image reader.old }
+        ensures damage { (damaged : DamagedRecord) → result ≡ StepResult.Refused (Refusal.Damaged damaged)
+            → IsDamage (R.image reader.old) end (view self.old) thread damaged }
+    {
+        let mut words = [0; 2];
+        if reader.read_at(search.home, &mut words).is_err() {
+            return self.lose(thread, Refusal::DiskFault);
+        }
+        let stage = decode_head(search.home, end, words).and_then(|head| self.stage_behind(search, head));
+        match stage {
+            Ok(stage) => {
+                self.set_stage(thread, op, stage);
+                StepResult::Going
+            }
+            Err(damaged) => self.lose(thread, Refusal::Damaged(damaged)),
+        }
+    }
+
+    /// Reads the words of a Body behind its head into the buffer of the thread.
+    pub(crate) fn read_rest<R: RecordReader>(
+        &mut self,
+        thread: u32,
+        op: Op,
+        end: u32,
+        search: Search,
+        shape: Shape,
+        reader: &mut R,
+    ) -> StepResult
+        requires asks { MayAdvance end (view self.old) thread op }
+        requires stage { stage_of (view self.old) thread ≡ Some (Stage.HeadRead search shape) }
+        ensures advances { Advances end (R.image reader.old) (view self.old) (view self.new) thread op result }
+        ensures uses { Uses (view self.old) (view self.new) thread result (R.faults reader.old) (R.faults reader.new)
+            (R.reads reader.old) (R.reads reader.new) }
+        ensures image { R.image reader.new ≡ R.image reader.old }
+        ensures damage { (damaged : DamagedRecord) → result ≡ StepResult.Refused (Refusal.Damaged damaged)
+            → IsDamage (R.image reader.old) end (view self.old) thread damaged }
+    {
+        let len = usize::from(shape.refs) + usize::from(shape.nums);
+        let mut record = self.rest.records[thread as usize];
+        let words = &mut record[..len];
+        if reader.read_at(search.home + 2, words).is_err() {
+            return self.lose(thread, Refusal::DiskFault);
+        }
+        if let Err(damaged) = decode_rest(search.home, end, shape, words) {
+            return self.lose(thread, Refusal::Damaged(damaged));
+        }
+        self.rest.records[thread as usize] = record;
+        self.set_stage(thread, op, Stage::BodyRead { search, shape });
+        StepResult::Going
+    }
+}
