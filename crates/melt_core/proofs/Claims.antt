@@ -10,7 +10,8 @@ use Rattle.melt_scion.specs.State.{State}
 use Rattle.melt_scion.specs.Placed.{Maps}
 use Rattle.melt_core.specs.declared.call.Place.TheVariants.{Field}
 use Rattle.melt_word.specs.Words.{cost_of}
-use Rattle.melt_core.specs.Stages.{Next, Lacks}
+use Rattle.std.proofs.lemmas.Bool.{cases_lt}
+use Rattle.melt_core.specs.Stages.{Next, Lacks, Probes, reached, retried}
 use Rattle.melt_core.specs.declared.call.Access.TheVariants.{Load}
 use Rattle.melt_core.specs.declared.call.Task.{Task}
 use Rattle.melt_word.specs.declared.reference.Ref.TheVariants.{Stale}
@@ -154,6 +155,18 @@ claims_as : (stop : Bool) (next stage : Stage) (left : ℕ) → next ≡ stage �
 claims_as stop next stage left is below =
     subst (λ (x : Stage). claims_left stop (Some x) ≤ left) (sym is) below
 
+-- nor does one behind a forwarding word
+claims_probes : (stop : Bool) (s : State) (search : Search) (empty another next : Stage) →
+    Probes s search empty another next → claims_left stop (Some empty) ≤ claims_left stop None →
+    claims_left stop (Some another) ≤ claims_left stop None → claims_left stop (Some next) ≤ claims_left stop None
+claims_probes stop s search empty another next is first second = elim is.1 [
+  | inl here ↦ claims_as stop next (reached search here.0) (claims_left stop None) here.2 (omega arith)
+  | inr other ↦ elim other [
+    | inl none ↦ claims_as stop next empty (claims_left stop None) none.1 first
+    | inr sent ↦ claims_as stop next another (claims_left stop None) sent.1 second
+  ]
+]
+
 -- the next stage may make no more claims
 pub claims_next : (maps : Maps) (s : State) (register : ℕ → ℕ) (stop : Bool) (o : Op) (stage : Option Stage)
     (next : Stage) → Next maps s register stop o stage next → claims_left stop (Some next) ≤ claims_left stop stage
@@ -173,9 +186,14 @@ claims_next maps s register stop o (Some (Searching search)) next is = claims_on
 claims_next maps s register stop o (Some (Missed search)) next is = claims_one stop (Some next)
 claims_next maps s register stop o (Some (HeadRead search shape)) next is = claims_one stop (Some next)
 claims_next maps s register stop o (Some (BodyRead search shape)) next is = claims_one stop (Some next)
-claims_next maps s register stop o (Some (Copying a stored)) next is = ?
-claims_next maps s register stop o (Some (Copied a)) next is = ?
-claims_next maps s register stop o (Some (Retrying a)) next is = ?
+claims_next maps s register stop o (Some (Copying a stored)) next is = elim (cases_lt (stored + 1) (cost_of a.shape)) [
+  | inl more ↦ claims_as stop next (Copying a (stored + 1)) (claims_left stop None) (is.0 more) (omega arith)
+  | inr all ↦ claims_as stop next (Copied a) (claims_left stop None) (is.1 all) (omega arith)
+]
+claims_next maps s register stop o (Some (Copied a)) next is =
+    claims_probes stop s a.search (reached a.search a.address) (Retrying (retried a)) next is (omega arith) (omega arith)
+claims_next maps s register stop o (Some (Retrying a)) next is =
+    claims_probes stop s a.search (Copied a) (Retrying (retried a)) next is (omega arith) (omega arith)
 claims_next maps s register stop o (Some (LackingCopy search shape)) next is = absurd is
 
 -- the call is over, which did not lack words
