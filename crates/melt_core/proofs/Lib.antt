@@ -24,6 +24,7 @@ pub mod Answered
 pub mod Reading
 pub mod Loading
 pub mod Writing
+pub mod Storing
 pub mod Making
 pub mod Resting
 pub mod Sharing
