@@ -26,6 +26,7 @@ pub mod Loading
 pub mod Writing
 pub mod Storing
 pub mod Making
+pub mod Bodies
 pub mod Resting
 pub mod Sharing
 pub mod Onward

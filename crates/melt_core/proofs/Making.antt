@@ -315,18 +315,6 @@ claim_advances disk {v} {t} {need} {o} {shape} {before} {room} {none} {stage} cl
     (record { history = refl; registers = refl; values = refl }) refl)
     tt
 
--- where the words that are claimed end: few threads claim past the last word, so that the sum stays small
-pub claim_small : (disk : OnDisk) (v : View) (t need : ℕ) (o : Op) (shape : Shape) → Asks disk v t o → IsShape shape
-    → need ≡ cost_of shape → v.free + need < 4294967296
-claim_small disk v t need o shape asks small needed =
-    let s : Standing false disk v = asks.stands in
-    let size : length v.space.list < 1073741824 = s.holds.formed.small in
-    let refs : shape.refs ≤ 62 = small.refs in
-    let nums : shape.nums ≤ 62 = small.nums in
-    let few : length v.held ≤ 8 = s.few in
-    let each : length v.calls ≡ length v.held = s.each in
-    elim s.bounded [ inl below ↦ omega arith | inr above ↦ omega arith ]
-
 -- a call whose region is at a place
 claimed_known : (disk : OnDisk) (v : View) (t : ℕ) (o : Op) (address stored dst : ℕ) (shape : Shape) → Asks disk v t o
     → stage_of v t ≡ Some (Claimed address shape stored dst) → IsShape shape
