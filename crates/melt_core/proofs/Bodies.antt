@@ -64,12 +64,6 @@ pub copying_known : (disk : OnDisk) (v : View) (t : ℕ) (o : Op) (a : Activatio
     (copy_word a.search.home a.shape (rest_of v t)) stored
 copying_known disk v t o a stored asks at = known_at disk v t o (Copying a stored) asks at
 
--- behind the home word stand the words that were read
-pub word_behind : (home : ℕ) (shape : Shape) (rest : List ℕ) (k : ℕ) → 2 ≤ k
-    → copy_word home shape rest k ≡ slice_index rest (k - 2)
-word_behind home shape rest k behind =
-    ap (copy_word home shape rest) (let e : k ≡ suc (suc (k - 2)) = omega arith in e)
-
 -- what was stored of a copy is all of it, once its header is
 whole_copy : (m : Maps) (s t : State) (a : Activation) (rest : List ℕ) (stored : ℕ)
     → HasStored m s (region a.address a.shape) (copy_word a.search.home a.shape rest) stored
