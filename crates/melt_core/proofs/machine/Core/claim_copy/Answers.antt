@@ -37,7 +37,7 @@ returns c = record {
         fits = λ below. elim c.match-claim_words.branch [
           | in-Some w ↦ w.stage-is
               ∙ ap (λ (a : ℕ). Copying (record { search = c.args.search; address = a; shape = c.args.shape }) 0)
-                  w.in-Some.ensures.room.0
+              w.in-Some.ensures.room.0
           | in-None w ↦ absurd (omega (arith, below, w.in-None.ensures.room))
         ];
         lacks = λ above. elim c.match-claim_words.branch [
