@@ -1,13 +1,13 @@
 -- How a copy of a Body is made: the events of its claim and of its private stores.
-use Rattle.std.proofs.Common.{◌≡◌, ℕ, suc, ◌+◌, ◌-◌, ◌<◌, ◌≤◌, inl, inr, refl, sym, ◌∙◌, ap, subst, arith}
+use Rattle.std.proofs.Common.{◌≡◌, ℕ, ◌+◌, ◌<◌, inl, inr, refl, sym, ◌∙◌, ap, subst, arith}
 use Rattle.std.proofs.lemmas.Bool.{cases_eq, eq-eqb, ne_eqb}
-use Rattle.std.specs.Prelude.{Bool, true, false, List, Some, slice_index, if◌then◌else◌}
+use Rattle.std.specs.Prelude.{Bool, false, List, Some, if◌then◌else◌}
 use Rattle.melt_model.specs.declared.operations.Op.{Op}
 use Rattle.melt_word.specs.Words.{header_word, cost_of}
 use Rattle.melt_word.specs.declared.header.Shape.{Shape}
 use Rattle.melt_space.specs.Space.{SpaceWords, SetsWord}
 use Rattle.melt_scion.specs.State.{State}
-use Rattle.melt_scion.specs.Placed.{Maps, FormedWords}
+use Rattle.melt_scion.specs.Placed.{Maps}
 use Rattle.melt_scion.specs.Regions.{Owns, HasStored}
 use Rattle.melt_scion.specs.Changes.{WordChanges}
 use Rattle.melt_scion.specs.Commits.{HasCopy, copy_word}
@@ -17,7 +17,7 @@ use Rattle.melt_core.specs.declared.call.Activation.{Activation}
 use Rattle.melt_core.specs.declared.call.Search.{Search}
 use Rattle.melt_core.specs.declared.call.Stage.TheVariants.{BodyRead, Copying, Copied, LackingCopy}
 use Rattle.melt_core.specs.Known.{Evolves, Fetches, region}
-use Rattle.melt_core.specs.Stages.{Change, Word, fresh_header}
+use Rattle.melt_core.specs.Stages.{Word, fresh_header}
 use Rattle.melt_core.specs.Advances.{Asks, AdvancesOver}
 use Rattle.melt_core.specs.Views.{View, Standing, maps, state, rest_of, stage_of}
 use Rattle.melt_core.proofs.Asked.{known_at, known_so}

@@ -1,8 +1,8 @@
 -- How an object is made: the events of a claim, of private stores, of the publication, and of the want of room.
-use Rattle.std.proofs.Common.{◌≡◌, ◌≢◌, ℕ, ◌+◌, ◌<◌, ◌≤◌, inl, inr, List, []}
+use Rattle.std.proofs.Common.{◌≡◌, ℕ, ◌+◌, ◌<◌, ◌≤◌, inl, inr, List, []}
 use Rattle.std.proofs.Common.{◌∷◌, ◌++◌, length, refl, sym, ◌∙◌, ap, subst, arith}
 use Rattle.std.proofs.Math.ListN.{set}
-use Rattle.std.proofs.lemmas.Bool.{cases_eq, cases_lt, eq-eqb, ne_eqb}
+use Rattle.std.proofs.lemmas.Bool.{cases_lt, eq-eqb, ne_eqb}
 use Rattle.std.specs.Prelude.{Bool, true, false, Option, None, Some, IsSome, if◌then◌else◌}
 use Rattle.std.specs.List.{filter_map, cons_option}
 use Rattle.melt_model.specs.History.{made as makes, shape_made}
@@ -18,10 +18,10 @@ use Rattle.melt_word.specs.Words.{IsShape, header_word, cost_of}
 use Rattle.melt_word.specs.declared.header.Shape.{Shape}
 use Rattle.melt_word.specs.declared.header.Header.{Header}
 use Rattle.melt_space.specs.Space.{SpaceWords, SetsWord}
-use Rattle.melt_scion.specs.State.{Base, State, IsFresh}
-use Rattle.melt_scion.proofs.Geometry.{one_header, header_moves}
+use Rattle.melt_scion.specs.State.{State, IsFresh}
+use Rattle.melt_scion.proofs.Geometry.{one_header}
 use Rattle.melt_scion.specs.declared.heap.Names as heap
-use Rattle.melt_scion.specs.Placed.{Maps, MayHold, FormedWords}
+use Rattle.melt_scion.specs.Placed.{Maps, MayHold}
 use Rattle.melt_scion.specs.Regions.{Region, no_region, Apart, Owns, HasStored}
 use Rattle.melt_scion.specs.Changes.{FreeMoves, WordChanges, NameAppears}
 use Rattle.melt_scion.specs.Heaps.{OnDisk, register_in}

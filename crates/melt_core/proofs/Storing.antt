@@ -2,7 +2,7 @@
 use Rattle.std.proofs.Common.{◌≡◌, ◌≢◌, ℕ, ◌+◌, ◌<◌, ◌≤◌, inl, inr, length, refl, sym, ◌∙◌, ap, subst, arith}
 use Rattle.std.proofs.Math.ListN.{set}
 use Rattle.std.proofs.lemmas.Bool.{cases_eq}
-use Rattle.std.specs.Prelude.{Bool, true, false, Option, None, Some}
+use Rattle.std.specs.Prelude.{Bool, false, Option, None, Some}
 use Rattle.melt_model.specs.declared.operations.Op.{Op}
 use Rattle.melt_word.specs.Words.{cost_of}
 use Rattle.melt_word.specs.declared.header.Shape.{Shape}
@@ -20,7 +20,6 @@ use Rattle.melt_core.specs.declared.call.Stage.{Stage}
 use Rattle.melt_core.specs.Known.{Known, Evolves, region, region_of}
 use Rattle.melt_core.specs.Events.{Event, stores}
 use Rattle.melt_core.specs.Stages.{Fits, Next, Applies, Word, change_of, cleared_by}
-use Rattle.melt_core.specs.Changed.{with_call}
 use Rattle.melt_core.specs.Advances.{Asks, AdvancesOver}
 use Rattle.melt_core.specs.Views.{View, Standing, maps, state, rest_of, call_of, stage_of, claimed_in}
 use Rattle.melt_core.proofs.Asked.{call_at, inside, lacks_word, next_fits}

@@ -4,7 +4,7 @@ use Rattle.melt_core.specs.Advances.{AdvancesOver}
 use Rattle.melt_core.specs.Changed.{with_call}
 use Rattle.melt_core.specs.declared.answer.StepResult.TheVariants.{Going}
 use Rattle.melt_core.specs.declared.call.Stage.{Stage}
-use Rattle.melt_core.specs.declared.call.Stage.TheVariants.{BodyRead, Copying, LackingCopy}
+use Rattle.melt_core.specs.declared.call.Stage.TheVariants.{BodyRead, Copying}
 use Rattle.melt_core.specs.Views.{View, call_of, view}
 use Rattle.melt_core.proofs.Asked.{asks_over, call_at}
 use Rattle.melt_core.proofs.Bodies.{around_copy}
