@@ -20,13 +20,14 @@ use Rattle.melt_core.specs.declared.call.Stage.{Stage}
 use Rattle.melt_core.specs.Known.{Known, Evolves, region, region_of}
 use Rattle.melt_core.specs.Events.{Event, stores}
 use Rattle.melt_core.specs.Stages.{Fits, Next, Applies, Word, change_of, cleared_by}
+use Rattle.melt_core.specs.Changed.{with_call}
 use Rattle.melt_core.specs.Advances.{Asks, AdvancesOver}
 use Rattle.melt_core.specs.Views.{View, Standing, maps, state, rest_of, call_of, stage_of, claimed_in}
 use Rattle.melt_core.proofs.Asked.{call_at, inside, lacks_word, next_fits}
 use Rattle.melt_core.proofs.Claims.{bounded_is, bounded_call, claims_next}
 use Rattle.melt_core.proofs.Counting.{Counts_same}
 use Rattle.melt_core.proofs.Evolving.{evolves_event}
-use Rattle.melt_core.proofs.Going.{goes, gone_on}
+use Rattle.melt_core.proofs.Going.{goes}
 use Rattle.melt_core.proofs.Plain.{as_told}
 use Rattle.melt_core.proofs.Standing.{Made, advances, kept_own}
 use Rattle.melt_core.proofs.Staying.{hold_stays}
@@ -107,15 +108,19 @@ pub record Storing (disk : OnDisk) (v : View) (space : SpaceWords) (t place word
       → Owns (maps v) s (region_of before) → WordChanges (state disk v) s place word
       → Known told (maps v) s (rest_of v t) after
 
+-- the view behind it
+abbrev pub stored_on : View → SpaceWords → ℕ → Op → Stage → View
+stored_on v space t o stage = with_call (record v { space = space }) t (Some (record { op = o; stage = stage }))
+
 -- A word of the region was stored.
 pub store_advances : (disk : OnDisk) {v : View} {space : SpaceWords} {t place word : ℕ} {o : Op} {before after : Stage}
     → Storing disk v space t place word o before after
-    → AdvancesOver disk v (gone_on v space t o after) t o Going
+    → AdvancesOver disk v (stored_on v space t o after) t o Going
 store_advances disk {v} {space} {t} {place} {word} {o} {before} {after} is =
     let asks : Asks disk v t o = is.asks in
     let s : Standing false disk v = asks.stands in
     let call : Call = record { op = o; stage = after } in
-    let w : View = gone_on v space t o after in
+    let w : View = stored_on v space t o after in
     let mine : Region = region_of before in
     let within : t < length v.calls = inside disk v t o asks in
     let changes : WordChanges (state disk v) (state disk w) place word = word_set disk v space v.held place word is.sets in
