@@ -25,7 +25,7 @@ use Rattle.melt_scion.specs.Regions.{HasStored}
 use Rattle.melt_word.specs.Words.{IsShape}
 use Rattle.melt_core.specs.Known.{Known, region, region_of}
 use Rattle.melt_core.specs.Views.{View, Standing, Counts, InUse, value, maps, maps_of, state}
-use Rattle.melt_core.specs.Views.{call_of, rest_of, claimed_in, claimed}
+use Rattle.melt_core.specs.Views.{call_of, claimed_in, claimed, rest_of}
 use Rattle.melt_core.specs.Advances.{HasRoom}
 use Rattle.melt_core.proofs.Values.{named_made}
 use Rattle.melt_core.proofs.Alive.{alive_sum, alive_in_use}
