@@ -25,7 +25,7 @@ use Rattle.melt_scion.specs.Regions.{HasStored}
 use Rattle.melt_word.specs.Words.{IsShape}
 use Rattle.melt_core.specs.Known.{Known, region, region_of}
 use Rattle.melt_core.specs.Views.{View, Standing, Counts, InUse, value, maps, maps_of, state}
-use Rattle.melt_core.specs.Views.{call_of, claimed_in, claimed}
+use Rattle.melt_core.specs.Views.{call_of, claimed_in, claimed, rest_of}
 use Rattle.melt_core.specs.Advances.{HasRoom}
 use Rattle.melt_core.proofs.Values.{named_made}
 use Rattle.melt_core.proofs.Alive.{alive_sum, alive_in_use}
@@ -128,7 +128,7 @@ region_free : (disk : OnDisk) (v : View) (t address stored dst n : ℕ) (c : Cal
     → b ≡ address → ⊥
 region_free disk v t address stored dst n c shape s at stage b named same =
     let flight : IsShape shape × HasStored (maps v) (state disk v) (region address shape) (λ k. 0) stored =
-    subst (Known true (maps v) (state disk v)) stage (s.known t c at) in
+    subst (Known true (maps v) (state disk v) (rest_of v t)) stage (s.known t c at) in
     let object = s.holds.formed.objects b n named in
     (flight.1.owns.outside b n object.0 named object.1.starts).differ (omega arith) (omega arith) same
 
