@@ -1,6 +1,7 @@
 -- How far the first free place may lie past the last word, as calls come and go.
 use Rattle.std.proofs.Common.{◌≡◌, ◌⊎◌, ℕ, ◌+◌, ◌*◌, ◌<◌, ◌≤◌, inl, inr}
 use Rattle.std.proofs.Common.{List, [], ◌∷◌, length, refl, sym, ap, subst, arith}
+use Rattle.std.proofs.lemmas.Bool.{cases_lt}
 use Rattle.std.proofs.lemmas.List.Sums.{sum-map, sum_by-cons, sum_by-set, sum_by-le-sum_by}
 use Rattle.std.specs.List.{sum_by}
 use Rattle.std.proofs.Math.ListN.{length-set}
@@ -10,7 +11,7 @@ use Rattle.melt_scion.specs.State.{State}
 use Rattle.melt_scion.specs.Placed.{Maps}
 use Rattle.melt_core.specs.declared.call.Place.TheVariants.{Field}
 use Rattle.melt_word.specs.Words.{cost_of}
-use Rattle.melt_core.specs.Stages.{Next, Lacks}
+use Rattle.melt_core.specs.Stages.{Next, Lacks, Probes, reached, retried}
 use Rattle.melt_core.specs.declared.call.Access.TheVariants.{Load}
 use Rattle.melt_core.specs.declared.call.Task.{Task}
 use Rattle.melt_word.specs.declared.reference.Ref.TheVariants.{Stale}
@@ -21,6 +22,7 @@ use Rattle.melt_core.specs.declared.call.Stage.TheVariants.{Searching, Missed, H
 use Rattle.melt_core.specs.declared.call.Stage.TheVariants.{Retrying, LackingCopy}
 use Rattle.melt_core.specs.declared.call.Call.{Call}
 use Rattle.melt_core.specs.Views.{View, call_in, stage_in, claims_left, Bounded}
+use Rattle.melt_core.proofs.Asked.{LacksWord}
 
 -- how many claims past the last word these calls may still make
 abbrev pub claims_in : Bool → Option Call → ℕ
@@ -154,29 +156,51 @@ claims_as : (stop : Bool) (next stage : Stage) (left : ℕ) → next ≡ stage �
 claims_as stop next stage left is below =
     subst (λ (x : Stage). claims_left stop (Some x) ≤ left) (sym is) below
 
+-- behind a forwarding word, where the stages at which it may leave the call make no more
+claims_probes : (stop : Bool) (s : State) (search : Search) (empty another next : Stage) (left : ℕ) →
+    claims_left stop None ≤ left → claims_left stop (Some empty) ≤ left → claims_left stop (Some another) ≤ left →
+    Probes s search empty another next → claims_left stop (Some next) ≤ left
+claims_probes stop s search empty another next left at_found at_empty at_another is = elim is.1 [
+  | inl here ↦ claims_as stop next (reached search here.0) left here.2 at_found
+  | inr other ↦ elim other [
+    | inl none ↦ claims_as stop next empty left none.1 at_empty
+    | inr sent ↦ claims_as stop next another left sent.1 at_another
+  ]
+]
+
 -- the next stage may make no more claims
 pub claims_next : (maps : Maps) (s : State) (register : ℕ → ℕ) (stop : Bool) (o : Op) (stage : Option Stage)
-    (next : Stage) → Next maps s register stop o stage next → claims_left stop (Some next) ≤ claims_left stop stage
-claims_next maps s register stop o None next is =
+    (next : Stage) → Next maps s register stop o stage next → LacksWord stage
+    → claims_left stop (Some next) ≤ claims_left stop stage
+claims_next maps s register stop o None next is lacks =
     let left : claims_left stop (Some next) ≡ 1 = ap (λ (x : Stage). claims_left stop (Some x)) is.3 in
     let before : claims_left stop None ≡ 1 = ap (λ (b : Bool). claims_left b None) is.2 in
     omega arith
-claims_next maps s register stop o (Some (Polled task)) next is = claims_one stop (Some next)
-claims_next maps s register stop o (Some (Headed address shape access)) next is = claims_one stop (Some next)
-claims_next maps s register stop o (Some (Looked place found target dst)) next is =
+claims_next maps s register stop o (Some (Polled task)) next is lacks = claims_one stop (Some next)
+claims_next maps s register stop o (Some (Headed address shape access)) next is lacks = claims_one stop (Some next)
+claims_next maps s register stop o (Some (Looked place found target dst)) next is lacks =
     claims_as stop next (Cleared place found target dst) (claims_left stop None) is (omega arith)
-claims_next maps s register stop o (Some (Cleared place found target dst)) next is = absurd is
-claims_next maps s register stop o (Some (Claimed address shape stored dst)) next is =
+claims_next maps s register stop o (Some (Cleared place found target dst)) next is lacks = absurd is
+claims_next maps s register stop o (Some (Claimed address shape stored dst)) next is lacks =
     claims_as stop next (Claimed address shape (stored + 1) dst) (claims_left stop None) is.1 (omega arith)
-claims_next maps s register stop o (Some (Lacking need)) next is = absurd is
-claims_next maps s register stop o (Some (Searching search)) next is = claims_one stop (Some next)
-claims_next maps s register stop o (Some (Missed search)) next is = claims_one stop (Some next)
-claims_next maps s register stop o (Some (HeadRead search shape)) next is = claims_one stop (Some next)
-claims_next maps s register stop o (Some (BodyRead search shape)) next is = claims_one stop (Some next)
-claims_next maps s register stop o (Some (Copying a stored)) next is = ?
-claims_next maps s register stop o (Some (Copied a)) next is = ?
-claims_next maps s register stop o (Some (Retrying a)) next is = ?
-claims_next maps s register stop o (Some (LackingCopy search shape)) next is = absurd is
+claims_next maps s register stop o (Some (Lacking need)) next is lacks = absurd is
+claims_next maps s register stop o (Some (Searching search)) next is lacks = claims_one stop (Some next)
+claims_next maps s register stop o (Some (Missed search)) next is lacks = claims_one stop (Some next)
+claims_next maps s register stop o (Some (HeadRead search shape)) next is lacks = claims_one stop (Some next)
+claims_next maps s register stop o (Some (BodyRead search shape)) next is lacks = claims_one stop (Some next)
+claims_next maps s register stop o (Some (Copying a stored)) next is lacks =
+    elim (cases_lt (stored + 1) (cost_of a.shape)) [
+      | inl more ↦ claims_as stop next (Copying a (stored + 1)) (claims_left stop None) (is.0 more) (omega arith)
+      | inr all ↦ claims_as stop next (Copied a) (claims_left stop None)
+          (is.1 (let few : stored < cost_of a.shape = lacks a stored refl in omega arith)) (omega arith)
+    ]
+claims_next maps s register stop o (Some (Copied a)) next is lacks =
+    claims_probes stop s a.search (reached a.search a.address) (Retrying (retried a)) next (claims_left stop None)
+    (omega arith) (omega arith) (omega arith) is
+claims_next maps s register stop o (Some (Retrying a)) next is lacks =
+    claims_probes stop s a.search (Copied a) (Retrying (retried a)) next (claims_left stop None) (omega arith)
+    (omega arith) (omega arith) is
+claims_next maps s register stop o (Some (LackingCopy search shape)) next is lacks = absurd is
 
 -- the call is over, which did not lack words
 pub claims_ends : (stop : Bool) (stage : Option Stage) → ((need : ℕ) → Lacks stage need → ⊥) →

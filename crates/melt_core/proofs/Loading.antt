@@ -46,6 +46,7 @@ use Rattle.melt_core.proofs.Evolving.{evolves_event}
 use Rattle.melt_core.proofs.Staying.{looked_stays, place_stays}
 use Rattle.melt_core.proofs.Going.{goes_on, go_advances}
 use Rattle.melt_core.proofs.Plain.{as_told}
+use Rattle.melt_core.proofs.Standing.{same_rests}
 use Rattle.melt_core.proofs.Answered.{Ends, ends_at, local_set, over_advances}
 use Rattle.melt_core.proofs.Answers.{load_answers, gload_answers}
 use Rattle.melt_core.proofs.Objects.{object_shape, place_word, value_named, tagged_is, value_there, may_stand_there}
@@ -343,7 +344,7 @@ clear_advances disk v space t o place found target dst word shape asks at shaped
     let evolves : Evolves (maps v) (maps w) (state disk v) (state disk w) target =
     evolves_event false v.log (maps v) (maps w) (state disk v) (state disk w) no_region target None s.holds.formed
     (event false) in
-    goes_on disk v space t o (Cleared place found target dst) asks (record {
+    goes_on (Unit {0}) disk v space v.records t o (Cleared place found target dst) asks (record {
       event = λ told stands. subst (λ (k : ℕ). Event told v.log (maps v) (maps w) (state disk v) (state disk w)
           no_region k None)
           (sym (ap cleared_by at)) (event told);
@@ -355,10 +356,11 @@ clear_advances disk v space t o place found target dst word shape asks at shaped
                 (header_word (record { shape = h.shape; stale = false })))
                 (one_header (state disk v) target object.0 header starts stands) changes,
           );
+      rests = same_rests v w t refl;
       words = sets.size;
       next = subst (λ (g : Option Stage). Next (maps v) (state disk v) (register_in v.held t) v.stop o g
           (Cleared place found target dst)) (sym at) refl;
-      known = λ told stands.
+      known = λ told tell stands.
           let so = known_so told disk v t o stage asks at stands in (
             looked_stays (maps v) (maps w) (state disk v) (state disk w) target s.holds.formed evolves place found so.0,
             so.1,

@@ -1,7 +1,7 @@
 -- Regions apart, what is claimed, and how a call comes nearer to its end.
-use Rattle.std.proofs.Common.{◌≡◌, ℕ, ◌+◌, ◌<◌, ◌≤◌, refl, sym, ap, subst, arith, ◌-◌, inl, inr}
+use Rattle.std.proofs.Common.{◌≡◌, ℕ, ◌+◌, ◌*◌, ◌<◌, ◌≤◌, refl, sym, ap, subst, arith, ◌-◌, inl, inr}
 use Rattle.std.proofs.lemmas.Bool.{cases_lt}
-use Rattle.std.specs.Prelude.{false, Bool, List, Option, None, Some, length}
+use Rattle.std.specs.Prelude.{true, false, Bool, ◌==◌, if◌then◌else◌, List, Option, None, Some, length}
 use Rattle.melt_model.specs.declared.operations.Op.{Op}
 use Rattle.melt_model.specs.declared.operations.Op.TheVariants as op
 use Rattle.melt_word.specs.Words.{IsShape, cost_of}
@@ -22,7 +22,13 @@ use Rattle.melt_core.specs.declared.call.Stage.TheVariants.{Retrying, LackingCop
 use Rattle.melt_core.specs.declared.call.Call.{Call}
 use Rattle.melt_core.specs.Known.{Known}
 use Rattle.melt_core.specs.declared.call.Search.{Search}
-use Rattle.melt_core.specs.Stages.{task_of, Fits, Next, Probes, events_left}
+use Rattle.melt_record.specs.declared.head.Kind.{Kind}
+use Rattle.melt_record.specs.declared.head.Kind.TheVariants.{Body, Stub}
+use Rattle.melt_word.specs.declared.reference.Ref.TheVariants.{Stale, Disk}
+use Rattle.melt_core.specs.declared.call.Place.{Place}
+use Rattle.melt_core.specs.declared.call.Place.TheVariants.{Field, Global}
+use Rattle.melt_core.specs.Stages.{task_of, Fits, Next, FindsTag, Probes, ReadAs, body_stage, events_left, probes_left}
+use Rattle.melt_core.specs.Stages.{further, retried, reached}
 use Rattle.melt_core.specs.Views.{View, maps, state, call_of, stage_in, stage_of, rest_of}
 use Rattle.melt_core.specs.Advances.{InBounds, Continues, Asks}
 
@@ -87,26 +93,116 @@ made_small globals (op.New d refs nums) dst shape bounds makes =
     subst IsShape is (record { refs = bounds.1; nums = bounds.2 })
 made_small globals o dst shape bounds makes = absurd (cc)
 
-left_is : (forwards : ℕ) (next stage : Stage) → next ≡ stage
-    → events_left forwards (Some next) ≡ events_left forwards (Some stage)
-left_is forwards next stage is = ap (λ (x : Stage). events_left forwards (Some x)) is
+left_is : (forwards left : ℕ) (next stage : Stage) → next ≡ stage → events_left forwards (Some stage) < left
+    → events_left forwards (Some next) < left
+left_is forwards left next stage is below =
+    subst (λ (x : Stage). events_left forwards (Some x) < left) (sym is) below
 
--- a search that has read fewer than all forwarding words comes nearer to its end
+-- a load that found a word with a tag
+finds_nearer : (forwards left word : ℕ) (place : Place) (dst : ℕ) (next : Stage) → 133 + 2 * forwards < left
+    → FindsTag word place dst next → events_left forwards (Some next) < left
+finds_nearer forwards left word place dst next below (inl stale) =
+    left_is forwards left next (Looked place (Stale stale.0) stale.0 dst) stale.2 (omega arith)
+finds_nearer forwards left word place dst next below (inr home) =
+    left_is forwards left next (Searching (record { place = place; home = home.0; tried = 0; dst = dst })) home.2
+    (omega arith)
+
+-- a search that has not read all forwarding words
 probes_nearer : (s : State) (search : Search) (empty another next : Stage) (left : ℕ)
-    → Probes s search empty another next
+    → Probes s search empty another next → 2 < left
     → (search.tried < s.base.forwards → events_left s.base.forwards (Some empty) < left)
     → (search.tried < s.base.forwards → events_left s.base.forwards (Some another) < left)
-    → (search.tried < s.base.forwards → 2 < left)
     → events_left s.base.forwards (Some next) < left
-probes_nearer s search empty another next left is first second found =
-    ?
+probes_nearer s search empty another next left is some first second = elim is.1 [
+  | inl here ↦ left_is s.base.forwards left next (reached search here.0) here.2 some
+  | inr other ↦ elim other [
+    | inl none ↦ left_is s.base.forwards left next empty none.1 (first is.0)
+    | inr sent ↦ left_is s.base.forwards left next another sent.1 (second is.0)
+  ]
+]
+
+body_nearer : (forwards left : ℕ) (search : Search) (shape : Shape) (whole : Bool)
+    → 131 + probes_left forwards search < left
+    → events_left forwards (Some (if whole then BodyRead search shape else HeadRead search shape)) < left
+body_nearer forwards left search shape true below = omega arith
+body_nearer forwards left search shape false below = below
+
+read_nearer : (s : State) (search : Search) (shape : Shape) (kind : Kind) (next : Stage) → ReadAs s search shape kind next
+    → events_left s.base.forwards (Some next) < 132 + probes_left s.base.forwards search
+read_nearer s search shape Body next is =
+    left_is s.base.forwards (132 + probes_left s.base.forwards search) next (body_stage search shape) is
+    (body_nearer s.base.forwards (132 + probes_left s.base.forwards search) search shape
+    (shape.refs + shape.nums == 0) (omega arith))
+read_nearer s search shape (Stub scion) next is =
+    left_is s.base.forwards (132 + probes_left s.base.forwards search) next
+    (Looked search.place (Disk search.home) is.0 search.dst) is.2 (omega arith)
 
 -- an event that is not the last of its call brings it nearer to its end
 pub Next_nearer : (maps : Maps) (s : State) (rest : List ℕ) (register : ℕ → ℕ) (stop : Bool) (globals : ℕ) (o : Op)
     (stage : Option Stage) (next : Stage) → InBounds globals o → AtStage maps s rest register o stage →
     Next maps s register stop o stage next →
     events_left s.base.forwards (Some next) < events_left s.base.forwards stage
-Next_nearer maps s rest register stop globals o stage next bounds at is = ?
+Next_nearer maps s rest register stop globals o None next bounds at is =
+    left_is s.base.forwards (136 + 2 * s.base.forwards) next (Polled is.0) is.3 (omega arith)
+Next_nearer maps s rest register stop globals o (Some (Polled (Make dst shape))) next bounds at is =
+    let small : IsShape shape = made_small globals o dst shape bounds at.1.0 in
+    let refs : shape.refs ≤ 62 = small.refs in
+    let nums : shape.nums ≤ 62 = small.nums in
+    elim (cases_lt (s.base.size + 1) (s.free + cost_of shape)) [
+      | inl past ↦ left_is s.base.forwards (135 + 2 * s.base.forwards) next (Lacking (cost_of shape)) (is.1 past)
+          (omega arith)
+      | inr fits ↦ left_is s.base.forwards (135 + 2 * s.base.forwards) next (Claimed s.free shape 0 dst) (is.0 fits)
+          (omega arith)
+    ]
+Next_nearer maps s rest register stop globals o (Some (Polled (Use r access))) next bounds at is =
+    left_is s.base.forwards (135 + 2 * s.base.forwards) next (Headed (register r) is.0 access) is.3 (omega arith)
+Next_nearer maps s rest register stop globals o (Some (Polled (LoadGlobal dst g))) next bounds at is =
+    finds_nearer s.base.forwards (135 + 2 * s.base.forwards) (s.global g) (Global g) dst next (omega arith) is
+Next_nearer maps s rest register stop globals o (Some (Polled (StoreGlobal g src))) next bounds at is = absurd is
+Next_nearer maps s rest register stop globals o (Some (Headed address shape (Load dst i))) next bounds at is =
+    finds_nearer s.base.forwards (134 + 2 * s.base.forwards) (s.word (address + 2 + i)) (Field address i) dst next
+    (omega arith) is
+Next_nearer maps s rest register stop globals o (Some (Headed address shape access)) next bounds at is = absurd is
+Next_nearer maps s rest register stop globals o (Some (Looked place found target dst)) next bounds at is =
+    left_is s.base.forwards 3 next (Cleared place found target dst) is (omega arith)
+Next_nearer maps s rest register stop globals o (Some (Cleared place found target dst)) next bounds at is = absurd is
+Next_nearer maps s rest register stop globals o (Some (Claimed address shape stored dst)) next bounds at is =
+    let below : stored + 1 < cost_of shape = is.0 in
+    left_is s.base.forwards (cost_of shape - stored) next (Claimed address shape (stored + 1) dst) is.1 (omega arith)
+Next_nearer maps s rest register stop globals o (Some (Lacking need)) next bounds at is = absurd is
+Next_nearer maps s rest register stop globals o (Some (Searching search)) next bounds at is =
+    probes_nearer s search (Missed search) (Searching (further search)) next
+    (133 + probes_left s.base.forwards search) is (omega arith) (λ less. omega arith) (λ less. omega arith)
+Next_nearer maps s rest register stop globals o (Some (Missed search)) next bounds at is =
+    read_nearer s search is.0 is.1 next is.2
+Next_nearer maps s rest register stop globals o (Some (HeadRead search shape)) next bounds at is =
+    left_is s.base.forwards (131 + probes_left s.base.forwards search) next (BodyRead search shape) is (omega arith)
+Next_nearer maps s rest register stop globals o (Some (BodyRead search shape)) next bounds at is =
+    let small : IsShape shape = at.0.body.head.small in
+    let refs : shape.refs ≤ 62 = small.refs in
+    let nums : shape.nums ≤ 62 = small.nums in
+    elim (cases_lt (s.base.size + 1) (s.free + cost_of shape)) [
+      | inl past ↦ left_is s.base.forwards (130 + probes_left s.base.forwards search) next (LackingCopy search shape)
+          (is.1 past) (omega arith)
+      | inr fits ↦ left_is s.base.forwards (130 + probes_left s.base.forwards search) next
+          (Copying (record { search = search; address = s.free; shape = shape }) 0) (is.0 fits) (omega arith)
+    ]
+Next_nearer maps s rest register stop globals o (Some (Copying a stored)) next bounds at is =
+    let few : stored < cost_of a.shape = at.0.1.few in
+    elim (cases_lt (stored + 1) (cost_of a.shape)) [
+      | inl more ↦ left_is s.base.forwards (cost_of a.shape - stored + 2 + probes_left s.base.forwards a.search) next
+          (Copying a (stored + 1)) (is.0 more) (omega arith)
+      | inr all ↦ left_is s.base.forwards (cost_of a.shape - stored + 2 + probes_left s.base.forwards a.search) next
+          (Copied a) (is.1 (omega arith)) (omega arith)
+    ]
+Next_nearer maps s rest register stop globals o (Some (Copied a)) next bounds at is =
+    let within : a.search.tried < s.base.forwards = at.0.1 in
+    probes_nearer s a.search (reached a.search a.address) (Retrying (retried a)) next
+    (2 + probes_left s.base.forwards a.search) is (omega arith) (λ less. omega arith) (λ less. omega arith)
+Next_nearer maps s rest register stop globals o (Some (Retrying a)) next bounds at is =
+    probes_nearer s a.search (Copied a) (Retrying (retried a)) next
+    (3 + probes_left s.base.forwards a.search) is (omega arith) (λ less. omega arith) (λ less. omega arith)
+Next_nearer maps s rest register stop globals o (Some (LackingCopy search shape)) next bounds at is = absurd is
 
 -- what stands of a view is known of the call of a thread
 at_stage_in : (disk : OnDisk) (v : View) (t : ℕ) (o : Op) (call : Option Call) → Asks disk v t o → call_of v t ≡ call →

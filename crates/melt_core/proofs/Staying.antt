@@ -237,9 +237,9 @@ module _ (maps new : Maps) (s t : State) (cleared : ℕ) (formed : FormedWords m
       omega arith
 
   -- what is known of a call stays
-  pub known_stays : (told : Bool) (stage : Stage) →
+  pub known_stays : (told : Bool) (rest : List ℕ) (stage : Stage) →
       (Owns maps s (region_of stage) → RegionStays new s t (region_of stage)) →
-      Known told maps s stage → Known told new t stage
+      Known told maps s rest stage → Known told new t rest stage
   known_stays told rest (Polled task) stays is = tt
   known_stays told rest (Headed address shape access) stays is = object_stays address shape is
   known_stays told rest (Looked place found target dst) stays is =
