@@ -4,7 +4,7 @@ use Rattle.std.proofs.Common.{List, [], ◌∷◌, ◌++◌, length, get_or, ref
 use Rattle.std.proofs.Math.ListN.{set}
 use Rattle.std.proofs.lemmas.Bool.Decides.{eqb_tells}
 use Rattle.std.proofs.lemmas.List.Sums.{sum-map, sum_by-set}
-use Rattle.std.specs.Prelude.{◌↔◌, true, [], Option, None, Some}
+use Rattle.std.specs.Prelude.{◌↔◌, true, false, [], Option, None, Some}
 use Rattle.std.specs.Option.{option_map_or}
 use Rattle.melt_model.specs.History.{Shape as ModelShape, made as makes}
 use Rattle.melt_model.specs.Alive.{Alive, words_of, CostsSum}
