@@ -24,7 +24,9 @@ pub mod Answered
 pub mod Reading
 pub mod Loading
 pub mod Writing
+pub mod Storing
 pub mod Making
+pub mod Bodies
 pub mod Resting
 pub mod Sharing
 pub mod Onward
