@@ -301,10 +301,10 @@ home_object None value is = absurd (cc)
 home_object (Some n) value is = (n, refl)
 
 -- a look found a home, for which no forwarding word was read yet
-search_known : (disk : OnDisk) (told : Bool) (v : View) (place : Place) (home : ℕ) → Standing false disk v
+search_begins : (disk : OnDisk) (told : Bool) (v : View) (place : Place) (home : ℕ) → Standing false disk v
     → Standing told disk v → IsPlace (maps v) (state disk v) place
     → HoldsRef (word_in (state disk v) place) (Disk home) → Searches told (maps v) (state disk v) place home 0
-search_known disk told v place home stands s there holds = record {
+search_begins disk told v place home stands s there holds = record {
   looked = looked_known disk v place (Disk home) stands there holds tt;
   probed = record { few = omega arith; others = λ i less. absurd (omega arith) };
   object = λ tells.
@@ -419,7 +419,7 @@ pub home_advances : (disk : OnDisk) (v : View) (t : ℕ) (o : Op) (place : Place
 home_advances disk v t o place home dst asks looks holds =
     tag_advances disk v t o place dst (Searching (record { place = place; home = home; tried = 0; dst = dst })) asks looks
     (inr (home, holds.is, refl))
-    (λ told s. search_known disk told v place home asks.stands s (looks_at disk v t o place dst asks looks).1 holds) refl
+    (λ told s. search_begins disk told v place home asks.stands s (looks_at disk v t o place dst asks looks).1 holds) refl
 
 -- the stage at which a load looks
 pub looks_stage : (stage : Option Stage) (place : Place) (dst : ℕ) → LooksFrom stage place dst
