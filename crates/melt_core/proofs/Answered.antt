@@ -32,7 +32,7 @@ use Rattle.melt_core.specs.Views.{values_of, held_value, held_values, registers_
 use Rattle.melt_core.proofs.Claims.{claims_ends}
 use Rattle.melt_core.proofs.Asked.{call_at, inside, set_none}
 use Rattle.melt_core.proofs.Words.{same_behind}
-use Rattle.melt_core.proofs.Standing.{advances, call_here}
+use Rattle.melt_core.proofs.Standing.{advances_where, call_here, same_rests}
 use Rattle.melt_core.proofs.Plain.{Plain, OnlyMoves, MakesNothing, plain}
 use Rattle.melt_core.proofs.Registers.{register_keeps, register_other, registers_other, threads_set, values_set}
 use Rattle.melt_core.proofs.Values.{value_held, no_name_at}
@@ -90,12 +90,13 @@ pub record Replies (disk : OnDisk) (v w : View) (t : ℕ) (o : Op) (reply : Repl
   pub clean : LeavesClean disk v w t o (Answered reply)
 
 answered : (disk : OnDisk) (v w : View) (t : ℕ) (o : Op) (reply : Reply) (act : Option Act) → Asks disk v t o
-    → Plain disk v w t (cleared_by (stage_of v t)) act None
+    → Plain (Unit {0}) disk v w t (cleared_by (stage_of v t)) act None
     → Applies (maps v) (maps w) (state disk v) (state disk w) (change_of (state disk v) (register_in v.held t)
     (rest_of v t) (stage_of v t))
     → Replies disk v w t o reply → AdvancesOver disk v w t o (Answered reply)
 answered disk v w t o reply act asks p applies replies =
-    advances disk v w t o (Answered reply) asks (plain disk v w t (cleared_by (stage_of v t)) act None asks.thread p)
+    advances_where (Unit {0}) disk v w t o (Answered reply) asks
+    (plain (Unit {0}) disk v w t (cleared_by (stage_of v t)) act None asks.thread p)
     (ap (λ (x : View). x.capacity) p.moves) applies (record {
       last = replies.last;
       no_pause = replies.no_pause;
@@ -133,16 +134,18 @@ over_plain : (disk : OnDisk) (v w : View) (t cleared : ℕ) (act : Option Act)
     cleared act)
     → MakesNothing act → OnlyMoves v w t act None → length w.space.list ≡ length v.space.list → Local disk v w.held t
     → claimed_in (call_of v t) ≡ 0 → ((need : ℕ) → Lacks (stage_of v t) need → ⊥)
-    → Plain disk v w t cleared act None
+    → Plain (Unit {0}) disk v w t cleared act None
 over_plain disk v w t cleared act event nothing moves words local unclaimed no_lack = record {
   event = event;
   nothing = nothing;
-  moves = moves;
+  moves = subst (λ (records : List (List ℕ)). OnlyMoves (record v { records = records }) w t act None)
+      (sym (ap (λ (x : View). x.records) moves)) moves;
+  rests = same_rests v w t (ap (λ (x : View). x.records) moves);
   words = words;
   threads = local.threads;
   others = local.others;
   may_hold = local.may_hold;
-  known = λ told s c none. absurd (cc);
+  known = λ told tell s c none. absurd (cc);
   fits = λ c none. absurd (cc);
   unclaimed = refl;
   claims = claims_ends v.stop (stage_of v t) no_lack;
@@ -190,7 +193,7 @@ over_advances disk v w t o stage act reply asks is =
 
 -- an operation on registers alone
 local_plain : (disk : OnDisk) (v : View) (held : List Registers) (t : ℕ) → call_of v t ≡ None → Local disk v held t
-    → Plain disk v (record v { held = held }) t 0 None None
+    → Plain (Unit {0}) disk v (record v { held = held }) t 0 None None
 local_plain disk v held t first local =
     over_plain disk v (record v { held = held }) t 0 None (λ told stands. quiet refl (same_behind disk v held)) tt
     (ap (λ (calls : List (Option Call)). record v { held = held; calls = calls }) (set_none v.calls t first)) refl local
@@ -205,7 +208,7 @@ first_answered disk v held t o reply asks first is replies =
     let w : View = record v { held = held } in
     let none : stage_of v t ≡ None = ap stage_in first in
     answered disk v w t o reply None asks
-    (subst (λ (g : Option Stage). Plain disk v w t (cleared_by g) None None) (sym none)
+    (subst (λ (g : Option Stage). Plain (Unit {0}) disk v w t (cleared_by g) None None) (sym none)
     (local_plain disk v held t first is))
     (subst (λ (g : Option Stage). Applies (maps v) (maps w) (state disk v) (state disk w)
     (change_of (state disk v) (register_in v.held t) (rest_of v t) g)) (sym none) (refl, same_behind disk v held))

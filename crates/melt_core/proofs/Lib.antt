@@ -30,3 +30,7 @@ pub mod Bodies
 pub mod Resting
 pub mod Sharing
 pub mod Onward
+pub mod Distinct
+pub mod Retaining
+pub mod Refusing
+pub mod Searching

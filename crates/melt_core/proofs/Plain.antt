@@ -1,5 +1,5 @@
 -- Events that leave the names, the first free place and the stop word, and whose thread owns no words before and behind
--- them. What each of these shows is less.
+-- them. What each of these shows is less. What the thread reads of a record may differ.
 use Rattle.std.proofs.Common.{◌≡◌, ◌≢◌, ℕ, ◌<◌, ◌≤◌, inl, List, [], ◌∷◌, length, refl, sym, ◌∙◌, ap, subst, arith}
 use Rattle.std.proofs.Math.ListN.{set}
 use Rattle.std.specs.Prelude.{Bool, true, Option, None, Some, IsSome}
@@ -27,7 +27,7 @@ use Rattle.melt_core.proofs.Staying.{hold_stays}
 use Rattle.melt_core.proofs.Regions.{no_region_apart}
 use Rattle.melt_core.proofs.Claims.{bounded_is, bounded_call}
 use Rattle.melt_core.proofs.Counting.{Claims, Counts_same, Counts_entry}
-use Rattle.melt_core.proofs.Standing.{Made, same_rests}
+use Rattle.melt_core.proofs.Standing.{KeepsRests, MadeWhere}
 
 -- an act that makes no object, or none at all
 abbrev pub MakesNothing : Option Act → Type 0
@@ -44,18 +44,20 @@ OnlyMoves v w t act after = w ≡ record v {
   log = with_entry t v.log act;
 }
 
-pub record Plain (disk : OnDisk) (v w : View) (t : ℕ) (cleared : ℕ) (act : Option Act) (after : Option Call) : Type 0
-  where
+-- Where something is told behind the event, so much is.
+pub record Plain (tells : Type 0) (disk : OnDisk) (v w : View) (t : ℕ) (cleared : ℕ) (act : Option Act)
+  (after : Option Call) : Type 0 where
     pub event : (told : Bool) → Standing told disk v
         → Event told v.log (maps v) (maps w) (state disk v) (state disk w) no_region cleared act
     pub nothing : MakesNothing act
-    pub moves : OnlyMoves v w t act after
+    pub moves : OnlyMoves (record v { records = w.records }) w t act after
+    pub rests : KeepsRests v w t
     pub words : length w.space.list ≡ length v.space.list
     pub threads : length w.held ≡ length v.held
     pub others : (u : ℕ) → u ≢ t → registers_in w.held u ≡ registers_in v.held u
     pub may_hold : (r : ℕ) → MayHold (maps v) (state disk v) (register_in w.held t r)
-    pub known : (told : Bool) → Standing told disk v → (c : Call) → after ≡ Some c
-        → Known told (maps w) (state disk w) (rest_of v t) c.stage
+    pub known : (told : Bool) → (told ≡ true → tells) → Standing told disk v → (c : Call) → after ≡ Some c
+        → Known told (maps w) (state disk w) (rest_of w t) c.stage
     pub fits : (c : Call) → after ≡ Some c → Fits (register_in w.held t) c.op c.stage
     pub unclaimed : claimed_in after ≡ 0
     pub claims : claims_left v.stop (stage_in after) ≤ claims_left v.stop (stage_of v t)
@@ -86,10 +88,10 @@ unclaimed_region (Copied a) none = absurd (omega arith)
 unclaimed_region (Retrying a) none = absurd (omega arith)
 unclaimed_region (LackingCopy search shape) none = refl
 
-plain_claims : (disk : OnDisk) (v w : View) (t cleared : ℕ) (act : Option Act) (after : Option Call)
-    → Plain disk v w t cleared act after
+plain_claims : (tells : Type 0) (disk : OnDisk) (v w : View) (t cleared : ℕ) (act : Option Act) (after : Option Call)
+    → Plain tells disk v w t cleared act after
     → Claims v w t after
-plain_claims disk v w t cleared act after p = record {
+plain_claims tells disk v w t cleared act after p = record {
   names = ap (λ (x : View). x.names) p.moves;
   words = p.words;
   calls = ap (λ (x : View). x.calls) p.moves;
@@ -98,27 +100,27 @@ plain_claims disk v w t cleared act after p = record {
   within = inl (omega (arith, p.unclaimed));
 }
 
-counts_plain : (disk : OnDisk) (v w : View) (t cleared : ℕ) (act : Option Act) (after : Option Call)
+counts_plain : (tells : Type 0) (disk : OnDisk) (v w : View) (t cleared : ℕ) (act : Option Act) (after : Option Call)
     → Standing true disk v
-    → t < length v.held → Plain disk v w t cleared act after → Counts w
-counts_plain disk v w t cleared None after s within p =
+    → t < length v.held → Plain tells disk v w t cleared act after → Counts w
+counts_plain tells disk v w t cleared None after s within p =
     Counts_same disk v w t after s within (ap (λ (x : View). x.log) p.moves)
-    (plain_claims disk v w t cleared None after p)
-counts_plain disk v w t cleared (Some act) after s within p =
+    (plain_claims tells disk v w t cleared None after p)
+counts_plain tells disk v w t cleared (Some act) after s within p =
     Counts_entry disk v w t after (entry t act) s within (ap (λ (x : View). x.log) p.moves)
-    (plain_claims disk v w t cleared (Some act) after p)
+    (plain_claims tells disk v w t cleared (Some act) after p)
 
 -- where it is told, it is told so
 pub as_told : (disk : OnDisk) (told : Bool) (v : View) → told ≡ true → Standing told disk v → Standing true disk v
 as_told disk told v is s = subst (λ (b : Bool). Standing b disk v) is s
 
-pub plain : (disk : OnDisk) (v w : View) (t cleared : ℕ) (act : Option Act) (after : Option Call) → t < length v.held
-    → Plain disk v w t cleared act after → Made disk v w t cleared
-plain disk v w t cleared act after within p = record {
+pub plain : (tells : Type 0) (disk : OnDisk) (v w : View) (t cleared : ℕ) (act : Option Act) (after : Option Call)
+    → t < length v.held → Plain tells disk v w t cleared act after → MadeWhere tells disk v w t cleared
+plain tells disk v w t cleared act after within p = record {
   mine = no_region;
   act = act;
   after = after;
-  happens = λ told s.
+  happens = λ told tell s.
       let inside : t < length v.calls = let each : length v.calls ≡ length v.held = s.each in omega arith in
       let log : w.log ≡ with_entry t v.log act = ap (λ (x : View). x.log) p.moves in
       let calls : w.calls ≡ set v.calls t after = ap (λ (x : View). x.calls) p.moves in
@@ -133,7 +135,7 @@ plain disk v w t cleared act after within p = record {
           named = subst IsSome (sym (ap (λ (x : View). x.names) p.moves)) s.named;
           room = ap (λ (x : View). length (numbers_of x.names)) p.moves;
           scions = ap (λ (x : View). x.scions) p.moves;
-          rests = same_rests v w t (ap (λ (x : View). x.records) p.moves);
+          rests = p.rests;
           made = ap (λ (x : View). x.made) p.moves
               ∙ (s.counted ∙ (made_same v.log t act p.nothing ∙ ap makes (sym log)));
         };
@@ -145,14 +147,13 @@ plain disk v w t cleared act after within p = record {
             (event_keeps told t v.log (maps v) (maps w) (state disk v) (state disk w) no_region cleared act s.legal
             s.holds
             (p.event told s)).evolves (register_in w.held t r) (p.may_hold r);
-        known = λ c is. subst (λ (rest : List ℕ). Known told (maps w) (state disk w) rest c.stage)
-            (sym (ap (λ (x : View). rest_of x t) p.moves)) (p.known told s c is);
+        known = p.known told tell s;
         fits = p.fits;
         mine_is = λ u d differ is. no_region_apart (region_of d.stage);
         apart = λ c is u d differ other.
             subst (λ (r : Region). Apart r (region_of d.stage))
             (sym (unclaimed_region c.stage (sym (ap claimed_in is) ∙ p.unclaimed)))
             (no_region_apart (region_of d.stage));
-        counts = λ is. counts_plain disk v w t cleared act after (as_told disk told v is s) within p;
+        counts = λ is. counts_plain tells disk v w t cleared act after (as_told disk told v is s) within p;
       };
 }

@@ -193,7 +193,7 @@ Next_nearer maps s rest register stop globals o (Some (Copying a stored)) next b
       | inl more ↦ left_is s.base.forwards (cost_of a.shape - stored + 2 + probes_left s.base.forwards a.search) next
           (Copying a (stored + 1)) (is.0 more) (omega arith)
       | inr all ↦ left_is s.base.forwards (cost_of a.shape - stored + 2 + probes_left s.base.forwards a.search) next
-          (Copied a) (is.1 all) (omega arith)
+          (Copied a) (is.1 (omega arith)) (omega arith)
     ]
 Next_nearer maps s rest register stop globals o (Some (Copied a)) next bounds at is =
     let within : a.search.tried < s.base.forwards = at.0.1 in
