@@ -28,3 +28,5 @@ pub mod Making
 pub mod Resting
 pub mod Sharing
 pub mod Onward
+pub mod ReadsLeft
+pub mod Recorded
