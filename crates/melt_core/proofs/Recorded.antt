@@ -1,15 +1,16 @@
 -- What a read of a record tells: how its load goes on, and that no record is found damaged where the disk tells its words.
-use Rattle.std.proofs.Common.{◌≡◌, ◌⊎◌, ℕ, ◌+◌, ◌<◌, ◌≤◌, ◌^◌, inl, inr, List, [], ◌++◌, length, drop, replicate, get_or}
+use Rattle.std.proofs.Common.{◌≡◌, ◌⊎◌, ℕ, ◌+◌, ◌<◌, ◌≤◌, ◌^◌, inl, inr, List, [], ◌++◌, length, take, drop, replicate, get_or, length-append}
 use Rattle.std.proofs.Common.{Result, Ok, Err, OnOk, IfOk, IfErr}
 use Rattle.std.proofs.Common.{refl, sym, ◌∙◌, ap, subst, arith}
 use Rattle.std.proofs.Math.ListN.{set, length-set}
 use Rattle.std.proofs.lemmas.Bool.{cases_eq}
 use Rattle.std.proofs.lemmas.Bool.Decides.{eqb_tells}
-use Rattle.std.proofs.lemmas.List.{get_or-drop, get_or-take, get_or-set_same, get_or-set_other}
+use Rattle.std.proofs.lemmas.List.{get_or-drop, get_or-take, get_or-set_same, get_or-set_other, get_or_default}
+use Rattle.std.proofs.lemmas.List.{get_or_append_left, length-drop, length-take-le}
 use Rattle.std.specs.Prelude.{Bool, true, false, ◌==◌, if◌then◌else◌, Option, None, Some, IfSome, IsSome, slice_index, slice_index_or}
 use Rattle.std.specs.Result.{is_err}
 use Rattle.melt_model.specs.declared.operations.Op.{Op}
-use Rattle.melt_word.specs.Words.{IsDiskHome, cost_of}
+use Rattle.melt_word.specs.Words.{IsShape, cost_of}
 use Rattle.melt_word.specs.declared.header.Shape.{Shape}
 use Rattle.melt_word.specs.declared.reference.Ref.TheVariants.{Disk}
 use Rattle.melt_record.specs.declared.damage.Damaged.{Damaged}
@@ -373,10 +374,58 @@ pub record ReadsRest (end : ℕ) (image : Option (List ℕ)) (v : View) (t : ℕ
   pub at : stage_of v t ≡ Some (HeadRead search shape)
   pub read : IfSome image (λ told. words ≡ words_at told (search.home + 2) (shape.refs + shape.nums))
 
+-- a Body has no more words behind its head than a buffer has room for
+pub rest_small : (end : ℕ) (v : View) (t : ℕ) (o : Op) (search : Search) (shape : Shape) → MayAdvance end v t o
+    → stage_of v t ≡ Some (HeadRead search shape) → shape.refs + shape.nums ≤ max_rest
+rest_small end v t o search shape may at =
+    let small : IsShape shape = (known_at may.disk v t o (HeadRead search shape) may.asks at).1.small in
+    let refs : shape.refs ≤ 62 = small.refs in
+    let nums : shape.nums ≤ 62 = small.nums in
+    omega arith
+
+-- and that of each thread is there
+pub buffer_size : (end : ℕ) (v : View) (t : ℕ) (o : Op) (buffer : List ℕ) → MayAdvance end v t o
+    → buffer ≡ get_or v.records t buffer → length buffer ≡ max_rest
+buffer_size end v t o buffer may is =
+    let s : Standing false may.disk v = may.asks.stands in
+    let each : length v.records ≡ length v.held = s.buffers in
+    let within : t < length v.held = may.asks.thread in
+    ap length (is ∙ get_or_default v.records t buffer [] (omega arith)) ∙ s.rests t within
+
+-- so the words that are read are a front of it
+pub front_size : (end : ℕ) (v : View) (t : ℕ) (o : Op) (search : Search) (shape : Shape) (buffer : List ℕ) (k : ℕ)
+    → MayAdvance end v t o → stage_of v t ≡ Some (HeadRead search shape) → buffer ≡ get_or v.records t buffer
+    → k ≡ shape.refs + shape.nums → length (take k buffer) ≡ k
+front_size end v t o search shape buffer k may at is same =
+    length-take-le k buffer
+    (omega (arith, same, rest_small end v t o search shape may at, buffer_size end v t o buffer may is))
+
+-- and where the read did not fail, those of the Body
+pub rest_read : (end : ℕ) (image : Option (List ℕ)) (v : View) (t : ℕ) (o : Op) (search : Search) (shape : Shape)
+    (buffer words : List ℕ) (k : ℕ) {A E : Type 0} (result : Result A E) {failed : Bool} → MayAdvance end v t o
+    → stage_of v t ≡ Some (HeadRead search shape) → buffer ≡ get_or v.records t buffer → k ≡ shape.refs + shape.nums
+    → OnOk result (IfSome image (λ told. words ≡ words_at told (search.home + 2) (length (take k buffer))))
+    → is_err result ≡ failed → failed ≡ false → ReadsRest end image v t o search shape words
+rest_read end image v t o search shape buffer words k result may at is same read none runs = record {
+  may = may;
+  at = at;
+  read = subst (λ (n : ℕ). IfSome image (λ told. words ≡ words_at told (search.home + 2) n))
+      (front_size end v t o search shape buffer k may at is same ∙ same)
+      (ok_of result (IfSome image (λ told. words ≡ words_at told (search.home + 2) (length (take k buffer)))) read none
+      runs);
+}
+
 -- The buffer begins with the words that were read.
 pub record Begins (written words : List ℕ) (n : ℕ) : Type 0 where
   pub size : length written ≡ max_rest
   pub same : (i : ℕ) → i < n → slice_index written i ≡ slice_index words i
+
+pub begins_with : (words buffer : List ℕ) (n k : ℕ) → length buffer ≡ max_rest → length words ≡ n → k ≡ n → n ≤ max_rest
+    → Begins (words ++ drop k buffer) words n
+begins_with words buffer n k size read same few = record {
+  size = omega (arith, length-append words (drop k buffer), length-drop k buffer, size, read, same, few);
+  same = λ i below. get_or_append_left words (drop k buffer) 0 i (omega (arith, below, read));
+}
 
 -- the view with another buffer of a thread
 abbrev pub with_rest : View → ℕ → List ℕ → View
