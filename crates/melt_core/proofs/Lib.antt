@@ -34,3 +34,5 @@ pub mod Distinct
 pub mod Retaining
 pub mod Refusing
 pub mod Searching
+pub mod ReadsLeft
+pub mod Recorded

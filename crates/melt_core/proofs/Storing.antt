@@ -23,7 +23,7 @@ use Rattle.melt_core.specs.Stages.{Fits, Next, Applies, Word, change_of, cleared
 use Rattle.melt_core.specs.Changed.{with_call}
 use Rattle.melt_core.specs.Advances.{Asks, AdvancesOver}
 use Rattle.melt_core.specs.Views.{View, Standing, maps, state, rest_of, call_of, stage_of, claimed_in}
-use Rattle.melt_core.proofs.Asked.{call_at, inside, lacks_word, next_fits}
+use Rattle.melt_core.proofs.Asked.{call_at, inside, next_fits}
 use Rattle.melt_core.proofs.Claims.{bounded_is, bounded_call, claims_next}
 use Rattle.melt_core.proofs.Counting.{Counts_same}
 use Rattle.melt_core.proofs.Evolving.{evolves_event}
@@ -150,8 +150,7 @@ store_advances disk {v} {space} {t} {place} {word} {o} {before} {after} is =
         bounded = bounded_is w (length v.space.list) v.free v.stop (set v.calls t (Some call)) is.sets.size refl refl
             refl
             (bounded_call (length v.space.list) v.free v.stop v.calls t (Some call) within
-            (claims_next (maps v) (state disk v) (register_in v.held t) v.stop o (stage_of v t) after next
-            (lacks_word disk v t o asks))
+            (claims_next (maps v) (state disk v) (register_in v.held t) v.stop o (stage_of v t) after next)
             stands.bounded);
         may_hold = λ r. hold_stays (maps v) (maps w) (state disk v) (state disk w) 0 stands.holds.formed evolves
             (register_in v.held t r) (s.registers t r);
@@ -159,7 +158,7 @@ store_advances disk {v} {space} {t} {place} {word} {o} {before} {after} is =
             (let e : call ≡ c = cc in e) (is.known told stands (state disk w) evolves owns changes);
         fits = λ c same. subst (λ (d : Call). Fits (register_in v.held t) d.op d.stage) (let e : call ≡ c = cc in e)
             (next_fits (maps v) (state disk v) (register_in v.held t) v.stop o (call_of v t) after asks.continued
-            (λ d there. s.fits t d there) next (lacks_word disk v t o asks));
+            (λ d there. s.fits t d there) next);
         mine_is = apart;
         apart = λ c same u d differ other. subst (λ (x : Call). Apart (region_of x.stage) (region_of d.stage))
             (let e : call ≡ c = cc in e)
