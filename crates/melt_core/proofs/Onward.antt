@@ -22,6 +22,7 @@ pub KeepsOthers_both : (u v w : View) (t : ℕ) → KeepsOthers u v t → KeepsO
 KeepsOthers_both u v w t one two = record {
   globals = two.globals ∙ one.globals;
   words = two.words ∙ one.words;
+  forwards = two.forwards ∙ one.forwards;
   threads = two.threads ∙ one.threads;
   capacity = two.capacity ∙ one.capacity;
   calls = λ k differ. two.calls k differ ∙ one.calls k differ;

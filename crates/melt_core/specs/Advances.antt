@@ -78,6 +78,7 @@ pub record MayMove (v : View) (t : ℕ) (o : Op) : Type 0 where
 pub record KeepsOthers (v w : View) (t : ℕ) : Type 0 where
   pub globals : length w.globals ≡ length v.globals
   pub words : length w.space.list ≡ length v.space.list
+  pub forwards : length w.forward ≡ length v.forward
   pub threads : length w.held ≡ length v.held
   pub capacity : w.capacity ≡ v.capacity
   pub calls : (u : ℕ) → u ≢ t → call_of w u ≡ call_of v u
