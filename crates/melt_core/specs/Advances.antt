@@ -97,7 +97,7 @@ pub record Goes (disk : OnDisk) (v w : View) (t : ℕ) (o : Op) : Type 0 where
   pub stage : Stage
   pub next : Next (maps v) (state disk v) (register_in v.held t) v.stop o (stage_of v t) stage
   pub call : call_of w t ≡ Some (record { op = o; stage = stage })
-  pub nearer : events_left (length v.forward) (Some stage) < events_left (length v.forward) (stage_of v t)
+  pub nearer : (most : ℕ) → length v.forward ≤ most → events_left most (Some stage) < events_left most (stage_of v t)
   pub own : KeepsOwn v w t
   pub stop : w.stop ≡ v.stop
 
