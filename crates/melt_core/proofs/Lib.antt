@@ -36,3 +36,4 @@ pub mod Refusing
 pub mod Searching
 pub mod ReadsLeft
 pub mod Recorded
+pub mod NoHomes
