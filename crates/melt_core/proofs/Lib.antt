@@ -34,3 +34,4 @@ pub mod Distinct
 pub mod Retaining
 pub mod Refusing
 pub mod Searching
+pub mod Entered
