@@ -1,5 +1,5 @@
 -- The commit of a copy: the exchange of the forwarding word that was empty, won or lost.
-use Rattle.std.proofs.Common.{◌≡◌, ◌≢◌, ℕ, ◌<◌, inl, inr, List, length, refl, sym, ◌∙◌, ap, subst, arith}
+use Rattle.std.proofs.Common.{◌≡◌, ◌≢◌, ℕ, ◌+◌, ◌<◌, inl, inr, List, length, refl, sym, ◌∙◌, ap, subst, arith}
 use Rattle.std.proofs.Math.ListN.{set, length-set}
 use Rattle.std.proofs.lemmas.List.{get_or-set_same, get_or-set_other}
 use Rattle.std.specs.Prelude.{Bool, true, false, Option, None, Some, IsSome, slice_set}
@@ -31,8 +31,8 @@ use Rattle.melt_core.specs.declared.probing.Probe.TheVariants.{At, Empty, Anothe
 use Rattle.melt_core.specs.Known.{Known, HoldsCopy, Evolves, region, region_of}
 use Rattle.melt_core.specs.Events.{Event, Keeps, quiet, commits}
 use Rattle.melt_core.specs.Stages.{Next, Fits, Applies, change_of, cleared_by, reached, retried, next_forward, next_place}
-use Rattle.melt_core.specs.Changed.{HasEntered, TellsOf, probed_place, probed_word, with_call}
-use Rattle.melt_core.specs.Advances.{Asks, AdvancesOver}
+use Rattle.melt_core.specs.Changed.{CanProbe, HasEntered, TellsOf, probed_place, probed_word, with_call}
+use Rattle.melt_core.specs.Advances.{Asks, AdvancesOver, MayMove}
 use Rattle.melt_core.specs.Views.{View, Standing, Counts, maps, state, call_of, stage_of, rest_of, claimed_in, numbers_of}
 use Rattle.melt_core.specs.Views.{maps_of, base_in}
 use Rattle.melt_core.proofs.Asked.{call_at, fits_at, inside, known_at, known_so, lacks_word}
@@ -44,7 +44,7 @@ use Rattle.melt_core.proofs.Keeping.{event_keeps}
 use Rattle.melt_core.proofs.Plain.{as_told}
 use Rattle.melt_core.proofs.Regions.{no_region_apart}
 use Rattle.melt_core.proofs.Retaining.{still_retains}
-use Rattle.melt_core.proofs.Searching.{behind_word, word_probes, sent_known, copy_more}
+use Rattle.melt_core.proofs.Searching.{word_probes, sent_known, copy_more, few_more}
 use Rattle.melt_core.proofs.Standing.{Made, advances, same_rests, values_stay}
 use Rattle.melt_core.proofs.Staying.{hold_stays, looked_stays}
 use Rattle.melt_core.proofs.Words.{same_words}
@@ -59,9 +59,26 @@ copied_known : (disk : OnDisk) {v : View} {t : ℕ} {o : Op} {a : Activation} (t
     → HoldsCopy told (maps v) (state disk v) (rest_of v t) a × (a.search.tried < length v.forward)
 copied_known disk {v} {t} {o} {a} told is s = known_so told disk v t o (Copied a) is.asks is.at s
 
-copied_within : (disk : OnDisk) {v : View} {t : ℕ} {o : Op} {a : Activation} → IsCopied disk v t o a
+pub copied_within : (disk : OnDisk) {v : View} {t : ℕ} {o : Op} {a : Activation} → IsCopied disk v t o a
     → a.search.tried < length v.forward
 copied_within disk {v} {t} {o} {a} is = (copied_known disk false is is.asks.stands).1
+
+-- the forwarding word can be read
+pub copied_probes : {v : View} {t : ℕ} {o : Op} {a : Activation} → (may : MayMove v t o)
+    → stage_of v t ≡ Some (Copied a) → CanProbe v a.search
+copied_probes {v} {t} {o} {a} may at = record {
+  disk = may.disk;
+  stands = may.asks.stands;
+  within = copied_within may.disk (record { asks = may.asks; at = at });
+}
+
+-- and where it sends another home, the search fits that has read it
+pub copied_few : {v : View} {t : ℕ} {o : Op} {a : Activation} → (may : MayMove v t o)
+    → stage_of v t ≡ Some (Copied a) → SendsAnother (probed_word v a.search) a.search.home
+    → a.search.tried + 1 < 4294967296
+copied_few {v} {t} {o} {a} may at another =
+    let known = copied_known may.disk false (record { asks = may.asks; at = at }) may.asks.stands in
+    few_more may.disk v a.search may.asks.stands known.0.searches.probed known.1 another
 
 -- a word that sends a home is not empty, so that the exchange changes nothing
 lost_applies : (disk : OnDisk) {v : View} {t : ℕ} {o : Op} {a : Activation} → IsCopied disk v t o a
@@ -86,7 +103,7 @@ lost_advances disk {v} {t} {o} {a} address is sends =
       applies = subst (λ (g : Option Stage). Applies (maps v) (maps v) (state disk v) (state disk v)
           (change_of (state disk v) (register_in v.held t) (rest_of v t) g)) (sym is.at)
           (lost_applies disk is (sent_filled (probed_word v a.search) a.search.home address sends));
-      rests = same_rests v v t refl;
+      rests = same_rests v (with_call v t (Some (record { op = o; stage = next }))) t refl;
       words = refl;
       next = subst (λ (g : Option Stage). Next (maps v) (state disk v) (register_in v.held t) v.stop o g next)
           (sym is.at)
