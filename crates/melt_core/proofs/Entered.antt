@@ -1,23 +1,19 @@
 -- The commit of a copy: the exchange of the forwarding word that was empty, won or lost.
-use Rattle.std.proofs.Common.{◌≡◌, ◌≢◌, ℕ, ◌+◌, ◌<◌, inl, inr, List, length, refl, sym, ◌∙◌, ap, subst, arith}
+use Rattle.std.proofs.Common.{◌≡◌, ◌≢◌, ℕ, ◌+◌, ◌<◌, length, refl, sym, ◌∙◌, ap, subst}
 use Rattle.std.proofs.Math.ListN.{set, length-set}
 use Rattle.std.proofs.lemmas.List.{get_or-set_same, get_or-set_other}
 use Rattle.std.specs.Prelude.{Bool, true, false, Option, None, Some, IsSome, slice_set}
 use Rattle.std.specs.Option.{option_map}
-use Rattle.melt_model.specs.declared.history.Entry.{Entry}
 use Rattle.melt_model.specs.declared.history.Value.TheVariants.{Ref as Object}
 use Rattle.melt_model.specs.declared.operations.Op.{Op}
-use Rattle.melt_word.specs.Words.{cost_of, header_word}
 use Rattle.melt_word.specs.declared.header.Header.{Header}
-use Rattle.melt_word.specs.declared.reference.Ref.TheVariants.{Clean, Disk}
+use Rattle.melt_word.specs.declared.reference.Ref.TheVariants.{Disk}
 use Rattle.melt_forward.specs.Forwarding.{Sends, SendsAnother, forward_word}
 use Rattle.melt_forward.proofs.Pairs.{forward_word-filled}
 use Rattle.melt_forward.proofs.Probing.{probe_within}
-use Rattle.melt_scion.specs.State.{Base, State, HeaderAt}
-use Rattle.melt_scion.specs.Placed.{Tells}
+use Rattle.melt_scion.specs.State.{HeaderAt}
 use Rattle.melt_scion.specs.Regions.{Region, no_region, Apart}
 use Rattle.melt_scion.specs.Changes.{ForwardChanges, NameAppears}
-use Rattle.melt_scion.specs.Commits.{MayCommit}
 use Rattle.melt_scion.specs.Heaps.{OnDisk, register_in}
 use Rattle.melt_scion.specs.declared.heap.Names as heap
 use Rattle.melt_scion.proofs.Committing.{copy_header}
@@ -30,12 +26,12 @@ use Rattle.melt_core.specs.declared.call.Stage.TheVariants.{Copied, Retrying}
 use Rattle.melt_core.specs.declared.probing.Probe.TheVariants.{At, Empty, Another}
 use Rattle.melt_core.specs.Known.{Known, HoldsCopy, Evolves, region, region_of}
 use Rattle.melt_core.specs.Events.{Event, Keeps, quiet, commits}
-use Rattle.melt_core.specs.Stages.{Next, Fits, Applies, change_of, cleared_by, reached, retried, next_forward, next_place}
-use Rattle.melt_core.specs.Changed.{CanProbe, HasEntered, TellsOf, probed_place, probed_word, with_call}
+use Rattle.melt_core.specs.Stages.{Next, Fits, Applies, change_of, cleared_by, reached, retried}
+use Rattle.melt_core.specs.Changed.{CanProbe, HasEntered, probed_place, probed_word, with_call}
 use Rattle.melt_core.specs.Advances.{Asks, AdvancesOver, MayMove}
-use Rattle.melt_core.specs.Views.{View, Standing, Counts, maps, state, call_of, stage_of, rest_of, claimed_in, numbers_of}
+use Rattle.melt_core.specs.Views.{View, Standing, Counts, maps, state, stage_of, rest_of, claimed_in, numbers_of}
 use Rattle.melt_core.specs.Views.{maps_of, base_in}
-use Rattle.melt_core.proofs.Asked.{call_at, fits_at, inside, known_at, known_so, lacks_word}
+use Rattle.melt_core.proofs.Asked.{call_at, fits_at, inside, known_so, lacks_word}
 use Rattle.melt_core.proofs.Claims.{bounded_is, bounded_call, claims_next}
 use Rattle.melt_core.proofs.Counting.{Counts_committed}
 use Rattle.melt_core.proofs.Evolving.{evolves_event}

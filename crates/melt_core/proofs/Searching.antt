@@ -1,9 +1,9 @@
 -- The search for the object of a home: what the forwarding word tells to which it has come, and its events.
-use Rattle.std.proofs.Common.{◌≡◌, ◌≢◌, ℕ, ◌+◌, ◌-◌, ◌*◌, ◌/◌, ◌<◌, ◌≤◌, inl, inr, List, length, get_or, refl, sym, ◌∙◌}
+use Rattle.std.proofs.Common.{◌≡◌, ℕ, ◌+◌, ◌-◌, ◌*◌, ◌/◌, ◌<◌, ◌≤◌, inl, inr, List, length, get_or, refl, sym, ◌∙◌}
 use Rattle.std.proofs.Common.{ap, subst, arith, below_more}
 use Rattle.std.proofs.lemmas.Bool.{cases_lt}
 use Rattle.std.proofs.lemmas.List.{get_or_read_under}
-use Rattle.std.specs.Prelude.{Bool, true, false, Option, Some, None, slice_index, slice_set}
+use Rattle.std.specs.Prelude.{Bool, false, Option, Some, None, slice_index, slice_set}
 use Rattle.melt_model.specs.declared.operations.Op.{Op}
 use Rattle.melt_forward.specs.Forwarding.{Sends, SendsAnother, AllSendOthers, probe, forward_word}
 use Rattle.melt_forward.proofs.Probing.{each_place_once, probe_is, probe_within}

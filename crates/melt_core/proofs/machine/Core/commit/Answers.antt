@@ -1,5 +1,5 @@
 use Rattle.std.proofs.Common.{◌≡◌, ℕ, sym, ◌∙◌, ap, subst}
-use Rattle.std.specs.Prelude.{Option, Some}
+use Rattle.std.specs.Prelude.{Some}
 use Rattle.melt_model.specs.declared.operations.Op.{Op}
 use Rattle.melt_core.specs.Advances.{AdvancesOver}
 use Rattle.melt_core.specs.Changed.{with_call}
@@ -7,7 +7,6 @@ use Rattle.melt_core.specs.Stages.{reached, retried}
 use Rattle.melt_core.specs.Views.{View, call_of, view}
 use Rattle.melt_core.specs.declared.answer.StepResult.TheVariants.{Going}
 use Rattle.melt_core.specs.declared.call.Activation.{Activation}
-use Rattle.melt_core.specs.declared.call.Call.{Call}
 use Rattle.melt_core.specs.declared.call.Stage.{Stage}
 use Rattle.melt_core.specs.declared.call.Stage.TheVariants.{Copied, Retrying}
 use Rattle.melt_core.specs.declared.machine.Core.{Core}

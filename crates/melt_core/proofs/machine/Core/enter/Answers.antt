@@ -1,5 +1,5 @@
-use Rattle.std.proofs.Common.{◌≡◌, ℕ, length, sym, ◌∙◌, ap, subst}
-use Rattle.std.specs.Prelude.{List, Option, Some, slice_set}
+use Rattle.std.proofs.Common.{ℕ, length, ◌∙◌, ap, subst}
+use Rattle.std.specs.Prelude.{List, Option, slice_set}
 use Rattle.melt_scion.specs.Changes.{NameAppears}
 use Rattle.melt_scion.specs.declared.heap.Names as heap
 use Rattle.melt_core.specs.declared.call.Activation.{Activation}
