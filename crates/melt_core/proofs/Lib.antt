@@ -37,3 +37,4 @@ pub mod Searching
 pub mod ReadsLeft
 pub mod Recorded
 pub mod NoHomes
+pub mod Entered

@@ -40,7 +40,7 @@ use Rattle.melt_core.specs.Stages.{Next, Fits, LoadsAt, LooksFrom, FindsTag, App
 use Rattle.melt_core.specs.Changed.{HoldsRef, HasRead, with_call, with_register, noted}
 use Rattle.melt_core.specs.Advances.{Asks, AdvancesOver, HasRoomFor, Sets, InBounds}
 use Rattle.melt_core.specs.Views.{View, Standing, maps, state, stage_of, values_of, held_value, claimed_in, rest_of}
-use Rattle.melt_core.proofs.Asked.{call_at, fits_at, known_at, known_so}
+use Rattle.melt_core.proofs.Asked.{fits_at, known_at, known_so}
 use Rattle.melt_core.proofs.Words.{same_behind, word_set, over}
 use Rattle.melt_core.proofs.Evolving.{evolves_event}
 use Rattle.melt_core.proofs.Staying.{looked_stays, place_stays}

@@ -1,13 +1,12 @@
 -- A call is refused, and the stop word is set: the thread has to pause.
-use Rattle.std.proofs.Common.{◌≡◌, ℕ, ◌<◌, inl, length, refl, sym, ap, subst, arith}
-use Rattle.std.specs.Prelude.{false, Bool, Option, None, Some}
+use Rattle.std.proofs.Common.{◌≡◌, ℕ, ◌<◌, inl, length, refl, sym, subst, arith}
+use Rattle.std.specs.Prelude.{false, None}
 use Rattle.melt_model.specs.declared.operations.Op.{Op}
 use Rattle.melt_scion.specs.Regions.{no_region}
 use Rattle.melt_scion.specs.Heaps.{OnDisk, register_in}
 use Rattle.melt_core.specs.declared.answer.StepResult.TheVariants.{Refused}
 use Rattle.melt_core.specs.declared.answer.Pause as answer
 use Rattle.melt_core.specs.declared.answer.Refusal.TheVariants.{Pause}
-use Rattle.melt_core.specs.declared.call.Stage.{Stage}
 use Rattle.melt_core.specs.Known.{region_of}
 use Rattle.melt_core.specs.Events.{Event, quiet}
 use Rattle.melt_core.specs.Stages.{Nothing, Applies, change_of, cleared_by}

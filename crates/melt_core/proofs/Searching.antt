@@ -1,11 +1,11 @@
 -- The search for the object of a home: what the forwarding word tells to which it has come, and its events.
-use Rattle.std.proofs.Common.{◌≡◌, ◌≢◌, ℕ, ◌+◌, ◌-◌, ◌*◌, ◌/◌, ◌<◌, ◌≤◌, inl, inr, List, length, get_or, refl, sym, ◌∙◌}
+use Rattle.std.proofs.Common.{◌≡◌, ℕ, ◌+◌, ◌-◌, ◌*◌, ◌/◌, ◌<◌, ◌≤◌, inl, inr, List, length, get_or, refl, sym, ◌∙◌}
 use Rattle.std.proofs.Common.{ap, subst, arith, below_more}
 use Rattle.std.proofs.lemmas.Bool.{cases_lt}
 use Rattle.std.proofs.lemmas.List.{get_or_read_under}
-use Rattle.std.specs.Prelude.{Bool, true, false, Option, Some, None, slice_index}
+use Rattle.std.specs.Prelude.{Bool, false, Option, Some, None, slice_index, slice_set}
 use Rattle.melt_model.specs.declared.operations.Op.{Op}
-use Rattle.melt_forward.specs.Forwarding.{Sends, SendsAnother, AllSendOthers, probe}
+use Rattle.melt_forward.specs.Forwarding.{Sends, SendsAnother, AllSendOthers, probe, forward_word}
 use Rattle.melt_forward.proofs.Probing.{each_place_once, probe_is, probe_within}
 use Rattle.melt_scion.specs.State.{State, Forwards}
 use Rattle.melt_scion.specs.Placed.{Maps, FormedWords}
@@ -43,6 +43,15 @@ pub probed_read : (v : View) (search : Search) (word : ℕ) → search.tried < l
     → word ≡ get_or v.forward search.tried word → word ≡ probed_word v search
 probed_read v search word within is =
     get_or_read_under v.forward search.tried (length v.forward) word 0 is within refl ∙ probed_is v search
+
+-- and is replaced there
+pub forward_set : (v : View) (search : Search) (address word : ℕ) → word ≡ forward_word search.home address
+    → slice_set v.forward search.tried word
+    ≡ slice_set v.forward (probed_place v search) (forward_word search.home address)
+forward_set v search address word is =
+    ap (slice_set v.forward search.tried) is
+    ∙ ap (λ (p : ℕ). slice_set v.forward p (forward_word search.home address))
+    (sym (probe_is search.home (length v.forward) search.tried))
 
 -- a search that is not over has a word to read
 pub not_over : (tried count : ℕ) → (count ≤ tried → ⊥) → tried < count
