@@ -165,7 +165,7 @@ reads_behind disk v w t o Going asks is =
       arith,
       at,
       reads_next (maps v) (state disk v) (register_in v.held t) v.stop o (stage_of v t) is.stage is.next
-      (lacks_word disk v t o asks),
+          (lacks_word disk v t o asks),
     )
 reads_behind disk v w t o (Answered reply) asks is = omega arith
 reads_behind disk v w t o (Refused why) asks is = omega arith
