@@ -1,6 +1,7 @@
 -- How often a call still reads the disk, and that an event which reads nothing is none of those that may fail.
-use Rattle.std.proofs.Common.{◌≡◌, ℕ, ◌+◌, ◌<◌, ◌≤◌, inl, inr, refl, sym, ap, subst, arith}
+use Rattle.std.proofs.Common.{◌≡◌, ℕ, ◌+◌, ◌<◌, ◌≤◌, inl, inr, get_or, refl, sym, ◌∙◌, ap, subst, arith}
 use Rattle.std.proofs.lemmas.Bool.{cases_lt}
+use Rattle.std.proofs.lemmas.List.{get_or_default}
 use Rattle.std.specs.Prelude.{Bool, true, false, ◌==◌, if◌then◌else◌, length, Option, None, Some}
 use Rattle.melt_io.specs.Outside.{Rose}
 use Rattle.melt_model.specs.declared.operations.Op.{Op}
@@ -30,6 +31,7 @@ use Rattle.melt_core.specs.Stages.{Next, Probes, ReadAs, ReadsAt, NeedsNoRead, r
 use Rattle.melt_core.specs.Stages.{further, retried, reached}
 use Rattle.melt_core.specs.Advances.{Asks, AdvancesOver, IsDamage, MayAdvance, Moves, Uses, Outcome, reads_after}
 use Rattle.melt_core.specs.Views.{View, maps, state, call_of, stage_in, stage_of}
+use Rattle.melt_core.proofs.Asked.{inside}
 
 -- the most of all stages
 reads_most : (stage : Option Stage) → reads_left stage ≤ 2
@@ -107,6 +109,33 @@ reads_next maps s register stop o (Some (Copied a)) next is =
 reads_next maps s register stop o (Some (Retrying a)) next is =
     reads_probes s a.search (Copied a) (Retrying (retried a)) next (omega arith) (omega arith) is
 reads_next maps s register stop o (Some (LackingCopy search shape)) next is = absurd is
+
+-- the two stages from which the disk is read
+needs_none : (stage : Stage) → ((search : Search) → stage ≡ Missed search → ⊥)
+    → ((search : Search) (shape : Shape) → stage ≡ HeadRead search shape → ⊥) → NeedsNoRead (Some stage)
+needs_none (Polled task) no_head no_rest = tt
+needs_none (Headed address shape access) no_head no_rest = tt
+needs_none (Looked place found target dst) no_head no_rest = tt
+needs_none (Cleared place found target dst) no_head no_rest = tt
+needs_none (Claimed address shape stored dst) no_head no_rest = tt
+needs_none (Lacking need) no_head no_rest = tt
+needs_none (Searching search) no_head no_rest = tt
+needs_none (Missed search) no_head no_rest = no_head search refl
+needs_none (HeadRead search shape) no_head no_rest = no_rest search shape refl
+needs_none (BodyRead search shape) no_head no_rest = tt
+needs_none (Copying a stored) no_head no_rest = tt
+needs_none (Copied a) no_head no_rest = tt
+needs_none (Retrying a) no_head no_rest = tt
+needs_none (LackingCopy search shape) no_head no_rest = tt
+
+-- a call that was found in flight is that of the thread
+pub in_flight : (disk : OnDisk) (v : View) (t : ℕ) (o : Op) (found : Option Call) (call : Call) → Asks disk v t o
+    → found ≡ get_or v.calls t found → found ≡ Some call → ((search : Search) → call.stage ≡ Missed search → ⊥)
+    → ((search : Search) (shape : Shape) → call.stage ≡ HeadRead search shape → ⊥) → NeedsNoRead (stage_of v t)
+in_flight disk v t o found call asks there is no_head no_rest =
+    let at : call_of v t ≡ Some call =
+    get_or_default v.calls t None found (inside disk v t o asks) ∙ (sym there ∙ is) in
+    subst NeedsNoRead (sym (ap stage_in at)) (needs_none call.stage no_head no_rest)
 
 -- an event from a stage that reads the disk is none of the others
 reads_nothing : (stage : Option Stage) (home : ℕ) → NeedsNoRead stage → ReadsAt stage home → ⊥
