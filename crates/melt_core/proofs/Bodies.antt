@@ -1,13 +1,13 @@
 -- How a copy of a Body is made: the events of its claim and of its private stores.
-use Rattle.std.proofs.Common.{◌≡◌, ℕ, suc, ◌+◌, ◌-◌, ◌<◌, ◌≤◌, inl, inr, refl, sym, ◌∙◌, ap, subst, arith}
+use Rattle.std.proofs.Common.{◌≡◌, ℕ, ◌+◌, ◌<◌, inl, inr, refl, sym, ◌∙◌, ap, subst, arith}
 use Rattle.std.proofs.lemmas.Bool.{cases_eq, eq-eqb, ne_eqb}
-use Rattle.std.specs.Prelude.{Bool, true, false, List, Some, slice_index, if◌then◌else◌}
+use Rattle.std.specs.Prelude.{Bool, false, List, Some, if◌then◌else◌}
 use Rattle.melt_model.specs.declared.operations.Op.{Op}
 use Rattle.melt_word.specs.Words.{header_word, cost_of}
 use Rattle.melt_word.specs.declared.header.Shape.{Shape}
 use Rattle.melt_space.specs.Space.{SpaceWords, SetsWord}
 use Rattle.melt_scion.specs.State.{State}
-use Rattle.melt_scion.specs.Placed.{Maps, FormedWords}
+use Rattle.melt_scion.specs.Placed.{Maps}
 use Rattle.melt_scion.specs.Regions.{Owns, HasStored}
 use Rattle.melt_scion.specs.Changes.{WordChanges}
 use Rattle.melt_scion.specs.Commits.{HasCopy, copy_word}
@@ -17,14 +17,13 @@ use Rattle.melt_core.specs.declared.call.Activation.{Activation}
 use Rattle.melt_core.specs.declared.call.Search.{Search}
 use Rattle.melt_core.specs.declared.call.Stage.TheVariants.{BodyRead, Copying, Copied, LackingCopy}
 use Rattle.melt_core.specs.Known.{Evolves, Fetches, region}
-use Rattle.melt_core.specs.Stages.{Change, Word, fresh_header}
+use Rattle.melt_core.specs.Stages.{Word, fresh_header}
 use Rattle.melt_core.specs.Advances.{Asks, AdvancesOver}
 use Rattle.melt_core.specs.Views.{View, Standing, maps, state, rest_of, stage_of}
 use Rattle.melt_core.proofs.Asked.{known_at, known_so}
-use Rattle.melt_core.proofs.Going.{gone_on}
 use Rattle.melt_core.proofs.Making.{AroundClaim}
 use Rattle.melt_core.proofs.Staying.{fetches_stays}
-use Rattle.melt_core.proofs.Storing.{Storing, none_stored, store_advances, stored_more}
+use Rattle.melt_core.proofs.Storing.{Storing, none_stored, store_advances, stored_more, stored_on}
 
 -- the stages around a claim for a copy
 pub around_copy : (disk : OnDisk) (v : View) (t : ℕ) (o : Op) (search : Search) (shape : Shape) → Asks disk v t o
@@ -84,7 +83,7 @@ pub copy_word_advances : (disk : OnDisk) (v : View) (space : SpaceWords) (t : �
     (stored word : ℕ) → Asks disk v t o → stage_of v t ≡ Some (Copying a stored) → stored + 1 < cost_of a.shape
     → word ≡ copy_word a.search.home a.shape (rest_of v t) (stored + 1)
     → SetsWord v.space space (a.address + (stored + 1)) word
-    → AdvancesOver disk v (gone_on v space t o (Copying a (stored + 1))) t o Going
+    → AdvancesOver disk v (stored_on v space t o (Copying a (stored + 1))) t o Going
 copy_word_advances disk v space t o a stored word asks at few is sets =
     let known = copying_known disk v t o a stored asks at in
     let place : ℕ = a.address + 1 + stored in
@@ -118,7 +117,7 @@ copy_word_advances disk v space t o a stored word asks at few is sets =
 pub copy_header_advances : (disk : OnDisk) (v : View) (space : SpaceWords) (t : ℕ) (o : Op) (a : Activation)
     (stored word : ℕ) → Asks disk v t o → stage_of v t ≡ Some (Copying a stored) → stored + 1 ≡ cost_of a.shape
     → word ≡ header_word (record { shape = a.shape; stale = false }) → SetsWord v.space space a.address word
-    → AdvancesOver disk v (gone_on v space t o (Copied a)) t o Going
+    → AdvancesOver disk v (stored_on v space t o (Copied a)) t o Going
 copy_header_advances disk v space t o a stored word asks at all is sets =
     let known = copying_known disk v t o a stored asks at in
     let storing : Storing disk v space t a.address (fresh_header a.shape) o (Copying a stored) (Copied a) =

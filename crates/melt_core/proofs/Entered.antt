@@ -31,7 +31,7 @@ use Rattle.melt_core.specs.Changed.{CanProbe, HasEntered, probed_place, probed_w
 use Rattle.melt_core.specs.Advances.{Asks, AdvancesOver, MayMove}
 use Rattle.melt_core.specs.Views.{View, Standing, Counts, maps, state, stage_of, rest_of, claimed_in, numbers_of}
 use Rattle.melt_core.specs.Views.{maps_of, base_in}
-use Rattle.melt_core.proofs.Asked.{call_at, fits_at, inside, known_so, lacks_word}
+use Rattle.melt_core.proofs.Asked.{call_at, fits_at, inside, known_so}
 use Rattle.melt_core.proofs.Claims.{bounded_is, bounded_call, claims_next}
 use Rattle.melt_core.proofs.Counting.{Counts_committed}
 use Rattle.melt_core.proofs.Evolving.{evolves_event}
@@ -277,8 +277,7 @@ won_advances disk {v} {names} {t} {o} {a} {number} won =
         first = stands.first;
         bounded = bounded_is w (length v.space.list) v.free v.stop (set v.calls t (Some after)) refl refl refl refl
             (bounded_call (length v.space.list) v.free v.stop v.calls t (Some after) within
-            (claims_next (maps v) (state disk v) (register_in v.held t) v.stop o (stage_of v t) stage next
-            (lacks_word disk v t o asks))
+            (claims_next (maps v) (state disk v) (register_in v.held t) v.stop o (stage_of v t) stage next)
             stands.bounded);
         may_hold = λ r. hold_stays (maps v) (maps w) (state disk v) (state disk w) 0 s.holds.formed evolves
             (register_in v.held t r) (s.registers t r);

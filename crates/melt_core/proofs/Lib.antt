@@ -34,4 +34,7 @@ pub mod Distinct
 pub mod Retaining
 pub mod Refusing
 pub mod Searching
+pub mod ReadsLeft
+pub mod Recorded
+pub mod NoHomes
 pub mod Entered

@@ -1,8 +1,8 @@
 -- How an object is made: the events of a claim, of private stores, of the publication, and of the want of room.
-use Rattle.std.proofs.Common.{◌≡◌, ◌≢◌, ℕ, ◌+◌, ◌<◌, ◌≤◌, inl, inr, List, []}
+use Rattle.std.proofs.Common.{◌≡◌, ℕ, ◌+◌, ◌<◌, ◌≤◌, inl, inr, List, []}
 use Rattle.std.proofs.Common.{◌∷◌, ◌++◌, length, refl, sym, ◌∙◌, ap, subst, arith}
 use Rattle.std.proofs.Math.ListN.{set}
-use Rattle.std.proofs.lemmas.Bool.{cases_eq, cases_lt, eq-eqb, ne_eqb}
+use Rattle.std.proofs.lemmas.Bool.{cases_lt, eq-eqb, ne_eqb}
 use Rattle.std.specs.Prelude.{Bool, true, false, Option, None, Some, IsSome, if◌then◌else◌}
 use Rattle.std.specs.List.{filter_map, cons_option}
 use Rattle.melt_model.specs.History.{made as makes, shape_made}
@@ -18,10 +18,10 @@ use Rattle.melt_word.specs.Words.{IsShape, header_word, cost_of}
 use Rattle.melt_word.specs.declared.header.Shape.{Shape}
 use Rattle.melt_word.specs.declared.header.Header.{Header}
 use Rattle.melt_space.specs.Space.{SpaceWords, SetsWord}
-use Rattle.melt_scion.specs.State.{Base, State, IsFresh}
-use Rattle.melt_scion.proofs.Geometry.{one_header, header_moves}
+use Rattle.melt_scion.specs.State.{State, IsFresh}
+use Rattle.melt_scion.proofs.Geometry.{one_header}
 use Rattle.melt_scion.specs.declared.heap.Names as heap
-use Rattle.melt_scion.specs.Placed.{Maps, MayHold, FormedWords}
+use Rattle.melt_scion.specs.Placed.{Maps, MayHold}
 use Rattle.melt_scion.specs.Regions.{Region, no_region, Apart, Owns, HasStored}
 use Rattle.melt_scion.specs.Changes.{FreeMoves, WordChanges, NameAppears}
 use Rattle.melt_scion.specs.Heaps.{OnDisk, register_in}
@@ -45,7 +45,7 @@ use Rattle.melt_core.specs.Advances.{Asks, AdvancesOver, InBounds, HasRoomFor, S
 use Rattle.melt_core.specs.Views.{View, Standing, maps, state, shown, rest_of}
 use Rattle.melt_core.specs.Views.{call_of, stage_of, claimed_in, claims_left, maps_of, numbers_of}
 use Rattle.melt_core.specs.Views.{registers_in, held_value, held_values, values_of}
-use Rattle.melt_core.proofs.Asked.{call_at, fits_at, known_at, inside, lacks_word, next_fits, still_clears}
+use Rattle.melt_core.proofs.Asked.{call_at, fits_at, known_at, inside, next_fits, still_clears}
 use Rattle.melt_core.proofs.Claims.{bounded_is, bounded_lacking, bounded_call}
 use Rattle.melt_core.proofs.Claims.{bounded_refused, claims_ends}
 use Rattle.melt_core.proofs.Counting.{Counts_same, Counts_published, room_for}
@@ -267,7 +267,7 @@ claim_happens disk {v} {t} {need} {o} {shape} {before} {room} {none} {stage} tol
           ]);
       fits = λ c is. subst (λ (d : Call). Fits (register_in v.held t) d.op d.stage) (let e : after ≡ c = cc in e)
           (next_fits (maps v) (state disk v) (register_in v.held t) v.stop o (call_of v t) stage asks.continued
-          (λ d is_d. s.fits t d is_d) (claim_next disk claim) (lacks_word disk v t o asks));
+          (λ d is_d. s.fits t d is_d) (claim_next disk claim));
       mine_is = λ u d differ is. no_region_apart (region_of d.stage);
       apart = λ c is u d differ other. subst (λ (x : Call). Apart (region_of x.stage) (region_of d.stage))
           (let e : after ≡ c = cc in e) (elim (cases_lt (length v.space.list + 1) (v.free + need)) [

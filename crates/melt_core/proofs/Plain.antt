@@ -46,21 +46,21 @@ OnlyMoves v w t act after = w ≡ record v {
 
 -- Where something is told behind the event, so much is.
 pub record Plain (tells : Type 0) (disk : OnDisk) (v w : View) (t : ℕ) (cleared : ℕ) (act : Option Act)
-  (after : Option Call) : Type 0 where
-    pub event : (told : Bool) → Standing told disk v
-        → Event told v.log (maps v) (maps w) (state disk v) (state disk w) no_region cleared act
-    pub nothing : MakesNothing act
-    pub moves : OnlyMoves (record v { records = w.records }) w t act after
-    pub rests : KeepsRests v w t
-    pub words : length w.space.list ≡ length v.space.list
-    pub threads : length w.held ≡ length v.held
-    pub others : (u : ℕ) → u ≢ t → registers_in w.held u ≡ registers_in v.held u
-    pub may_hold : (r : ℕ) → MayHold (maps v) (state disk v) (register_in w.held t r)
-    pub known : (told : Bool) → (told ≡ true → tells) → Standing told disk v → (c : Call) → after ≡ Some c
-        → Known told (maps w) (state disk w) (rest_of w t) c.stage
-    pub fits : (c : Call) → after ≡ Some c → Fits (register_in w.held t) c.op c.stage
-    pub unclaimed : claimed_in after ≡ 0
-    pub claims : claims_left v.stop (stage_in after) ≤ claims_left v.stop (stage_of v t)
+    (after : Option Call) : Type 0 where
+  pub event : (told : Bool) → Standing told disk v
+      → Event told v.log (maps v) (maps w) (state disk v) (state disk w) no_region cleared act
+  pub nothing : MakesNothing act
+  pub moves : OnlyMoves (record v { records = w.records }) w t act after
+  pub rests : KeepsRests v w t
+  pub words : length w.space.list ≡ length v.space.list
+  pub threads : length w.held ≡ length v.held
+  pub others : (u : ℕ) → u ≢ t → registers_in w.held u ≡ registers_in v.held u
+  pub may_hold : (r : ℕ) → MayHold (maps v) (state disk v) (register_in w.held t r)
+  pub known : (told : Bool) → (told ≡ true → tells) → Standing told disk v → (c : Call) → after ≡ Some c
+      → Known told (maps w) (state disk w) (rest_of w t) c.stage
+  pub fits : (c : Call) → after ≡ Some c → Fits (register_in w.held t) c.op c.stage
+  pub unclaimed : claimed_in after ≡ 0
+  pub claims : claims_left v.stop (stage_in after) ≤ claims_left v.stop (stage_of v t)
 
 made_none : (t : ℕ) (act : Act) → shape_made act ≡ None → makes (entry t act ∷ []) ≡ 0
 made_none t act nothing = ap (λ (z : Option Shape). length (cons_option z [])) nothing

@@ -15,7 +15,7 @@ use Rattle.melt_core.specs.Stages.{Fits, Next, Applies, change_of, cleared_by}
 use Rattle.melt_core.specs.Changed.{with_call}
 use Rattle.melt_core.specs.Advances.{Asks, AdvancesOver}
 use Rattle.melt_core.specs.Views.{View, Standing, maps, state, rest_of, call_of, stage_of, claimed_in}
-use Rattle.melt_core.proofs.Asked.{call_at, inside, lacks_word, next_fits}
+use Rattle.melt_core.proofs.Asked.{call_at, inside, next_fits}
 use Rattle.melt_core.proofs.Claims.{bounded_is, bounded_call, claims_next}
 use Rattle.melt_core.proofs.Counting.{Counts_same}
 use Rattle.melt_core.proofs.Evolving.{evolves_event}
@@ -76,8 +76,7 @@ retains disk v space t o before after mine asks is =
         first = stands.first;
         bounded = bounded_is w (length v.space.list) v.free v.stop (set v.calls t (Some call)) is.words refl refl refl
             (bounded_call (length v.space.list) v.free v.stop v.calls t (Some call) within
-            (claims_next (maps v) (state disk v) (register_in v.held t) v.stop o (stage_of v t) after next
-            (lacks_word disk v t o asks))
+            (claims_next (maps v) (state disk v) (register_in v.held t) v.stop o (stage_of v t) after next)
             stands.bounded);
         may_hold = λ r. hold_stays (maps v) (maps w) (state disk v) (state disk w) 0 s.holds.formed evolves
             (register_in v.held t r) (s.registers t r);
@@ -85,7 +84,7 @@ retains disk v space t o before after mine asks is =
             (let e : call ≡ c = cc in e) (is.known told stands);
         fits = λ c same. subst (λ (d : Call). Fits (register_in v.held t) d.op d.stage) (let e : call ≡ c = cc in e)
             (next_fits (maps v) (state disk v) (register_in v.held t) v.stop o (call_of v t) after asks.continued
-            (λ d there. s.fits t d there) next (lacks_word disk v t o asks));
+            (λ d there. s.fits t d there) next);
         mine_is = λ u d differ other. elim is.mine_is [
           | inl none ↦ subst (λ (r : Region). Apart r (region_of d.stage)) (sym none) (no_region_apart (region_of d.stage))
           | inr same ↦ subst (λ (r : Region). Apart r (region_of d.stage)) (sym same) (apart u d differ other)

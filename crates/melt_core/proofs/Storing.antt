@@ -2,7 +2,7 @@
 use Rattle.std.proofs.Common.{◌≡◌, ◌≢◌, ℕ, ◌+◌, ◌<◌, ◌≤◌, inl, inr, length, refl, sym, ◌∙◌, ap, subst, arith}
 use Rattle.std.proofs.Math.ListN.{set}
 use Rattle.std.proofs.lemmas.Bool.{cases_eq}
-use Rattle.std.specs.Prelude.{Bool, true, false, Option, None, Some}
+use Rattle.std.specs.Prelude.{Bool, false, Option, None, Some}
 use Rattle.melt_model.specs.declared.operations.Op.{Op}
 use Rattle.melt_word.specs.Words.{cost_of}
 use Rattle.melt_word.specs.declared.header.Shape.{Shape}
@@ -23,11 +23,11 @@ use Rattle.melt_core.specs.Stages.{Fits, Next, Applies, Word, change_of, cleared
 use Rattle.melt_core.specs.Changed.{with_call}
 use Rattle.melt_core.specs.Advances.{Asks, AdvancesOver}
 use Rattle.melt_core.specs.Views.{View, Standing, maps, state, rest_of, call_of, stage_of, claimed_in}
-use Rattle.melt_core.proofs.Asked.{call_at, inside, lacks_word, next_fits}
+use Rattle.melt_core.proofs.Asked.{call_at, inside, next_fits}
 use Rattle.melt_core.proofs.Claims.{bounded_is, bounded_call, claims_next}
 use Rattle.melt_core.proofs.Counting.{Counts_same}
 use Rattle.melt_core.proofs.Evolving.{evolves_event}
-use Rattle.melt_core.proofs.Going.{goes, gone_on}
+use Rattle.melt_core.proofs.Going.{goes}
 use Rattle.melt_core.proofs.Plain.{as_told}
 use Rattle.melt_core.proofs.Standing.{Made, advances, kept_own}
 use Rattle.melt_core.proofs.Staying.{hold_stays}
@@ -108,15 +108,19 @@ pub record Storing (disk : OnDisk) (v : View) (space : SpaceWords) (t place word
       → Owns (maps v) s (region_of before) → WordChanges (state disk v) s place word
       → Known told (maps v) s (rest_of v t) after
 
+-- the view behind it
+abbrev pub stored_on : View → SpaceWords → ℕ → Op → Stage → View
+stored_on v space t o stage = with_call (record v { space = space }) t (Some (record { op = o; stage = stage }))
+
 -- A word of the region was stored.
 pub store_advances : (disk : OnDisk) {v : View} {space : SpaceWords} {t place word : ℕ} {o : Op} {before after : Stage}
     → Storing disk v space t place word o before after
-    → AdvancesOver disk v (gone_on v space t o after) t o Going
+    → AdvancesOver disk v (stored_on v space t o after) t o Going
 store_advances disk {v} {space} {t} {place} {word} {o} {before} {after} is =
     let asks : Asks disk v t o = is.asks in
     let s : Standing false disk v = asks.stands in
     let call : Call = record { op = o; stage = after } in
-    let w : View = gone_on v space t o after in
+    let w : View = stored_on v space t o after in
     let mine : Region = region_of before in
     let within : t < length v.calls = inside disk v t o asks in
     let changes : WordChanges (state disk v) (state disk w) place word = word_set disk v space v.held place word is.sets in
@@ -146,8 +150,7 @@ store_advances disk {v} {space} {t} {place} {word} {o} {before} {after} is =
         bounded = bounded_is w (length v.space.list) v.free v.stop (set v.calls t (Some call)) is.sets.size refl refl
             refl
             (bounded_call (length v.space.list) v.free v.stop v.calls t (Some call) within
-            (claims_next (maps v) (state disk v) (register_in v.held t) v.stop o (stage_of v t) after next
-            (lacks_word disk v t o asks))
+            (claims_next (maps v) (state disk v) (register_in v.held t) v.stop o (stage_of v t) after next)
             stands.bounded);
         may_hold = λ r. hold_stays (maps v) (maps w) (state disk v) (state disk w) 0 stands.holds.formed evolves
             (register_in v.held t r) (s.registers t r);
@@ -155,7 +158,7 @@ store_advances disk {v} {space} {t} {place} {word} {o} {before} {after} is =
             (let e : call ≡ c = cc in e) (is.known told stands (state disk w) evolves owns changes);
         fits = λ c same. subst (λ (d : Call). Fits (register_in v.held t) d.op d.stage) (let e : call ≡ c = cc in e)
             (next_fits (maps v) (state disk v) (register_in v.held t) v.stop o (call_of v t) after asks.continued
-            (λ d there. s.fits t d there) next (lacks_word disk v t o asks));
+            (λ d there. s.fits t d there) next);
         mine_is = apart;
         apart = λ c same u d differ other. subst (λ (x : Call). Apart (region_of x.stage) (region_of d.stage))
             (let e : call ≡ c = cc in e)

@@ -249,7 +249,7 @@ MustPause forwards register stop o (Some stage) = ⊥
 abbrev pub probes_left : ℕ → Search → ℕ
 probes_left forwards search = 2 * (forwards - search.tried)
 
--- how many events a call has at most from this stage on, where there are so many forwarding words
+-- how many events a call has at most from this stage on, where there are no more than so many forwarding words
 abbrev pub events_left : ℕ → Option Stage → ℕ
 events_left forwards None = 136 + 2 * forwards
 events_left forwards (Some (Polled task)) = 135 + 2 * forwards

@@ -15,7 +15,13 @@ use melt_word::{Header, HomeWord, Shape, cost, encode_header, encode_home};
 
 impl Core {
     /// Claims the words for a copy of the Body that was read.
-    pub(crate) fn claim_copy(&mut self, thread: u32, op: Op, search: Search, shape: Shape) -> StepResult
+    pub(crate) fn claim_copy(
+        &mut self,
+        thread: u32,
+        op: Op,
+        search: Search,
+        shape: Shape,
+    ) -> StepResult
         requires asks { MayMove (view self.old) thread op }
         requires stage { stage_of (view self.old) thread ≡ Some (Stage.BodyRead search shape) }
         ensures { Moves (view self.old) (view self.new) thread op result }
@@ -54,7 +60,13 @@ impl Core {
     }
 
     /// Stores the next word of a copy, the header last.
-    pub(crate) fn store_copy(&mut self, thread: u32, op: Op, activation: Activation, stored: u32) -> StepResult
+    pub(crate) fn store_copy(
+        &mut self,
+        thread: u32,
+        op: Op,
+        activation: Activation,
+        stored: u32,
+    ) -> StepResult
         requires asks { MayMove (view self.old) thread op }
         requires stage { stage_of (view self.old) thread ≡ Some (Stage.Copying activation stored) }
         ensures { Moves (view self.old) (view self.new) thread op result }

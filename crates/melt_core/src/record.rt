@@ -2,16 +2,21 @@
 //!
 //! Nothing that is read is trusted: what a record cannot say is found, and ends the call. Where the disk returns what was
 //! written, it is never found.
-ghost use Rattle.std.specs.Prelude.{◌≡◌, ◌+◌, ◌<◌, ◌≤◌, IsTrue, Some};
+ghost use Rattle.std.specs.Prelude.{◌≡◌, ℕ, ◌+◌, ◌^◌, ◌<◌, ◌≤◌, length, slice_index, IfErr, IfOk, IfSome, OnErr, OnOk, None, Some};
 ghost use Rattle.melt_record.specs.declared.damage.Damaged.{Damaged as DamagedRecord};
-ghost use Rattle.melt_core.specs.Advances.{Advances, IsDamage, IsLost, MayAdvance, Uses};
-ghost use Rattle.melt_core.specs.Stages.{ReadsAt, body_stage};
-ghost use Rattle.melt_core.specs.Views.{stage_of, view};
+ghost use Rattle.melt_record.specs.declared.head.Head.{Head as RecordHead};
+ghost use Rattle.melt_record.specs.Records.{IsHead};
+ghost use Rattle.melt_io.specs.Outside.{Rose, words_at};
+ghost use Rattle.melt_scion.specs.Heaps.{OnDisk};
+ghost use Rattle.melt_core.specs.Advances.{Advances, Breaks, IsDamage, MayAdvance, NamesNoScion, Uses};
+ghost use Rattle.melt_core.specs.Changed.{with_call};
+ghost use Rattle.melt_core.specs.Stages.{ReadAs, body_stage};
+ghost use Rattle.melt_core.specs.Views.{stage_of, state, view};
 
 use crate::answer::{Refusal, StepResult};
 use crate::call::{Search, Stage};
 use crate::machine::Core;
-use melt_io::RecordReader;
+use melt_io::{Failed, RecordReader};
 use melt_model::Op;
 use melt_record::{Damaged, Head, Kind, decode_head, decode_rest};
 use melt_word::{Ref, Shape};
@@ -26,9 +31,27 @@ fn behind_head(search: Search, shape: Shape) -> Stage
     Stage::HeadRead { search, shape }
 }
 
+/// Reads the words from word `at` on, if there are any to be read.
+fn read_words<R: RecordReader>(reader: &mut R, at: u32, words: &mut [u64]) -> Result<(), Failed>
+    requires { at + length words.old ≤ 2 ^ 32 }
+    ensures words { OnOk result (IfSome (R.image reader.old) (λ image. words.new ≡ words_at image at (length words.old))) }
+    ensures image { R.image reader.new ≡ R.image reader.old }
+    ensures failed { OnErr result (Rose (R.faults reader.old) (R.faults reader.new)) }
+    ensures count { R.faults reader.old ≤ R.faults reader.new }
+    ensures one_read { R.reads reader.new ≤ R.reads reader.old + 1 }
+{
+    if words.is_empty() {
+        return Ok(());
+    }
+    reader.read_at(at, words)
+}
+
 impl Core {
     /// Ends a call that read the disk.
     fn lose(&mut self, thread: u32, refusal: Refusal) -> StepResult
+        requires { thread < length (view self.old).calls }
+        ensures over { view self.new ≡ with_call (view self.old) thread None }
+        ensures refused { result ≡ StepResult.Refused refusal }
     {
         self.set_call(thread, None);
         StepResult::Refused(refusal)
@@ -36,6 +59,10 @@ impl Core {
 
     /// What the head of a record tells of the object of its home: how its load goes on.
     fn stage_behind(&self, search: Search, head: Head) -> Result<Stage, Damaged>
+        ensures stage { (disk : OnDisk)
+            → IfOk result (ReadAs (state disk (view self.now)) search head.shape head.kind) }
+        ensures damage { (end first second : ℕ) → IsHead search.home end first second head
+            → IfErr result (NamesNoScion (view self.now).scions search.home end first second) }
     {
         match head.kind {
             Kind::Body => Ok(behind_head(search, head.shape)),
@@ -53,6 +80,17 @@ impl Core {
                 }),
             },
         }
+    }
+
+    /// What the first two words of a record tell: how its load goes on, or where they are damaged.
+    fn decode_stage(&self, search: Search, end: u32, words: [u64; 2]) -> Result<Stage, Damaged>
+        ensures stage { IfOk result (λ stage. (head : RecordHead)
+            × IsHead search.home end (slice_index words 0) (slice_index words 1) head
+            × ((disk : OnDisk) → ReadAs (state disk (view self.now)) search head.shape head.kind stage)) }
+        ensures damage { IfErr result (Breaks (view self.now).scions end (Some (Stage.Missed search)) words) }
+    {
+        let head = decode_head(search.home, end, words)?;
+        self.stage_behind(search, head)
     }
 
     /// Reads the first two words of a record.
@@ -77,8 +115,7 @@ impl Core {
         if reader.read_at(search.home, &mut words).is_err() {
             return self.lose(thread, Refusal::DiskFault);
         }
-        let stage = decode_head(search.home, end, words).and_then(|head| self.stage_behind(search, head));
-        match stage {
+        match self.decode_stage(search, end, words) {
             Ok(stage) => {
                 self.set_stage(thread, op, stage);
                 StepResult::Going
@@ -109,7 +146,7 @@ impl Core {
         let len = usize::from(shape.refs) + usize::from(shape.nums);
         let mut record = self.rest.records[thread as usize];
         let words = &mut record[..len];
-        if reader.read_at(search.home + 2, words).is_err() {
+        if read_words(reader, search.home + 2, words).is_err() {
             return self.lose(thread, Refusal::DiskFault);
         }
         if let Err(damaged) = decode_rest(search.home, end, shape, words) {

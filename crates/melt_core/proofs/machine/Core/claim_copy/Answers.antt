@@ -4,7 +4,7 @@ use Rattle.melt_core.specs.Advances.{AdvancesOver}
 use Rattle.melt_core.specs.Changed.{with_call}
 use Rattle.melt_core.specs.declared.answer.StepResult.TheVariants.{Going}
 use Rattle.melt_core.specs.declared.call.Stage.{Stage}
-use Rattle.melt_core.specs.declared.call.Stage.TheVariants.{BodyRead, Copying, LackingCopy}
+use Rattle.melt_core.specs.declared.call.Stage.TheVariants.{BodyRead, Copying}
 use Rattle.melt_core.specs.Views.{View, call_of, view}
 use Rattle.melt_core.proofs.Asked.{asks_over, call_at}
 use Rattle.melt_core.proofs.Bodies.{around_copy}
@@ -37,7 +37,7 @@ returns c = record {
         fits = λ below. elim c.match-claim_words.branch [
           | in-Some w ↦ w.stage-is
               ∙ ap (λ (a : ℕ). Copying (record { search = c.args.search; address = a; shape = c.args.shape }) 0)
-                  w.in-Some.ensures.room.0
+              w.in-Some.ensures.room.0
           | in-None w ↦ absurd (omega (arith, below, w.in-None.ensures.room))
         ];
         lacks = λ above. elim c.match-claim_words.branch [

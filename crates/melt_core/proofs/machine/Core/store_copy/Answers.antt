@@ -1,4 +1,4 @@
-use Rattle.std.proofs.Common.{sym, subst, arith, ◌≡◌, ◌+◌, ◌<◌}
+use Rattle.std.proofs.Common.{sym, subst, arith, ◌≡◌, ◌<◌}
 use Rattle.std.specs.Prelude.{Some}
 use Rattle.melt_word.specs.Words.{cost_of}
 use Rattle.melt_core.specs.Advances.{AdvancesOver}
