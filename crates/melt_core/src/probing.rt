@@ -136,7 +136,7 @@ impl Core {
                 search.reached(activation.address)
             }
             // (the copy is dropped: its words are free again at the next collection)
-            Probe::At(address) => search.reached(address),
+            Probe::At(winner) => search.reached(winner),
             Probe::Another => Stage::Retrying {
                 activation: activation.retried(),
             },

@@ -62,8 +62,8 @@ returns c = record {
             w.self-is (w.stage-is ∙ w.reached-stage.ensures) (commit_advances disk is w.in-Empty.ensures w.enter.ensures)
         | in-At w ↦
             advances_as advances c.match-probe.self c.args.self.now c.match-probe.stage
-            (reached a.search w.in-At.address) w.self-is (w.stage-is ∙ w.reached-stage-in-At.ensures)
-            (lost_advances disk w.in-At.address is w.in-At.ensures)
+            (reached a.search w.in-At.winner) w.self-is (w.stage-is ∙ w.reached-stage-in-At.ensures)
+            (lost_advances disk w.in-At.winner is w.in-At.ensures)
         | in-Another w ↦
             advances_as advances c.match-probe.self c.args.self.now c.match-probe.stage (Retrying (retried a)) w.self-is
             (w.stage-is ∙ ap (λ (b : Activation). Retrying b) w.retried.ensures)
