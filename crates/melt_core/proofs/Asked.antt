@@ -57,14 +57,6 @@ pub known_so : (told : Bool) (disk : OnDisk) (v : View) (t : ℕ) (o : Op) (stag
 known_so told disk v t o stage asks is s =
     s.known t (record { op = o; stage = stage }) (call_at disk v t o stage asks is)
 
--- a call that stores a copy has a word of it that is still to be stored
-abbrev pub LacksWord : Option Stage → Type 0
-LacksWord stage = (a : Activation) (stored : ℕ) → stage ≡ Some (Copying a stored) → stored < cost_of a.shape
-
-pub lacks_word : (disk : OnDisk) (v : View) (t : ℕ) (o : Op) → Asks disk v t o → LacksWord (stage_of v t)
-lacks_word disk v t o asks a stored is =
-    let known = known_at disk v t o (Copying a stored) asks is in known.1.few
-
 pub fits_at : (disk : OnDisk) (v : View) (t : ℕ) (o : Op) (stage : Stage) → Asks disk v t o → stage_of v t ≡ Some stage
     → Fits (register_in v.held t) o stage
 fits_at disk v t o stage asks is = asks.stands.fits t (record { op = o; stage = stage })
@@ -110,57 +102,55 @@ read_fits s register o search shape (Stub scion) next loads is = subst (Fits reg
 -- behind an event that goes on the call is one of its operation
 pub next_fits : (maps : Maps) (s : State) (register : ℕ → ℕ) (stop : Bool) (o : Op) (c : Option Call) (next : Stage)
     → Continues c o → ((d : Call) → c ≡ Some d → Fits register d.op d.stage)
-    → Next maps s register stop o (stage_in c) next → LacksWord (stage_in c) → Fits register o next
-next_fits maps s register stop o None next continued fits is lacks = subst (Fits register o) (sym is.3) is.1
-next_fits maps s register stop o (Some c) next continued fits is lacks =
+    → Next maps s register stop o (stage_in c) next → Fits register o next
+next_fits maps s register stop o None next continued fits is = subst (Fits register o) (sym is.3) is.1
+next_fits maps s register stop o (Some c) next continued fits is =
     next_fits_at maps s register stop o c.stage next
-    (subst (λ (p : Op). Fits register p c.stage) (sym continued) (fits c refl)) is lacks
+    (subst (λ (p : Op). Fits register p c.stage) (sym continued) (fits c refl)) is
   where
     next_fits_at : (maps : Maps) (s : State) (register : ℕ → ℕ) (stop : Bool) (o : Op) (stage next : Stage)
-        → Fits register o stage → Next maps s register stop o (Some stage) next → LacksWord (Some stage)
-        → Fits register o next
-    next_fits_at maps s register stop o (Polled (Make dst shape)) next fits is lacks =
+        → Fits register o stage → Next maps s register stop o (Some stage) next → Fits register o next
+    next_fits_at maps s register stop o (Polled (Make dst shape)) next fits is =
         elim (cases_lt (s.base.size + 1) (s.free + cost_of shape)) [
           | inl above ↦ subst (Fits register o) (sym (is.1 above)) (dst, shape, fits.0, refl)
           | inr below ↦ subst (Fits register o) (sym (is.0 below)) fits.0
         ]
-    next_fits_at maps s register stop o (Polled (Use r access)) next fits is lacks =
+    next_fits_at maps s register stop o (Polled (Use r access)) next fits is =
         subst (Fits register o) (sym is.3) (r, fits.0, refl, is.2)
-    next_fits_at maps s register stop o (Polled (LoadGlobal dst g)) next fits is lacks =
+    next_fits_at maps s register stop o (Polled (LoadGlobal dst g)) next fits is =
         finds_fits register o (s.global g) (Global g) dst next fits.0 is
-    next_fits_at maps s register stop o (Polled (StoreGlobal g src)) next fits is lacks = absurd is
-    next_fits_at maps s register stop o (Headed address shape (Load dst i)) next fits is lacks =
+    next_fits_at maps s register stop o (Polled (StoreGlobal g src)) next fits is = absurd is
+    next_fits_at maps s register stop o (Headed address shape (Load dst i)) next fits is =
         finds_fits register o (s.word (address + 2 + i)) (Field address i) dst next (fits.0, fits.1, fits.2) is
-    next_fits_at maps s register stop o (Headed address shape (Store i src)) next fits is lacks = absurd is
-    next_fits_at maps s register stop o (Headed address shape (Get j)) next fits is lacks = absurd is
-    next_fits_at maps s register stop o (Headed address shape (Put j v)) next fits is lacks = absurd is
-    next_fits_at maps s register stop o (Looked place found target dst) next fits is lacks =
+    next_fits_at maps s register stop o (Headed address shape (Store i src)) next fits is = absurd is
+    next_fits_at maps s register stop o (Headed address shape (Get j)) next fits is = absurd is
+    next_fits_at maps s register stop o (Headed address shape (Put j v)) next fits is = absurd is
+    next_fits_at maps s register stop o (Looked place found target dst) next fits is =
         subst (Fits register o) (sym is) fits
-    next_fits_at maps s register stop o (Cleared place found target dst) next fits is lacks = absurd is
-    next_fits_at maps s register stop o (Claimed address shape stored dst) next fits is lacks =
+    next_fits_at maps s register stop o (Cleared place found target dst) next fits is = absurd is
+    next_fits_at maps s register stop o (Claimed address shape stored dst) next fits is =
         subst (Fits register o) (sym is.1) fits
-    next_fits_at maps s register stop o (Lacking need) next fits is lacks = absurd is
-    next_fits_at maps s register stop o (Searching search) next fits is lacks =
+    next_fits_at maps s register stop o (Lacking need) next fits is = absurd is
+    next_fits_at maps s register stop o (Searching search) next fits is =
         probes_fits s register o search (Missed search) (Searching (further search)) next fits fits fits is
-    next_fits_at maps s register stop o (Missed search) next fits is lacks =
+    next_fits_at maps s register stop o (Missed search) next fits is =
         read_fits s register o search is.0 is.1 next fits is.2
-    next_fits_at maps s register stop o (HeadRead search shape) next fits is lacks = subst (Fits register o) (sym is) fits
-    next_fits_at maps s register stop o (BodyRead search shape) next fits is lacks =
+    next_fits_at maps s register stop o (HeadRead search shape) next fits is = subst (Fits register o) (sym is) fits
+    next_fits_at maps s register stop o (BodyRead search shape) next fits is =
         elim (cases_lt (s.base.size + 1) (s.free + cost_of shape)) [
           | inl above ↦ subst (Fits register o) (sym (is.1 above)) fits
           | inr below ↦ subst (Fits register o) (sym (is.0 below)) fits
         ]
-    next_fits_at maps s register stop o (Copying a stored) next fits is lacks =
+    next_fits_at maps s register stop o (Copying a stored) next fits is =
         elim (cases_lt (stored + 1) (cost_of a.shape)) [
           | inl more ↦ subst (Fits register o) (sym (is.0 more)) fits
-          | inr all ↦ subst (Fits register o)
-              (sym (is.1 (let few : stored < cost_of a.shape = lacks a stored refl in omega arith))) fits
+          | inr all ↦ subst (Fits register o) (sym (is.1 all)) fits
         ]
-    next_fits_at maps s register stop o (Copied a) next fits is lacks =
+    next_fits_at maps s register stop o (Copied a) next fits is =
         probes_fits s register o a.search (reached a.search a.address) (Retrying (retried a)) next fits fits fits is
-    next_fits_at maps s register stop o (Retrying a) next fits is lacks =
+    next_fits_at maps s register stop o (Retrying a) next fits is =
         probes_fits s register o a.search (Copied a) (Retrying (retried a)) next fits fits fits is
-    next_fits_at maps s register stop o (LackingCopy search shape) next fits is lacks = absurd is
+    next_fits_at maps s register stop o (LackingCopy search shape) next fits is = absurd is
 
 -- an event that clears a stale bit changes a word
 pub still_clears : (s : State) (register : ℕ → ℕ) (rest : List ℕ) (stage : Option Stage)

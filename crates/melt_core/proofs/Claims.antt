@@ -22,7 +22,6 @@ use Rattle.melt_core.specs.declared.call.Stage.TheVariants.{Searching, Missed, H
 use Rattle.melt_core.specs.declared.call.Stage.TheVariants.{Retrying, LackingCopy}
 use Rattle.melt_core.specs.declared.call.Call.{Call}
 use Rattle.melt_core.specs.Views.{View, call_in, stage_in, claims_left, Bounded}
-use Rattle.melt_core.proofs.Asked.{LacksWord}
 
 -- how many claims past the last word these calls may still make
 abbrev pub claims_in : Bool → Option Call → ℕ
@@ -170,37 +169,36 @@ claims_probes stop s search empty another next left at_found at_empty at_another
 
 -- the next stage may make no more claims
 pub claims_next : (maps : Maps) (s : State) (register : ℕ → ℕ) (stop : Bool) (o : Op) (stage : Option Stage)
-    (next : Stage) → Next maps s register stop o stage next → LacksWord stage
+    (next : Stage) → Next maps s register stop o stage next
     → claims_left stop (Some next) ≤ claims_left stop stage
-claims_next maps s register stop o None next is lacks =
+claims_next maps s register stop o None next is =
     let left : claims_left stop (Some next) ≡ 1 = ap (λ (x : Stage). claims_left stop (Some x)) is.3 in
     let before : claims_left stop None ≡ 1 = ap (λ (b : Bool). claims_left b None) is.2 in
     omega arith
-claims_next maps s register stop o (Some (Polled task)) next is lacks = claims_one stop (Some next)
-claims_next maps s register stop o (Some (Headed address shape access)) next is lacks = claims_one stop (Some next)
-claims_next maps s register stop o (Some (Looked place found target dst)) next is lacks =
+claims_next maps s register stop o (Some (Polled task)) next is = claims_one stop (Some next)
+claims_next maps s register stop o (Some (Headed address shape access)) next is = claims_one stop (Some next)
+claims_next maps s register stop o (Some (Looked place found target dst)) next is =
     claims_as stop next (Cleared place found target dst) (claims_left stop None) is (omega arith)
-claims_next maps s register stop o (Some (Cleared place found target dst)) next is lacks = absurd is
-claims_next maps s register stop o (Some (Claimed address shape stored dst)) next is lacks =
+claims_next maps s register stop o (Some (Cleared place found target dst)) next is = absurd is
+claims_next maps s register stop o (Some (Claimed address shape stored dst)) next is =
     claims_as stop next (Claimed address shape (stored + 1) dst) (claims_left stop None) is.1 (omega arith)
-claims_next maps s register stop o (Some (Lacking need)) next is lacks = absurd is
-claims_next maps s register stop o (Some (Searching search)) next is lacks = claims_one stop (Some next)
-claims_next maps s register stop o (Some (Missed search)) next is lacks = claims_one stop (Some next)
-claims_next maps s register stop o (Some (HeadRead search shape)) next is lacks = claims_one stop (Some next)
-claims_next maps s register stop o (Some (BodyRead search shape)) next is lacks = claims_one stop (Some next)
-claims_next maps s register stop o (Some (Copying a stored)) next is lacks =
+claims_next maps s register stop o (Some (Lacking need)) next is = absurd is
+claims_next maps s register stop o (Some (Searching search)) next is = claims_one stop (Some next)
+claims_next maps s register stop o (Some (Missed search)) next is = claims_one stop (Some next)
+claims_next maps s register stop o (Some (HeadRead search shape)) next is = claims_one stop (Some next)
+claims_next maps s register stop o (Some (BodyRead search shape)) next is = claims_one stop (Some next)
+claims_next maps s register stop o (Some (Copying a stored)) next is =
     elim (cases_lt (stored + 1) (cost_of a.shape)) [
       | inl more ↦ claims_as stop next (Copying a (stored + 1)) (claims_left stop None) (is.0 more) (omega arith)
-      | inr all ↦ claims_as stop next (Copied a) (claims_left stop None)
-          (is.1 (let few : stored < cost_of a.shape = lacks a stored refl in omega arith)) (omega arith)
+      | inr all ↦ claims_as stop next (Copied a) (claims_left stop None) (is.1 all) (omega arith)
     ]
-claims_next maps s register stop o (Some (Copied a)) next is lacks =
+claims_next maps s register stop o (Some (Copied a)) next is =
     claims_probes stop s a.search (reached a.search a.address) (Retrying (retried a)) next (claims_left stop None)
     (omega arith) (omega arith) (omega arith) is
-claims_next maps s register stop o (Some (Retrying a)) next is lacks =
+claims_next maps s register stop o (Some (Retrying a)) next is =
     claims_probes stop s a.search (Copied a) (Retrying (retried a)) next (claims_left stop None) (omega arith)
     (omega arith) (omega arith) is
-claims_next maps s register stop o (Some (LackingCopy search shape)) next is lacks = absurd is
+claims_next maps s register stop o (Some (LackingCopy search shape)) next is = absurd is
 
 -- the call is over, which did not lack words
 pub claims_ends : (stop : Bool) (stage : Option Stage) → ((need : ℕ) → Lacks stage need → ⊥) →

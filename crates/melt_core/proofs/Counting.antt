@@ -4,7 +4,7 @@ use Rattle.std.proofs.Common.{List, [], ◌∷◌, ◌++◌, length, get_or, ref
 use Rattle.std.proofs.Math.ListN.{set}
 use Rattle.std.proofs.lemmas.Bool.Decides.{eqb_tells}
 use Rattle.std.proofs.lemmas.List.Sums.{sum-map, sum_by-set}
-use Rattle.std.specs.Prelude.{◌↔◌, true, [], Option, None, Some}
+use Rattle.std.specs.Prelude.{◌↔◌, true, false, [], Option, None, Some}
 use Rattle.std.specs.Option.{option_map_or}
 use Rattle.melt_model.specs.History.{Shape as ModelShape, made as makes}
 use Rattle.melt_model.specs.Alive.{Alive, words_of, CostsSum}
@@ -15,17 +15,18 @@ use Rattle.melt_model.proofs.Sums.{CostsSum-same, CostsSum-cost, CostsSum-more, 
 use Rattle.melt_word.specs.Words.{cost_of}
 use Rattle.melt_word.specs.declared.header.Shape.{Shape}
 use Rattle.melt_scion.specs.Changes.{NameAppears}
-use Rattle.melt_scion.specs.Placed.{Maps}
+use Rattle.melt_scion.specs.State.{HeaderAt}
+use Rattle.melt_scion.specs.Placed.{Maps, Tells}
 use Rattle.melt_scion.proofs.Entries.{made_shape}
 use Rattle.melt_scion.specs.Heaps.{OnDisk}
 use Rattle.melt_core.specs.declared.call.Call.{Call}
 use Rattle.melt_core.specs.declared.call.Stage.{Stage}
 use Rattle.melt_core.specs.declared.call.Stage.TheVariants.{Claimed}
-use Rattle.melt_scion.specs.Regions.{HasStored}
+use Rattle.melt_scion.specs.Regions.{Owns, HasStored}
 use Rattle.melt_word.specs.Words.{IsShape}
 use Rattle.melt_core.specs.Known.{Known, region, region_of}
 use Rattle.melt_core.specs.Views.{View, Standing, Counts, InUse, value, maps, maps_of, state}
-use Rattle.melt_core.specs.Views.{call_of, claimed_in, claimed, rest_of}
+use Rattle.melt_core.specs.Views.{call_of, rest_of, claimed_in, claimed}
 use Rattle.melt_core.specs.Advances.{HasRoom}
 use Rattle.melt_core.proofs.Values.{named_made}
 use Rattle.melt_core.proofs.Alive.{alive_sum, alive_in_use}
@@ -123,14 +124,19 @@ Counts_entry disk v w t call e s within log is =
     (in_use_later disk v e s)) is
 
 -- no object stands where a region begins
+owned_free : (disk : OnDisk) (v : View) (address n : ℕ) (shape : Shape) → Standing true disk v
+    → Owns (maps v) (state disk v) (region address shape) → (b : ℕ) → (maps v).address b ≡ Some n → b ≡ address → ⊥
+owned_free disk v address n shape s owns b named same =
+    let object = s.holds.formed.objects b n named in
+    (owns.outside b n object.0 named object.1.starts).differ (omega arith) (omega arith) same
+
 region_free : (disk : OnDisk) (v : View) (t address stored dst n : ℕ) (c : Call) (shape : Shape) → Standing true disk v
     → call_of v t ≡ Some c → c.stage ≡ Claimed address shape stored dst → (b : ℕ) → (maps v).address b ≡ Some n
     → b ≡ address → ⊥
-region_free disk v t address stored dst n c shape s at stage b named same =
+region_free disk v t address stored dst n c shape s at stage =
     let flight : IsShape shape × HasStored (maps v) (state disk v) (region address shape) (λ k. 0) stored =
     subst (Known true (maps v) (state disk v) (rest_of v t)) stage (s.known t c at) in
-    let object = s.holds.formed.objects b n named in
-    (flight.1.owns.outside b n object.0 named object.1.starts).differ (omega arith) (omega arith) same
+    owned_free disk v address n shape s flight.1.owns
 
 -- what is in use after one name more
 in_use_more : (old new : Maps) (address n m : ℕ) → ((b : ℕ) → old.address b ≡ Some m → b ≡ address → ⊥)
@@ -146,39 +152,100 @@ in_use_more old new address n m unused appears = (
   ],
 )
 
+-- What an event shows by which the region of its call becomes the object of this number.
+record Enters (disk : OnDisk) (v w : View) (t address n : ℕ) (shape : Shape) (after : Option Call)
+    (s : Standing true disk v) : Type 0 where
+  -- the objects that were in use take as many words as before
+  sum : CostsSum (words_of w.log) (InUse (maps v)) (s.counts refl).in_use
+  cost : words_of w.log n ≡ cost_of shape
+  unused : InUse (maps v) n → ⊥
+  unnamed : (b m : ℕ) → (maps v).address b ≡ Some m → b ≡ address → ⊥
+  appears : NameAppears (maps v) (maps w) address n
+  owned : claimed_in (call_of v t) ≡ cost_of shape
+  owns : claimed_in after ≡ 0
+  free : w.free ≡ v.free
+  words : length w.space.list ≡ length v.space.list
+  calls : w.calls ≡ set v.calls t after
+
 -- a region becomes an object
+counts_entered : (disk : OnDisk) (v w : View) (t address n : ℕ) (shape : Shape) (after : Option Call)
+    → (s : Standing true disk v) → t < length v.held → Enters disk v w t address n shape after s → Counts w
+counts_entered disk v w t address n shape after s within is =
+    let total : ℕ = (s.counts refl).in_use in
+    let claims : claimed w.calls + claimed_in (call_of v t) ≡ claimed v.calls + claimed_in after =
+    claimed_after disk v w t after s within is.calls in
+    let below = (s.counts refl).below in
+    let fits = (s.counts refl).within in
+    let more : CostsSum (words_of w.log) (λ m. InUse (maps v) m ⊎ (m ≡ n)) (total + words_of w.log n) =
+    CostsSum-more (words_of w.log) (InUse (maps v)) n total is.unused is.sum in
+    record {
+      in_use = total + cost_of shape;
+      adds_up = subst (λ (k : ℕ). CostsSum (words_of w.log) (InUse (maps w)) (total + k)) is.cost
+          (CostsSum-same (words_of w.log) (λ m. InUse (maps v) m ⊎ (m ≡ n)) (InUse (maps w))
+          (total + words_of w.log n)
+          (λ m. in_use_more (maps v) (maps w) address n m (λ b. is.unnamed b m) is.appears) more);
+      below = omega (arith, is.owned, is.owns, is.free);
+      within = omega (arith, is.owned, is.owns, is.words);
+    }
+
+-- that of an object that was made
 pub Counts_published : (disk : OnDisk) (v w : View) (t address stored dst : ℕ) (c : Call) (shape : Shape) (e : Entry)
     → Standing true disk v
     → t < length v.held → call_of v t ≡ Some c → c.stage ≡ Claimed address shape stored dst
     → NameAppears (maps v) (maps w) address (makes v.log) → e.act ≡ Make shape.refs shape.nums → w.log ≡ v.log ++ e ∷ []
     → w.free ≡ v.free → length w.space.list ≡ length v.space.list → w.calls ≡ set v.calls t None → Counts w
 Counts_published disk v w t address stored dst c shape e s within at stage named act log free words calls =
-    let total : ℕ = (s.counts refl).in_use in
     let h : List Entry = v.log ++ e ∷ [] in
-    let n : ℕ = makes v.log in
-    let cost : words_of h n ≡ cost_of shape = made_words v.log e shape.refs shape.nums act in
-    let after : claimed w.calls + claimed_in (call_of v t) ≡ claimed v.calls + 0 =
-    claimed_after disk v w t None s within calls in
-    let owned : claimed_in (call_of v t) ≡ cost_of shape = claimed_at v t address stored dst c shape at stage in
-    let below = (s.counts refl).below in
-    let fits = (s.counts refl).within in
-    let more : CostsSum (words_of h) (λ m. InUse (maps v) m ⊎ (m ≡ n)) (total + words_of h n) =
-    CostsSum-more (words_of h) (InUse (maps v)) n total
-    (λ is. let less : makes v.log < makes v.log = in_use_made disk v (makes v.log) s is in omega arith)
-    (in_use_later disk v e s) in
-    let all : CostsSum (words_of h) (InUse (maps w)) (total + cost_of shape) =
-    subst (λ (k : ℕ). CostsSum (words_of h) (InUse (maps w)) (total + k)) cost
-    (CostsSum-same (words_of h) (λ m. InUse (maps v) m ⊎ (m ≡ n)) (InUse (maps w)) (total + words_of h n)
-    (λ m. in_use_more (maps v) (maps w) address n m (region_free disk v t address stored dst m c shape s at stage)
-    named)
-    more) in
-    record {
-      in_use = total + cost_of shape;
-      adds_up = subst (λ (k : List Entry). CostsSum (words_of k) (InUse (maps w)) (total + cost_of shape))
-          (sym log) all;
-      below = omega arith;
-      within = omega arith;
-    }
+    counts_entered disk v w t address (makes v.log) shape None s within (record {
+      sum = subst (λ (k : List Entry). CostsSum (words_of k) (InUse (maps v)) (s.counts refl).in_use) (sym log)
+          (in_use_later disk v e s);
+      cost = ap (λ (k : List Entry). words_of k (makes v.log)) log ∙ made_words v.log e shape.refs shape.nums act;
+      unused = λ is. let less : makes v.log < makes v.log = in_use_made disk v (makes v.log) s is in omega arith;
+      unnamed = λ b m. region_free disk v t address stored dst m c shape s at stage b;
+      appears = named;
+      owned = claimed_at v t address stored dst c shape at stage;
+      owns = refl;
+      free = free;
+      words = words;
+      calls = calls;
+    })
+
+-- What a commit shows: the call owned the region, and the words behind it stand for the history, with an object of the
+-- shape there.
+pub record Commits (disk : OnDisk) (v w : View) (t address n : ℕ) (shape : Shape) (after : Option Call) : Type 0 where
+  pub tells : Tells w.log (maps w) (state disk w)
+  pub header : HeaderAt (state disk w) address (record { shape = shape; stale = false })
+  pub log : w.log ≡ v.log
+  pub owns : Owns (maps v) (state disk v) (region address shape)
+  pub appears : NameAppears (maps v) (maps w) address n
+  pub owned : claimed_in (call_of v t) ≡ cost_of shape
+  pub unclaimed : claimed_in after ≡ 0
+  pub free : w.free ≡ v.free
+  pub words : length w.space.list ≡ length v.space.list
+  pub calls : w.calls ≡ set v.calls t after
+
+-- that of one that came back: no address had its number before, or two would have it now
+pub Counts_committed : (disk : OnDisk) (v w : View) (t address n : ℕ) (shape : Shape) (after : Option Call)
+    → Standing true disk v → t < length v.held → Commits disk v w t address n shape after → Counts w
+Counts_committed disk v w t address n shape after s within is =
+    let unnamed : (b m : ℕ) → (maps v).address b ≡ Some m → b ≡ address → ⊥ =
+    λ b m named. owned_free disk v address m shape s is.owns b named in
+    counts_entered disk v w t address n shape after s within (record {
+      sum = subst (λ (h : List Entry). CostsSum (words_of h) (InUse (maps v)) (s.counts refl).in_use) (sym is.log)
+          (s.counts refl).adds_up;
+      cost = ap (λ (z : Option ModelShape). option_map_or (λ (x : ModelShape). 2 + x.refs + x.nums) z 0)
+          (is.tells.shapes address n (record { shape = shape; stale = false }) is.appears.here is.header);
+      unused = λ used. unnamed used.0 n used.1
+          (is.tells.one_address used.0 address n
+          (is.appears.others used.0 (unnamed used.0 n used.1) ∙ used.1) is.appears.here);
+      unnamed = unnamed;
+      appears = is.appears;
+      owned = is.owned;
+      owns = is.unclaimed;
+      free = is.free;
+      words = is.words;
+      calls = is.calls;
+    })
 
 -- what was made had room beside all that is alive: its region and the objects in use lie in the heap
 pub room_for : (disk : OnDisk) (v : View) (t address stored dst : ℕ) (c : Call) (shape : Shape) → Standing true disk v

@@ -18,7 +18,7 @@ use Rattle.melt_core.specs.Changed.{with_call}
 use Rattle.melt_core.specs.Advances.{Asks, AdvancesOver, AdvancesWhere, Goes, KeepsOwn}
 use Rattle.melt_core.specs.Views.{View, maps, state, call_of, stage_in, stage_of, rest_of, claimed_in, Standing}
 use Rattle.melt_core.proofs.Claims.{claims_next}
-use Rattle.melt_core.proofs.Asked.{inside, lacks_word, next_fits, still_clears}
+use Rattle.melt_core.proofs.Asked.{inside, next_fits, still_clears}
 use Rattle.melt_core.proofs.Words.{same_words}
 use Rattle.melt_core.proofs.Standing.{KeepsRests, advances_where, call_here, same_rests}
 use Rattle.melt_core.proofs.Plain.{Plain, plain}
@@ -78,10 +78,9 @@ goes_on tells disk v space records t o stage asks is =
           (is.known told tell stands);
       fits = λ c same. subst (λ (d : Call). Fits (register_in v.held t) d.op d.stage) (let e : after ≡ c = cc in e)
           (next_fits (maps v) (state disk v) (register_in v.held t) v.stop o (call_of v t) stage asks.continued
-          (λ d at. s.fits t d at) is.next (lacks_word disk v t o asks));
+          (λ d at. s.fits t d at) is.next);
       unclaimed = is.unclaimed;
-      claims = claims_next (maps v) (state disk v) (register_in v.held t) v.stop o (stage_of v t) stage is.next
-          (lacks_word disk v t o asks);
+      claims = claims_next (maps v) (state disk v) (register_in v.held t) v.stop o (stage_of v t) stage is.next;
     } in
     advances_where tells disk v w t o Going asks
     (plain tells disk v w t (cleared_by (stage_of v t)) None (Some after) asks.thread p) refl is.applies

@@ -24,9 +24,17 @@ pub mod Answered
 pub mod Reading
 pub mod Loading
 pub mod Writing
+pub mod Storing
 pub mod Making
+pub mod Bodies
 pub mod Resting
 pub mod Sharing
 pub mod Onward
+pub mod Distinct
+pub mod Retaining
+pub mod Refusing
+pub mod Searching
 pub mod ReadsLeft
 pub mod Recorded
+pub mod NoHomes
+pub mod Entered

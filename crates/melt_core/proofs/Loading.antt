@@ -2,13 +2,14 @@
 use Rattle.std.proofs.Common.{◌≡◌, ℕ, zero, suc, ◌+◌, ◌^◌, ◌<◌, ◌≤◌, inl, inr, List, []}
 use Rattle.std.proofs.Common.{◌∷◌, ◌++◌, length, refl, sym, ◌∙◌, ap, subst, arith}
 use Rattle.std.specs.Prelude.{Bool, true, false, Option, None, Some, unwrap_or}
+use Rattle.std.specs.Option.{option_map}
 use Rattle.melt_model.specs.History.{last}
 use Rattle.melt_model.specs.Thread.{found as found_in}
 use Rattle.melt_model.specs.declared.history.Act.TheVariants.{Read}
 use Rattle.melt_model.specs.declared.history.Slot.{Slot}
 use Rattle.melt_model.specs.declared.history.Slot.TheVariants as slots
 use Rattle.melt_model.specs.declared.history.Value.{Value}
-use Rattle.melt_model.specs.declared.history.Value.TheVariants.{Nil}
+use Rattle.melt_model.specs.declared.history.Value.TheVariants.{Nil, Ref as Object}
 use Rattle.melt_model.specs.declared.operations.Op.{Op}
 use Rattle.melt_model.specs.declared.operations.Op.TheVariants as op
 use Rattle.melt_word.specs.Words.{IsAddress, IsHeader, IsRef, cost_of, header_word, ref_word}
@@ -29,24 +30,27 @@ use Rattle.melt_core.specs.declared.call.Access.TheVariants.{Load}
 use Rattle.melt_core.specs.declared.call.Place.{Place}
 use Rattle.melt_core.specs.declared.call.Place.TheVariants.{Field, Global}
 use Rattle.melt_core.specs.declared.call.Stage.{Stage}
-use Rattle.melt_core.specs.declared.call.Stage.TheVariants.{Polled, Headed, Looked, Cleared}
+use Rattle.melt_core.specs.declared.call.Stage.TheVariants.{Polled, Headed, Looked, Cleared, Searching}
 use Rattle.melt_core.specs.declared.call.Task.TheVariants.{LoadGlobal}
 use Rattle.melt_core.specs.Answering.{Answers, entry}
-use Rattle.melt_core.specs.Known.{IsObjectAt, IsPlace, IsTagged, SlotAt, HasLooked, Leads, Evolves, word_in}
+use Rattle.melt_core.specs.Known.{Known, IsObjectAt, IsPlace, IsTagged, HasTag, SlotAt, HasLooked, Leads, Searches}
+use Rattle.melt_core.specs.Known.{Evolves, word_in}
 use Rattle.melt_core.specs.Events.{Event, PlaceChanges, reads_place, clears, untags}
 use Rattle.melt_core.specs.Stages.{Next, Fits, LoadsAt, LooksFrom, FindsTag, Applies, Nothing, change_of, cleared_by}
 use Rattle.melt_core.specs.Changed.{HoldsRef, HasRead, with_call, with_register, noted}
 use Rattle.melt_core.specs.Advances.{Asks, AdvancesOver, HasRoomFor, Sets, InBounds}
 use Rattle.melt_core.specs.Views.{View, Standing, maps, state, stage_of, values_of, held_value, claimed_in, rest_of}
-use Rattle.melt_core.proofs.Asked.{call_at, fits_at, known_at, known_so}
+use Rattle.melt_core.proofs.Asked.{fits_at, known_at, known_so}
 use Rattle.melt_core.proofs.Words.{same_behind, word_set, over}
 use Rattle.melt_core.proofs.Evolving.{evolves_event}
 use Rattle.melt_core.proofs.Staying.{looked_stays, place_stays}
 use Rattle.melt_core.proofs.Going.{goes_on, go_advances}
+use Rattle.melt_core.proofs.Plain.{as_told}
 use Rattle.melt_core.proofs.Standing.{same_rests}
 use Rattle.melt_core.proofs.Answered.{Ends, ends_at, local_set, over_advances}
 use Rattle.melt_core.proofs.Answers.{load_answers, gload_answers}
-use Rattle.melt_core.proofs.Objects.{object_shape, value_named, tagged_is, value_there, may_stand_there, stale_address}
+use Rattle.melt_core.proofs.Objects.{object_shape, place_word, value_named, tagged_is, value_there, may_stand_there}
+use Rattle.melt_core.proofs.Objects.{stale_address}
 use Rattle.melt_core.proofs.Registers.{register_other, values_set}
 use Rattle.melt_core.proofs.Tasks.{load_is, gload_is}
 
@@ -230,10 +234,23 @@ stale_tagged disk v place target s there is =
     record { reference = Stale target; in_range = stale_address disk v place target s there is; tag = tt; is = is }
 
 -- and so has a home
+home_tag : (r : Ref) (home : ℕ) → ref_word r ≡ ref_word (Disk home) → HasTag r
+home_tag Null home is = absurd (omega arith)
+home_tag (Clean a) home is = absurd (omega arith)
+home_tag (Stale a) home is = tt
+home_tag (Disk b) home is = tt
+
 home_tagged : (disk : OnDisk) (v : View) (place : Place) (home : ℕ) → Standing false disk v
     → IsPlace (maps v) (state disk v) place
     → word_in (state disk v) place ≡ ref_word (Disk home) → IsTagged (word_in (state disk v) place)
-home_tagged disk v place home s there is = ?
+home_tagged disk v place home s there is =
+    let word = place_word disk v place s there in
+    record {
+      reference = word.reference;
+      in_range = word.in_range;
+      tag = home_tag word.reference home (sym word.is ∙ is);
+      is = word.is;
+    }
 
 finds_tagged : (disk : OnDisk) (v : View) (place : Place) (dst : ℕ) (next : Stage) → Standing false disk v
     → IsPlace (maps v) (state disk v) place → FindsTag (word_in (state disk v) place) place dst next
@@ -260,16 +277,40 @@ look_stage disk v t o (Global g) dst s there looks clean = (
   refl,
 )
 
--- a look found a stale address
-pub looked_known : (disk : OnDisk) (v : View) (t : ℕ) (place : Place) (target : ℕ) → Standing false disk v
-    → IsPlace (maps v) (state disk v) place
-    → HoldsRef (word_in (state disk v) place) (Stale target) → HasLooked (maps v) (state disk v) place (Stale target)
-looked_known disk v t place target s there holds = record {
+-- a look found a reference with a tag
+pub looked_known : (disk : OnDisk) (v : View) (place : Place) (found : Ref) → Standing false disk v
+    → IsPlace (maps v) (state disk v) place → HoldsRef (word_in (state disk v) place) found → HasTag found
+    → HasLooked (maps v) (state disk v) place found
+looked_known disk v place found s there holds tag = record {
   at = there;
   in_range = holds.in_range;
-  tag = tt;
-  may_stand = may_stand_there disk v place (Stale target) s there holds;
+  tag = tag;
+  may_stand = may_stand_there disk v place found s there holds;
   unless_clean = λ tagged. holds.is;
+}
+
+-- the slot of a place
+some_slot : (disk : OnDisk) (v : View) (place : Place) → IsPlace (maps v) (state disk v) place
+    → (at : Slot) × SlotAt (maps v) place at
+some_slot disk v (Field object i) there = (slots.Field there.1.number i, (there.1.number, there.1.named, refl))
+some_slot disk v (Global g) there = (slots.Global g, refl)
+
+-- a home that stands for a value has an object
+home_object : (home : Option ℕ) (value : Value) → option_map Object home ≡ Some value → (n : ℕ) × (home ≡ Some n)
+home_object None value is = absurd (cc)
+home_object (Some n) value is = (n, refl)
+
+-- a look found a home, for which no forwarding word was read yet
+search_begins : (disk : OnDisk) (told : Bool) (v : View) (place : Place) (home : ℕ) → Standing false disk v
+    → Standing told disk v → IsPlace (maps v) (state disk v) place
+    → HoldsRef (word_in (state disk v) place) (Disk home) → Searches told (maps v) (state disk v) place home 0
+search_begins disk told v place home stands s there holds = record {
+  looked = looked_known disk v place (Disk home) stands there holds tt;
+  probed = record { few = omega arith; others = λ i less. absurd (omega arith) };
+  object = λ tells.
+      let slot = some_slot disk v place there in
+      home_object ((maps v).home home) (last v.log slot.0)
+      (value_there disk v place slot.0 (Disk home) (as_told disk told v tells s) there slot.1 holds);
 }
 
 -- the stale bit of the object was cleared
@@ -330,34 +371,55 @@ clear_advances disk v space t o place found target dst word shape asks at shaped
       unclaimed = refl;
     })
 
--- the look found a stale address
+-- the look found a reference with a tag
+tag_advances : (disk : OnDisk) (v : View) (t : ℕ) (o : Op) (place : Place) (dst : ℕ) (next : Stage) → Asks disk v t o
+    → LooksFrom (stage_of v t) place dst → FindsTag (word_in (state disk v) place) place dst next
+    → ((told : Bool) → Standing told disk v → Known told (maps v) (state disk v) (rest_of v t) next)
+    → claimed_in (Some (record { op = o; stage = next })) ≡ 0
+    → AdvancesOver disk v (with_call v t (Some (record { op = o; stage = next }))) t o Going
+tag_advances disk v t o place dst next asks looks finds known unclaimed =
+    let goes = look_next v t o place dst next looks finds in
+    go_advances disk v t o next asks goes.0 goes.1 known unclaimed
+  where
+    look_next : (v : View) (t : ℕ) (o : Op) (place : Place) (dst : ℕ) (next : Stage) → LooksFrom (stage_of v t) place dst
+        → FindsTag (word_in (state disk v) place) place dst next
+        → (change_of (state disk v) (register_in v.held t) (rest_of v t) (stage_of v t) ≡ Nothing)
+        × Next (maps v) (state disk v) (register_in v.held t) v.stop o (stage_of v t) next
+    look_next v t o (Field object i) dst next looks finds = (
+      subst (λ (g : Option Stage). change_of (state disk v) (register_in v.held t) (rest_of v t) g ≡ Nothing)
+          (sym looks.1) refl,
+      subst (λ (g : Option Stage). Next (maps v) (state disk v) (register_in v.held t) v.stop o g next)
+          (sym looks.1) finds,
+    )
+    look_next v t o (Global g) dst next looks finds = (
+      subst (λ (x : Option Stage). change_of (state disk v) (register_in v.held t) (rest_of v t) x ≡ Nothing)
+          (sym looks) refl,
+      subst (λ (x : Option Stage). Next (maps v) (state disk v) (register_in v.held t) v.stop o x next)
+          (sym looks) finds,
+    )
+
+-- a stale address
 pub look_advances : (disk : OnDisk) (v : View) (t : ℕ) (o : Op) (place : Place) (target dst : ℕ) → Asks disk v t o
     → LooksFrom (stage_of v t) place dst → HoldsRef (word_in (state disk v) place) (Stale target)
     → AdvancesOver disk v (with_call v t (Some (record { op = o; stage = Looked place (Stale target) target dst }))) t o
     Going
 look_advances disk v t o place target dst asks looks holds =
-    let next = look_next v t o place target dst looks holds.is in
-    go_advances disk v t o (Looked place (Stale target) target dst) asks next.0 next.1
-    (λ told s.
     let looked : HasLooked (maps v) (state disk v) place (Stale target) =
-    looked_known disk v t place target asks.stands (looks_at disk v t o place dst asks looks).1 holds in
-    (looked, record { named = looked.may_stand; same = λ tells. refl })) refl
-  where
-    look_next : (v : View) (t : ℕ) (o : Op) (place : Place) (target dst : ℕ) → LooksFrom (stage_of v t) place dst
-        → word_in (state disk v) place ≡ ref_word (Stale target)
-        → (change_of (state disk v) (register_in v.held t) (rest_of v t) (stage_of v t) ≡ Nothing)
-        × Next (maps v) (state disk v) (register_in v.held t) v.stop o (stage_of v t)
-        (Looked place (Stale target) target dst)
-    look_next v t o (Field object i) target dst looks is = (
-      subst (λ (g : Option Stage). change_of (state disk v) (register_in v.held t) (rest_of v t) g ≡ Nothing) (sym looks.1) refl,
-      subst (λ (g : Option Stage). Next (maps v) (state disk v) (register_in v.held t) v.stop o g
-          (Looked (Field object i) (Stale target) target dst)) (sym looks.1) (inl (target, is, refl)),
-    )
-    look_next v t o (Global g) target dst looks is = (
-      subst (λ (g : Option Stage). change_of (state disk v) (register_in v.held t) (rest_of v t) g ≡ Nothing) (sym looks) refl,
-      subst (λ (x : Option Stage). Next (maps v) (state disk v) (register_in v.held t) v.stop o x
-          (Looked (Global g) (Stale target) target dst)) (sym looks) (inl (target, is, refl)),
-    )
+    looked_known disk v place (Stale target) asks.stands (looks_at disk v t o place dst asks looks).1 holds tt in
+    tag_advances disk v t o place dst (Looked place (Stale target) target dst) asks looks
+    (inl (target, holds.is, refl)) (λ told s. (looked, record { named = looked.may_stand; same = λ tells. refl })) refl
+
+-- a home, whose object is searched for from here on
+pub home_advances : (disk : OnDisk) (v : View) (t : ℕ) (o : Op) (place : Place) (home dst : ℕ) → Asks disk v t o
+    → LooksFrom (stage_of v t) place dst → HoldsRef (word_in (state disk v) place) (Disk home)
+    → AdvancesOver disk v (with_call v t (Some (record {
+      op = o;
+      stage = Searching (record { place = place; home = home; tried = 0; dst = dst });
+    }))) t o Going
+home_advances disk v t o place home dst asks looks holds =
+    tag_advances disk v t o place dst (Searching (record { place = place; home = home; tried = 0; dst = dst })) asks looks
+    (inr (home, holds.is, refl))
+    (λ told s. search_begins disk told v place home asks.stands s (looks_at disk v t o place dst asks looks).1 holds) refl
 
 -- the stage at which a load looks
 pub looks_stage : (stage : Option Stage) (place : Place) (dst : ℕ) → LooksFrom stage place dst
@@ -504,15 +566,10 @@ untag_place disk {v} {t} {o} {place} space globals is tagged changes =
     let there = (cleared_known disk is).0.at in
     let s : Standing false disk v = is.asks.stands in
     let m : View = over v space globals in
-    let slot = some_slot v place there in
+    let slot = some_slot disk v place there in
     place_stays (maps v) (maps v) (state disk v) (state disk m) 0 s.holds.formed
     (evolves_event false v.log (maps v) (maps v) (state disk v) (state disk m) no_region 0 _ s.holds.formed
     (untag_event disk false m slot.0 is s slot.1 tagged changes)) place there
-  where
-    some_slot : (v : View) (place : Place) → IsPlace (maps v) (state disk v) place
-        → (at : Slot) × SlotAt (maps v) place at
-    some_slot v (Field object i) there = (slots.Field there.1.number i, (there.1.number, there.1.named, refl))
-    some_slot v (Global g) there = (slots.Global g, refl)
 
 -- registers aside, the view behind a read is that before it
 behind_changes : (disk : OnDisk) (v m : View) (t : ℕ) (place : Place) (at : Slot) (dst address word : ℕ)

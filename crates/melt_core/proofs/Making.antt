@@ -1,8 +1,8 @@
 -- How an object is made: the events of a claim, of private stores, of the publication, and of the want of room.
-use Rattle.std.proofs.Common.{◌≡◌, ◌≢◌, ℕ, ◌+◌, ◌<◌, ◌≤◌, inl, inr, List, []}
+use Rattle.std.proofs.Common.{◌≡◌, ℕ, ◌+◌, ◌<◌, ◌≤◌, inl, inr, List, []}
 use Rattle.std.proofs.Common.{◌∷◌, ◌++◌, length, refl, sym, ◌∙◌, ap, subst, arith}
 use Rattle.std.proofs.Math.ListN.{set}
-use Rattle.std.proofs.lemmas.Bool.{cases_eq, cases_lt, eq-eqb, ne_eqb}
+use Rattle.std.proofs.lemmas.Bool.{cases_lt, eq-eqb, ne_eqb}
 use Rattle.std.specs.Prelude.{Bool, true, false, Option, None, Some, IsSome, if◌then◌else◌}
 use Rattle.std.specs.List.{filter_map, cons_option}
 use Rattle.melt_model.specs.History.{made as makes, shape_made}
@@ -18,10 +18,10 @@ use Rattle.melt_word.specs.Words.{IsShape, header_word, cost_of}
 use Rattle.melt_word.specs.declared.header.Shape.{Shape}
 use Rattle.melt_word.specs.declared.header.Header.{Header}
 use Rattle.melt_space.specs.Space.{SpaceWords, SetsWord}
-use Rattle.melt_scion.specs.State.{Base, State, IsFresh}
-use Rattle.melt_scion.proofs.Geometry.{one_header, header_moves}
+use Rattle.melt_scion.specs.State.{State, IsFresh}
+use Rattle.melt_scion.proofs.Geometry.{one_header}
 use Rattle.melt_scion.specs.declared.heap.Names as heap
-use Rattle.melt_scion.specs.Placed.{Maps, MayHold, FormedWords}
+use Rattle.melt_scion.specs.Placed.{Maps, MayHold}
 use Rattle.melt_scion.specs.Regions.{Region, no_region, Apart, Owns, HasStored}
 use Rattle.melt_scion.specs.Changes.{FreeMoves, WordChanges, NameAppears}
 use Rattle.melt_scion.specs.Heaps.{OnDisk, register_in}
@@ -37,16 +37,17 @@ use Rattle.melt_core.specs.declared.call.Stage.TheVariants.{Retrying, LackingCop
 use Rattle.melt_core.specs.declared.call.Task.TheVariants.{Make as Making}
 use Rattle.melt_core.specs.Answering.{Answers, entry}
 use Rattle.melt_core.specs.Known.{Known, Evolves, region, region_of}
-use Rattle.melt_core.specs.Events.{Event, quiet, claims as claims_words, stores, publishes}
-use Rattle.melt_core.specs.Stages.{Next, Fits, MustPause, Applies, Word, Publish, change_of, cleared_by, task_of, Lacks}
+use Rattle.melt_core.specs.Events.{Event, quiet, claims as claims_words, publishes}
+use Rattle.melt_core.specs.Stages.{Next, Fits, MustPause, Applies, Nothing, Word, Free, Publish}
+use Rattle.melt_core.specs.Stages.{change_of, cleared_by, task_of, Lacks}
 use Rattle.melt_core.specs.Changed.{with_call, with_register, noted}
 use Rattle.melt_core.specs.Advances.{Asks, AdvancesOver, InBounds, HasRoomFor, Sets}
 use Rattle.melt_core.specs.Views.{View, Standing, maps, state, shown, rest_of}
 use Rattle.melt_core.specs.Views.{call_of, stage_of, claimed_in, claims_left, maps_of, numbers_of}
 use Rattle.melt_core.specs.Views.{registers_in, held_value, held_values, values_of}
-use Rattle.melt_core.proofs.Asked.{call_at, fits_at, known_at, inside, next_fits}
+use Rattle.melt_core.proofs.Asked.{call_at, fits_at, known_at, inside, next_fits, still_clears}
 use Rattle.melt_core.proofs.Claims.{bounded_is, bounded_lacking, bounded_call}
-use Rattle.melt_core.proofs.Claims.{bounded_refused, claims_ends, claims_next}
+use Rattle.melt_core.proofs.Claims.{bounded_refused, claims_ends}
 use Rattle.melt_core.proofs.Counting.{Counts_same, Counts_published, room_for}
 use Rattle.melt_core.proofs.Words.{same_words, word_set}
 use Rattle.melt_core.proofs.Answers.{new_answers}
@@ -55,14 +56,15 @@ use Rattle.melt_core.proofs.Staying.{hold_stays}
 use Rattle.melt_core.proofs.Registers.{register_keeps, register_other, registers_other, threads_set, values_set}
 use Rattle.melt_core.proofs.Values.{held_is, named_value}
 use Rattle.melt_core.proofs.Going.{goes}
+use Rattle.melt_core.proofs.Storing.{Storing, none_stored, others_apart, store_advances, stored_more}
 use Rattle.melt_core.proofs.Plain.{as_told}
 use Rattle.melt_core.proofs.Regions.{apart_sym, no_region_apart, claimed_owned, claimed_apart}
 use Rattle.melt_core.proofs.Standing.{Happens, Made, advances, call_here, kept_own, same_rests, values_stay}
 use Rattle.melt_core.proofs.Tasks.{LoadsNothing, new_is, no_load}
 
--- the view behind a claim
+-- the view behind a claim of so many words
 abbrev pub claiming : View → ℕ → ℕ → Call → View
-claiming v free t call = with_call (record v { free = free }) t (Some call)
+claiming v need t call = with_call (record v { free = v.free + need }) t (Some call)
 
 -- the object that an operation makes is small
 pub small_shape : (disk : OnDisk) (v : View) (t : ℕ) (o : Op) (dst : ℕ) (shape : Shape) → Asks disk v t o
@@ -135,105 +137,149 @@ claimed_from told disk v words rest (LackingCopy search shape) known =
     apart_sym no_region (record { at = v.free; words = words })
     (no_region_apart (record { at = v.free; words = words }))
 
+-- The stages around a claim for an object of the shape: the one before it, that where there is room for the object, and
+-- that where there is none. And what the claim asks of each.
+pub record AroundClaim (disk : OnDisk) (v : View) (t : ℕ) (o : Op) (shape : Shape) (before room none : Stage) : Type 0
+  where
+    pub asks : Asks disk v t o
+    pub at : stage_of v t ≡ Some before
+    pub small : IsShape shape
+    pub no_clear : cleared_by (Some before) ≡ 0
+    pub unclaimed : (region_of before).words ≡ 0
+    pub may_claim : claims_left v.stop (Some before) ≡ 1
+    pub no_claim : claims_left v.stop (Some none) ≡ 0
+    pub owns : region_of room ≡ region v.free shape
+    pub owns_none : region_of none ≡ no_region
+    pub change : change_of (state disk v) (register_in v.held t) (rest_of v t) (Some before)
+        ≡ Free (v.free + cost_of shape)
+    pub next : (stage : Stage) → (v.free + cost_of shape ≤ length v.space.list + 1 → stage ≡ room)
+        → (length v.space.list + 1 < v.free + cost_of shape → stage ≡ none)
+        → Next (maps v) (state disk v) (register_in v.held t) v.stop o (Some before) stage
+    pub known : (told : Bool) → Standing told disk v → (s : State) → Evolves (maps v) (maps v) (state disk v) s 0
+        → Owns (maps v) s (region v.free shape) → Known told (maps v) s (rest_of v t) room
+    pub known_none : (told : Bool) → Standing told disk v → (s : State) → Evolves (maps v) (maps v) (state disk v) s 0
+        → s.base.size + 1 < s.free → Known told (maps v) s (rest_of v t) none
+
+-- those of a claim for a new object
+pub around_make : (disk : OnDisk) (v : View) (t : ℕ) (o : Op) (dst : ℕ) (shape : Shape) → Asks disk v t o
+    → stage_of v t ≡ Some (Polled (Making dst shape))
+    → AroundClaim disk v t o shape (Polled (Making dst shape)) (Claimed v.free shape 0 dst) (Lacking (cost_of shape))
+around_make disk v t o dst shape asks at =
+    let small : IsShape shape =
+    small_shape disk v t o dst shape asks (fits_at disk v t o (Polled (Making dst shape)) asks at).0 in
+    record {
+      asks = asks;
+      at = at;
+      small = small;
+      no_clear = refl;
+      unclaimed = refl;
+      may_claim = refl;
+      no_claim = refl;
+      owns = refl;
+      owns_none = refl;
+      change = refl;
+      next = λ stage fits lacks. (fits, lacks);
+      known = λ told stands s evolves owns. (small, none_stored (maps v) s v.free shape (λ k. 0) owns);
+      known_none = λ told stands s evolves above. above;
+    }
+
 -- What a claim shows: its words, and that the call knows whether they end past the last one.
-pub record Claiming (disk : OnDisk) (v : View) (t free need : ℕ) (o : Op) (shape : Shape) (dst : ℕ) (stage : Stage) :
-    Type 0 where
-  pub asks : Asks disk v t o
-  pub at : stage_of v t ≡ Some (Polled (Making dst shape))
+pub record Claiming (disk : OnDisk) (v : View) (t need : ℕ) (o : Op) (shape : Shape) (before room none stage : Stage)
+    : Type 0 where
+  pub around : AroundClaim disk v t o shape before room none
   pub needed : need ≡ cost_of shape
-  pub sum : free ≡ v.free + need
-  pub fits : free ≤ length v.space.list + 1 → stage ≡ Claimed v.free shape 0 dst
-  pub lacks : length v.space.list + 1 < free → stage ≡ Lacking need
+  pub fits : v.free + need ≤ length v.space.list + 1 → stage ≡ room
+  pub lacks : length v.space.list + 1 < v.free + need → stage ≡ none
 
-claim_next : (disk : OnDisk) {v : View} {t free need : ℕ} {o : Op} {shape : Shape} {dst : ℕ} {stage : Stage}
-    → Claiming disk v t free need o shape dst stage
+claim_next : (disk : OnDisk) {v : View} {t need : ℕ} {o : Op} {shape : Shape} {before room none stage : Stage}
+    → Claiming disk v t need o shape before room none stage
     → Next (maps v) (state disk v) (register_in v.held t) v.stop o (stage_of v t) stage
-claim_next disk {v} {t} {free} {need} {o} {shape} {dst} {stage} is =
-    subst (λ (g : Option Stage). Next (maps v) (state disk v) (register_in v.held t) v.stop o g stage) (sym is.at) (
-      λ below. is.fits (omega (arith, is.needed, is.sum)),
-      λ above. is.lacks (omega (arith, is.needed, is.sum)) ∙ ap Lacking is.needed,
-    )
+claim_next disk {v} {t} {need} {o} {shape} {before} {room} {none} {stage} is =
+    subst (λ (g : Option Stage). Next (maps v) (state disk v) (register_in v.held t) v.stop o g stage) (sym is.around.at)
+    (is.around.next stage (λ below. is.fits (omega (arith, is.needed))) (λ above. is.lacks (omega (arith, is.needed))))
 
-claim_moves : (disk : OnDisk) {v : View} {t free need : ℕ} {o : Op} {shape : Shape} {dst : ℕ} {stage : Stage}
-    → Claiming disk v t free need o shape dst stage
-    → FreeMoves (state disk v) (state disk (claiming v free t (record { op = o; stage = stage })))
+claim_moves : (disk : OnDisk) {v : View} {t need : ℕ} {o : Op} {shape : Shape} {before room none stage : Stage}
+    → Claiming disk v t need o shape before room none stage
+    → FreeMoves (state disk v) (state disk (claiming v need t (record { op = o; stage = stage })))
     (v.free + cost_of shape)
 claim_moves disk is = record {
   base = refl;
-  is = omega (arith, is.needed, is.sum);
+  is = omega (arith, is.needed);
   word = λ k. refl;
   global = λ g. refl;
   forward = λ p. refl;
 }
 
 -- how it happens
-claim_happens : (disk : OnDisk) {v : View} {t free need : ℕ} {o : Op} {shape : Shape} {dst : ℕ} {stage : Stage}
+claim_happens : (disk : OnDisk) {v : View} {t need : ℕ} {o : Op} {shape : Shape} {before room none stage : Stage}
     (told : Bool)
-    → Claiming disk v t free need o shape dst stage → Standing told disk v →
-    Happens disk told v (claiming v free t (record { op = o; stage = stage })) t no_region (cleared_by (stage_of v t))
+    → Claiming disk v t need o shape before room none stage → Standing told disk v →
+    Happens disk told v (claiming v need t (record { op = o; stage = stage })) t no_region (cleared_by (stage_of v t))
     None
     (Some (record { op = o; stage = stage }))
-claim_happens disk {v} {t} {free} {need} {o} {shape} {dst} {stage} told claim s =
+claim_happens disk {v} {t} {need} {o} {shape} {before} {room} {none} {stage} told claim s =
+    let around : AroundClaim disk v t o shape before room none = claim.around in
+    let asks : Asks disk v t o = around.asks in
     let after : Call = record { op = o; stage = stage } in
-    let w : View = claiming v free t after in
-    let before : Stage = Polled (Making dst shape) in
-    let small : IsShape shape = small_shape disk v t o dst shape claim.asks
-    (fits_at disk v t o before claim.asks claim.at).0 in
+    let w : View = claiming v need t after in
     let needed : need ≡ cost_of shape = claim.needed in
-    let whole : free ≡ v.free + need = claim.sum in
     let moves : FreeMoves (state disk v) (state disk w) (v.free + cost_of shape) = claim_moves disk claim in
-    let unclaimed : claimed_in (call_of v t) ≡ 0 = ap claimed_in (call_at disk v t o before claim.asks claim.at) in
+    let unclaimed : claimed_in (call_of v t) ≡ 0 =
+    ap claimed_in (call_at disk v t o before asks around.at) ∙ around.unclaimed in
     let first : 1 ≤ v.free = s.first in
-    let clears : cleared_by (stage_of v t) ≡ 0 = ap cleared_by claim.at in
+    let clears : cleared_by (stage_of v t) ≡ 0 = ap cleared_by around.at ∙ around.no_clear in
+    let event : (now : Bool) → Event now v.log (maps v) (maps w) (state disk v) (state disk w) no_region 0 None =
+    λ now. claims_words (cost_of shape) refl moves in
+    let evolves : Evolves (maps v) (maps w) (state disk v) (state disk w) 0 =
+    evolves_event told v.log (maps v) (maps w) (state disk v) (state disk w) no_region 0 None s.holds.formed
+    (event told) in
+    let no_words : length v.space.list + 1 < v.free + need → region_of stage ≡ no_region =
+    λ above. ap region_of (claim.lacks above) ∙ around.owns_none in
+    let words : v.free + need ≤ length v.space.list + 1 → region_of stage ≡ region v.free shape =
+    λ below. ap region_of (claim.fits below) ∙ around.owns in
     record {
       event = subst (λ (k : ℕ). Event told v.log (maps v) (maps w) (state disk v) (state disk w) no_region k None)
-          (sym clears)
-          (claims_words (cost_of shape) refl moves);
+          (sym clears) (event told);
       kept = kept_own disk told v w t (Some after) s refl;
       first = omega arith;
-      bounded = elim (cases_lt (length v.space.list + 1) free) [
+      bounded = elim (cases_lt (length v.space.list + 1) (v.free + need)) [
         | inl above ↦
-            let few : need ≤ 126 = let refs : shape.refs ≤ 62 = small.refs in let nums : shape.nums ≤ 62 =
-            small.nums in omega arith in
-            let sum : v.free + need ≡ free = omega arith in
+            let few : need ≤ 126 = let refs : shape.refs ≤ 62 = around.small.refs in let nums : shape.nums ≤ 62 =
+            around.small.nums in omega arith in
             bounded_is w (length v.space.list) (v.free + need) v.stop (set v.calls t (Some after)) refl
-            (sym sum) refl refl
+            refl refl refl
             (bounded_lacking (length v.space.list) v.free need v.stop v.calls t (Some after)
-            (inside disk v t o claim.asks) (ap (claims_left v.stop) claim.at)
-            (ap (λ (g : Stage). claims_left v.stop (Some g)) (claim.lacks above)) few s.bounded)
+            (inside disk v t o asks) (ap (claims_left v.stop) around.at ∙ around.may_claim)
+            (ap (λ (g : Stage). claims_left v.stop (Some g)) (claim.lacks above) ∙ around.no_claim) few s.bounded)
         | inr below ↦ inl below
       ];
       may_hold = λ r. hold_words (maps v) (state disk v) (state disk w) (register_in v.held t r) (λ k. refl)
           (s.registers t r);
-      known = λ c is. subst (λ (d : Call). Known told (maps w) (state disk w) (rest_of v t) d.stage) (let e : after ≡ c = cc in e)
-          (elim (cases_lt (length v.space.list + 1) free) [
-            | inl above ↦ subst (Known told (maps w) (state disk w) (rest_of v t)) (sym (claim.lacks above)) above
-            | inr below ↦ subst (Known told (maps w) (state disk w) (rest_of v t)) (sym (claim.fits below)) (
-              small,
-              record {
-                owns = claimed_owned (maps v) (state disk v) (state disk w) (cost_of shape) s.holds.formed first
-                    (omega arith)
-                    moves;
-                few = omega arith;
-                are = λ k one none. absurd (omega arith);
-              },
-            )
+      known = λ c is. subst (λ (d : Call). Known told (maps w) (state disk w) (rest_of v t) d.stage)
+          (let e : after ≡ c = cc in e) (elim (cases_lt (length v.space.list + 1) (v.free + need)) [
+            | inl above ↦ subst (Known told (maps w) (state disk w) (rest_of v t)) (sym (claim.lacks above))
+                (around.known_none told s (state disk w) evolves above)
+            | inr below ↦ subst (Known told (maps w) (state disk w) (rest_of v t)) (sym (claim.fits below))
+                (around.known told s (state disk w) evolves
+                (claimed_owned (maps v) (state disk v) (state disk w) (cost_of shape) s.holds.formed first
+                (omega arith)
+                moves))
           ]);
       fits = λ c is. subst (λ (d : Call). Fits (register_in v.held t) d.op d.stage) (let e : after ≡ c = cc in e)
-          (next_fits (maps v) (state disk v) (register_in v.held t) v.stop o (call_of v t) stage claim.asks.continued
+          (next_fits (maps v) (state disk v) (register_in v.held t) v.stop o (call_of v t) stage asks.continued
           (λ d is_d. s.fits t d is_d) (claim_next disk claim));
       mine_is = λ u d differ is. no_region_apart (region_of d.stage);
       apart = λ c is u d differ other. subst (λ (x : Call). Apart (region_of x.stage) (region_of d.stage))
-          (let e : after ≡ c = cc in e) (elim (cases_lt (length v.space.list + 1) free) [
-            | inl above ↦ subst (λ (g : Stage). Apart (region_of g) (region_of d.stage)) (sym (claim.lacks above))
+          (let e : after ≡ c = cc in e) (elim (cases_lt (length v.space.list + 1) (v.free + need)) [
+            | inl above ↦ subst (λ (r : Region). Apart r (region_of d.stage)) (sym (no_words above))
                 (no_region_apart (region_of d.stage))
-            | inr below ↦ subst (λ (g : Stage). Apart (region_of g) (region_of d.stage)) (sym (claim.fits below))
+            | inr below ↦ subst (λ (r : Region). Apart r (region_of d.stage)) (sym (words below))
                 (claimed_from told disk v (cost_of shape) (rest_of v u) d.stage (s.known u d other))
           ]);
-      counts = λ is. elim (cases_lt (length v.space.list + 1) free) [
+      counts = λ is. elim (cases_lt (length v.space.list + 1) (v.free + need)) [
         | inl above ↦
-            let none : claimed_in (Some after) ≡ 0 = ap (λ (g : Stage). (region_of g).words) (claim.lacks above) in
-            Counts_same disk v w t (Some after) (as_told disk told v is s) claim.asks.thread refl (record {
+            let none : claimed_in (Some after) ≡ 0 = ap (λ (r : Region). r.words) (no_words above) in
+            Counts_same disk v w t (Some after) (as_told disk told v is s) asks.thread refl (record {
               names = refl;
               words = refl;
               calls = refl;
@@ -241,61 +287,33 @@ claim_happens disk {v} {t} {free} {need} {o} {shape} {dst} {stage} told claim s 
               within = inl (omega arith);
             })
         | inr below ↦
-            let words : claimed_in (Some after) ≡ cost_of shape =
-            ap (λ (g : Stage). (region_of g).words) (claim.fits below) in
-            Counts_same disk v w t (Some after) (as_told disk told v is s) claim.asks.thread refl
+            let cost : claimed_in (Some after) ≡ cost_of shape = ap (λ (r : Region). r.words) (words below) in
+            Counts_same disk v w t (Some after) (as_told disk told v is s) asks.thread refl
             (record { names = refl; words = refl; calls = refl; below = omega arith; within = inr (omega arith) })
       ];
     }
 
 -- Words were claimed.
-pub claim_advances : (disk : OnDisk) {v : View} {t free need : ℕ} {o : Op} {shape : Shape} {dst : ℕ} {stage : Stage}
-    → Claiming disk v t free need o shape dst stage
-    → AdvancesOver disk v (claiming v free t (record { op = o; stage = stage })) t o Going
-claim_advances disk {v} {t} {free} {need} {o} {shape} {dst} {stage} claim =
+pub claim_advances : (disk : OnDisk) {v : View} {t need : ℕ} {o : Op} {shape : Shape} {before room none stage : Stage}
+    → Claiming disk v t need o shape before room none stage
+    → AdvancesOver disk v (claiming v need t (record { op = o; stage = stage })) t o Going
+claim_advances disk {v} {t} {need} {o} {shape} {before} {room} {none} {stage} claim =
+    let around : AroundClaim disk v t o shape before room none = claim.around in
     let after : Call = record { op = o; stage = stage } in
-    let w : View = claiming v free t after in
+    let w : View = claiming v need t after in
     let made : Made disk v w t (cleared_by (stage_of v t)) = record {
       mine = no_region;
       act = None;
       after = Some after;
       happens = λ told stands. claim_happens disk told claim stands;
     } in
-    advances disk v w t o Going claim.asks made refl
+    advances disk v w t o Going around.asks made refl
     (subst (λ (g : Option Stage). Applies (maps v) (maps w) (state disk v) (state disk w)
-    (change_of (state disk v) (register_in v.held t) (rest_of v t) g)) (sym claim.at) (refl, claim_moves disk claim))
-    (goes disk v w t o stage claim.asks (claim_next disk claim) refl
+    (change_of (state disk v) (register_in v.held t) (rest_of v t) g)) (sym around.at)
+    (subst (Applies (maps v) (maps w) (state disk v) (state disk w)) (sym around.change) (refl, claim_moves disk claim)))
+    (goes disk v w t o stage around.asks (claim_next disk claim) refl
     (record { history = refl; registers = refl; values = refl }) refl)
     tt
-
--- an object apart from a region does not start in it
-outside_at : (b cost at : ℕ) (r : Region) → Apart (record { at = b; words = 2 + cost }) r → r.at ≤ at
-    → at < r.at + r.words → b ≢ at
-outside_at b cost at r apart from to = λ same. elim (cases_eq b r.at) [
-  | inl first ↦ apart.differ (omega arith) (omega arith) first
-  | inr other ↦ let past : r.at + r.words ≤ b = apart.behind (omega arith) in omega arith
-]
-
--- the region of a thread, where one of its own words is stored
-owns_stored : (m : Maps) (s t : State) (r : Region) (at word : ℕ) → FormedWords m s → Owns m s r → r.at ≤ at
-    → at < r.at + r.words → WordChanges s t at word → Owns m t r
-owns_stored m s t r at word formed owns from to changes = record {
-  first = owns.first;
-  below = let e : t.free ≡ s.free = changes.free in let below : r.at + r.words ≤ s.free = owns.below in omega arith;
-  within = subst (λ (b : Base). r.at + r.words ≤ b.size + 1) (sym changes.base) owns.within;
-  outside = λ b n header named starts.
-      let object = formed.objects b n named in
-      let apart : Apart (record { at = b; words = cost_of object.0.shape }) r =
-      owns.outside b n object.0 named object.1.starts in
-      let other : b ≢ at = outside_at b (object.0.shape.refs + object.0.shape.nums) at r
-      (subst (λ (n : ℕ). Apart (record { at = b; words = n }) r)
-      (let e : cost_of object.0.shape ≡ 2 + (object.0.shape.refs + object.0.shape.nums) = omega arith in e) apart)
-      from to in
-      let same : object.0 ≡ header =
-      one_header s b object.0 header object.1.starts
-      (header_moves s t b header (sym (changes.others b other)) starts) in
-      subst (λ (h : Header). Apart (record { at = b; words = cost_of h.shape }) r) same apart;
-}
 
 -- a call whose region is at a place
 claimed_known : (disk : OnDisk) (v : View) (t : ℕ) (o : Op) (address stored dst : ℕ) (shape : Shape) → Asks disk v t o
@@ -303,13 +321,6 @@ claimed_known : (disk : OnDisk) (v : View) (t : ℕ) (o : Op) (address stored ds
     × HasStored (maps v) (state disk v) (region address shape) (λ k. 0) stored
 claimed_known disk v t o address stored dst shape asks at = known_at disk v t o (Claimed address shape stored dst) asks
     at
-
--- the words of others are apart from it
-others_apart : (disk : OnDisk) (v : View) (t : ℕ) (o : Op) (stage : Stage) → Asks disk v t o → stage_of v t ≡ Some stage
-    → (u : ℕ) (d : Call) → u ≢ t → call_of v u ≡ Some d → Apart (region_of stage) (region_of d.stage)
-others_apart disk v t o stage asks at u d differ is =
-    asks.stands.apart t u (record { op = o; stage = stage }) d (λ same. differ (sym same))
-    (call_at disk v t o stage asks at) is
 
 -- A word behind the header was stored.
 pub store_zero_advances : (disk : OnDisk) (v : View) (space : SpaceWords) (t : ℕ) (o : Op) (address stored dst : ℕ)
@@ -319,95 +330,53 @@ pub store_zero_advances : (disk : OnDisk) (v : View) (space : SpaceWords) (t : �
     → AdvancesOver disk v (with_call (record v { space = space }) t
     (Some (record { op = o; stage = Claimed address shape (stored + 1) dst }))) t o Going
 store_zero_advances disk v space t o address stored dst shape asks at few sets =
-    let s : Standing false disk v = asks.stands in
-    let stage : Stage = Claimed address shape stored dst in
-    let next_stage : Stage = Claimed address shape (stored + 1) dst in
-    let after : Call = record { op = o; stage = next_stage } in
-    let w : View = with_call (record v { space = space }) t (Some after) in
-    let within : t < length v.calls = inside disk v t o asks in
     let known = claimed_known disk v t o address stored dst shape asks at in
-    let changes : WordChanges (state disk v) (state disk w) (address + 1 + stored) 0 =
-    word_set disk v space v.held (address + 1 + stored) 0 sets in
-    let owns : Owns (maps w) (state disk w) (region address shape) =
-    owns_stored (maps v) (state disk v) (state disk w) (region address shape)
-    (address + 1 + stored) 0 s.holds.formed known.1.owns (omega arith) (omega arith) changes in
-    let next : Next (maps v) (state disk v) (register_in v.held t) v.stop o (stage_of v t) next_stage =
-    subst (λ (g : Option Stage). Next (maps v) (state disk v) (register_in v.held t) v.stop o g next_stage) (sym at)
-    (few, refl) in
-    let claimed : claimed_in (Some after) ≡ claimed_in (call_of v t) =
-    sym (ap claimed_in (call_at disk v t o stage asks at)) in
-    let made : Made disk v w t (cleared_by (stage_of v t)) = record {
-      mine = region address shape;
-      act = None;
-      after = Some after;
-      happens = λ told stands. record {
-        event = subst (λ (k : ℕ). Event told v.log (maps v) (maps w) (state disk v) (state disk w)
-            (region address shape) k None)
-            (sym (ap cleared_by at)) (stores (region address shape) (address + 1 + stored) 0 refl known.1.owns
-            (omega arith) (omega arith) changes);
-        kept = kept_own disk told v w t (Some after) stands refl;
-        first = stands.first;
-        bounded = bounded_is w (length v.space.list) v.free v.stop (set v.calls t (Some after)) sets.size refl refl refl
-            (bounded_call (length v.space.list) v.free v.stop v.calls t (Some after) within
-            (claims_next (maps v) (state disk v) (register_in v.held t) v.stop o (stage_of v t) next_stage next)
-            stands.bounded);
-        may_hold = λ r. hold_stays (maps v) (maps w) (state disk v) (state disk w) 0 stands.holds.formed
-            (evolves_event false v.log (maps v) (maps w) (state disk v) (state disk w)
-            (region address shape) 0 None s.holds.formed
-            (stores (region address shape) (address + 1 + stored) 0 refl known.1.owns (omega arith)
-            (omega arith) changes))
-            (register_in v.held t r) (s.registers t r);
-        known = λ c is. subst (λ (d : Call). Known told (maps w) (state disk w) (rest_of v t) d.stage) (let e : after ≡ c = cc in e) (
-          known.0,
-          record {
-            owns = owns;
-            few = omega arith;
-            are = λ k one up_to. elim (cases_eq k (stored + 1)) [
-              | inl same ↦ subst (λ (x : ℕ). (state disk w).word x ≡ 0) (let e : address + 1 + stored ≡ address + k =
-                  omega arith in e) changes.here
-              | inr other ↦ changes.others (address + k) (λ e. other (omega arith)) ∙ known.1.are k one (omega arith)
-            ];
-          },
-        );
-        fits = λ c is. subst (λ (d : Call). Fits (register_in v.held t) d.op d.stage) (let e : after ≡ c = cc in e)
-            (fits_at disk v t o stage asks at);
-        mine_is = others_apart disk v t o stage asks at;
-        apart = λ c is u d differ other. subst (λ (x : Call). Apart (region_of x.stage) (region_of d.stage))
-            (let e : after ≡ c = cc in e) (others_apart disk v t o stage asks at u d differ other);
-        counts = λ is. Counts_same disk v w t (Some after) (as_told disk told v is stands) asks.thread refl
-            (record {
-              names = refl;
-              words = sets.size;
-              calls = refl;
-              below = omega (arith, claimed);
-              within = inl (omega (arith, claimed));
-            });
-      };
+    let storing : Storing disk v space t (address + 1 + stored) 0 o (Claimed address shape stored dst)
+    (Claimed address shape (stored + 1) dst) =
+    record {
+      asks = asks;
+      at = at;
+      sets = sets;
+      owns = known.1.owns;
+      from = omega arith;
+      to = omega arith;
+      keeps = refl;
+      no_clear = refl;
+      change = ap (λ (b : Bool). if b then Publish address shape else Word (address + 1 + stored) 0)
+          (ne_eqb (stored + 1) (cost_of shape) (λ e. omega arith));
+      next = (few, refl);
+      known = λ told stands s evolves owns changes. (
+        known.0,
+        stored_more (maps v) (state disk v) s (region address shape) (λ k. 0) stored (address + 1 + stored) 0 known.1
+            owns (omega arith) refl few changes,
+      );
     } in
-    advances disk v w t o Going asks made refl
-    (subst (λ (g : Option Stage). Applies (maps v) (maps w) (state disk v) (state disk w)
-    (change_of (state disk v) (register_in v.held t) (rest_of v t) g)) (sym at)
-    (subst (λ (b : Bool). Applies (maps v) (maps w) (state disk v) (state disk w)
-    (if b then Publish address shape else Word (address + 1 + stored) 0))
-    (sym (ne_eqb (stored + 1) (cost_of shape) (λ e. omega arith))) (refl, changes)))
-    (goes disk v w t o next_stage asks next refl (record { history = refl; registers = refl; values = refl }) refl)
-    tt
+    store_advances disk storing
+
+-- a call that lacks words changes none
+lacks_still : (s : State) (register : ℕ → ℕ) (rest : List ℕ) (stage : Option Stage) (need : ℕ) → Lacks stage need
+    → change_of s register rest stage ≡ Nothing
+lacks_still s register rest (Some (Lacking words)) need lacks = refl
+lacks_still s register rest (Some (LackingCopy search shape)) need lacks = refl
+lacks_still s register rest stage need lacks = absurd lacks
 
 -- The call is refused for want of room, and the stop word is set.
-pub lack_advances : (disk : OnDisk) (v : View) (t need : ℕ) (o : Op) → Asks disk v t o
-    → stage_of v t ≡ Some (Lacking need)
+pub lack_advances : (disk : OnDisk) (v : View) (t need : ℕ) (o : Op) → Asks disk v t o → Lacks (stage_of v t) need
     → AdvancesOver disk v (with_call (record v { stop = true }) t None) t o (Refused (Pause (Space need)))
-lack_advances disk v t need o asks at =
+lack_advances disk v t need o asks lacks =
     let s : Standing false disk v = asks.stands in
     let w : View = with_call (record v { stop = true }) t None in
     let within : t < length v.calls = inside disk v t o asks in
+    let still : change_of (state disk v) (register_in v.held t) (rest_of v t) (stage_of v t) ≡ Nothing =
+    lacks_still (state disk v) (register_in v.held t) (rest_of v t) (stage_of v t) need lacks in
     let made : Made disk v w t (cleared_by (stage_of v t)) = record {
       mine = no_region;
       act = None;
       after = None;
       happens = λ told stands. record {
         event = subst (λ (k : ℕ). Event told v.log (maps v) (maps w) (state disk v) (state disk w) no_region k None)
-            (sym (ap cleared_by at)) (quiet refl (same_words disk v));
+            (sym (still_clears (state disk v) (register_in v.held t) (rest_of v t) (stage_of v t) still))
+            (quiet refl (same_words disk v));
         kept = kept_own disk told v w t None stands refl;
         first = stands.first;
         bounded = bounded_refused (length v.space.list) v.free v.stop v.calls t within stands.bounded;
@@ -421,10 +390,9 @@ lack_advances disk v t need o asks at =
       };
     } in
     advances disk v w t o (Refused (Pause (Space need))) asks made refl
-    (subst (λ (g : Option Stage). Applies (maps v) (maps w) (state disk v) (state disk w)
-    (change_of (state disk v) (register_in v.held t) (rest_of v t) g)) (sym at) (refl, same_words disk v))
+    (subst (Applies (maps v) (maps w) (state disk v) (state disk w)) (sym still) (refl, same_words disk v))
     (record {
-      lacks = subst (λ (g : Option Stage). Lacks g need) (sym at) refl;
+      lacks = lacks;
       call = call_here v w t None refl within;
       own =
           record { history = refl; registers = refl; values = refl };

@@ -22,6 +22,7 @@ pub KeepsOthers_both : (u v w : View) (t : ℕ) → KeepsOthers u v t → KeepsO
 KeepsOthers_both u v w t one two = record {
   globals = two.globals ∙ one.globals;
   words = two.words ∙ one.words;
+  forwards = two.forwards ∙ one.forwards;
   threads = two.threads ∙ one.threads;
   capacity = two.capacity ∙ one.capacity;
   calls = λ k differ. two.calls k differ ∙ one.calls k differ;
@@ -71,12 +72,12 @@ going tells disk v w t o result is outcome = subst (Outcome tells disk v w t o) 
 pub going_continues : (disk : OnDisk) (v w : View) (t : ℕ) (o : Op) → Goes disk v w t o → Continues (call_of w t) o
 going_continues disk v w t o is = subst (λ (c : Option Call). Continues c o) (sym is.call) refl
 
-pub going_nearer : (disk : OnDisk) (v w : View) (t : ℕ) (o : Op) → Goes disk v w t o
-    → events_left (length v.forward) (stage_of w t) + 1 ≤ events_left (length v.forward) (stage_of v t)
-going_nearer disk v w t o is =
-    let at : events_left (length v.forward) (stage_of w t) ≡ events_left (length v.forward) (Some is.stage) =
-    ap (λ (c : Option Call). events_left (length v.forward) (stage_in c)) is.call in
-    omega (arith, at, is.nearer)
+pub going_nearer : (disk : OnDisk) (v w : View) (t : ℕ) (o : Op) (most : ℕ) → length v.forward ≤ most
+    → Goes disk v w t o → events_left most (stage_of w t) + 1 ≤ events_left most (stage_of v t)
+going_nearer disk v w t o most few is =
+    let at : events_left most (stage_of w t) ≡ events_left most (Some is.stage) =
+    ap (λ (c : Option Call). events_left most (stage_in c)) is.call in
+    omega (arith, at, is.nearer most few)
 
 -- what an event leaves of the call, and of the history
 record Leaves (v w : View) (t : ℕ) (o : Op) : Type 0 where

@@ -31,7 +31,7 @@ use Rattle.melt_core.specs.Stages.{Next, Probes, ReadAs, ReadsAt, NeedsNoRead, r
 use Rattle.melt_core.specs.Stages.{further, retried, reached}
 use Rattle.melt_core.specs.Advances.{Asks, AdvancesOver, IsDamage, MayAdvance, Moves, Uses, Outcome, reads_after}
 use Rattle.melt_core.specs.Views.{View, maps, state, call_of, stage_in, stage_of}
-use Rattle.melt_core.proofs.Asked.{LacksWord, inside, lacks_word}
+use Rattle.melt_core.proofs.Asked.{inside}
 
 -- the most of all stages
 reads_most : (stage : Option Stage) → reads_left stage ≤ 2
@@ -79,37 +79,36 @@ head_reads s search shape (Stub scion) next is =
 
 -- an event after which the call goes on leaves it no more reads
 reads_next : (maps : Maps) (s : State) (register : ℕ → ℕ) (stop : Bool) (o : Op) (stage : Option Stage) (next : Stage)
-    → Next maps s register stop o stage next → LacksWord stage → reads_left (Some next) ≤ reads_left stage
-reads_next maps s register stop o None next is lacks = reads_most (Some next)
-reads_next maps s register stop o (Some (Polled task)) next is lacks = reads_most (Some next)
-reads_next maps s register stop o (Some (Headed address shape access)) next is lacks = reads_most (Some next)
-reads_next maps s register stop o (Some (Looked place found target dst)) next is lacks =
+    → Next maps s register stop o stage next → reads_left (Some next) ≤ reads_left stage
+reads_next maps s register stop o None next is = reads_most (Some next)
+reads_next maps s register stop o (Some (Polled task)) next is = reads_most (Some next)
+reads_next maps s register stop o (Some (Headed address shape access)) next is = reads_most (Some next)
+reads_next maps s register stop o (Some (Looked place found target dst)) next is =
     reads_as 0 next (Cleared place found target dst) is (omega arith)
-reads_next maps s register stop o (Some (Cleared place found target dst)) next is lacks = absurd is
-reads_next maps s register stop o (Some (Claimed address shape stored dst)) next is lacks =
+reads_next maps s register stop o (Some (Cleared place found target dst)) next is = absurd is
+reads_next maps s register stop o (Some (Claimed address shape stored dst)) next is =
     reads_as 0 next (Claimed address shape (stored + 1) dst) is.1 (omega arith)
-reads_next maps s register stop o (Some (Lacking need)) next is lacks = absurd is
-reads_next maps s register stop o (Some (Searching search)) next is lacks = reads_most (Some next)
-reads_next maps s register stop o (Some (Missed search)) next is lacks = reads_most (Some next)
-reads_next maps s register stop o (Some (HeadRead search shape)) next is lacks =
+reads_next maps s register stop o (Some (Lacking need)) next is = absurd is
+reads_next maps s register stop o (Some (Searching search)) next is = reads_most (Some next)
+reads_next maps s register stop o (Some (Missed search)) next is = reads_most (Some next)
+reads_next maps s register stop o (Some (HeadRead search shape)) next is =
     reads_as 1 next (BodyRead search shape) is (omega arith)
-reads_next maps s register stop o (Some (BodyRead search shape)) next is lacks =
+reads_next maps s register stop o (Some (BodyRead search shape)) next is =
     elim (cases_lt (s.base.size + 1) (s.free + cost_of shape)) [
       | inl past ↦ reads_as 0 next (LackingCopy search shape) (is.1 past) (omega arith)
       | inr fits ↦ reads_as 0 next (Copying (record { search = search; address = s.free; shape = shape }) 0) (is.0 fits)
           (omega arith)
     ]
-reads_next maps s register stop o (Some (Copying a stored)) next is lacks =
+reads_next maps s register stop o (Some (Copying a stored)) next is =
     elim (cases_lt (stored + 1) (cost_of a.shape)) [
       | inl more ↦ reads_as 0 next (Copying a (stored + 1)) (is.0 more) (omega arith)
-      | inr all ↦ reads_as 0 next (Copied a)
-          (is.1 (let few : stored < cost_of a.shape = lacks a stored refl in omega arith)) (omega arith)
+      | inr all ↦ reads_as 0 next (Copied a) (is.1 all) (omega arith)
     ]
-reads_next maps s register stop o (Some (Copied a)) next is lacks =
+reads_next maps s register stop o (Some (Copied a)) next is =
     reads_probes s a.search (reached a.search a.address) (Retrying (retried a)) next (omega arith) (omega arith) is
-reads_next maps s register stop o (Some (Retrying a)) next is lacks =
+reads_next maps s register stop o (Some (Retrying a)) next is =
     reads_probes s a.search (Copied a) (Retrying (retried a)) next (omega arith) (omega arith) is
-reads_next maps s register stop o (Some (LackingCopy search shape)) next is lacks = absurd is
+reads_next maps s register stop o (Some (LackingCopy search shape)) next is = absurd is
 
 -- the two stages from which the disk is read
 needs_none : (stage : Stage) → ((search : Search) → stage ≡ Missed search → ⊥)
@@ -164,8 +163,7 @@ reads_behind disk v w t o Going asks is =
     omega (
       arith,
       at,
-      reads_next (maps v) (state disk v) (register_in v.held t) v.stop o (stage_of v t) is.stage is.next
-          (lacks_word disk v t o asks),
+      reads_next (maps v) (state disk v) (register_in v.held t) v.stop o (stage_of v t) is.stage is.next,
     )
 reads_behind disk v w t o (Answered reply) asks is = omega arith
 reads_behind disk v w t o (Refused why) asks is = omega arith

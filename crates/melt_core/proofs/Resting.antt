@@ -206,9 +206,10 @@ no_name words zero = refl
 no_name words (suc k) = get_or_replicate words k None
 
 -- a new buffer
-rest_new : (threads u : ℕ) → u < threads → length (get_or (replicate threads (replicate max_rest 0)) u []) ≡ max_rest
+rest_new : (threads u : ℕ) → u < threads
+    → length {A = ℕ} (get_or (replicate threads (replicate max_rest 0)) u []) ≡ max_rest
 rest_new zero u below = absurd (omega arith)
-rest_new (suc threads) zero below = length-replicate max_rest 0
+rest_new (suc threads) zero below = length-replicate {A = ℕ} max_rest 0
 rest_new (suc threads) (suc u) below = rest_new threads u (omega arith)
 
 -- a new heap of these words, under threads that made nothing

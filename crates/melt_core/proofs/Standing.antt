@@ -233,6 +233,7 @@ advances_where tells disk v w t o result asks made capacity applies outcome clea
       others = record {
         globals = ap (λ (b : Base). b.globals) evolves.base;
         words = ap (λ (b : Base). b.size) evolves.base;
+        forwards = ap (λ (b : Base). b.forwards) evolves.base;
         threads = h.kept.threads;
         capacity = capacity;
         calls = λ u differ. call_there v w t u made.after h.kept.calls differ;

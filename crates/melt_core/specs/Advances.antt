@@ -78,6 +78,7 @@ pub record MayMove (v : View) (t : ℕ) (o : Op) : Type 0 where
 pub record KeepsOthers (v w : View) (t : ℕ) : Type 0 where
   pub globals : length w.globals ≡ length v.globals
   pub words : length w.space.list ≡ length v.space.list
+  pub forwards : length w.forward ≡ length v.forward
   pub threads : length w.held ≡ length v.held
   pub capacity : w.capacity ≡ v.capacity
   pub calls : (u : ℕ) → u ≢ t → call_of w u ≡ call_of v u
@@ -96,7 +97,7 @@ pub record Goes (disk : OnDisk) (v w : View) (t : ℕ) (o : Op) : Type 0 where
   pub stage : Stage
   pub next : Next (maps v) (state disk v) (register_in v.held t) v.stop o (stage_of v t) stage
   pub call : call_of w t ≡ Some (record { op = o; stage = stage })
-  pub nearer : events_left (length v.forward) (Some stage) < events_left (length v.forward) (stage_of v t)
+  pub nearer : (most : ℕ) → length v.forward ≤ most → events_left most (Some stage) < events_left most (stage_of v t)
   pub own : KeepsOwn v w t
   pub stop : w.stop ≡ v.stop
 

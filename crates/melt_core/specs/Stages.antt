@@ -229,7 +229,7 @@ Next maps s register stop o (Some (BodyRead search shape)) next =
     → next ≡ Copying (record { search = search; address = s.free; shape = shape }) 0)
     × (s.base.size + 1 < s.free + cost_of shape → next ≡ LackingCopy search shape)
 Next maps s register stop o (Some (Copying a stored)) next =
-    (stored + 1 < cost_of a.shape → next ≡ Copying a (stored + 1)) × (stored + 1 ≡ cost_of a.shape → next ≡ Copied a)
+    (stored + 1 < cost_of a.shape → next ≡ Copying a (stored + 1)) × (cost_of a.shape ≤ stored + 1 → next ≡ Copied a)
 Next maps s register stop o (Some (Copied a)) next =
     Probes s a.search (reached a.search a.address) (Retrying (retried a)) next
 Next maps s register stop o (Some (Retrying a)) next = Probes s a.search (Copied a) (Retrying (retried a)) next
@@ -249,7 +249,7 @@ MustPause forwards register stop o (Some stage) = ⊥
 abbrev pub probes_left : ℕ → Search → ℕ
 probes_left forwards search = 2 * (forwards - search.tried)
 
--- how many events a call has at most from this stage on, where there are so many forwarding words
+-- how many events a call has at most from this stage on, where there are no more than so many forwarding words
 abbrev pub events_left : ℕ → Option Stage → ℕ
 events_left forwards None = 136 + 2 * forwards
 events_left forwards (Some (Polled task)) = 135 + 2 * forwards

@@ -1,8 +1,8 @@
 //! How a copy of a Body is made: words are claimed as for a new object, and stored while they belong to one thread.
 //!
 //! The header is stored last here too, but makes no object: that is done by the forwarding word, in one exchange.
-ghost use Rattle.std.specs.Prelude.{◌≡◌, ◌+◌, ◌<◌, ◌≤◌, Some};
-ghost use Rattle.melt_word.specs.Words.{cost_of};
+ghost use Rattle.std.specs.Prelude.{◌≡◌, ◌<◌, ◌≤◌, length, Some};
+ghost use Rattle.melt_word.specs.Words.{IsDiskHome, IsShape, cost_of};
 ghost use Rattle.melt_scion.specs.Commits.{copy_word};
 ghost use Rattle.melt_core.specs.Advances.{Moves, MayMove};
 ghost use Rattle.melt_core.specs.Views.{rest_of, stage_of, view};
@@ -15,7 +15,13 @@ use melt_word::{Header, HomeWord, Shape, cost, encode_header, encode_home};
 
 impl Core {
     /// Claims the words for a copy of the Body that was read.
-    pub(crate) fn claim_copy(&mut self, thread: u32, op: Op, search: Search, shape: Shape) -> StepResult
+    pub(crate) fn claim_copy(
+        &mut self,
+        thread: u32,
+        op: Op,
+        search: Search,
+        shape: Shape,
+    ) -> StepResult
         requires asks { MayMove (view self.old) thread op }
         requires stage { stage_of (view self.old) thread ≡ Some (Stage.BodyRead search shape) }
         ensures { Moves (view self.old) (view self.new) thread op result }
@@ -37,6 +43,12 @@ impl Core {
 
     /// A word of a copy behind its header: the home word, which has no scion yet, and then the words that were read.
     fn word_of_copy(&self, thread: u32, activation: Activation, k: u32) -> u64
+        requires thread { thread < length (view self.now).records }
+        requires home { IsDiskHome activation.search.home }
+        requires small { IsShape activation.shape }
+        requires first { 1 ≤ k }
+        requires last { k < cost_of activation.shape }
+        ensures { result ≡ copy_word activation.search.home activation.shape (rest_of (view self.now) thread) k }
     {
         if k == 1 {
             return encode_home(Some(HomeWord {
@@ -48,7 +60,13 @@ impl Core {
     }
 
     /// Stores the next word of a copy, the header last.
-    pub(crate) fn store_copy(&mut self, thread: u32, op: Op, activation: Activation, stored: u32) -> StepResult
+    pub(crate) fn store_copy(
+        &mut self,
+        thread: u32,
+        op: Op,
+        activation: Activation,
+        stored: u32,
+    ) -> StepResult
         requires asks { MayMove (view self.old) thread op }
         requires stage { stage_of (view self.old) thread ≡ Some (Stage.Copying activation stored) }
         ensures { Moves (view self.old) (view self.new) thread op result }

@@ -157,8 +157,10 @@ impl Core {
     pub(crate) fn number_of_home(&self, home: u32) -> u32
         ensures { (n : ℕ) → (maps (view self.now)).home home ≡ Some n → result ≡ n }
     {
-        let names = self.heap.names.as_ref();
-        names.and_then(|names| names.homes.get(home)).unwrap_or(0)
+        match &self.heap.names {
+            Some(names) => names.homes.get(home).unwrap_or(0),
+            None => 0,
+        }
     }
 
     /// Claims so many words, and answers their address. Where they end past the last word of the heap they are claimed

@@ -114,7 +114,9 @@ impl Core {
         ensures { HasEntered (view self.old) (view self.new) activation }
     {
         let Activation {
-            search, address, ..
+            search,
+            address,
+            ..
         } = activation;
         self.heap.forward.items[search.tried as usize] = pack(search.home, address);
         let number = self.number_of_home(search.home);

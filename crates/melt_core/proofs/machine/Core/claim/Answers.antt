@@ -1,20 +1,26 @@
-use Rattle.std.proofs.Common.{refl, sym, subst, arith}
+use Rattle.std.proofs.Common.{sym, ap, subst, arith, ◌∙◌, ◌≡◌, ℕ}
+use Rattle.std.specs.Prelude.{Some}
 use Rattle.melt_core.specs.Advances.{AdvancesOver}
+use Rattle.melt_core.specs.Changed.{with_call}
 use Rattle.melt_core.specs.declared.answer.StepResult.TheVariants.{Going}
 use Rattle.melt_core.specs.declared.call.Stage.{Stage}
-use Rattle.melt_core.specs.declared.call.Stage.TheVariants.{Polled}
+use Rattle.melt_core.specs.declared.call.Stage.TheVariants.{Polled, Claimed, Lacking}
 use Rattle.melt_core.specs.declared.call.Task.TheVariants.{Make}
-use Rattle.melt_core.specs.Views.{View, view}
+use Rattle.melt_core.specs.Views.{View, call_of, view}
 use Rattle.melt_core.proofs.Asked.{asks_over, call_at}
-use Rattle.melt_core.proofs.Making.{claim_advances}
-use Rattle.melt_core.proofs.machine.Core.claim.Goals.{then-self-words, else-self-words}
+use Rattle.melt_core.proofs.Making.{around_make, claim_advances}
+use Rattle.melt_core.proofs.machine.Core.claim.Goals.{in-Some, in-None}
 use Rattle.melt_core.proofs.machine.Core.claim.Goals as goal
 
 pub set_stage-requires-clause-call : goal.set_stage-requires-clause-call
 set_stage-requires-clause-call c =
     let disk = c.requires.asks.disk in
-    let stage : Stage = Polled (Make c.args.dst c.args.shape) in
-    (stage, call_at disk (view c.args.self.now) c.args.thread c.args.op stage c.requires.asks.asks c.requires.stage)
+    let stage : Stage = Polled (Make c.args.dst c.args.shape) in (
+      stage,
+      subst (λ (m : View). call_of m c.args.thread ≡ Some (record { op = c.args.op; stage = stage }))
+          (sym c.claim_words.ensures.moves)
+          (call_at disk (view c.args.self.now) c.args.thread c.args.op stage c.requires.asks.asks c.requires.stage),
+    )
 
 pub returns : goal.returns
 returns c = record {
@@ -22,18 +28,20 @@ returns c = record {
       let asks = asks_over (view c.args.self.now) c.args.thread c.args.op c.requires.asks disk stands in
       let v : View = view c.args.self.now in
       subst (λ (w : View). AdvancesOver disk v w c.args.thread c.args.op Going) (sym c.set_stage.ensures)
+      (subst (λ (m : View). AdvancesOver disk v
+      (with_call m c.args.thread (Some (record { op = c.args.op; stage = c.match-claim_words.stage }))) c.args.thread
+      c.args.op Going) (sym c.claim_words.ensures.moves)
       (claim_advances disk (record {
-        asks = asks;
-        at = c.requires.stage;
+        around = around_make disk v c.args.thread c.args.op c.args.dst c.args.shape asks c.requires.stage;
         needed = c.cost-need.ensures;
-        sum = refl;
-        fits = λ below. elim c.if-self-words.branch [
-          | then-self-words w ↦ absurd (omega (arith, below, w.if-self-words.true, c.words.ensures.value))
-          | else-self-words w ↦ w.stage-is
+        fits = λ below. elim c.match-claim_words.branch [
+          | in-Some w ↦ w.stage-is
+              ∙ ap (λ (a : ℕ). Claimed a c.args.shape 0 c.args.dst) w.in-Some.ensures.room.0
+          | in-None w ↦ absurd (omega (arith, below, w.in-None.ensures.room))
         ];
-        lacks = λ above. elim c.if-self-words.branch [
-          | then-self-words w ↦ w.stage-is
-          | else-self-words w ↦ absurd (omega (arith, above, w.if-self-words.false, c.words.ensures.value))
+        lacks = λ above. elim c.match-claim_words.branch [
+          | in-Some w ↦ absurd (omega (arith, above, w.in-Some.ensures.room.1))
+          | in-None w ↦ w.stage-is ∙ ap Lacking c.cost-need.ensures
         ];
-      }));
+      })));
 }

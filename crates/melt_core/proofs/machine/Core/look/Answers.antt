@@ -3,8 +3,9 @@ use Rattle.melt_core.specs.Advances.{AdvancesOver}
 use Rattle.melt_core.specs.declared.answer.StepResult.TheVariants.{Going}
 use Rattle.melt_core.specs.Views.{View, stage_of, view}
 use Rattle.melt_core.proofs.Asked.{asks_over, call_at}
-use Rattle.melt_core.proofs.Loading.{looks_at, looks_stage, look_advances, look_reads, finds_null, finds_clean}
-use Rattle.melt_core.proofs.Objects.{place_no_home, tagged_is}
+use Rattle.melt_core.proofs.Loading.{looks_at, looks_stage, look_advances, home_advances, look_reads}
+use Rattle.melt_core.proofs.Loading.{finds_null, finds_clean}
+use Rattle.melt_core.proofs.Objects.{tagged_is}
 use Rattle.melt_core.proofs.machine.Core.look.Goals as goal
 
 pub set_stage-requires-clause-call : goal.set_stage-requires-clause-call
@@ -24,13 +25,15 @@ returns-in-Stale c = record {
       (c.in-Stale.ensures disk));
 }
 
-pub unreachable-requires : goal.unreachable-requires
-unreachable-requires c =
-    let disk = c.requires.asks.disk in
-    let v : View = view c.args.self.now in
-    place_no_home disk v c.args.place c.in-Disk.field-0 c.requires.asks.no_homes c.requires.asks.asks.stands
-    (looks_at disk v c.args.thread c.args.op c.args.place c.args.dst c.requires.asks.asks c.requires.stage).1
-    (c.in-Disk.ensures disk)
+pub returns-in-Disk : goal.returns-in-Disk
+returns-in-Disk c = record {
+  over = λ disk stands.
+      let asks = asks_over (view c.args.self.now) c.args.thread c.args.op c.requires.asks disk stands in
+      let v : View = view c.args.self.now in
+      subst (λ (w : View). AdvancesOver disk v w c.args.thread c.args.op Going) (sym c.set_stage-in-Disk.ensures)
+      (home_advances disk v c.args.thread c.args.op c.args.place c.in-Disk.home c.args.dst asks c.requires.stage
+      (c.in-Disk.ensures disk));
+}
 
 pub returns-in-Null : goal.returns-in-Null
 returns-in-Null c = record {
