@@ -1,5 +1,5 @@
 -- What a read of a record tells: how its load goes on, and that no record is found damaged where the disk tells its words.
-use Rattle.std.proofs.Common.{◌≡◌, ℕ, ◌+◌, ◌<◌, ◌≤◌, inl, inr, List, [], ◌++◌, length, take, drop, replicate, get_or, length-append}
+use Rattle.std.proofs.Common.{◌≡◌, ℕ, ◌+◌, ◌<◌, ◌≤◌, ◌≢◌, zero, suc, inl, inr, List, [], ◌++◌, length, take, drop, replicate, get_or, length-append}
 use Rattle.std.proofs.Common.{Result, Ok, Err, OnOk, IfOk, IfErr}
 use Rattle.std.proofs.Common.{refl, sym, ◌∙◌, ap, subst, arith}
 use Rattle.std.proofs.Math.ListN.{set, length-set}
@@ -165,6 +165,10 @@ head_stands disk v home end first second head ends is same_first same_second =
     (subst (λ (a : ℕ). IsHead home end a (disk.image (home + 1)) head) same_first
     (subst (λ (b : ℕ). IsHead home end first b head) same_second is))
 
+positive : (n : ℕ) → n ≢ 0 → 0 < n
+positive zero some = absurd (some refl)
+positive (suc n) some = omega arith
+
 -- The first two words at a home were read, in an event of a call that missed the home.
 pub record ReadsHead (end : ℕ) (image : Option (List ℕ)) (v : View) (t : ℕ) (o : Op) (search : Search) (words : List ℕ)
     : Type 0 where
@@ -231,7 +235,8 @@ module _ (end : ℕ) (image : Option (List ℕ)) (v : View) (t : ℕ) (o : Op) (
               })
           | inr some ↦
               subst (λ (b : Bool). Known told (maps v) (state disk v) (rest_of v t)
-              (if b then BodyRead search shape else HeadRead search shape)) (sym some.0) (missed.0, head, missed.1)
+              (if b then BodyRead search shape else HeadRead search shape)) (sym some.0)
+              (missed.0, head, positive (shape.refs + shape.nums) some.1, missed.1)
         ]
 
     -- and at a Stub
@@ -472,7 +477,7 @@ module _ (end : ℕ) (image : Option (List ℕ)) (v : View) (t : ℕ) (o : Op) (
         → Standing true disk v → ⊥
     rest_sound damaged bad tells stands =
         let known = known_rest true stands in
-        no_slot_damage (state disk v).base search.home (known.2 refl) shape words damaged (known.1.on_disk refl)
+        no_slot_damage (state disk v).base search.home (known.3 refl) shape words damaged (known.1.on_disk refl)
         (λ i below. rest_told tells i (omega arith))
         (subst (λ (e : ℕ). IsSlotDamage search.home e shape.refs words damaged) (sym ends) bad)
 
