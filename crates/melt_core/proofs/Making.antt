@@ -3,7 +3,7 @@ use Rattle.std.proofs.Common.{◌≡◌, ℕ, ◌+◌, ◌<◌, ◌≤◌, inl, 
 use Rattle.std.proofs.Common.{◌∷◌, ◌++◌, length, refl, sym, ◌∙◌, ap, subst, arith}
 use Rattle.std.proofs.Math.ListN.{set}
 use Rattle.std.proofs.lemmas.Bool.{cases_lt, eq-eqb, ne_eqb}
-use Rattle.std.specs.Prelude.{Bool, true, false, Option, None, Some, IsSome, if◌then◌else◌}
+use Rattle.std.specs.Prelude.{Bool, false, Option, None, Some, IsSome, if◌then◌else◌}
 use Rattle.std.specs.List.{filter_map, cons_option}
 use Rattle.melt_model.specs.History.{made as makes, shape_made}
 use Rattle.melt_model.proofs.Histories.{made-append}
@@ -37,7 +37,7 @@ use Rattle.melt_core.specs.declared.call.Stage.TheVariants.{Retrying, LackingCop
 use Rattle.melt_core.specs.declared.call.Task.TheVariants.{Make as Making}
 use Rattle.melt_core.specs.Answering.{Answers, entry}
 use Rattle.melt_core.specs.Known.{Known, Evolves, region, region_of}
-use Rattle.melt_core.specs.Events.{Event, quiet, claims as claims_words, publishes}
+use Rattle.melt_core.specs.Events.{Event, claims as claims_words, publishes}
 use Rattle.melt_core.specs.Stages.{Next, Fits, MustPause, Applies, Nothing, Word, Free, Publish}
 use Rattle.melt_core.specs.Stages.{change_of, cleared_by, task_of, Lacks}
 use Rattle.melt_core.specs.Changed.{stopped, with_call, with_register, noted}
@@ -45,11 +45,11 @@ use Rattle.melt_core.specs.Advances.{Asks, AdvancesOver, InBounds, HasRoomFor, S
 use Rattle.melt_core.specs.Views.{View, Standing, maps, state, shown, rest_of}
 use Rattle.melt_core.specs.Views.{call_of, stage_of, claimed_in, claims_left, maps_of, numbers_of}
 use Rattle.melt_core.specs.Views.{registers_in, held_value, held_values, values_of}
-use Rattle.melt_core.proofs.Asked.{call_at, fits_at, known_at, inside, next_fits, still_clears}
+use Rattle.melt_core.proofs.Asked.{call_at, fits_at, known_at, inside, next_fits}
 use Rattle.melt_core.proofs.Claims.{bounded_is, bounded_lacking, bounded_call}
-use Rattle.melt_core.proofs.Claims.{bounded_refused, claims_ends}
+use Rattle.melt_core.proofs.Claims.{claims_ends}
 use Rattle.melt_core.proofs.Counting.{Counts_same, Counts_published, room_for}
-use Rattle.melt_core.proofs.Words.{same_words, word_set}
+use Rattle.melt_core.proofs.Words.{word_set}
 use Rattle.melt_core.proofs.Answers.{new_answers}
 use Rattle.melt_core.proofs.Evolving.{evolves_event}
 use Rattle.melt_core.proofs.Staying.{hold_stays}

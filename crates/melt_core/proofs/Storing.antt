@@ -1,8 +1,7 @@
 -- Private stores: a thread sets a word of the region that its call owns, and the call goes on with that region.
-use Rattle.std.proofs.Common.{◌≡◌, ◌≢◌, ℕ, ◌+◌, ◌<◌, ◌≤◌, inl, inr, length, refl, sym, ◌∙◌, ap, subst, arith}
-use Rattle.std.proofs.Math.ListN.{set}
+use Rattle.std.proofs.Common.{◌≡◌, ◌≢◌, ℕ, ◌+◌, ◌<◌, ◌≤◌, inl, inr, refl, sym, ◌∙◌, ap, subst, arith}
 use Rattle.std.proofs.lemmas.Bool.{cases_eq}
-use Rattle.std.specs.Prelude.{Bool, false, Option, None, Some}
+use Rattle.std.specs.Prelude.{Bool, false, None, Some}
 use Rattle.melt_model.specs.declared.operations.Op.{Op}
 use Rattle.melt_word.specs.Words.{cost_of}
 use Rattle.melt_word.specs.declared.header.Shape.{Shape}
@@ -15,22 +14,14 @@ use Rattle.melt_scion.specs.Changes.{WordChanges}
 use Rattle.melt_scion.specs.Heaps.{OnDisk, register_in}
 use Rattle.melt_scion.proofs.Geometry.{one_header, header_moves}
 use Rattle.melt_core.specs.declared.answer.StepResult.TheVariants.{Going}
-use Rattle.melt_core.specs.declared.call.Call.{Call}
 use Rattle.melt_core.specs.declared.call.Stage.{Stage}
 use Rattle.melt_core.specs.Known.{Known, Evolves, region, region_of}
 use Rattle.melt_core.specs.Events.{Event, stores}
-use Rattle.melt_core.specs.Stages.{Fits, Next, Applies, Word, change_of, cleared_by}
-use Rattle.melt_core.specs.Changed.{with_call}
+use Rattle.melt_core.specs.Stages.{Next, Applies, Word, change_of, cleared_by}
 use Rattle.melt_core.specs.Advances.{Asks, AdvancesOver}
-use Rattle.melt_core.specs.Views.{View, Standing, maps, state, rest_of, call_of, stage_of, claimed_in}
-use Rattle.melt_core.proofs.Asked.{call_at, inside, next_fits}
-use Rattle.melt_core.proofs.Claims.{bounded_is, bounded_call, claims_next}
-use Rattle.melt_core.proofs.Counting.{Counts_same}
+use Rattle.melt_core.specs.Views.{View, Standing, maps, state, rest_of, stage_of}
 use Rattle.melt_core.proofs.Evolving.{evolves_event}
-use Rattle.melt_core.proofs.Going.{goes}
-use Rattle.melt_core.proofs.Plain.{as_told}
 use Rattle.melt_core.proofs.Retaining.{retained, retains}
-use Rattle.melt_core.proofs.Staying.{hold_stays}
 use Rattle.melt_core.proofs.Words.{word_set}
 
 -- an object apart from a region does not start in it
