@@ -28,7 +28,7 @@ use Rattle.melt_core.proofs.Resting.{stands_stopped}
 use Rattle.melt_step.specs.declared.thread.ThreadState.{ThreadState}
 use Rattle.melt_step.specs.declared.thread.Mode.{Mode}
 use Rattle.melt_step.specs.declared.thread.Mode.TheVariants.{Running, Due, Silent, Collecting, Asked, Lacking, Ended}
-use Rattle.melt_step.specs.Threads.{owes_silent, Waits, IsEnded, TakesReply, DropsIfEnded, ThreadTold, ThreadStep}
+use Rattle.melt_step.specs.Threads.{most_forwards, owes_silent, Waits, IsEnded, TakesReply, DropsIfEnded, ThreadTold, ThreadStep}
 use Rattle.melt_step.specs.Threads.{SetsStop}
 use Rattle.melt_step.proofs.Cuts.{alive_same}
 use Rattle.melt_step.proofs.Modes.{dropped_keeps, nothing_keeps, stop_keeps}
@@ -88,9 +88,11 @@ pub KeepsOthers_both : (v u w : View) (t : ℕ) → KeepsOthers v u t → KeepsO
 KeepsOthers_both v u w t first then = record {
   globals = then.globals ∙ first.globals;
   words = then.words ∙ first.words;
+  forwards = then.forwards ∙ first.forwards;
   threads = then.threads ∙ first.threads;
   capacity = then.capacity ∙ first.capacity;
   calls = λ u other. then.calls u other ∙ first.calls u other;
+  records = λ u other. then.records u other ∙ first.records u other;
   registers = λ u other. then.registers u other ∙ first.registers u other;
   values = λ u other. then.values u other ∙ first.values u other;
 }
@@ -203,15 +205,16 @@ told_step v w x t o reply s after running next no_collect stood stands others an
 
 -- an event behind which the call goes on
 pub goes_step : (v w : View) (t : ℕ) (o : Op) (s : ThreadState) → s.mode ≡ Running → s.op ≡ Some o → o ≢ Collect
-    → Standing true no_homes_on v → AdvancesOver no_homes_on v w t o Going → ThreadStep v w t s s × SetsStop v w s
-goes_step v w t o s running next no_collect stands advances =
+    → Standing true no_homes_on v → length v.forward ≤ most_forwards → AdvancesOver no_homes_on v w t o Going
+    → ThreadStep v w t s s × SetsStop v w s
+goes_step v w t o s running next no_collect stands few advances =
     let goes : Goes no_homes_on v w t o = advances.outcome in
     let call : Call = record { op = o; stage = goes.stage } in
-    let nearer : events_left (stage_in (call_of w t)) < events_left (stage_in (call_of v t)) =
-    subst (λ (now : Option Call). events_left (stage_in now) < events_left (stage_in (call_of v t)))
-    (sym goes.call) goes.nearer in
+    let nearer : events_left most_forwards (stage_in (call_of w t)) < events_left most_forwards (stage_in (call_of v t)) =
+    subst (λ (now : Option Call). events_left most_forwards (stage_in now) < events_left most_forwards (stage_in (call_of v t)))
+    (sym goes.call) (goes.nearer most_forwards few) in
     let step : ThreadStep v w t s s = record {
-      stands = advances.keeps true stands;
+      stands = advances.keeps true (λ told. tt) stands;
       others = advances.others;
       what = inr (inl (record {
         same = refl;
@@ -253,7 +256,7 @@ lacks_step v w t o (Refused (refusal.Pause pause.Forward)) s running next no_col
 lacks_step v w t o (Refused (refusal.Pause (pause.Space need))) s running next no_collect stands advances wants =
     let refused : IsRefused v w t o need = advances.outcome in
     let step : ThreadStep v w t s (record s { mode = Lacking }) = record {
-      stands = advances.keeps true stands;
+      stands = advances.keeps true (λ told. tt) stands;
       others = advances.others;
       what = inr (inr (inl (record {
         running = running;

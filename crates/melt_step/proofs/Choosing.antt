@@ -25,7 +25,8 @@ use Rattle.melt_core.specs.Answering.{with_entry}
 use Rattle.melt_core.specs.Views.{View, view, values_of, registers_in, held_values, IsQuiet, Standing}
 use Rattle.melt_core.specs.Changed.{stopped}
 use Rattle.melt_core.specs.Epochs.{no_registers, IsNewRest, AtRest, core_of, HasFinished, HasDropped}
-use Rattle.melt_core.specs.Advances.{MayAdvance, AdvancesOver, KeepsOthers, IsAnswered, Goes, Refuses}
+use Rattle.melt_core.specs.Advances.{MayAdvance, AdvancesOver, KeepsOthers, IsAnswered, Goes, Refuses, TellsDisk}
+use Rattle.melt_core.proofs.NoHomes.{as_told_by}
 use Rattle.melt_core.specs.declared.machine.Rest.{Rest}
 use Rattle.melt_core.specs.declared.answer.Pause.TheVariants as pause
 use Rattle.melt_core.specs.declared.answer.Refusal.{Refusal}
@@ -106,7 +107,7 @@ event_stays threads globals v w all after t a stands others log values same =
 
 -- what is left of history and registers by a call that paused
 paused_stays : (threads globals : ℕ) (v w : View) (all after : ℕ → SoFar) (t : ℕ) (o : Op) (cause : Refusal)
-    → AllStand threads globals v all → Standing true no_homes_on w → KeepsOthers v w t → Refuses v w t o cause
+    → AllStand threads globals v all → Standing true no_homes_on w → KeepsOthers v w t → Refuses (Unit {0}) no_homes_on v w t o cause
     → ((u : ℕ) → after u ≡ all u) → AllStand threads globals w after
 paused_stays threads globals v w all after t o (refusal.Pause pause.Asked) a stands others refused same =
     event_stays threads globals v w all after t a stands others (ap (λ (x : View). x.log) refused.same)
@@ -114,9 +115,11 @@ paused_stays threads globals v w all after t o (refusal.Pause pause.Asked) a sta
 paused_stays threads globals v w all after t o (refusal.Pause (pause.Space need)) a stands others refused same =
     event_stays threads globals v w all after t a stands others refused.own.history refused.own.values same
 paused_stays threads globals v w all after t o (refusal.Pause pause.Forward) a stands others refused same =
-    absurd refused
-paused_stays threads globals v w all after t o refusal.DiskFault a stands others refused same = absurd refused
-paused_stays threads globals v w all after t o (refusal.Damaged damaged) a stands others refused same = absurd refused
+    event_stays threads globals v w all after t a stands others refused.own.history refused.own.values same
+paused_stays threads globals v w all after t o refusal.DiskFault a stands others refused same =
+    event_stays threads globals v w all after t a stands others refused.1.own.history refused.1.own.values same
+paused_stays threads globals v w all after t o (refusal.Damaged damaged) a stands others refused same =
+    event_stays threads globals v w all after t a stands others refused.lost.own.history refused.lost.own.values same
 
 -- a thread that was answered, and the others
 answered_stands : (threads globals : ℕ) (v w : View) (all after : ℕ → SoFar) (t : ℕ) (o : Op) (reply : Reply)
@@ -166,13 +169,13 @@ event_stands : (threads globals : ℕ) (v w : View) (all after : ℕ → SoFar) 
 event_stands threads globals v w all after t o Going a open_ may advances sets =
     let goes : Goes no_homes_on v w t o = advances.outcome in
     event_stays threads globals v w all after t a
-    (advances.keeps true a.stands) advances.others goes.own.history goes.own.values sets
+    (advances.keeps true (λ told. tt) a.stands) advances.others goes.own.history goes.own.values sets
 event_stands threads globals v w all after t o (Answered reply) a open_ may advances sets =
     answered_stands threads globals v w all after t o reply a open_ may.asks.thread
-    (advances.keeps true a.stands) advances.others advances.outcome sets
+    (advances.keeps true (λ told. tt) a.stands) advances.others advances.outcome sets
 event_stands threads globals v w all after t o (Refused cause) a open_ may advances sets =
     paused_stays threads globals v w all after t o cause a
-    (advances.keeps true a.stands) advances.others advances.outcome sets
+    (advances.keeps true (λ told. tt) a.stands) advances.others advances.outcome sets
 
 -- a `collect` was answered
 collect_stands : (threads globals : ℕ) (v : View) (all after : ℕ → SoFar) (t : ℕ) → AllStand threads globals v all
@@ -278,9 +281,10 @@ chosen_stands threads globals v all (Chosen.starts _ _ words forward entries hea
     (start_stands threads globals words forward entries heap rest all
     (start_at_rest true words globals forward threads entries heap rest small few new_heap new_rest) new_heap new_rest
     none)
-chosen_stands threads globals w after (Chosen.event v _ all _ t o result chosen open_ may advances sets) =
+chosen_stands threads globals w after (Chosen.event v _ all _ t o image result chosen open_ may tells advances sets) =
     event_stands threads globals v w all after t o result
-    (chosen_stands threads globals v all chosen) open_ may (advances.over no_homes_on refl) sets
+    (chosen_stands threads globals v all chosen) open_ may
+    (as_told_by (TellsDisk image no_homes_on) no_homes_on v w t o result tells (advances.over no_homes_on refl)) sets
 chosen_stands threads globals w all (Chosen.asks v _ _ chosen is) =
     let a : AllStand threads globals v all = chosen_stands threads globals v all chosen in
     subst (λ (x : View). AllStand threads globals x all) (sym is)

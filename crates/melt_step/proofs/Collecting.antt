@@ -172,6 +172,8 @@ collected_stands heap new rest registers phase journal at_rest copying collects 
               collects.tables.scions size s.scions_made;
           few = subst (λ (n : ℕ). n ≤ 8) (sym threads) s.few;
           each = s.each ∙ sym threads;
+          buffers = s.buffers ∙ sym threads;
+          rests = λ u below. s.rests u (subst (λ (n : ℕ). u < n) threads below);
           counted = s.counted;
           first = omega arith;
           bounded = inl (omega (arith, within));
@@ -195,6 +197,7 @@ collected_stands heap new rest registers phase journal at_rest copying collects 
         quiet = at_rest.quiet;
         globals = globals;
         words = size;
+        forwards = collects.tables.forwards;
         threads = threads;
         capacity = refl;
         history = refl;

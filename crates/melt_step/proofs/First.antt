@@ -24,7 +24,7 @@ use Rattle.melt_step.specs.Journals.{forced}
 use Rattle.melt_step.specs.declared.collector.Collector.{Collector}
 use Rattle.melt_step.specs.declared.run.Run.{Run}
 use Rattle.melt_step.specs.Threads.{CalledAt, CollectorStands, DueBy, IsPaused, OweBehindCollects, PlansBy}
-use Rattle.melt_step.specs.Threads.{StandsCollected}
+use Rattle.melt_step.specs.Threads.{StandsCollected, most_forwards}
 use Rattle.melt_step.specs.Threads.{TakesReply, owes, with_first, left, jobs, jobs_of, FitsMode, IsReady, TableStands}
 use Rattle.melt_step.specs.Threads.{RunStands, LacksNow, LacksAlone, CalledAlone, CoreCollected, IsEnded, ThreadTold}
 use Rattle.melt_step.specs.Threads.{ThreadStep}
@@ -45,6 +45,7 @@ pub record MayCall (v : View) (t : ℕ) (s : ThreadState) (o : Op) : Type 0 wher
   pub no_collect : o ≢ Collect
   pub bounds : InBounds (length v.globals) o
   pub entries : HasRoomForEntry v
+  pub forwards : length v.forward ≤ most_forwards
   pub room : length s.replies.items < vec_capacity s.replies
 
 -- what an operation of a script names is there
@@ -108,6 +109,7 @@ may_call {script} {config} {v} {states} {t} {s} o waits next =
       bounds = in_bounds (length v.globals) o
           (subst (λ (x : Option Op). IfSome x (InRange (length v.globals))) next ready.in_range);
       entries = ready.entries fits.0;
+      forwards = ready.forwards;
       room = ready.room fits.0;
     }
 

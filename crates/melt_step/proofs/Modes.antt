@@ -14,7 +14,7 @@ use Rattle.melt_model.specs.declared.reports.ThreadEnd.{ThreadEnd}
 use Rattle.melt_model.specs.declared.reports.ThreadEnd.TheVariants as end
 use Rattle.melt_trace.specs.Script.{Script, operations}
 use Rattle.melt_scion.specs.Heaps.{no_homes_on}
-use Rattle.melt_core.specs.Views.{View, call_of, registers_in}
+use Rattle.melt_core.specs.Views.{View, call_of, rest_of, registers_in}
 use Rattle.melt_core.proofs.Registers.{registers_other}
 use Rattle.melt_core.specs.Advances.{KeepsOthers}
 use Rattle.melt_core.specs.Epochs.{HasDropped, no_registers}
@@ -32,9 +32,11 @@ pub stop_keeps : (v : View) (stop : Bool) (t : ℕ) → KeepsOthers v (record v 
 stop_keeps v stop t = record {
   globals = refl;
   words = refl;
+  forwards = refl;
   threads = refl;
   capacity = refl;
   calls = λ u differ. refl;
+  records = λ u differ. refl;
   registers = λ u differ. refl;
   values = λ u differ. refl;
 }
@@ -68,9 +70,11 @@ pub dropped_keeps : (v w : View) (t : ℕ) → HasDropped v w t → KeepsOthers 
 dropped_keeps v w t dropped = record {
   globals = ap (λ (x : View). length x.globals) dropped.only;
   words = ap (λ (x : View). length x.space.list) dropped.only;
+  forwards = ap (λ (x : View). length x.forward) dropped.only;
   threads = ap (λ (x : View). length x.held) dropped.only ∙ length-set v.held t no_registers;
   capacity = ap (λ (x : View). x.capacity) dropped.only;
   calls = λ u differ. ap (λ (x : View). call_of x u) dropped.only;
+  records = λ u differ. ap (λ (x : View). rest_of x u) dropped.only;
   registers = λ u differ. ap (λ (x : View). registers_in x.held u) dropped.only
       ∙ registers_other v.held t u (replicate 16 0) differ;
   values = dropped.others;

@@ -247,6 +247,7 @@ finished_renewed v heap rest at_rest finished = record {
   quiet = at_rest.quiet;
   globals = ap length finished.globals;
   words = ap length finished.words;
+  forwards = ap length finished.forward;
   threads = ap length finished.held;
   capacity = finished.capacity;
   history = finished.log;

@@ -19,7 +19,7 @@ use Rattle.melt_step.proofs.Tables.{paused_cases}
 
 -- what a thread in this mode with so many operations to come has still to do
 abbrev amount : Mode → ℕ → Option Call → ℕ
-amount mode count call = 2000 * jobs mode count + turn_left mode call
+amount mode count call = 2000000 * jobs mode count + turn_left mode call
 
 -- the same of a thread
 abbrev part : ThreadState → Option Call → ℕ
@@ -119,9 +119,9 @@ refused_less v w t s after x =
           (now ∙ lacks) to_come (omega arith)
     ]
 
--- One operation less. The next one takes at most 136 events.
+-- One operation less. The next one takes fewer events than that outweighs.
 reply_less : (s after : ThreadState) (c d : Option Call) (m : Mode) (n : ℕ) → s.mode ≡ m → length (left s) ≡ suc n
-    → length (left after) ≡ n → 2000 * (3 + 2 * n) ≤ amount m (suc n) c → d ≡ None → (after.mode ≡ Running)
+    → length (left after) ≡ n → 2000000 * (3 + 2 * n) ≤ amount m (suc n) c → d ≡ None → (after.mode ≡ Running)
     × IsSome after.op ⊎ ((after.mode ≡ Due) ⊎ ((after.mode ≡ Ended end.Done) × (left after ≡ [])))
     → part after d < part s c
 reply_less s after c d m n is had to_come least over fits = elim fits [
@@ -165,10 +165,10 @@ step_nearer script config v w states t s after table at goes step same =
     ])
 
 -- a thread without a call in flight has few events left before it waits
-turn_few : (mode : Mode) (c : Option Call) → c ≡ None → turn_left mode c ≤ 200
+turn_few : (mode : Mode) (c : Option Call) → c ≡ None → turn_left mode c ≤ 140000
 turn_few Running c none =
-    let few : turn_left Running None ≤ 200 = omega arith in
-    subst (λ (o : Option Call). turn_left Running o ≤ 200) (sym none) few
+    let few : turn_left Running None ≤ 140000 = omega arith in
+    subst (λ (o : Option Call). turn_left Running o ≤ 140000) (sym none) few
 turn_few Due c none = omega arith
 turn_few Silent c none = omega arith
 turn_few Collecting c none = omega arith
@@ -184,8 +184,8 @@ NotMore states after = (t : ℕ) (s : ThreadState) → slice_get states t ≡ So
 -- the first of such threads has so many jobs less, and those behind it so many together
 first_less : (n m : ℕ) (s x : ThreadState) (states after : List ThreadState) (a b : List (Option Call))
     → get_or b 0 None ≡ None → jobs_of x + n ≤ jobs_of s
-    → potential after (drop 1 b) + 2000 * m ≤ potential states (drop 1 a) + 200 * length states
-    → potential (x ∷ after) b + 2000 * (n + m) ≤ potential (s ∷ states) a + 200 * length (s ∷ states)
+    → potential after (drop 1 b) + 2000000 * m ≤ potential states (drop 1 a) + 140000 * length states
+    → potential (x ∷ after) b + 2000000 * (n + m) ≤ potential (s ∷ states) a + 140000 * length (s ∷ states)
 first_less n m s x states after a b none fewer behind =
     omega (
       arith,
@@ -199,7 +199,7 @@ first_less n m s x states after a b none fewer behind =
 -- Threads without calls in flight, none of which has more jobs: only the events before each waits are added.
 potential_within : (states after : List ThreadState) (a b : List (Option Call)) → length after ≡ length states
     → ((u : ℕ) → get_or b u None ≡ None) → NotMore states after
-    → potential after b ≤ potential states a + 200 * length states
+    → potential after b ≤ potential states a + 140000 * length states
 potential_within [] [] a b count quiet each = omega arith
 potential_within [] (x ∷ after) a b count quiet each = absurd (omega (arith, count))
 potential_within (s ∷ states) [] a b count quiet each = absurd (omega (arith, count))
@@ -207,7 +207,7 @@ potential_within (s ∷ states) (x ∷ after) a b count quiet each =
     let first : (y : ThreadState) × (Some x ≡ Some y) × (jobs_of y ≤ jobs_of s) = each 0 s refl in
     let fewer : jobs_of x ≤ jobs_of s =
     subst (λ (y : ThreadState). jobs_of y ≤ jobs_of s) (sym (same_Some x first.0 first.1)) first.2 in
-    let behind : potential after (drop 1 b) ≤ potential states (drop 1 a) + 200 * length states =
+    let behind : potential after (drop 1 b) ≤ potential states (drop 1 a) + 140000 * length states =
     potential_within states after (drop 1 a) (drop 1 b) (omega (arith, count))
     (λ u. get_or-drop_first b u ∙ quiet (suc u)) (λ t y at. each (suc t) y at) in
     omega (arith, first_less 0 0 s x states after a b (quiet 0) (omega (arith, fewer)) (omega (arith, behind)))
@@ -216,14 +216,14 @@ potential_within (s ∷ states) (x ∷ after) a b count quiet each =
 potential_under : (states after : List ThreadState) (a b : List (Option Call)) (t : ℕ) (s x : ThreadState)
     → length after ≡ length states → ((u : ℕ) → get_or b u None ≡ None) → NotMore states after
     → slice_get states t ≡ Some s → slice_get after t ≡ Some x → jobs_of x < jobs_of s
-    → potential after b + 2000 ≤ potential states a + 200 * length states
+    → potential after b + 2000000 ≤ potential states a + 140000 * length states
 potential_under [] after a b t s x count quiet each at now less = absurd (let none : slice_get [] t ≡ Some s = at in cc)
 potential_under (y ∷ states) [] a b t s x count quiet each at now less = absurd (omega (arith, count))
 potential_under (y ∷ states) (z ∷ after) a b zero s x count quiet each at now less =
     let was : y ≡ s = same_Some y s at in
     let is : z ≡ x = same_Some z x now in
     let fewer : jobs_of z < jobs_of y = omega (arith, ap jobs_of was, ap jobs_of is, less) in
-    let behind : potential after (drop 1 b) ≤ potential states (drop 1 a) + 200 * length states =
+    let behind : potential after (drop 1 b) ≤ potential states (drop 1 a) + 140000 * length states =
     potential_within states after (drop 1 a) (drop 1 b) (omega (arith, count))
     (λ u. get_or-drop_first b u ∙ quiet (suc u)) (λ t q there. each (suc t) q there) in
     omega (arith, first_less 1 0 y z states after a b (quiet 0) (omega (arith, fewer)) (omega (arith, behind)))
@@ -231,7 +231,7 @@ potential_under (y ∷ states) (z ∷ after) a b (suc t) s x count quiet each at
     let first : (q : ThreadState) × (Some z ≡ Some q) × (jobs_of q ≤ jobs_of y) = each 0 y refl in
     let fewer : jobs_of z ≤ jobs_of y =
     subst (λ (q : ThreadState). jobs_of q ≤ jobs_of y) (sym (same_Some z first.0 first.1)) first.2 in
-    let behind : potential after (drop 1 b) + 2000 ≤ potential states (drop 1 a) + 200 * length states =
+    let behind : potential after (drop 1 b) + 2000000 ≤ potential states (drop 1 a) + 140000 * length states =
     potential_under states after (drop 1 a) (drop 1 b) t s x (omega (arith, count))
     (λ u. get_or-drop_first b u ∙ quiet (suc u)) (λ t q there. each (suc t) q there) at now less in
     omega (arith, first_less 0 1 y z states after a b (quiet 0) (omega (arith, fewer)) (omega (arith, behind)))

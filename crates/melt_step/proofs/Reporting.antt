@@ -93,7 +93,7 @@ Run_new script config entries globals threads heap rest run ranges all_globals a
     let new_rest : IsNewRest (length script.programs) entries rest =
     subst (λ (n : ℕ). IsNewRest n entries rest) all_threads is_rest in
     let table : TableStands script config (view (core_of heap rest)) states =
-    Table_new script config entries heap rest states (omega (arith, ranges.heap_most))
+    Table_new script config entries heap rest states (omega (arith, ranges.heap_most)) ranges.forward_most
     (omega (arith, all_threads, eight)) new_heap new_rest new_states in
     record {
       table = subst (λ (core : Core). TableStands script config (view core) states) (sym begins) table;

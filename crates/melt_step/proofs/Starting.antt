@@ -29,7 +29,7 @@ use Rattle.melt_step.specs.declared.thread.ThreadState.{ThreadState}
 use Rattle.melt_step.specs.declared.thread.Mode.{Mode}
 use Rattle.melt_step.specs.declared.thread.Mode.TheVariants.{Running, Asked, Ended}
 use Rattle.melt_step.specs.Run.{is_collect, silent_in, collections}
-use Rattle.melt_step.specs.Threads.{owes_silent, Waits, AreNewThreads, IsNewThread, FitsMode, KnowsStop, ThreadStands}
+use Rattle.melt_step.specs.Threads.{most_forwards, owes_silent, Waits, AreNewThreads, IsNewThread, FitsMode, KnowsStop, ThreadStands}
 use Rattle.melt_step.specs.Threads.{EndsSo, TableStands, replies_of}
 use Rattle.melt_step.proofs.Cuts.{replies_here, replies_past}
 
@@ -108,10 +108,10 @@ ends_new script log config entries t states s new_states at =
 
 -- all threads stand before their first events
 pub Table_new : (script : Script) (config : Config) (entries : ℕ) (heap : Heap) (rest : Rest)
-    (states : List ThreadState) → config.heap < 2 ^ 30 → length script.programs ≤ 8
+    (states : List ThreadState) → config.heap < 2 ^ 30 → config.forward ≤ most_forwards → length script.programs ≤ 8
     → IsNewHeap config.heap script.globals config.forward true heap → IsNewRest (length script.programs) entries rest
     → AreNewThreads script states entries → TableStands script config (view (core_of heap rest)) states
-Table_new script config entries heap rest states small few new_heap new_rest new_states =
+Table_new script config entries heap rest states small most few new_heap new_rest new_states =
     let n : ℕ = length script.programs in
     let at_rest : AtRest true no_homes_on heap rest =
     start_at_rest true config.heap script.globals config.forward n entries heap rest small few new_heap new_rest in
@@ -121,6 +121,8 @@ Table_new script config entries heap rest states small few new_heap new_rest new
       threads = ap length new_rest.held ∙ length-replicate n no_registers;
       globals = ap length new_heap.globals_hold_nothing ∙ length-replicate script.globals 0;
       words = new_heap.space.size;
+      forwards = subst (λ (n : ℕ). n ≤ most_forwards)
+          (sym (ap length new_heap.nothing_forwarded ∙ length-replicate config.forward 0)) most;
       each = λ t s at. Thread_new script entries t heap rest s at_rest new_rest
           (let below : t < length states = slice_get_within states t s at in omega (arith, new_states.count))
           (new_states.each t s at);

@@ -35,7 +35,7 @@ use Rattle.melt_step.specs.Run.{IsDue}
 use Rattle.melt_step.specs.Threads.{DueBy, owes_silent, owes, paused_as, with_first, left, MayGo, IsEnded, FitsMode}
 use Rattle.melt_step.specs.Threads.{ThreadStands, replies_of, HadNow, MadeSo, EndsSo, to_reply, Later, TableStands}
 use Rattle.melt_step.specs.Threads.{ThreadWaits, ThreadGoes, ThreadRefused, TakesReply, ThreadTold, IsReady, ThreadStep}
-use Rattle.melt_step.specs.Threads.{Renewed, CoreCollected, AllWait}
+use Rattle.melt_step.specs.Threads.{Renewed, CoreCollected, AllWait, most_forwards}
 use Rattle.melt_step.proofs.Cuts.{replies_here, LacksNow_later, HadNow_later, had_room}
 use Rattle.melt_step.proofs.Telling.{get_set_same, get_set_other, set_got, drop_next, take_next, get_next}
 use Rattle.melt_step.proofs.Telling.{replies_other, replies_same, later_set, to_reply_set, to_reply_one, with_more}
@@ -165,6 +165,7 @@ Table_moves script config v w states t s after table at runs stands others m =
       threads = others.threads ∙ table.threads;
       globals = others.globals ∙ table.globals;
       words = others.words ∙ table.words;
+      forwards = subst (λ (n : ℕ). n ≤ most_forwards) (sym others.forwards) table.forwards;
       each = λ u x is. elim (cases_eq u t) [
         | inl same ↦ subst (λ (k : ℕ). ThreadStands script w k x) (sym same)
             (subst (λ (y : ThreadState). ThreadStands script w t y) (at_t u x same is) m.stands)
@@ -291,7 +292,7 @@ paused_view v w t o pause.Asked pauses = (
   ap (λ (x : View). values_of x t) pauses.same,
 )
 paused_view v w t o (pause.Space need) pauses = (pauses.call, pauses.own.history, pauses.own.values)
-paused_view v w t o pause.Forward pauses = absurd pauses
+paused_view v w t o pause.Forward pauses = (pauses.call, pauses.own.history, pauses.own.values)
 
 -- how a thread whose call paused waits
 pub paused_cases : (cause : Pause) → (paused_as cause ≡ Asked) ⊎ (paused_as cause ≡ Lacking)
@@ -541,6 +542,7 @@ table_ready script config v states t s table at =
     record {
       stands = table.stands;
       thread = omega (arith, within, count, threads);
+      forwards = table.forwards;
       call = st.call;
       fits = st.fits;
       in_range = subst (λ (n : ℕ). IfSome s.op (InRange n)) (sym table.globals) st.in_range;
@@ -586,6 +588,7 @@ Table_renewed script config v w states table renewed = record {
   threads = renewed.threads ∙ table.threads;
   globals = renewed.globals ∙ table.globals;
   words = renewed.words ∙ table.words;
+  forwards = subst (λ (n : ℕ). n ≤ most_forwards) (sym renewed.forwards) table.forwards;
   each = λ t s at.
       let st : ThreadStands script v t s = table.each t s at in
       stands_so script v w t s s.mode st

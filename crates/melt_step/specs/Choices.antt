@@ -1,5 +1,5 @@
 -- A run by any choices: which thread makes the next event, and where epochs end and collections come.
-use Rattle.std.specs.Prelude.{◌≡◌, ◌≢◌, ℕ, ◌^◌, ◌<◌, ◌≤◌, Bool, true, false, List, [], ◌∷◌, ◌++◌, length, All, None}
+use Rattle.std.specs.Prelude.{◌≡◌, ◌≢◌, ℕ, ◌^◌, ◌<◌, ◌≤◌, Bool, true, false, List, [], ◌∷◌, ◌++◌, length, All, Option, None}
 use Rattle.melt_model.specs.History.{Legal}
 use Rattle.melt_model.specs.Thread.{Transcript}
 use Rattle.melt_model.specs.declared.history.Entry.{Entry}
@@ -16,7 +16,7 @@ use Rattle.melt_copy.specs.Copying.{Collects, IsCopying}
 use Rattle.melt_core.specs.Views.{View, view, call_of, IsQuiet, Standing}
 use Rattle.melt_core.specs.Changed.{stopped}
 use Rattle.melt_core.specs.Epochs.{IsNewRest, AtRest, core_of, HasFinished, HasDropped}
-use Rattle.melt_core.specs.Advances.{MayAdvance, Advances}
+use Rattle.melt_core.specs.Advances.{MayAdvance, Advances, TellsDisk}
 use Rattle.melt_core.specs.declared.machine.Rest.{Rest}
 use Rattle.melt_core.specs.declared.answer.StepResult.{StepResult}
 use Rattle.melt_core.specs.declared.answer.StepResult.TheVariants.{Going, Answered, Refused}
@@ -59,16 +59,16 @@ pub record CollectsRest (heap : Heap) (rest : Rest) (new : Heap) (after : Rest) 
   pub made : after.made ≡ rest.made
 
 -- A run so far, by any choices among what the public calls of a core and the collection do, each where it may be
--- called: a new core, an event of a thread, the stop word set, an answer to a `collect`, a thread that drops its
+-- called: a new core, an event of a thread over a reader of a disk without words, the stop word set, an answer to a `collect`, a thread that drops its
 -- registers, a new epoch, and a collection between two epochs.
 pub data Chosen (threads globals : ℕ) : View → (ℕ → SoFar) → Type 0 where
   starts : (v : View) (all : ℕ → SoFar) (words forward entries : ℕ) (heap : Heap) (rest : Rest) → words < 2 ^ 30
       → threads ≤ 8 → IsNewHeap words globals forward true heap → IsNewRest threads entries rest
       → v ≡ view (core_of heap rest)
       → ((t : ℕ) → all t ≡ nothing_yet) → Chosen threads globals v all
-  event : (v w : View) (all after : ℕ → SoFar) (t : ℕ) (o : Op) (result : StepResult) → Chosen threads globals v all
-      → (all t).over ≡ false → MayAdvance 1 v t o → Advances 1 v w t o result → SetsBy all after t o result
-      → Chosen threads globals w after
+  event : (v w : View) (all after : ℕ → SoFar) (t : ℕ) (o : Op) (image : Option (List ℕ)) (result : StepResult)
+      → Chosen threads globals v all → (all t).over ≡ false → MayAdvance 1 v t o → TellsDisk image no_homes_on
+      → Advances 1 image v w t o result → SetsBy all after t o result → Chosen threads globals w after
   asks : (v w : View) (all : ℕ → SoFar) → Chosen threads globals v all → w ≡ stopped v → Chosen threads globals w all
   collect : (v : View) (all after : ℕ → SoFar) (t : ℕ) → Chosen threads globals v all
       → SetsSoFar all after t (with_reply (all t) Collect Done) → Chosen threads globals v after

@@ -149,6 +149,10 @@ pub record Later (states after : List ThreadState) : Type 0 where
   pub replies : (t : ℕ) → (extra : List Reply) × (replies_of after t ≡ replies_of states t ++ extra)
   pub ended : (t : ℕ) (s : ThreadState) → slice_get states t ≡ Some s → IsEnded s.mode → slice_get after t ≡ Some s
 
+-- no heap has more forwarding words
+abbrev pub most_forwards : ℕ
+most_forwards = 65536
+
 -- All threads stand in the history, for which the core stands; it has room for the entries to come.
 pub record TableStands (script : Script) (config : Config) (v : View) (states : List ThreadState) : Type 0 where
   pub stands : Standing true no_homes_on v
@@ -156,6 +160,7 @@ pub record TableStands (script : Script) (config : Config) (v : View) (states : 
   pub threads : length v.held ≡ length script.programs
   pub globals : length v.globals ≡ script.globals
   pub words : length v.space.list ≡ config.heap
+  pub forwards : length v.forward ≤ most_forwards
   pub each : (t : ℕ) (s : ThreadState) → slice_get states t ≡ Some s → ThreadStands script v t s
   pub own : All (λ (e : Entry). e.thread < length script.programs) v.log
   pub due : (t : ℕ) (s : ThreadState) → slice_get states t ≡ Some s → owes_silent s.mode ≡ true
@@ -179,7 +184,7 @@ pub record ThreadGoes (v w : View) (t : ℕ) (s after : ThreadState) : Type 0 wh
   pub flight : call_of w t ≡ Some call
   pub op : s.op ≡ Some call.op
   pub no_collect : call.op ≢ Collect
-  pub nearer : events_left (stage_in (call_of w t)) < events_left (stage_in (call_of v t))
+  pub nearer : events_left most_forwards (stage_in (call_of w t)) < events_left most_forwards (stage_in (call_of v t))
   pub history : w.log ≡ v.log
   pub values : values_of w t ≡ values_of v t
 
@@ -241,6 +246,7 @@ pub record ThreadTold (v w : View) (t : ℕ) (s after : ThreadState) : Type 0 wh
 pub record IsReady (v : View) (t : ℕ) (s : ThreadState) : Type 0 where
   pub stands : Standing true no_homes_on v
   pub thread : t < length v.held
+  pub forwards : length v.forward ≤ most_forwards
   pub call : (c : Call) → call_of v t ≡ Some c → (s.mode ≡ Running) × (s.op ≡ Some c.op) × (c.op ≢ Collect)
   pub fits : FitsMode s.mode s.op
   pub in_range : IfSome s.op (InRange (length v.globals))
@@ -263,6 +269,7 @@ pub record Renewed (v w : View) : Type 0 where
   pub quiet : IsQuiet w
   pub globals : length w.globals ≡ length v.globals
   pub words : length w.space.list ≡ length v.space.list
+  pub forwards : length w.forward ≡ length v.forward
   pub threads : length w.held ≡ length v.held
   pub capacity : w.capacity ≡ v.capacity
   pub history : w.log ≡ v.log
@@ -432,7 +439,7 @@ AllWait states = (t : ℕ) (s : ThreadState) → slice_get states t ≡ Some s �
 
 -- How many events a thread has at most before it waits or gets its reply.
 abbrev pub turn_left : Mode → Option Call → ℕ
-turn_left Running call = 1 + events_left (stage_in call)
+turn_left Running call = 1 + events_left most_forwards (stage_in call)
 turn_left Due call = 1
 turn_left mode call = 0
 
@@ -530,8 +537,8 @@ pub record Passed (states after : List ThreadState) : Type 0 where
 -- All threads together. It gets smaller with each event and with each safepoint.
 abbrev pub potential : List ThreadState → List (Option Call) → ℕ
 potential [] calls = 0
-potential (s ∷ states) [] = 2000 * jobs s.mode (length (left s)) + turn_left s.mode None + potential states []
-potential (s ∷ states) (c ∷ calls) = 2000 * jobs s.mode (length (left s)) + turn_left s.mode c + potential states calls
+potential (s ∷ states) [] = 2000000 * jobs s.mode (length (left s)) + turn_left s.mode None + potential states []
+potential (s ∷ states) (c ∷ calls) = 2000000 * jobs s.mode (length (left s)) + turn_left s.mode c + potential states calls
 
 -- a run has less to do than before
 abbrev pub IsNearer : Run → Run → Type 0

@@ -1,12 +1,13 @@
 //! The events of a thread.
-ghost use Rattle.std.specs.Prelude.{◌≡◌, ◌≢◌, ◌^◌, ◌<◌, length, vec_capacity, false, Some, None, true};
+ghost use Rattle.std.specs.Prelude.{◌≡◌, ◌≢◌, ◌^◌, ◌<◌, length, vec_capacity, ◌≤◌, false, Some, None, true};
 ghost use Rattle.melt_model.specs.declared.operations.Op.{Op};
 ghost use Rattle.melt_scion.specs.Heaps.{no_homes_on};
 ghost use Rattle.melt_core.specs.Advances.{AdvancesOver, Asks, InBounds};
 ghost use Rattle.melt_core.specs.Changed.{HasRoomForEntry};
+ghost use Rattle.melt_core.proofs.NoHomes.{NeedsHome};
 ghost use Rattle.melt_core.specs.Views.{Standing, call_of, view};
 ghost use Rattle.melt_step.specs.Threads.{CalledAlone, DropsIfEnded, DueBy, IsReady, MayGo, ThreadStep, SetsStop};
-ghost use Rattle.melt_step.specs.Threads.{TakesReply};
+ghost use Rattle.melt_step.specs.Threads.{TakesReply, most_forwards};
 
 use crate::thread::{Mode, ThreadState};
 use melt_core::{Core, Pause, Refusal, StepResult};
@@ -35,7 +36,8 @@ impl RecordReader for NoDisk {
 /// Makes one event of a call over a disk without homes: word 1 is past all of them.
 pub fn advance(core: &mut Core, thread: u32, op: Op) -> StepResult
     requires { Asks no_homes_on (view core.old) thread op }
-    ensures { AdvancesOver no_homes_on (view core.old) (view core.new) thread op result }
+    ensures advances { AdvancesOver no_homes_on (view core.old) (view core.new) thread op result }
+    ensures no_home { NeedsHome result → ⊥ }
 {
     core.advance(thread, op, 1, &mut NoDisk)
 }
@@ -115,6 +117,7 @@ pub fn call_alone(
     requires no_stop { (view core.old).stop ≡ false }
     requires entries { HasRoomForEntry (view core.old) }
     requires few { length (view core.old).log < 2 ^ 32 }
+    requires forwards { length (view core.old).forward ≤ most_forwards }
     requires room { length state.old.replies.items < vec_capacity state.old.replies }
     ensures called { CalledAlone (view core.old) (view core.new) thread state.old state.new result }
     ensures due { DueBy every state.old state.new }

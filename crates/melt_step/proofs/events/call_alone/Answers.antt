@@ -28,7 +28,7 @@ loop-reply-preserved c = record {
 }
 
 pub answered-requires-clause-stands : goal.answered-requires-clause-stands
-answered-requires-clause-stands c = c.advance.ensures.keeps true c.loop-reply.invariant.on.stands
+answered-requires-clause-stands c = c.advance.ensures.advances.keeps true (λ told. tt) c.loop-reply.invariant.on.stands
 
 pub returns-in-Refused-Pause-Space-clause-called : goal.returns-in-Refused-Pause-Space-clause-called
 returns-in-Refused-Pause-Space-clause-called c =
@@ -47,5 +47,5 @@ returns-in-Answered-clause-called c =
     call_told (view c.args.core.now) (view c.loop-reply.core) (view c.advance.new.core)
     (view c.answered.new.core) c.args.thread c.args.op c.in-Answered.reply c.args.state.now c.answered.new.state
     c.requires.waits c.requires.op c.requires.no_collect c.loop-reply.invariant.on
-    (c.advance.ensures.keeps true c.loop-reply.invariant.on.stands) c.advance.ensures.others (search rules)
+    (c.advance.ensures.advances.keeps true (λ told. tt) c.loop-reply.invariant.on.stands) c.advance.ensures.advances.others (search rules)
     (search rules) c.answered.ensures.drops

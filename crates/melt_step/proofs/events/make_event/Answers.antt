@@ -24,7 +24,7 @@ advance-requires c = record {
 
 pub answered-requires : goal.answered-requires
 answered-requires c = record {
-  stands = c.advance.ensures.keeps true c.requires.ready.stands;
+  stands = c.advance.ensures.advances.keeps true (λ told. tt) c.requires.ready.stands;
   thread = search rules;
   no_call = search rules;
   room = search rules;
@@ -34,14 +34,14 @@ pub returns-in-Going : goal.returns-in-Going
 returns-in-Going c =
     let both = goes_step (view c.args.core.now)
     (view c.advance.new.core) c.args.thread c.in-Running-Some.op c.args.state.now (search rules) (search rules)
-    (search rules) c.requires.ready.stands (search rules) in
+    (search rules) c.requires.ready.stands c.requires.ready.forwards (search rules) in
     record { step = both.0; stop = both.1; due = λ other. absurd (other refl) }
 
 pub returns-in-Refused-Pause-Space : goal.returns-in-Refused-Pause-Space
 returns-in-Refused-Pause-Space c =
     let both = lacks_step (view c.args.core.now)
     (view c.advance.new.core) c.args.thread c.in-Running-Some.op c.advance.result c.args.state.now (search rules)
-    (search rules) (search rules) c.requires.ready.stands c.advance.ensures (search rules) in
+    (search rules) (search rules) c.requires.ready.stands c.advance.ensures.advances (search rules) in
     record { step = both.0; stop = both.1; due = λ other. absurd (other refl) }
 
 pub returns-in-Answered : goal.returns-in-Answered
@@ -50,7 +50,7 @@ returns-in-Answered c =
     (view c.answered.new.core) c.args.thread c.in-Running-Some.op c.in-Answered.reply c.args.state.now
     c.answered.new.state
     (search rules) (search rules) (search rules) c.requires.ready.stands
-    (c.advance.ensures.keeps true c.requires.ready.stands) c.advance.ensures.others
+    (c.advance.ensures.advances.keeps true (λ told. tt) c.requires.ready.stands) c.advance.ensures.advances.others
     (search rules) c.answered.ensures.takes c.answered.ensures.drops in
     record { step = both.0; stop = both.1; due = c.answered.ensures.due }
 

@@ -58,6 +58,9 @@ call_alone-requires-clause-bounds c = (may (goal.at.call_alone-requires-clause-b
 pub call_alone-requires-clause-entries : goal.call_alone-requires-clause-entries
 call_alone-requires-clause-entries c = (may (goal.at.call_alone-requires-clause-entries c).In-Some).entries
 
+pub call_alone-requires-clause-forwards : goal.call_alone-requires-clause-forwards
+call_alone-requires-clause-forwards c = (may (goal.at.call_alone-requires-clause-forwards c).In-Some).forwards
+
 pub call_alone-requires-clause-room : goal.call_alone-requires-clause-room
 call_alone-requires-clause-room c = (may (goal.at.call_alone-requires-clause-room c).In-Some).room
 
@@ -75,6 +78,10 @@ call_alone-requires-then-is_some-clause-bounds c =
 pub call_alone-requires-then-is_some-clause-entries : goal.call_alone-requires-then-is_some-clause-entries
 call_alone-requires-then-is_some-clause-entries c =
     (may_again (goal.at.call_alone-requires-then-is_some-clause-entries c).In_ok-core).entries
+
+pub call_alone-requires-then-is_some-clause-forwards : goal.call_alone-requires-then-is_some-clause-forwards
+call_alone-requires-then-is_some-clause-forwards c =
+    (may_again (goal.at.call_alone-requires-then-is_some-clause-forwards c).In_ok-core).forwards
 
 pub call_alone-requires-then-is_some-clause-room : goal.call_alone-requires-then-is_some-clause-room
 call_alone-requires-then-is_some-clause-room c =
