@@ -184,6 +184,7 @@ module _ (end : ℕ) (v w : View) (t : ℕ) (o : Op) (result : StepResult) (may 
   -- the reader stays as it was
   pub uses_nothing : (faults reads : ℕ) → Uses v w t result faults faults reads reads
   uses_nothing faults reads = record {
+    one = omega arith;
     few = omega (arith, reads_behind may.disk v w t o result may.asks over_here.outcome);
     fault = λ is. absurd (no_fault is);
     count = omega arith;

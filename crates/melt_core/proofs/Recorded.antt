@@ -344,6 +344,7 @@ head_uses disk v w t o search stage head asks at moves goes count one =
     (call_here v w t (Some call) (ap (λ (x : View). x.calls) moves) (inside disk v t o asks)) in
     let before : reads_left (stage_of v t) ≡ 2 = ap reads_left at in
     record {
+      one = one;
       few = omega (arith, one, behind, before, head_reads (state disk v) search head.shape head.kind stage goes);
       fault = λ is. absurd (cc);
       count = count;
