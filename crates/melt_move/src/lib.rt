@@ -13,6 +13,7 @@ pub mod collect;
 pub mod commit;
 pub mod decision;
 pub mod homes;
+pub mod planned;
 pub mod scions;
 pub mod staying;
 #[cfg(test)]

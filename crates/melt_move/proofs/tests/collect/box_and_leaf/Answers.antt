@@ -16,6 +16,7 @@ returns-clause-formed c =
       maps = c.none.result;
     } in
     box_formed made third_holds_leaf c.set-2.new.self (record {
+      forward = c.new-4.ensures.items;
       two = record {
         start = c.in_ok-space.space;
         one = c.make.new.self;
@@ -30,6 +31,7 @@ returns-clause-formed c =
         refers = subst (SetsWord c.set_word.new.self c.set_word-2.new.self 5) c.encode_ref.ensures
             c.set_word-2.ensures;
       };
+      numbered = record {
       unnamed = c.in_ok-addresses.addresses;
       names_one = c.set.new.self;
       none = c.in_ok-addresses.ensures;
@@ -39,8 +41,8 @@ returns-clause-formed c =
       no_homes = c.new-5.ensures.names;
       has = refl;
       scions = c.in_ok-scions.ensures.empty;
-      forward = c.new-4.ensures.items;
       globals = c.in_ok-items.ensures.items_if_clones_equal (λ y is. is)
           ∙ ap (λ (word : ℕ). replicate 1 word) c.encode_ref-2.ensures;
       registers = leaf_held;
+      };
     })
