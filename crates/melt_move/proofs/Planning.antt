@@ -4,7 +4,9 @@ use Rattle.std.proofs.Common.{refl, sym, ◌∙◌, ap, subst, cond, arith, inl,
 use Rattle.std.specs.Prelude.{◌/◌, ◌%◌, ◌^◌, ◌↔◌, true, false, nat_lt, Option, None, Some, slice_index}
 use Rattle.std.proofs.lemmas.Bool.{cases_eq, cases_order}
 use Rattle.std.proofs.lemmas.Bool.Decides.{nat_tests}
+use Rattle.std.proofs.lemmas.List.Sums.{sum_by-cons}
 use Rattle.melt_model.specs.declared.reports.Phase.{Phase}
+use Rattle.melt_model.specs.declared.reports.Phase.TheVariants.{Inactive, Mark, Move}
 use Rattle.melt_model.specs.declared.reports.Journal.{Journal}
 use Rattle.melt_word.specs.Words.{cost_of}
 use Rattle.melt_word.specs.declared.header.Header.{Header}
@@ -19,13 +21,14 @@ use Rattle.melt_scion.proofs.Few.{few_apart}
 use Rattle.melt_scion.proofs.SameObjects.{SameObjects, NamesMatch, header_was, home_word_on, scion_on, forward_on}
 use Rattle.melt_scion.proofs.SameObjects.{words_on, registers_on}
 use Rattle.melt_scion.proofs.Tables.{tables_kept}
-use Rattle.melt_copy.specs.Copying.{Collects, HasCollected}
+use Rattle.melt_copy.specs.Copying.{Collects, HasCollected, IsCopying}
 use Rattle.melt_copy.specs.Settling.{HasKept, IsFormedTo, Keeps, SettlesBelow, filled, with_image}
 use Rattle.melt_copy.proofs.Settled.{kept_formed}
 use Rattle.melt_disk.specs.Homes.{Stale}
 use Rattle.melt_move.specs.declared.collect.MoveRefusal.{MoveRefusal}
 use Rattle.melt_move.specs.declared.collect.MoveRefusal.TheVariants.{NoMemory, DiskFull, DiskFault}
 use Rattle.melt_move.specs.Collecting.{HasMoved, IsFormedOn, Moves}
+use Rattle.melt_move.specs.Planned.{CollectsIn, CopiesIn, CopyIsRefused, IsRefusedIn}
 use Rattle.melt_move.specs.Planned.{IsRefusedSettled, IsRefusedPlanned}
 
 -- Registers and the words of the disk are no part of what is well formed of a heap.
@@ -135,10 +138,14 @@ behind_first : (ℕ → ℕ) → ℕ → ℕ
 behind_first pick zero = 0
 behind_first pick (suc i) = suc (pick i)
 
+abbrev counts_one : ℕ → ℕ
+counts_one word = cond (nat_lt 0 word) 1 0
+
 module _ (word : ℕ) (words : List ℕ) (some : word ≢ 0) (rest : Picks words) where
   count_more : filled (word ∷ words) ≡ 1 + filled words
   count_more =
-      let test : nat_lt 0 word ≡ true = grind (arith, nat_tests) in ap (λ b. cond b 1 0 + filled words) test
+      let test : nat_lt 0 word ≡ true = grind (arith, nat_tests) in
+      sum_by-cons counts_one word words ∙ ap (λ b. cond b 1 0 + filled words) test
 
   within_more : (i : ℕ) → i < filled (word ∷ words) → behind_first rest.pick i < length (word ∷ words)
   unfolding behind_first
@@ -169,7 +176,10 @@ module _ (word : ℕ) (words : List ℕ) (some : word ≢ 0) (rest : Picks words
 module _ (word : ℕ) (words : List ℕ) (none : word ≡ 0) (rest : Picks words) where
   count_past : filled (word ∷ words) ≡ filled words
   count_past =
-      let test : nat_lt 0 word ≡ false = grind (arith, nat_tests) in ap (λ b. cond b 1 0 + filled words) test
+      let test : nat_lt 0 word ≡ false = grind (arith, nat_tests) in
+      let count : filled (word ∷ words) ≡ 0 + filled words =
+      sum_by-cons counts_one word words ∙ ap (λ b. cond b 1 0 + filled words) test in
+      omega (arith, count)
 
   picks_past : Picks (word ∷ words)
   picks_past = record {
@@ -325,3 +335,20 @@ pub refused_settled : {Disk : Type 0} → (image : Disk → Option (List ℕ)) �
 refused_settled image writes phase old held after disk disk_after (NoMemory back) is = is
 refused_settled image writes phase old held after disk disk_after (DiskFull back full) is = is
 refused_settled image writes phase old held after disk disk_after DiskFault is = inr is
+
+-- In a phase that copies, what was collected was copied, and what was refused was a copy.
+pub collects_copied : (phase : Phase) (old new : Heap) (held after : List Registers) (end end_after : ℕ)
+    (told told_after : Option (List ℕ)) (journal : Journal) → IsCopying phase
+    → CopiesIn phase old new held after end end_after told told_after journal
+    → CollectsIn phase old new held after end end_after told told_after journal
+collects_copied Inactive old new held after end end_after told told_after journal copying is = is
+collects_copied Mark old new held after end end_after told told_after journal copying is = is
+collects_copied Move old new held after end end_after told told_after journal copying is = absurd copying
+
+pub refuses_copied : {Disk : Type 0} → (phase : Phase) → (heap : Heap) → (held after : List Registers)
+    → (disk disk_after : Stale Disk) → (refusal : MoveRefusal) → IsCopying phase
+    → CopyIsRefused heap held after disk disk_after refusal
+    → IsRefusedIn phase heap held after disk disk_after refusal
+refuses_copied Inactive heap held after disk disk_after refusal copying is = is
+refuses_copied Mark heap held after disk disk_after refusal copying is = is
+refuses_copied Move heap held after disk disk_after refusal copying is = absurd copying

@@ -1,6 +1,5 @@
 -- Two calls in a row: their writes add up, and what each of them keeps of the disk both keep.
 use Rattle.std.proofs.Common.{◌≡◌, ℕ, zero, suc, ◌+◌, ◌≤◌, refl, sym, ◌∙◌, ap, subst, arith}
-use Rattle.std.specs.Prelude.{Result, Ok, Err, IfOk}
 use Rattle.melt_io.specs.Outside.{counted}
 use Rattle.melt_disk.specs.Homes.{Stale}
 use Rattle.melt_copy.specs.Settling.{RisesBy}
@@ -18,12 +17,6 @@ rises_both (suc one) (suc two) before now after first second =
     let all : suc (one + suc two) ≡ suc one + suc two = omega arith in
     let counts : after ≡ counted before (suc (one + suc two)) = omega (arith, first, second) in
     subst (λ (n : ℕ). RisesBy n before after) all counts
-
--- what holds of a call that ends well, and what follows from it
-pub if_ok_more : {A E : Type 0} (result : Result A E) (P Q : A → Type 0) → ((a : A) → P a → Q a) → IfOk result P
-    → IfOk result Q
-if_ok_more (Ok a) P Q more is = more a is
-if_ok_more (Err e) P Q more is = tt
 
 module _ {Disk : Type 0} (faults read_faults lends : Disk → ℕ) where
   -- a call that leaves the disk as it is

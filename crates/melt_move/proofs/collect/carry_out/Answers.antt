@@ -1,4 +1,5 @@
 use Rattle.std.proofs.Common.{◌≡◌, ℕ, ◌+◌, arith, refl, sym, ap, subst, ◌∙◌, List, length}
+use Rattle.std.proofs.lemmas.Result.{IfOk-weaker}
 use Rattle.melt_space.specs.Space.{word_at}
 use Rattle.melt_copy.specs.Settling.{RisesBy}
 use Rattle.melt_move.specs.KeptDisk.{KeepsDisk}
@@ -11,7 +12,7 @@ use Rattle.melt_scion.specs.Heaps.{Shows, state_of}
 use Rattle.melt_move.proofs.Awaiting.{given_shapes, stays_within, await_scions, names_may_go}
 use Rattle.melt_move.proofs.Nothing.{on_ok_both}
 use Rattle.melt_move.proofs.CarriedOut.{carries_out}
-use Rattle.melt_move.proofs.TwoCalls.{if_ok_more, rises_both, keeps_disk_same, keeps_disk_both}
+use Rattle.melt_move.proofs.TwoCalls.{rises_both, keeps_disk_same, keeps_disk_both}
 use Rattle.melt_move.proofs.collect.carry_out.Given.{Over}
 use Rattle.melt_move.proofs.collect.carry_out.Goals as goal
 use Rattle.melt_move.proofs.collect.carry_out.Goals.{After-write_bodies}
@@ -132,5 +133,5 @@ returns-clause-writes g c =
     let bodies : RisesBy leaving before now =
     subst (λ d. RisesBy leaving (writes d) now) c.reserve_homes.ensures.disk
     c.in_ok-write_bodies.ensures.one_write_each in
-    if_ok_more c.give_scions.result (λ count. RisesBy count now after) (λ count. RisesBy (leaving + count) before after)
+    IfOk-weaker c.give_scions.result (λ count. RisesBy count now after) (λ count. RisesBy (leaving + count) before after)
     (λ count stubs. rises_both leaving count before now after bodies stubs) c.give_scions.ensures.one_write_each

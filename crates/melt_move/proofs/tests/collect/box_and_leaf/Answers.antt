@@ -32,17 +32,17 @@ returns-clause-formed c =
             c.set_word-2.ensures;
       };
       numbered = record {
-      unnamed = c.in_ok-addresses.addresses;
-      names_one = c.set.new.self;
-      none = c.in_ok-addresses.ensures;
-      leaf_named = c.set.ensures;
-      box_named = c.set-2.ensures;
-      homes = c.new-5.result;
-      no_homes = c.new-5.ensures.names;
-      has = refl;
-      scions = c.in_ok-scions.ensures.empty;
-      globals = c.in_ok-items.ensures.items_if_clones_equal (λ y is. is)
-          ∙ ap (λ (word : ℕ). replicate 1 word) c.encode_ref-2.ensures;
-      registers = leaf_held;
+        unnamed = c.in_ok-addresses.addresses;
+        names_one = c.set.new.self;
+        none = c.in_ok-addresses.ensures;
+        leaf_named = c.set.ensures;
+        box_named = c.set-2.ensures;
+        homes = c.new-5.result;
+        no_homes = c.new-5.ensures.names;
+        has = refl;
+        scions = c.in_ok-scions.ensures.empty;
+        globals = c.in_ok-items.ensures.items_if_clones_equal (λ y is. is)
+            ∙ ap (λ (word : ℕ). replicate 1 word) c.encode_ref-2.ensures;
+        registers = leaf_held;
       };
     })
