@@ -33,3 +33,5 @@ pub mod Counts
 pub mod Numbers
 pub mod Collected
 pub mod AsBefore
+pub mod TwoCalls
+pub mod Planning

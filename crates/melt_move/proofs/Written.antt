@@ -4,7 +4,7 @@ use Rattle.std.proofs.Common.{inl, inr, suc, get_or, Option, Result, Ok, Err, On
 use Rattle.std.specs.Prelude.{slice_get, slice_index, Some}
 use Rattle.std.proofs.lemmas.Bool.Decides.{eqb_tells}
 use Rattle.std.proofs.lemmas.Option.{same_Some, slice_get-get_or}
-use Rattle.melt_io.specs.Outside.{Writes, counted}
+use Rattle.melt_io.specs.Outside.{Writes}
 use Rattle.melt_word.specs.Words.{IsShape, cost_of}
 use Rattle.melt_record.specs.Records.{IsHead, body_words}
 use Rattle.melt_record.specs.declared.head.Kind.TheVariants.{Body}
@@ -188,8 +188,3 @@ bodies_shown s home end now leaving list n d told next image is within same befo
     let more = write before.0 before.1 in
     let body = subst (λ (e : ℕ). WritesBody s home e (get_or list n d) before.0 more.0) same more.2 in
     (more.0, more.1, bodies_more s home end leaving list n d image before.0 more.0 is within before.2 body)
-
--- a counter that counts one more
-pub counted_more : (first n before after : ℕ) → before ≡ counted first n → after ≡ counted before 1
-    → after ≡ counted first (n + 1)
-counted_more first n before after was is = omega (arith, was, is)

@@ -7,3 +7,5 @@ pub mod NamedHomes
 pub mod Moved
 pub mod Collecting
 pub mod ScionTurns
+pub mod KeptDisk
+pub mod Planned

@@ -10,6 +10,8 @@ ghost use Rattle.melt_word.specs.declared.reference.Ref.TheVariants.{Disk};
 ghost use Rattle.melt_space.specs.Space.{word_at};
 ghost use Rattle.melt_scion.specs.State.{State};
 ghost use Rattle.melt_scion.specs.Heaps.{Shows};
+ghost use Rattle.melt_copy.specs.Settling.{RisesBy};
+ghost use Rattle.melt_move.specs.KeptDisk.{KeepsDisk};
 ghost use Rattle.melt_move.specs.Bodies.{AreLeavingRefs, BecomesHome, Departs, EncodesSlots, IsLeavingRef, IsNamed};
 ghost use Rattle.melt_move.specs.Bodies.{WritesBodies, WritesBody};
 ghost use Rattle.melt_move.specs.Plans.{HasRoom, IsDecision, home_by, need_for};
@@ -106,12 +108,8 @@ fn write_body<D: StaleDisk, L: Ledger>(
         × WritesBody s (home_by s.word decision.now) disk.old.end d image after) }
     ensures one_write { D.writes disk.new.disk.now ≡ counted (D.writes disk.old.disk.now) 1 }
     ensures failed { OnErr result (Rose (D.faults disk.old.disk.now) (D.faults disk.new.disk.now)) }
-    ensures count { D.faults disk.old.disk.now ≤ D.faults disk.new.disk.now }
-    ensures read_faults { D.read_faults disk.new.disk.now ≡ D.read_faults disk.old.disk.now }
-    ensures lends { D.lends disk.new.disk.now ≡ D.lends disk.old.disk.now }
+    ensures keeps { KeepsDisk D.faults D.read_faults D.lends disk.old disk.new }
     ensures end { disk.new.end ≡ disk.old.end }
-    ensures limit { disk.new.limit ≡ disk.old.limit }
-    ensures same_disk { disk.new.disk.ghost_name ≡ disk.old.disk.ghost_name }
 {
     let mut room = [0; MAX_SLOTS];
     let slots = &mut room[..d.shape.refs as usize + d.shape.nums as usize];
@@ -132,15 +130,11 @@ pub fn write_bodies<D: StaleDisk, L: Ledger>(
         → Shows (D.image disk.old.disk.now) image → (after : ℕ → ℕ) × Shows (D.image disk.new.disk.now) after
         × WritesBodies s (home_by s.word decision.now) disk.old.end decision.now.choice.leaving.items
         (length decision.now.choice.leaving.items) image after) }
-    ensures one_write_each { OnOk result (D.writes disk.old.disk.now < 2 ^ 64 → D.writes disk.new.disk.now
-        ≡ counted (D.writes disk.old.disk.now) (length decision.now.choice.leaving.items)) }
+    ensures one_write_each { OnOk result (RisesBy (length decision.now.choice.leaving.items)
+        (D.writes disk.old.disk.now) (D.writes disk.new.disk.now)) }
     ensures failed { OnErr result (Rose (D.faults disk.old.disk.now) (D.faults disk.new.disk.now)) }
-    ensures count { D.faults disk.old.disk.now ≤ D.faults disk.new.disk.now }
-    ensures read_faults { D.read_faults disk.new.disk.now ≡ D.read_faults disk.old.disk.now }
-    ensures lends { D.lends disk.new.disk.now ≡ D.lends disk.old.disk.now }
+    ensures keeps { KeepsDisk D.faults D.read_faults D.lends disk.old disk.new }
     ensures end { disk.new.end ≡ disk.old.end }
-    ensures limit { disk.new.limit ≡ disk.old.limit }
-    ensures same_disk { disk.new.disk.ghost_name ≡ disk.old.disk.ghost_name }
 {
     // The end is the number of a word, so each home before it is one too.
     let _ = disk.end();

@@ -14,6 +14,8 @@ ghost use Rattle.melt_move.specs.Collecting.{CarriesOut, CopiesOut, Decides, Hol
 ghost use Rattle.melt_move.specs.Collecting.{LacksDisk};
 ghost use Rattle.melt_move.specs.Collecting.{Moves, AreShapes, HasRoomFor, IsRefused, SameNames};
 ghost use Rattle.melt_copy.specs.Copied.{NumbersAre};
+ghost use Rattle.melt_copy.specs.Settling.{RisesBy};
+ghost use Rattle.melt_move.specs.KeptDisk.{KeepsDisk};
 ghost use Rattle.melt_move.specs.GivenScions.{given_count};
 ghost use Rattle.melt_move.specs.NamedHomes.{HasSpare};
 ghost use Rattle.melt_move.specs.Plans.{HasRoom, need_for};
@@ -168,13 +170,12 @@ fn carry_out<D: StaleDisk, L: Ledger>(
     ensures tables { OnOk result (KeepsTables heap.old heap.new) }
     ensures settled { OnOk result (IsSettled heap.new) }
     ensures stubs { IfOk result (λ count. count ≡ given_count decision.now.homes decision.now.choice.stay.moves.items) }
+    ensures few { IfOk result (λ count. count < 2 ^ 30) }
+    ensures writes { IfOk result (λ count. RisesBy (length decision.now.choice.leaving.items + count)
+        (D.writes disk.old.disk.now) (D.writes disk.new.disk.now)) }
     ensures grows { disk.new.end ≡ disk.old.end + need_for decision.now.homes.given.items }
     ensures failed { OnErr result (Rose (D.faults disk.old.disk.now) (D.faults disk.new.disk.now)) }
-    ensures count { D.faults disk.old.disk.now ≤ D.faults disk.new.disk.now }
-    ensures read_faults { D.read_faults disk.new.disk.now ≡ D.read_faults disk.old.disk.now }
-    ensures lends { D.lends disk.new.disk.now ≡ D.lends disk.old.disk.now }
-    ensures limit { disk.new.limit ≡ disk.old.limit }
-    ensures same_disk { disk.new.disk.ghost_name ≡ disk.old.disk.ghost_name }
+    ensures keeps { KeepsDisk D.faults D.read_faults D.lends disk.old disk.new }
 {
     reserve_homes(disk, &decision.homes.given, steps);
     write_bodies(disk, decision, &heap.space, steps)?;
@@ -184,7 +185,7 @@ fn carry_out<D: StaleDisk, L: Ledger>(
 }
 
 /// Makes all registers hold nothing.
-fn drop_held<L: Ledger>(held: &mut [Registers], steps: &mut Steps<L>)
+pub fn drop_held<L: Ledger>(held: &mut [Registers], steps: &mut Steps<L>)
     ensures { HoldNothing held.new }
 {
     for registers in held.iter_mut() {
@@ -210,15 +211,14 @@ pub fn collect_move<D: StaleDisk, L: Ledger>(
     requires settled { IsSettled heap }
     ensures moves { IfOk result (λ done. Moves heap done.0 held.old held.new disk.old.end disk.new.end
         (D.image disk.old.disk.now) (D.image disk.new.disk.now) done.1) }
+    ensures few { IfOk result (λ done. done.1.stubs < 2 ^ 30) }
+    ensures writes { IfOk result (λ done.
+        RisesBy (done.1.bodies + done.1.stubs) (D.writes disk.old.disk.now) (D.writes disk.new.disk.now)) }
     ensures fits { OnOk result (disk.new.end ≤ disk.old.limit) }
     ensures refused { IfErr result (λ refusal. IsRefused heap held.old held.new disk.old disk.new refusal) }
     ensures failed { IsErrOf result MoveRefusal.DiskFault
         → Rose (D.faults disk.old.disk.now) (D.faults disk.new.disk.now) }
-    ensures count { D.faults disk.old.disk.now ≤ D.faults disk.new.disk.now }
-    ensures read_faults { D.read_faults disk.new.disk.now ≡ D.read_faults disk.old.disk.now }
-    ensures lends { D.lends disk.new.disk.now ≡ D.lends disk.old.disk.now }
-    ensures limit { disk.new.limit ≡ disk.old.limit }
-    ensures same_disk { disk.new.disk.ghost_name ≡ disk.old.disk.ghost_name }
+    ensures keeps { KeepsDisk D.faults D.read_faults D.lends disk.old disk.new }
 {
     let (decision, room) = match prepare(alloc, &mut heap, held, disk.end(), steps) {
         Ok(prepared) => prepared,

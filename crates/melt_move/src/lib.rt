@@ -5,6 +5,8 @@
 //! `decision` joins them; so far nothing has changed, and all memory was taken. Then the words of those that stay are
 //! copied (`staying`), the records of those that leave are written (`bodies`), and what was copied takes the place of
 //! what was there (`commit`, `scions`). `collect` joins all of it.
+//!
+//! `planned` chooses between such a collection and one that copies, and settles what came back from the disk before.
 #![tactic(auto)]
 
 pub mod bodies;
@@ -13,6 +15,7 @@ pub mod collect;
 pub mod commit;
 pub mod decision;
 pub mod homes;
+pub mod planned;
 pub mod scions;
 pub mod staying;
 #[cfg(test)]

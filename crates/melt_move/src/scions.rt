@@ -9,6 +9,8 @@ ghost use Rattle.melt_space.specs.Space.{IsWord, word_at};
 ghost use Rattle.melt_scion.specs.Heaps.{Shows};
 ghost use Rattle.melt_scion.specs.State.{State};
 ghost use Rattle.melt_scion.specs.Scions.{IsTable};
+ghost use Rattle.melt_copy.specs.Settling.{RisesBy};
+ghost use Rattle.melt_move.specs.KeptDisk.{KeepsDisk};
 ghost use Rattle.melt_move.specs.GivenScions.{AwaitScions, FreesScions, HaveScions, MayNameScion, NamesScion};
 ghost use Rattle.melt_move.specs.GivenScions.{NamesScionsOf, WritesStubs, given_count};
 ghost use Rattle.melt_move.specs.Plans.{IsDecision};
@@ -77,12 +79,8 @@ fn give_scion<D: StaleDisk>(
         × Shows (D.image disk.new.disk.now) after × WritesStub heap.new m home disk.old.end image after) }
     ensures one_write { D.writes disk.new.disk.now ≡ counted (D.writes disk.old.disk.now) 1 }
     ensures failed { OnErr result (Rose (D.faults disk.old.disk.now) (D.faults disk.new.disk.now)) }
-    ensures count { D.faults disk.old.disk.now ≤ D.faults disk.new.disk.now }
-    ensures read_faults { D.read_faults disk.new.disk.now ≡ D.read_faults disk.old.disk.now }
-    ensures lends { D.lends disk.new.disk.now ≡ D.lends disk.old.disk.now }
+    ensures keeps { KeepsDisk D.faults D.read_faults D.lends disk.old disk.new }
     ensures end { disk.new.end ≡ disk.old.end }
-    ensures limit { disk.new.limit ≡ disk.old.limit }
-    ensures same_disk { disk.new.disk.ghost_name ≡ disk.old.disk.ghost_name }
 {
     let scion = heap.scions.add(home, m.to);
     disk.write_stub(home, m.shape, scion)?;
@@ -105,15 +103,11 @@ fn update_scion<D: StaleDisk>(
         × Shows (D.image disk.new.disk.now) after
         × WritesStubs homes.now (m ∷ []) heap.new disk.old.end image after) }
     ensures stubs { IfOk result (λ count. count ≡ given_count homes.now (m ∷ [])) }
-    ensures writes { IfOk result (λ count. D.writes disk.old.disk.now < 2 ^ 64
-        → D.writes disk.new.disk.now ≡ counted (D.writes disk.old.disk.now) count) }
+    ensures one_write_each { IfOk result (λ count.
+        RisesBy count (D.writes disk.old.disk.now) (D.writes disk.new.disk.now)) }
     ensures failed { OnErr result (Rose (D.faults disk.old.disk.now) (D.faults disk.new.disk.now)) }
-    ensures count { D.faults disk.old.disk.now ≤ D.faults disk.new.disk.now }
-    ensures read_faults { D.read_faults disk.new.disk.now ≡ D.read_faults disk.old.disk.now }
-    ensures lends { D.lends disk.new.disk.now ≡ D.lends disk.old.disk.now }
+    ensures keeps { KeepsDisk D.faults D.read_faults D.lends disk.old disk.new }
     ensures end { disk.new.end ≡ disk.old.end }
-    ensures limit { disk.new.limit ≡ disk.old.limit }
-    ensures same_disk { disk.new.disk.ghost_name ≡ disk.old.disk.ghost_name }
 {
     if let Some(scion) = scion_of(&heap.space, m.to) {
         heap.scions.set_address(scion, m.to);
@@ -142,15 +136,12 @@ pub fn give_scions<D: StaleDisk, L: Ledger>(
         × Shows (D.image disk.new.disk.now) after
         × WritesStubs decision.now.homes decision.now.choice.stay.moves.items heap.new disk.old.end image after) }
     ensures stubs { IfOk result (λ count. count ≡ given_count decision.now.homes decision.now.choice.stay.moves.items) }
-    ensures one_write_each { IfOk result (λ count. D.writes disk.old.disk.now < 2 ^ 64
-        → D.writes disk.new.disk.now ≡ counted (D.writes disk.old.disk.now) count) }
+    ensures few { IfOk result (λ count. count < 2 ^ 30) }
+    ensures one_write_each { IfOk result (λ count.
+        RisesBy count (D.writes disk.old.disk.now) (D.writes disk.new.disk.now)) }
     ensures failed { OnErr result (Rose (D.faults disk.old.disk.now) (D.faults disk.new.disk.now)) }
-    ensures count { D.faults disk.old.disk.now ≤ D.faults disk.new.disk.now }
-    ensures read_faults { D.read_faults disk.new.disk.now ≡ D.read_faults disk.old.disk.now }
-    ensures lends { D.lends disk.new.disk.now ≡ D.lends disk.old.disk.now }
+    ensures keeps { KeepsDisk D.faults D.read_faults D.lends disk.old disk.new }
     ensures end { disk.new.end ≡ disk.old.end }
-    ensures limit { disk.new.limit ≡ disk.old.limit }
-    ensures same_disk { disk.new.disk.ghost_name ≡ disk.old.disk.ghost_name }
 {
     let mut stubs = 0;
     for m in &decision.choice.stay.moves {

@@ -4,3 +4,4 @@ mod choice;
 mod collect;
 mod given;
 mod moved;
+mod planned;

@@ -1,7 +1,10 @@
 use Rattle.std.proofs.Common.{◌≡◌, ℕ, length, arith, ap, refl, subst, ◌∙◌}
+use Rattle.melt_copy.specs.Settling.{RisesBy}
+use Rattle.melt_copy.proofs.Settled.{rises_more}
 use Rattle.melt_move.specs.Bodies.{WritesBodies}
 use Rattle.melt_move.specs.Plans.{HasRoom, home_by}
-use Rattle.melt_move.proofs.Written.{departs_in, bodies_none, bodies_shown, counted_more}
+use Rattle.melt_move.proofs.Written.{departs_in, bodies_none, bodies_shown}
+use Rattle.melt_move.proofs.TwoCalls.{keeps_disk_none, keeps_disk_both}
 use Rattle.melt_move.proofs.bodies.write_bodies.Goals as goal
 
 pub loop-d-init : goal.loop-d-init
@@ -12,13 +15,9 @@ loop-d-init g c = record {
     bodies_none s (home_by s.word c.args.decision.now) c.args.disk.now.end c.args.decision.now.choice.leaving.items
         image,
   );
-  writes = λ small. omega (arith, small);
-  count = omega arith;
-  read_faults = refl;
-  lends = refl;
+  writes = refl;
+  keeps = keeps_disk_none g.D.StaleDisk.faults g.D.StaleDisk.read_faults g.D.StaleDisk.lends c.args.disk.now;
   end = refl;
-  limit = refl;
-  same_disk = refl;
 }
 
 pub write_body-requires-clause-departs : goal.write_body-requires-clause-departs
@@ -42,14 +41,30 @@ loop-d-preserved g c =
           c.deref-d-items.ensures.value c.loop-d-test.true before.end (before.written s image decided shows)
           (λ mid now. more.written s mid (departs_in c.args.space.now s c.args.decision.now c.deref-d-items.result.now
           c.loop-d.d-index _ decided room c.deref-d-items.ensures.value c.loop-d-test.true) now);
-      writes = λ small. counted_more _ c.loop-d.d-index _ _ (before.writes small) more.one_write;
-      count = omega (arith, before.count, more.count);
-      read_faults = more.read_faults ∙ before.read_faults;
-      lends = more.lends ∙ before.lends;
-      end = more.end ∙ before.end;
-      limit = more.limit ∙ before.limit;
-      same_disk = more.same_disk ∙ before.same_disk;
+      writes = rises_more c.loop-d.d-index (g.D.StaleDisk.writes c.args.disk.now.disk.now)
+          (g.D.StaleDisk.writes c.loop-d.disk.disk.now) (g.D.StaleDisk.writes c.write_body.new.disk.disk.now)
+          before.writes c.write_body.ensures.one_write;
+      keeps = keeps_disk_both g.D.StaleDisk.faults g.D.StaleDisk.read_faults g.D.StaleDisk.lends c.args.disk.now
+          c.loop-d.disk c.write_body.new.disk before.keeps c.write_body.ensures.keeps;
+      end = c.write_body.ensures.end ∙ before.end;
     }
+
+pub returns-in_err-write_body-clause-keeps : goal.returns-in_err-write_body-clause-keeps
+returns-in_err-write_body-clause-keeps g c =
+    keeps_disk_both g.D.StaleDisk.faults g.D.StaleDisk.read_faults g.D.StaleDisk.lends c.args.disk.now c.loop-d.disk
+    c.write_body.new.disk c.loop-d.invariant.keeps c.write_body.ensures.keeps
+
+pub returns-clause-one_write_each : goal.returns-clause-one_write_each
+returns-clause-one_write_each g c =
+    let all : c.loop-d.d-index ≡ length c.args.decision.now.choice.leaving.items =
+    omega (
+      arith,
+      ap length c.deref-d-items.ensures.value,
+      c.loop-d-test.false,
+      c.loop-d.auto.d-index-end,
+    ) in
+    subst (λ (n : ℕ). RisesBy n (g.D.StaleDisk.writes c.args.disk.now.disk.now)
+    (g.D.StaleDisk.writes c.loop-d.disk.disk.now)) all c.loop-d.invariant.writes
 
 pub returns-clause-written : goal.returns-clause-written
 returns-clause-written g c = λ s image decided shows.

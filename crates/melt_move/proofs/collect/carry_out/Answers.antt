@@ -1,5 +1,8 @@
-use Rattle.std.proofs.Common.{◌≡◌, ◌+◌, arith, refl, sym, ap, subst, ◌∙◌, List, length}
+use Rattle.std.proofs.Common.{◌≡◌, ℕ, ◌+◌, arith, refl, sym, ap, subst, ◌∙◌, List, length}
+use Rattle.std.proofs.lemmas.Result.{IfOk-weaker}
 use Rattle.melt_space.specs.Space.{word_at}
+use Rattle.melt_copy.specs.Settling.{RisesBy}
+use Rattle.melt_move.specs.KeptDisk.{KeepsDisk}
 use Rattle.melt_move.specs.declared.homes.Given.{Given}
 use Rattle.melt_move.specs.Plans.{home_by, need_for}
 use Rattle.melt_move.specs.Bodies.{WritesBodies}
@@ -9,7 +12,10 @@ use Rattle.melt_scion.specs.Heaps.{Shows, state_of}
 use Rattle.melt_move.proofs.Awaiting.{given_shapes, stays_within, await_scions, names_may_go}
 use Rattle.melt_move.proofs.Nothing.{on_ok_both}
 use Rattle.melt_move.proofs.CarriedOut.{carries_out}
+use Rattle.melt_move.proofs.TwoCalls.{rises_both, keeps_disk_same, keeps_disk_both}
+use Rattle.melt_move.proofs.collect.carry_out.Given.{Over}
 use Rattle.melt_move.proofs.collect.carry_out.Goals as goal
+use Rattle.melt_move.proofs.collect.carry_out.Goals.{After-write_bodies}
 
 pub reserve_homes-requires-clause-shapes : goal.reserve_homes-requires-clause-shapes
 reserve_homes-requires-clause-shapes g c = λ κs within.
@@ -95,3 +101,37 @@ returns-clause-carries g c =
     (length c.args.decision.now.choice.leaving.items) disk.image bodies.0) (sym (last ∙ kept)) bodies.2)
     (subst (λ e. WritesStubs c.args.decision.now.homes c.args.decision.now.choice.stay.moves.items
     c.give_scions.new.heap e bodies.0 stubs.0) (sym last) stubs.2) _ stubs.1 names)
+
+-- the disk is kept while homes are reserved and Bodies are written
+kept_first : (g : Over) (c : After-write_bodies g)
+    → KeepsDisk g.D.StaleDisk.faults g.D.StaleDisk.read_faults g.D.StaleDisk.lends c.args.disk.now
+    c.write_bodies.new.disk
+kept_first g c =
+    let reserves = c.reserve_homes.ensures in
+    keeps_disk_both g.D.StaleDisk.faults g.D.StaleDisk.read_faults g.D.StaleDisk.lends c.args.disk.now
+    c.reserve_homes.new.disk c.write_bodies.new.disk
+    (keeps_disk_same g.D.StaleDisk.faults g.D.StaleDisk.read_faults g.D.StaleDisk.lends c.args.disk.now
+    c.reserve_homes.new.disk reserves.disk reserves.limit reserves.same_disk) c.write_bodies.ensures.keeps
+
+pub returns-in_err-write_bodies-clause-keeps : goal.returns-in_err-write_bodies-clause-keeps
+returns-in_err-write_bodies-clause-keeps g c =
+    kept_first g (goal.at.returns-in_err-write_bodies-clause-keeps g c).After-write_bodies
+
+pub returns-clause-keeps : goal.returns-clause-keeps
+returns-clause-keeps g c =
+    keeps_disk_both g.D.StaleDisk.faults g.D.StaleDisk.read_faults g.D.StaleDisk.lends c.args.disk.now
+    c.write_bodies.new.disk c.give_scions.new.disk (kept_first g (goal.at.returns-clause-keeps g c).After-write_bodies)
+    c.give_scions.ensures.keeps
+
+pub returns-clause-writes : goal.returns-clause-writes
+returns-clause-writes g c =
+    let writes = g.D.StaleDisk.writes in
+    let leaving : ℕ = length c.args.decision.now.choice.leaving.items in
+    let before : ℕ = writes c.args.disk.now.disk.now in
+    let now : ℕ = writes c.write_bodies.new.disk.disk.now in
+    let after : ℕ = writes c.give_scions.new.disk.disk.now in
+    let bodies : RisesBy leaving before now =
+    subst (λ d. RisesBy leaving (writes d) now) c.reserve_homes.ensures.disk
+    c.in_ok-write_bodies.ensures.one_write_each in
+    IfOk-weaker c.give_scions.result (λ count. RisesBy count now after) (λ count. RisesBy (leaving + count) before after)
+    (λ count stubs. rises_both leaving count before now after bodies stubs) c.give_scions.ensures.one_write_each

@@ -1,9 +1,10 @@
-use Rattle.std.proofs.Common.{◌≡◌, arith, refl, sym, ap, subst, ◌∙◌}
+use Rattle.std.proofs.Common.{◌≡◌, ℕ, ◌+◌, length, arith, refl, sym, ap, subst, ◌∙◌}
 use Rattle.melt_scion.specs.State.{State}
 use Rattle.melt_scion.specs.Placed.{Maps, Formed}
 use Rattle.melt_scion.specs.Heaps.{OnDisk, state_of}
 use Rattle.melt_disk.specs.declared.space.DiskFull.{DiskFull}
 use Rattle.melt_scion.specs.Collected.{CountsWords}
+use Rattle.melt_copy.specs.Settling.{RisesBy}
 use Rattle.melt_move.specs.Plans.{IsDecision, WantsHome, need_for}
 use Rattle.melt_move.specs.Collecting.{IsFormedOn}
 use Rattle.melt_move.proofs.AsBefore.{formed_on, formed_same, maps_same, moved_same, state_same, tables_same}
@@ -151,3 +152,12 @@ returns-clause-fits g c =
     let room = c.in_default.ensures.room in
     let grows = c.carry_out.ensures.grows in
     omega (arith, counts, room, grows)
+
+pub returns-clause-writes : goal.returns-clause-writes
+returns-clause-writes g c =
+    let len = c.len.ensures in
+    let ok = c.in-Ok.prepared.0.choice.leaving.ok.0 in
+    let stubs : ℕ = c.in-Ok-carry_out.stubs in
+    let bodies : length c.in-Ok.prepared.0.choice.leaving.items ≡ c.len.result = omega (arith, len, ok) in
+    subst (λ (n : ℕ). RisesBy (n + stubs) (g.D.StaleDisk.writes c.args.disk.now.disk.now)
+    (g.D.StaleDisk.writes c.carry_out.new.disk.disk.now)) bodies c.in-Ok-carry_out.ensures.writes

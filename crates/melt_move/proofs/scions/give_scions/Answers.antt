@@ -6,6 +6,7 @@ use Rattle.melt_move.specs.GivenScions.{WritesStubs, given_count}
 use Rattle.melt_move.proofs.Elements.{read_at}
 use Rattle.melt_move.proofs.GivingScions.{moves_few, have_none, awaits, have_more, others_stay, have_all}
 use Rattle.melt_move.proofs.Stubs.{stubs_start, stubs_more, count_more, count_few}
+use Rattle.melt_move.proofs.TwoCalls.{rises_both, keeps_disk_none, keeps_disk_both}
 use Rattle.melt_move.proofs.scions.give_scions.Given.{Over}
 use Rattle.melt_move.proofs.scions.give_scions.Goals as goal
 use Rattle.melt_move.proofs.scions.give_scions.Goals.{After-tick}
@@ -37,13 +38,9 @@ loop-m-init g c =
         stubs_start homes moves c.args.heap.now c.args.disk.now.end image,
       );
       stubs = refl;
-      writes = λ small. omega (arith, small);
-      count = omega arith;
-      read_faults = refl;
-      lends = refl;
+      writes = refl;
+      keeps = keeps_disk_none g.D.StaleDisk.faults g.D.StaleDisk.read_faults g.D.StaleDisk.lends c.args.disk.now;
       end = refl;
-      limit = refl;
-      same_disk = refl;
     }
 
 pub update_scion-requires-after_bounds : goal.update_scion-requires-after_bounds
@@ -106,17 +103,26 @@ loop-m-preserved g c =
                 c.requires.homes_apart,
           );
       stubs = counted_now g tick _ c.in_ok-stubs.field-0 at turn.stubs;
-      writes = λ small.
-          let first = before.writes small in
-          let last = turn.writes (omega (arith, first)) in
-          omega (arith, first, last);
-      count = omega (arith, before.count, made.count);
-      read_faults = made.read_faults ∙ before.read_faults;
-      lends = made.lends ∙ before.lends;
+      writes = rises_both c.loop-m.stubs c.in_ok-stubs.field-0 (g.D.StaleDisk.writes c.args.disk.now.disk.now)
+          (g.D.StaleDisk.writes c.loop-m.disk.disk.now) (g.D.StaleDisk.writes c.update_scion.new.disk.disk.now)
+          before.writes turn.one_write_each;
+      keeps = keeps_disk_both g.D.StaleDisk.faults g.D.StaleDisk.read_faults g.D.StaleDisk.lends c.args.disk.now
+          c.loop-m.disk c.update_scion.new.disk before.keeps made.keeps;
       end = made.end ∙ before.end;
-      limit = made.limit ∙ before.limit;
-      same_disk = made.same_disk ∙ before.same_disk;
     }
+
+pub returns-in_err-stubs-clause-keeps : goal.returns-in_err-stubs-clause-keeps
+returns-in_err-stubs-clause-keeps g c =
+    keeps_disk_both g.D.StaleDisk.faults g.D.StaleDisk.read_faults g.D.StaleDisk.lends c.args.disk.now c.loop-m.disk
+    c.update_scion.new.disk c.loop-m.invariant.keeps c.update_scion.ensures.keeps
+
+pub returns-clause-few : goal.returns-clause-few
+returns-clause-few g c =
+    let homes = c.args.decision.now.homes in
+    let moves = c.args.decision.now.choice.stay.moves.items in
+    let few = count_few homes moves c.loop-m.m-index in
+    let fits = moves_few homes moves c.args.disk.now.end c.args.heap.now c.requires in
+    omega (arith, c.loop-m.invariant.stubs, few, fits)
 
 pub returns-clause-scions : goal.returns-clause-scions
 returns-clause-scions g c =

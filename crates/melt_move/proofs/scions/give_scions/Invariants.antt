@@ -1,6 +1,7 @@
-use Rattle.std.proofs.Common.{◌≡◌, ◌<◌, ◌≤◌, ◌^◌, ℕ, take}
-use Rattle.melt_io.specs.Outside.{counted}
+use Rattle.std.proofs.Common.{◌≡◌, ℕ, take}
 use Rattle.melt_scion.specs.Heaps.{Shows}
+use Rattle.melt_copy.specs.Settling.{RisesBy}
+use Rattle.melt_move.specs.KeptDisk.{KeepsDisk}
 use Rattle.melt_move.specs.GivenScions.{WritesStubs, given_count}
 use Rattle.melt_move.proofs.GivingScions.{HaveFirst}
 use Rattle.melt_move.proofs.scions.give_scions.Given as goal
@@ -13,12 +14,7 @@ invariant-loop-m g l = record {
       × WritesStubs l.decision.homes (take l.m-index l.decision.choice.stay.moves.items) l.heap l.fn.disk.end image
       after;
   stubs : l.stubs ≡ given_count l.decision.homes (take l.m-index l.decision.choice.stay.moves.items);
-  writes : g.D.StaleDisk.writes l.fn.disk.disk.now < 2 ^ 64
-      → g.D.StaleDisk.writes l.disk.disk.now ≡ counted (g.D.StaleDisk.writes l.fn.disk.disk.now) l.stubs;
-  count : g.D.StaleDisk.faults l.fn.disk.disk.now ≤ g.D.StaleDisk.faults l.disk.disk.now;
-  read_faults : g.D.StaleDisk.read_faults l.disk.disk.now ≡ g.D.StaleDisk.read_faults l.fn.disk.disk.now;
-  lends : g.D.StaleDisk.lends l.disk.disk.now ≡ g.D.StaleDisk.lends l.fn.disk.disk.now;
+  writes : RisesBy l.stubs (g.D.StaleDisk.writes l.fn.disk.disk.now) (g.D.StaleDisk.writes l.disk.disk.now);
+  keeps : KeepsDisk g.D.StaleDisk.faults g.D.StaleDisk.read_faults g.D.StaleDisk.lends l.fn.disk l.disk;
   end : l.disk.end ≡ l.fn.disk.end;
-  limit : l.disk.limit ≡ l.fn.disk.limit;
-  same_disk : l.disk.disk.ghost_name ≡ l.fn.disk.disk.ghost_name;
 }

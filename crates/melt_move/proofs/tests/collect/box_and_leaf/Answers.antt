@@ -16,6 +16,7 @@ returns-clause-formed c =
       maps = c.none.result;
     } in
     box_formed made third_holds_leaf c.set-2.new.self (record {
+      forward = c.new-4.ensures.items;
       two = record {
         start = c.in_ok-space.space;
         one = c.make.new.self;
@@ -30,17 +31,18 @@ returns-clause-formed c =
         refers = subst (SetsWord c.set_word.new.self c.set_word-2.new.self 5) c.encode_ref.ensures
             c.set_word-2.ensures;
       };
-      unnamed = c.in_ok-addresses.addresses;
-      names_one = c.set.new.self;
-      none = c.in_ok-addresses.ensures;
-      leaf_named = c.set.ensures;
-      box_named = c.set-2.ensures;
-      homes = c.new-5.result;
-      no_homes = c.new-5.ensures.names;
-      has = refl;
-      scions = c.in_ok-scions.ensures.empty;
-      forward = c.new-4.ensures.items;
-      globals = c.in_ok-items.ensures.items_if_clones_equal (λ y is. is)
-          ∙ ap (λ (word : ℕ). replicate 1 word) c.encode_ref-2.ensures;
-      registers = leaf_held;
+      numbered = record {
+        unnamed = c.in_ok-addresses.addresses;
+        names_one = c.set.new.self;
+        none = c.in_ok-addresses.ensures;
+        leaf_named = c.set.ensures;
+        box_named = c.set-2.ensures;
+        homes = c.new-5.result;
+        no_homes = c.new-5.ensures.names;
+        has = refl;
+        scions = c.in_ok-scions.ensures.empty;
+        globals = c.in_ok-items.ensures.items_if_clones_equal (λ y is. is)
+            ∙ ap (λ (word : ℕ). replicate 1 word) c.encode_ref-2.ensures;
+        registers = leaf_held;
+      };
     })
