@@ -78,9 +78,7 @@ fn with_flag<'a>(
 ) -> Result<Command<'a>, AllocError>
     ensures { IfOk result (λ more. app_of more ≡ with_rule (app_of command.entry) (flag_rule name.now)) }
 {
-    let flag = Arg::new(alloc, name)
-        .long(name)
-        .action(ArgAction::SetTrue);
+    let flag = Arg::new(alloc, name).long(name).action(ArgAction::SetTrue);
     command.arg(flag)
 }
 

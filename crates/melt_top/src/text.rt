@@ -7,9 +7,7 @@ ghost use Rattle.melt_top.specs.Text.{thread_text, thread_lines, slot_field, val
 ghost use Rattle.melt_top.specs.Text.{table_part, log_part, text};
 
 use itoa::Buffer;
-use melt_model::{
-    Act, Entry, Halt, NoMemory, Reply, Report, Slot, ThreadEnd, ThreadReport, Value,
-};
+use melt_model::{Act, Entry, Halt, NoMemory, Reply, Report, Slot, ThreadEnd, ThreadReport, Value};
 use melt_stats::table;
 use melt_trace::push_line;
 use std::alloc::Global;
@@ -110,10 +108,9 @@ fn number_in(reply: Reply) -> u64
 fn sum_of(replies: &[Reply]) -> u64
     ensures { result ≡ sum_by number_in replies.now % 2 ^ 64 }
 {
-    replies.iter().fold(
-        0u64,
-        |sum, reply| sum.wrapping_add(number_in(*reply)),
-    )
+    replies
+        .iter()
+        .fold(0u64, |sum, reply| sum.wrapping_add(number_in(*reply)))
 }
 
 fn push_sum(out: &mut Vec<u8>, replies: &[Reply]) -> Result<(), NoMemory>
@@ -146,11 +143,7 @@ fn push_thread(
     push_end(out, report.end)
 }
 
-fn push_threads(
-    out: &mut Vec<u8>,
-    threads: &[ThreadReport],
-    texts: Texts,
-) -> Result<(), NoMemory>
+fn push_threads(out: &mut Vec<u8>, threads: &[ThreadReport], texts: Texts) -> Result<(), NoMemory>
     ensures { OnOk result (out.new.items ≡ out.old.items ++ thread_lines texts 0 threads.now) }
 {
     for (number, thread) in threads.iter().enumerate() {
