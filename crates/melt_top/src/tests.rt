@@ -6,6 +6,7 @@ use melt_model::{
     Entries, Halt, Journals, Replies, Reply, Report, ThreadEnd, ThreadReport, ThreadReports,
 };
 use std::alloc::Global;
+use std::process::Abort;
 use std::test::Fail;
 use std::thread::Threads;
 
@@ -91,7 +92,7 @@ fn step_writes_each_reply(rt: HostRuntime) -> Result<(), Fail> {
 }
 
 /// The bytes that the words write, of a trace that is run to its end.
-fn written<R: Threads + Sync + AllocGlobal>(
+fn written<R: Threads + Sync + AllocGlobal + Abort>(
     rt: &R,
     words: &[&str],
     trace: &[u8],
@@ -186,7 +187,7 @@ fn all_three_texts_stand_in_their_order(rt: HostRuntime) -> Result<(), Fail> {
 }
 
 /// The trace that the words of `gen` write.
-fn made<R: Threads + Sync + AllocGlobal>(
+fn made<R: Threads + Sync + AllocGlobal + Abort>(
     rt: &R,
     kind: &str,
     seed: &str,
