@@ -92,7 +92,8 @@ impl Collector {
         let blank = Blank::new(1);
         let journal = collect_uncounted::<Brand>(alloc, &mut heap, rest.registers(), phase, blank)?;
         self.plan(journal.live, phase);
-        self.journal.push(journal)?;
+        // Nothing is on disk, so word 1 is the first past all homes.
+        self.journal.push(Journal { end: 1, ..journal })?;
         Ok(Core::begin(heap, rest))
     }
 

@@ -1,3 +1,5 @@
 mod Clapping
+mod Found
 mod Parsing
+mod Sums
 pub mod TopLaws

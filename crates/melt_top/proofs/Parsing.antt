@@ -10,19 +10,19 @@ use Rattle.clap.specs.Matches.{found_of}
 use Rattle.clap.specs.Simple.{App, argument_words, built, is_simple, matches_of}
 use Rattle.clap.specs.Faults.{is_simple_and_free}
 use Rattle.clap.specs.Values.{kind_of}
-use Rattle.clap.specs.Walk.{Row, first_of, rows_of}
+use Rattle.clap.specs.Walk.{Row, rows_of}
 use Rattle.clap.proofs.OnLiterals.{clap_on_literals}
-use Rattle.clap.proofs.WalkLemmas.{first_value-rows}
 use Rattle.clap.specs.declared.error.Error.{Error}
 use Rattle.clap.specs.declared.error.kind.ErrorKind.{ErrorKind}
 use Rattle.clap.specs.declared.parser.matches.ArgMatches.{ArgMatches}
-use Rattle.melt_top.specs.Words.{Given, given_of, read_from, parts_options}
+use Rattle.melt_top.specs.Words.{Given, Names, given_of, read_from, parts_options}
 use Rattle.melt_top.specs.Parses.{Has, IsWord, Parses, asked_for, names_of, refusal_for, title_of}
 use Rattle.melt_top.specs.declared.options.Verb.{Verb}
 use Rattle.melt_top.specs.declared.options.Verb.TheVariants as verb
 use Rattle.melt_top.specs.declared.options.WordsRefusal.{WordsRefusal}
 use Rattle.melt_top.specs.declared.options.WordsRefusal.TheVariants as refusal
-use Rattle.melt_top.proofs.Clapping.{Agrees, Fails, app_for, first_of-for, parser_agrees}
+use Rattle.melt_top.proofs.Clapping.{Comes, Fails, app_for, parser_agrees}
+use Rattle.melt_top.proofs.Found.{has}
 
 -- ---- the parsers that are asked for
 
@@ -46,48 +46,47 @@ words_behind_the_first : (v : Verb) (all : List (List ℕ))
 words_behind_the_first verb.Step all = refl
 words_behind_the_first verb.Gen all = refl
 
-given_without_dashes : (names words : List (List ℕ)) → list_any parts_options words ≡ false
+given_without_dashes : (names : Names) (words : List (List ℕ)) → list_any parts_options words ≡ false
     → given_of names words ≡ read_from names (record { given = []; waits = None }) words
 given_without_dashes names words none = rw none refl
 
 pub options_agree : (v : Verb) (app : App) (all : List (List ℕ)) → app ≡ asked_for (title_of v) (names_of v)
     → list_any parts_options (drop 1 all) ≡ false
-    → AllByRecursion IsWord (drop 1 all) → Agrees (fault_of app all) (matches_of app all)
+    → AllByRecursion IsWord (drop 1 all) → Comes (names_of v) (fault_of app all) (matches_of app all)
     (given_of (names_of v) (drop 1 all))
 options_agree v app all is none each =
-    subst (Agrees (fault_of app all) (matches_of app all)) (sym (given_without_dashes (names_of v) (drop 1 all) none))
+    subst (Comes (names_of v) (fault_of app all) (matches_of app all)) (sym (given_without_dashes (names_of v) (drop 1 all) none))
     (parser_agrees (title_of v) (names_of v) (drop 1 all) all app (ap built is ∙ asked_built v)
     (ap (λ (a : App). argument_words a all) is ∙ words_behind_the_first v all) each)
 
 -- ---- what is answered
 
-pub parsed : (names words : List (List ℕ)) (faults : Kinds) (rows : List Row) (matches : ArgMatches)
-    → Agrees faults rows (given_of names words)
-    → faults ≡ [] → rows_of (found_of matches) ≡ rows → IsSomeAnd (given_of names words) (Has matches)
-parsed names words faults rows matches agrees none found = go (given_of names words) agrees
+pub parsed : (names : Names) (words : List (List ℕ)) (faults : Kinds) (rows : List Row) (matches : ArgMatches)
+    → Comes names faults rows (given_of names words)
+    → faults ≡ [] → rows_of (found_of matches) ≡ rows → IsSomeAnd (given_of names words) (Has names matches)
+parsed names words faults rows matches comes none found = go (given_of names words) comes
   where
-    go : (read : Option Given) → Agrees faults rows read → IsSomeAnd read (Has matches)
-    go None a = absurd (subst Fails none a)
-    go (Some given) a = λ name. first_value-rows (found_of matches) name ∙ ap (first_of name) (found ∙ a.1)
-        ∙ first_of-for given name
+    go : (read : Option Given) → Comes names faults rows read → IsSomeAnd read (Has names matches)
+    go None c = absurd (subst Fails none c)
+    go (Some given) c = has names matches given (found ∙ c.1)
 
-nothing_given : (read : Option Given) (faults : Kinds) (rows : List Row) (k : ErrorKind)
-    → Agrees faults rows read → IsAmong k faults → read ≡ None
-nothing_given None faults rows k agrees among = refl
-nothing_given (Some given) faults rows k agrees among = absurd (subst (IsAmong k) agrees.0 among)
+nothing_given : (names : Names) (read : Option Given) (faults : Kinds) (rows : List Row) (k : ErrorKind)
+    → Comes names faults rows read → IsAmong k faults → read ≡ None
+nothing_given names None faults rows k comes among = refl
+nothing_given names (Some given) faults rows k comes among = absurd (subst (IsAmong k) comes.0 among)
 
-refused_so : (names words : List (List ℕ)) (r : WordsRefusal) → given_of names words ≡ None → Parses names words (Err r)
+refused_so : (names : Names) (words : List (List ℕ)) (r : WordsRefusal) → given_of names words ≡ None → Parses names words (Err r)
 refused_so names words refusal.Usage none = none
 refused_so names words refusal.NoMemory none = tt
 
-pub refused : (names words : List (List ℕ)) (faults : Kinds) (rows : List Row) (e : Error) (r : WordsRefusal)
-    → Agrees faults rows (given_of names words)
+pub refused : (names : Names) (words : List (List ℕ)) (faults : Kinds) (rows : List Row) (e : Error) (r : WordsRefusal)
+    → Comes names faults rows (given_of names words)
     → HasKind faults e → r ≡ refusal_for (kind_of e) → Parses names words (Err r)
-refused names words faults rows e r agrees (inl memory) is =
+refused names words faults rows e r comes (inl memory) is =
     let So : WordsRefusal → Type 0 = λ x. Parses names words (Err x) in
     subst So (sym (is ∙ ap refusal_for memory)) tt
-refused names words faults rows e r agrees (inr among) is =
-    refused_so names words r (nothing_given (given_of names words) faults rows (kind_of e) agrees among)
+refused names words faults rows e r comes (inr among) is =
+    refused_so names words r (nothing_given names (given_of names words) faults rows (kind_of e) comes among)
 
 -- ---- words in a loop, and those behind the first
 

@@ -21,6 +21,7 @@ use Rattle.melt_top.specs.Command.{halted_by_fault, halted_by_full}
 use Rattle.melt_top.specs.Headline.{Change, IsUntouched, ReadAFront, ReadAtMost, StepDue, Due, IsRefused, WroteAll}
 use Rattle.melt_top.specs.Headline.{Outcome, IsBuilt}
 use Rattle.melt_top.specs.declared.command.Command.{Command}
+use Rattle.melt_top.specs.declared.command.Run.{Run}
 use Rattle.melt_top.specs.declared.command.Command.TheVariants.{Gen, Step}
 use Rattle.melt_top.specs.declared.status.Status.{Status}
 use Rattle.melt_top.specs.declared.status.Status.TheVariants as status
@@ -41,10 +42,10 @@ read_a_front input n few count =
     record { bytes = t.0; front = t.2; no_more = omega (arith, t.1) }
 
 -- the reading failed
-pub read_failed : (config : Config) (input : Change) (n : ℕ) (due : Status) (output : List ℕ)
+pub read_failed : (run : Run) (input : Change) (n : ℕ) (due : Status) (output : List ℕ)
     → n ≤ max_bytes + 1 → TakesCount input.before n input.after → Rose input.faults_before input.faults_after
-    → due ≡ status.ReadFault → output ≡ read_fault_text → StepDue config input due output
-read_failed config input n due output few count rose is told =
+    → due ≡ status.ReadFault → output ≡ read_fault_text → StepDue run input due output
+read_failed run input n due output few count rose is told =
     let t = taken input.before input.after n count in
     inl (record { bytes = t.0; front = t.2; no_more = omega (arith, t.1); fault = rose; status = is; told = told })
 
@@ -52,10 +53,10 @@ read_failed config input n due output few count rose is told =
 long_refused : (bytes : List ℕ) → max_bytes < length bytes → script_of bytes ≡ Err (0, 1)
 long_refused bytes long = cond-false (nat_le (length bytes) max_bytes) _ _ (lt-leb (length bytes) max_bytes long)
 
-pub too_long : (config : Config) (input : Change) (n : ℕ) (due : Status) (output : List ℕ) → n ≡ max_bytes + 1
+pub too_long : (run : Run) (input : Change) (n : ℕ) (due : Status) (output : List ℕ) → n ≡ max_bytes + 1
     → TakesCount input.before n input.after → due ≡ status.Trace → output ≡ refused_text 0 1
-    → StepDue config input due output
-too_long config input n due output long count is told =
+    → StepDue run input due output
+too_long run input n due output long count is told =
     let t = taken input.before input.after n count in
     inr (record {
       bytes = t.0;
@@ -115,18 +116,18 @@ ran_status script config report reported =
     (either (ended is_disk_fault report) (halted_by_fault report.halt) (none_ended is_disk_fault report.threads (λ t r at. (ends_so script config report t r.end (reported.ends t r at)).0)) (ap halted_by_fault reported.no_halt))
     (none_ended is_damaged report.threads (λ t r at. (ends_so script config report t r.end (reported.ends t r at)).1)) (ap halted_by_full reported.no_halt)
 
-step_due : (config : Config) (input : Change) (due : Status) (output : List ℕ) → StepDue config input due output
+step_due : (run : Run) (input : Change) (due : Status) (output : List ℕ) → StepDue run input due output
     → MayBeDue due
-step_due config input due output (inl failed) = subst MayBeDue (sym failed.status) tt
-step_due config input due output (inr read) = elim read.trace [
+step_due run input due output (inl failed) = subst MayBeDue (sym failed.status) tt
+step_due run input due output (inr read) = elim read.trace [
   | inl refused ↦ subst MayBeDue (sym refused.status) tt
-  | inr ran ↦ subst MayBeDue (sym ran.ran.status) (ran_status ran.script config ran.ran.report ran.ran.run.reported)
+  | inr ran ↦ subst MayBeDue (sym ran.ran.status) (ran_status ran.script run.config ran.ran.report ran.ran.has_run.reported)
 ]
 
 is_due : (command : Option Command) (input : Change) (due : Status) (output : List ℕ)
     → Due command input due output → MayBeDue due
 is_due None input due output is = subst MayBeDue (sym is.status) tt
-is_due (Some (Step config)) input due output is = step_due config input due output is
+is_due (Some (Step run)) input due output is = step_due run input due output is
 is_due (Some (Gen recipe)) input due output is = elim is.done [
   | inl none ↦ subst MayBeDue (sym none.status) tt
   | inr trace ↦ subst MayBeDue (sym trace.status) tt
@@ -199,10 +200,10 @@ no_usage_of false false true d = tt
 no_usage_of false false false true = tt
 no_usage_of false false false false = tt
 
-no_usage : (config : Config) (input : Change) (due : Status) (output : List ℕ) → StepDue config input due output
+no_usage : (run : Run) (input : Change) (due : Status) (output : List ℕ) → StepDue run input due output
     → NotUsage due
-no_usage config input due output (inl failed) = subst NotUsage (sym failed.status) tt
-no_usage config input due output (inr read) = elim read.trace [
+no_usage run input due output (inl failed) = subst NotUsage (sym failed.status) tt
+no_usage run input due output (inr read) = elim read.trace [
   | inl refused ↦ subst NotUsage (sym refused.status) tt
   | inr ran ↦
       let report = ran.ran.report in
@@ -215,7 +216,7 @@ pub refused_words : (command : Option Command) (input : Change) (due : Status) (
     → Due command input due output → due ≡ status.Usage
     → IsRefused command
 refused_words None input due output is usage = tt
-refused_words (Some (Step config)) input due output is usage = subst NotUsage usage (no_usage config input due output is)
+refused_words (Some (Step run)) input due output is usage = subst NotUsage usage (no_usage run input due output is)
 refused_words (Some (Gen recipe)) input due output is usage = elim is.done [
   | inl none ↦ none.many
   | inr trace ↦
@@ -232,7 +233,7 @@ nothing_taken (Some bytes) = refl
 -- a call that read nothing read as little as any
 pub read_nothing : (command : Option Command) (input : Change) → IsUntouched input → ReadAtMost command input
 read_nothing None input is = is
-read_nothing (Some (Step config)) input is = record {
+read_nothing (Some (Step run)) input is = record {
   bytes = [];
   front = subst (TakesFront input.before []) (sym is.bytes) (nothing_taken input.before);
   no_more = omega arith;
@@ -255,8 +256,8 @@ pub read_fault_rose : (command : Option Command) (input : Change) (due : Status)
     → Due command input due output → due ≡ status.ReadFault
     → Rose input.faults_before input.faults_after
 read_fault_rose None input due output is e = absurd (omega (arith, ap number_of is.status, ap number_of e))
-read_fault_rose (Some (Step config)) input due output (inl failed) e = failed.fault
-read_fault_rose (Some (Step config)) input due output (inr read) e = elim read.trace [
+read_fault_rose (Some (Step run)) input due output (inl failed) e = failed.fault
+read_fault_rose (Some (Step run)) input due output (inr read) e = elim read.trace [
   | inl refused ↦ absurd (omega (arith, ap number_of refused.status, ap number_of e))
   | inr ran ↦
       let report = ran.ran.report in

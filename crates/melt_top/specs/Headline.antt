@@ -1,7 +1,6 @@
 -- What a call of the program does, from the words and the bytes read to the bytes written.
 use Rattle.std.specs.Prelude.{◌≡◌, ℕ, ◌+◌, ◌<◌, ◌≤◌, List, [], length, take, Option, None, Some, IfSome, ◌⊎◌, Ok, Err}
 use Rattle.melt_io.specs.Outside.{Rose, TakesFront, Appends}
-use Rattle.melt_model.specs.declared.config.Config.{Config}
 use Rattle.melt_model.specs.declared.reports.Report.{Report}
 use Rattle.melt_scion.specs.declared.heap.Heap.{Heap}
 use Rattle.melt_trace.specs.Script.{Script}
@@ -12,6 +11,7 @@ use Rattle.melt_step.specs.Run.{HasRun}
 use Rattle.melt_top.specs.declared.command.Command.{Command}
 use Rattle.melt_top.specs.declared.command.Command.TheVariants.{Gen, Step}
 use Rattle.melt_top.specs.declared.command.Recipe.{Recipe}
+use Rattle.melt_top.specs.declared.command.Run.{Run}
 use Rattle.melt_gen.specs.Workloads.{generated}
 use Rattle.melt_trace.specs.Grammar.{canonical}
 use Rattle.melt_top.specs.declared.status.Status.{Status}
@@ -49,24 +49,25 @@ pub record TraceRefused (bytes : List ℕ) (due : Status) (output : List ℕ) : 
   pub status : due ≡ status.Trace
   pub told : output ≡ refused_text line reason
 
--- The output is the text of a report of a run of the script, whose replies are those of one legal history. The run
--- left a heap that stands for this history.
-pub record RunDue (script : Script) (config : Config) (due : Status) (output : List ℕ) : Type 0 where
+-- The output is the text of a report of a run of the script, whose replies are those of one legal history: the one that
+-- the report stores, and of which each entry is written where that is asked. The run left a heap that stands for this
+-- history.
+pub record RunDue (script : Script) (run : Run) (due : Status) (output : List ℕ) : Type 0 where
   pub report : Report
   pub heap : Option Heap
-  pub run : HasRun script config report heap
+  pub has_run : HasRun script run.config report heap
   pub status : due ≡ status_of report
-  pub told : output ≡ text (record { report = report })
+  pub told : output ≡ text (record { report = report; texts = run.texts })
 
 -- the bytes are a trace, and it was run
-pub record TraceRan (config : Config) (bytes : List ℕ) (due : Status) (output : List ℕ) : Type 0 where
+pub record TraceRan (run : Run) (bytes : List ℕ) (due : Status) (output : List ℕ) : Type 0 where
   pub script : Script
   pub says : script_of bytes ≡ Ok script
-  pub ran : RunDue script config due output
+  pub ran : RunDue script run due output
 
--- what is due for the bytes of a trace, with these numbers of a run
-abbrev pub TraceDue : Config → List ℕ → Status → List ℕ → Type 0
-TraceDue config bytes due output = TraceRefused bytes due output ⊎ TraceRan config bytes due output
+-- what is due for the bytes of a trace
+abbrev pub TraceDue : Run → List ℕ → Status → List ℕ → Type 0
+TraceDue run bytes due output = TraceRefused bytes due output ⊎ TraceRan run bytes due output
 
 -- the reading failed, behind these bytes
 pub record CouldNotRead (input : Change) (due : Status) (output : List ℕ) : Type 0 where
@@ -78,14 +79,14 @@ pub record CouldNotRead (input : Change) (due : Status) (output : List ℕ) : Ty
   pub told : output ≡ read_fault_text
 
 -- the input was read
-pub record CouldRead (config : Config) (input : Change) (due : Status) (output : List ℕ) : Type 0 where
+pub record CouldRead (run : Run) (input : Change) (due : Status) (output : List ℕ) : Type 0 where
   pub bytes : List ℕ
   pub read : WasRead input bytes
-  pub trace : TraceDue config bytes due output
+  pub trace : TraceDue run bytes due output
 
 -- what `step` has to write and to answer
-abbrev pub StepDue : Config → Change → Status → List ℕ → Type 0
-StepDue config input due output = CouldNotRead input due output ⊎ CouldRead config input due output
+abbrev pub StepDue : Run → Change → Status → List ℕ → Type 0
+StepDue run input due output = CouldNotRead input due output ⊎ CouldRead run input due output
 
 -- the words mean nothing: nothing is read
 pub record NotUnderstood (input : Change) (due : Status) (output : List ℕ) : Type 0 where
@@ -120,19 +121,19 @@ pub record GenDue (recipe : Recipe) (input : Change) (due : Status) (output : Li
 -- What a command has to write and to answer.
 abbrev pub Due : Option Command → Change → Status → List ℕ → Type 0
 Due None input due output = NotUnderstood input due output
-Due (Some (Step config)) input due output = StepDue config input due output
+Due (Some (Step run)) input due output = StepDue run input due output
 Due (Some (Gen recipe)) input due output = GenDue recipe input due output
 
 -- the words mean nothing, or a trace that would be too long
 abbrev pub IsRefused : Option Command → Type 0
 IsRefused None = Unit {0}
-IsRefused (Some (Step config)) = ⊥
+IsRefused (Some (Step run)) = ⊥
 IsRefused (Some (Gen recipe)) = IsTooLong recipe
 
 -- what was read at most: only `step` reads
 abbrev pub ReadAtMost : Option Command → Change → Type 0
 ReadAtMost None input = IsUntouched input
-ReadAtMost (Some (Step config)) input = ReadAFront input
+ReadAtMost (Some (Step run)) input = ReadAFront input
 ReadAtMost (Some (Gen recipe)) input = IsUntouched input
 
 -- everything that was due was written

@@ -1,15 +1,16 @@
 -- What the parser of command lines is asked for, and what reading words by it answers.
-use Rattle.std.specs.Prelude.{◌≡◌, ℕ, false, true, List, [], ◌∷◌, codes, map, Some, None, IsSomeAnd, Result}
+use Rattle.std.specs.Prelude.{◌≡◌, ℕ, false, true, List, [], ◌∷◌, ◌++◌, codes, map, Some, None, IsSomeAnd, Result}
 use Rattle.std.specs.Prelude.{Ok, Err}
 use Rattle.std.specs.Str.{IsUtf8}
-use Rattle.clap.specs.Matches.{first_value, found_of}
+use Rattle.clap.specs.Matches.{first_value, found_of, one_text}
 use Rattle.clap.specs.Simple.{App, new_rule, new_shape}
+use Rattle.clap.specs.Values.{bool_text}
 use Rattle.clap.specs.Walk.{Rule}
-use Rattle.clap.specs.declared.builder.action.ArgAction.TheVariants.{Set}
+use Rattle.clap.specs.declared.builder.action.ArgAction.TheVariants.{Set, SetTrue}
 use Rattle.clap.specs.declared.error.kind.ErrorKind.{ErrorKind}
 use Rattle.clap.specs.declared.error.kind.ErrorKind.TheVariants as kind
 use Rattle.clap.specs.declared.parser.matches.ArgMatches.{ArgMatches}
-use Rattle.melt_top.specs.Words.{Given, given_of, parts_options, value_of}
+use Rattle.melt_top.specs.Words.{Given, Names, given_of, is_among, is_given, parts_options, value_of}
 use Rattle.melt_top.specs.declared.options.Verb.{Verb}
 use Rattle.melt_top.specs.declared.options.Verb.TheVariants as verb
 use Rattle.melt_top.specs.declared.options.WordsRefusal.{WordsRefusal}
@@ -17,13 +18,16 @@ use Rattle.melt_top.specs.declared.options.WordsRefusal.TheVariants as refusal
 
 -- ---- the options of each command
 
-abbrev pub step_names : List (List ℕ)
-step_names = codes "heap" ∷ codes "mark" ∷ codes "move" ∷ codes "every" ∷ []
+abbrev pub step_names : Names
+step_names = record {
+  options = codes "heap" ∷ codes "mark" ∷ codes "move" ∷ codes "every" ∷ [];
+  flags = codes "quiet" ∷ codes "table" ∷ codes "log" ∷ [];
+}
 
-abbrev pub gen_names : List (List ℕ)
-gen_names = codes "kind" ∷ codes "seed" ∷ codes "size" ∷ codes "threads" ∷ []
+abbrev pub gen_names : Names
+gen_names = record { options = codes "kind" ∷ codes "seed" ∷ codes "size" ∷ codes "threads" ∷ []; flags = [] }
 
-abbrev pub names_of : Verb → List (List ℕ)
+abbrev pub names_of : Verb → Names
 names_of verb.Step = step_names
 names_of verb.Gen = gen_names
 
@@ -37,10 +41,17 @@ title_of verb.Gen = codes "gen"
 abbrev pub option_rule : List ℕ → Rule
 option_rule name = record (new_rule name) { long = Some name; action = Some Set }
 
+-- a flag, which stands or does not
+abbrev pub flag_rule : List ℕ → Rule
+flag_rule name = record (new_rule name) { long = Some name; action = Some SetTrue }
+
 -- a command of this name with these options, and without help
-abbrev pub asked_for : List ℕ → List (List ℕ) → App
+abbrev pub asked_for : List ℕ → Names → App
 asked_for title names = record {
-  top = record (new_shape title) { rules = map option_rule names; disable_help_flag = true };
+  top = record (new_shape title) {
+    rules = map option_rule names.options ++ map flag_rule names.flags;
+    disable_help_flag = true;
+  };
   subs = [];
 }
 
@@ -48,9 +59,18 @@ asked_for title names = record {
 abbrev pub IsWord : List ℕ → Type 0
 IsWord word = (parts_options word ≡ false) × IsUtf8 word
 
--- the matches have what was given
-abbrev pub Has : ArgMatches → Given → Type 0
-Has matches given = (name : List ℕ) → first_value (found_of matches) name ≡ value_of given name
+-- the option takes a value
+abbrev pub TakesValue : Names → (name : List ℕ) → Type 0
+TakesValue names name = (is_among names.options name ≡ true) × (is_among names.flags name ≡ false)
+
+abbrev pub IsFlag : Names → (name : List ℕ) → Type 0
+IsFlag names name = (is_among names.options name ≡ false) × (is_among names.flags name ≡ true)
+
+-- the matches have what was given: each value, and of each flag whether it stands
+pub record Has (names : Names) (matches : ArgMatches) (given : Given) : Type 0 where
+  pub values : (name : List ℕ) → TakesValue names name → first_value (found_of matches) name ≡ value_of given name
+  pub flags : (name : List ℕ) → IsFlag names name
+      → one_text (found_of matches) name ≡ Some (bool_text (is_given given name))
 
 -- want of memory, or words that mean nothing
 abbrev pub refusal_for : ErrorKind → WordsRefusal
@@ -58,7 +78,7 @@ refusal_for kind.OutOfMemory = refusal.NoMemory
 refusal_for other = refusal.Usage
 
 -- What the words give is found, or they give nothing. Want of memory says nothing.
-abbrev pub Parses : List (List ℕ) → List (List ℕ) → Result ArgMatches WordsRefusal → Type 0
-Parses names words (Ok matches) = IsSomeAnd (given_of names words) (Has matches)
+abbrev pub Parses : Names → List (List ℕ) → Result ArgMatches WordsRefusal → Type 0
+Parses names words (Ok matches) = IsSomeAnd (given_of names words) (Has names matches)
 Parses names words (Err refusal.Usage) = given_of names words ≡ None
 Parses names words (Err refusal.NoMemory) = Unit {0}

@@ -1,11 +1,19 @@
--- How the words behind a command are read: options in any order, each once at most and with its value.
+-- How the words behind a command are read: options in any order, each once at most. An option has a value, or is a flag.
 use Rattle.std.specs.Prelude.{ℕ, Bool, not, ◌||◌, if◌then◌else◌, List, [], ◌∷◌, ◌++◌, find, Option, None}
 use Rattle.std.specs.Prelude.{Some, option_and_then, option_map, codes}
 use Rattle.std.specs.List.{list_any}
 use Rattle.std.specs.Str.{bytes_eq}
 use Rattle.clap.specs.Lexer.{long_of, is_long_word, is_short_word}
 
--- the options so far, without their two hyphens, each with its value
+-- the names that a command knows: of the options that take a value, and of the flags, which take none
+pub record Names : Type 0 where
+  pub options : List (List ℕ)
+  pub flags : List (List ℕ)
+
+abbrev pub is_among : List (List ℕ) → (name : List ℕ) → Bool
+is_among names name = list_any (λ n. bytes_eq n name) names
+
+-- the options so far, without their two hyphens, each with its value, which is empty for a flag
 abbrev pub Given : Type 0
 Given = List (List ℕ × List ℕ)
 
@@ -30,17 +38,24 @@ abbrev pub with_name : Given → (name : List ℕ) → (value : Option (List ℕ
 with_name given name (Some value) = with_value given name value
 with_name given name None = Some (record { given = given; waits = Some name })
 
+-- a flag is a word by itself
+abbrev pub with_flag : Given → (name : List ℕ) → (value : Option (List ℕ)) → Option Reading
+with_flag given name (Some value) = None
+with_flag given name None = with_value given name []
+
 -- a word that is to be an option of these names
-abbrev pub with_option : List (List ℕ) → Given → (parts : Option (List ℕ × Option (List ℕ))) → Option Reading
+abbrev pub with_option : Names → Given → (parts : Option (List ℕ × Option (List ℕ))) → Option Reading
 with_option names given None = None
 with_option names given (Some parts) =
-    if list_any (λ name. bytes_eq name parts.0) names then with_name given parts.0 parts.1 else None
+    if is_among names.options parts.0 then with_name given parts.0 parts.1
+    else if is_among names.flags parts.0 then with_flag given parts.0 parts.1
+    else None
 
 -- A word that begins with a hyphen is no value, unless it is the hyphen alone.
 abbrev pub is_value : List ℕ → Bool
 is_value word = not (is_long_word word || is_short_word word)
 
-abbrev pub with_word : List (List ℕ) → Given → (waits : Option (List ℕ)) → List ℕ → Option Reading
+abbrev pub with_word : Names → Given → (waits : Option (List ℕ)) → List ℕ → Option Reading
 with_word names given None word = with_option names given (long_of word)
 with_word names given (Some name) word = if is_value word then with_value given name word else None
 
@@ -48,7 +63,7 @@ abbrev pub ended : Given → (waits : Option (List ℕ)) → Option Given
 ended given None = Some given
 ended given (Some name) = None
 
-abbrev pub read_from : List (List ℕ) → Reading → List (List ℕ) → Option Given
+abbrev pub read_from : Names → Reading → List (List ℕ) → Option Given
 read_from names reading [] = ended reading.given reading.waits
 read_from names reading (word ∷ words) =
     option_and_then (λ next. read_from names next words) (with_word names reading.given reading.waits word)
@@ -58,6 +73,6 @@ abbrev pub parts_options : List ℕ → Bool
 parts_options word = bytes_eq word (codes "--")
 
 -- what the words give to the options of these names, or none
-abbrev pub given_of : (names : List (List ℕ)) → List (List ℕ) → Option Given
+abbrev pub given_of : (names : Names) → List (List ℕ) → Option Given
 given_of names words =
     if list_any parts_options words then None else read_from names (record { given = []; waits = None }) words

@@ -3,11 +3,13 @@ ghost use Rattle.std.specs.Prelude.{◌≡◌, ◌<◌, ◌≤◌, ◌⊎◌, dr
 ghost use Rattle.std.specs.Prelude.{map, option_and_then, option_map, string_bytes, IfOk, IfSome};
 ghost use Rattle.melt_model.specs.Config.{InRanges};
 ghost use Rattle.melt_trace.specs.Language.{number_of};
-ghost use Rattle.melt_top.specs.Command.{HasRanges, between, config_of, kind_named, meant, number_or, recipe_of};
+ghost use Rattle.melt_top.specs.Command.{HasRanges, between, config_of, kind_named, meant, number_or, recipe_of, run_of};
+ghost use Rattle.melt_top.specs.Command.{texts_of};
 ghost use Rattle.melt_top.specs.Words.{Given, given_of};
 ghost use Rattle.melt_top.specs.Parses.{Has, gen_names, step_names};
 
 use crate::options::{Verb, WordsRefusal, options_given};
+use crate::text::Texts;
 use clap::ArgMatches;
 use melt_gen::Workload;
 use melt_model::{Config, NoMemory};
@@ -41,9 +43,16 @@ const THREADS: Limits = Limits { low: 1, high: 8 };
 #[derive(Clone, Copy, Debug, PartialEq, Eq)]
 pub enum Command {
     /// Runs a trace by its written order.
-    Step(Config),
+    Step(Run),
     /// Makes a trace.
     Gen(Recipe),
+}
+
+/// What a run is given beside its trace, and which of its texts are written.
+#[derive(Clone, Copy, Debug, PartialEq, Eq)]
+pub struct Run {
+    pub config: Config,
+    pub texts: Texts,
 }
 
 /// What a trace is made of, with a size from 1 to 100,000 and 1 to 8 threads.
@@ -87,7 +96,7 @@ impl Limits {
 /// What the options of `step` say of a run, or nothing, where a value is none of its option or the numbers do not go
 /// together.
 fn read_config(options: &ArgMatches<'_>) -> Option<Config>
-    ensures value { (given : Given) → Has options.now given → result ≡ config_of given }
+    ensures value { (given : Given) → Has step_names options.now given → result ≡ config_of given }
     ensures ranges { IfSome result InRanges }
 {
     let config = Config {
@@ -99,6 +108,27 @@ fn read_config(options: &ArgMatches<'_>) -> Option<Config>
         every: EVERY.read_or(options.get_str("every"), 0)?,
     };
     (config.mark <= config.move_).then_some(config)
+}
+
+/// Which texts the flags of `step` ask for.
+fn read_texts(options: &ArgMatches<'_>) -> Texts
+    ensures { (given : Given) → Has step_names options.now given → result ≡ texts_of given }
+{
+    Texts {
+        quiet: options.get_flag("quiet"),
+        table: options.get_flag("table"),
+        log: options.get_flag("log"),
+    }
+}
+
+fn read_run(options: &ArgMatches<'_>) -> Option<Run>
+    ensures value { (given : Given) → Has step_names options.now given → result ≡ run_of given }
+    ensures ranges { IfSome result (λ run. InRanges run.config) }
+{
+    Some(Run {
+        config: read_config(options)?,
+        texts: read_texts(options),
+    })
 }
 
 /// The kind of work of this name.
@@ -116,7 +146,7 @@ fn kind_of(name: &str) -> Option<Workload>
 
 /// What the options of `gen` say of a trace, or nothing, where one is missing or a value is none of its option.
 fn read_recipe(options: &ArgMatches<'_>) -> Option<Recipe>
-    ensures value { (given : Given) → Has options.now given → result ≡ recipe_of given }
+    ensures value { (given : Given) → Has gen_names options.now given → result ≡ recipe_of given }
     ensures ranges { IfSome result (λ recipe. HasRanges (Command.Gen recipe)) }
 {
     Some(Recipe {
@@ -130,12 +160,12 @@ fn read_recipe(options: &ArgMatches<'_>) -> Option<Recipe>
 fn step_command(alloc: Global, words: &[String]) -> Result<Option<Command>, NoMemory>
     requires { 0 < length words.now }
     ensures value { IfOk result (λ command. command
-        ≡ option_map Command.Step (option_and_then config_of
+        ≡ option_map Command.Step (option_and_then run_of
         (given_of step_names (drop 1 (map string_bytes words.now))))) }
     ensures ranges { IfOk result (λ command. IfSome command HasRanges) }
 {
     match options_given(alloc, Verb::Step, words) {
-        Ok(options) => Ok(read_config(&options).map(Command::Step)),
+        Ok(options) => Ok(read_run(&options).map(Command::Step)),
         Err(WordsRefusal::Usage) => Ok(None),
         Err(WordsRefusal::NoMemory) => Err(NoMemory),
     }

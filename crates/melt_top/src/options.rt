@@ -1,13 +1,13 @@
 //! The words behind a command, as the parser of command lines reads them.
-ghost use Rattle.std.specs.Prelude.{◌≡◌, codes, drop, length, ◌<◌, map, string_bytes, IfOk};
+ghost use Rattle.std.specs.Prelude.{◌≡◌, [], codes, drop, length, ◌<◌, map, string_bytes, IfOk};
 ghost use Rattle.std.specs.Bool.{OnFalse};
 ghost use Rattle.std.specs.List.{list_any, AllByRecursion};
 ghost use Rattle.clap.specs.Simple.{app_of, with_rule};
 ghost use Rattle.clap.specs.Values.{kind_of};
 ghost use Rattle.melt_top.specs.declared.options.WordsRefusal.TheVariants.{NoMemory};
 ghost use Rattle.melt_top.specs.Words.{parts_options};
-ghost use Rattle.melt_top.specs.Parses.{IsWord, Parses, asked_for, gen_names, names_of, option_rule};
-ghost use Rattle.melt_top.specs.Parses.{refusal_for, step_names, title_of};
+ghost use Rattle.melt_top.specs.Parses.{IsWord, Parses, asked_for, flag_rule, gen_names, names_of};
+ghost use Rattle.melt_top.specs.Parses.{option_rule, refusal_for, step_names, title_of};
 
 use clap::error::ErrorKind;
 use clap::{Arg, ArgAction, ArgMatches, Command, Error};
@@ -70,14 +70,35 @@ fn with_option<'a>(
     command.arg(option)
 }
 
-fn step_parser<'a>(alloc: Global) -> Result<Command<'a>, AllocError>
-    ensures { IfOk result (λ parser. app_of parser ≡ asked_for (codes "step") step_names) }
+/// The command with a flag more, which takes no value.
+fn with_flag<'a>(
+    alloc: Global,
+    command: Command<'a>,
+    name: &'a str,
+) -> Result<Command<'a>, AllocError>
+    ensures { IfOk result (λ more. app_of more ≡ with_rule (app_of command.entry) (flag_rule name.now)) }
+{
+    let flag = Arg::new(alloc, name).long(name).action(ArgAction::SetTrue);
+    command.arg(flag)
+}
+
+fn step_options<'a>(alloc: Global) -> Result<Command<'a>, AllocError>
+    ensures { IfOk result (λ parser. app_of parser ≡ asked_for (codes "step") (record step_names { flags = [] })) }
 {
     let parser = Command::new(alloc, "step").disable_help_flag(true);
     let parser = with_option(alloc, parser, "heap")?;
     let parser = with_option(alloc, parser, "mark")?;
     let parser = with_option(alloc, parser, "move")?;
     with_option(alloc, parser, "every")
+}
+
+fn step_parser<'a>(alloc: Global) -> Result<Command<'a>, AllocError>
+    ensures { IfOk result (λ parser. app_of parser ≡ asked_for (codes "step") step_names) }
+{
+    let parser = step_options(alloc)?;
+    let parser = with_flag(alloc, parser, "quiet")?;
+    let parser = with_flag(alloc, parser, "table")?;
+    with_flag(alloc, parser, "log")
 }
 
 fn gen_parser<'a>(alloc: Global) -> Result<Command<'a>, AllocError>

@@ -1,13 +1,20 @@
 use crate::status::{Status, status_for};
-use crate::text::report_text;
+use crate::text::{Texts, report_text};
 use crate::top::melt;
 use melt_io::{MemSink, MemSource, OpenGate, Sink, Source, SteadyDisk, SteadySink, SteadySource};
 use melt_model::{
     Entries, Halt, Journals, Replies, Reply, Report, ThreadEnd, ThreadReport, ThreadReports,
 };
 use std::alloc::Global;
+use std::process::Abort;
 use std::test::Fail;
 use std::thread::Threads;
+
+const REPLIES: Texts = Texts {
+    quiet: false,
+    table: false,
+    log: false,
+};
 
 const TRACE: &[u8] = b"melt 1\nthreads 1\nglobals 0\nthread 0\nnew 0 1 0\nsame 0 0\ndone\n";
 
@@ -84,6 +91,147 @@ fn step_writes_each_reply(rt: HostRuntime) -> Result<(), Fail> {
     Ok(())
 }
 
+/// The bytes that the words write, of a trace that is run to its end.
+fn written<R: Threads + Sync + AllocGlobal + Abort>(
+    rt: &R,
+    words: &[&str],
+    trace: &[u8],
+) -> Result<Vec<u8>, Fail> {
+    let mut source = MemSource::new(trace.to_vec(rt.alloc())?);
+    let mut sink = MemSink::new(rt.alloc());
+    let status = call(rt, words, &mut source, &mut sink)?;
+    assert_eq!(rt; status, Status::Done);
+    Ok(sink.bytes)
+}
+
+#[test]
+fn sums_stand_in_the_place_of_replies(rt: HostRuntime) -> Result<(), Fail> {
+    let trace =
+        b"melt 1\nthreads 2\nglobals 0\nthread 0\nnew 0 0 2\nput 0 0 18446744073709551615\nput 0 1 3\nget 0 0\nget 0 1\n\
+        get 0 0\nget 1 0\ndone\nthread 1\ndone\n";
+    let text =
+        b"thread 0\nreplies 7\nsum 1\nend done\nthread 1\nreplies 0\nsum 0\nend done\n".as_slice();
+    assert_eq!(rt; written(&rt, &["step", "--quiet"], trace)?.as_slice(), text);
+    Ok(())
+}
+
+#[test]
+fn a_table_follows_the_replies(rt: HostRuntime) -> Result<(), Fail> {
+    let words = [
+        "step",
+        "--heap=16",
+        "--table",
+        "--mark",
+        "0",
+        "--move",
+        "100",
+    ];
+    let trace =
+        b"melt 1\nthreads 1\nglobals 1\nthread 0\nnew 0 0 1\nput 0 0 7\ngstore 0 0\ndrop 0\n\
+        collect\ncollect\ngload 0 0\nget 0 0\ncollect\ndone\n";
+    let text = b"thread 0\nok\nok\nok\nok\nok\nok\nref\n7\nok\nend done\n\
+        number,phase,held,live,bodies,stubs,end\n1,inactive,0,3,0,0,1\n2,mark,0,3,0,0,1\n3,mark,3,3,0,0,1\n";
+    assert_eq!(rt; written(&rt, &words, trace)?.as_slice(), text.as_slice());
+    Ok(())
+}
+
+#[test]
+fn silent_collections_stand_in_the_table(rt: HostRuntime) -> Result<(), Fail> {
+    let words = ["step", "--heap", "16", "--every", "1", "--table"];
+    let text = b"thread 0\nok\nyes\nend done\n\
+        number,phase,held,live,bodies,stubs,end\n1,inactive,3,3,0,0,1\n2,inactive,3,3,0,0,1\n";
+    assert_eq!(rt; written(&rt, &words, TRACE)?.as_slice(), text.as_slice());
+    Ok(())
+}
+
+#[test]
+fn a_log_has_each_entry(rt: HostRuntime) -> Result<(), Fail> {
+    let cases = [
+        (
+            TRACE,
+            b"thread 0\nok\nyes\nend done\nlog 1\nmake 0 0 1 0\n".as_slice(),
+        ),
+        (
+            b"melt 1\nthreads 1\nglobals 0\nthread 0\ndone\n",
+            b"thread 0\nend done\nlog 0\n",
+        ),
+        (
+            b"melt 1\nthreads 1\nglobals 0\nthread 0\nnew 0 1 1\nload 1 0 0\nget 0 0\ndone\n",
+            b"thread 0\nok\nnull\n0\nend done\nlog 3\nmake 0 0 1 1\nread 0 f 0 0 nil\nread 0 n 0 0 num 0\n",
+        ),
+        (
+            b"melt 1\nthreads 1\nglobals 0\nthread 0\nnew 0 1 0\nload 1 2 0\nload 1 0 1\nload 1 0 0\nsame 1 2\ndone\n",
+            b"thread 0\nok\nnil\nrange\nnull\nyes\nend done\nlog 2\nmake 0 0 1 0\nread 0 f 0 0 nil\n",
+        ),
+        (
+            b"melt 1\nthreads 2\nglobals 3\norder 1 40\nthread 0\ngload 0 2\nget 0 1\ndone\n\
+            thread 1\nnew 0 2 0\nnew 1 0 2\nstore 0 1 1\nput 1 1 9\nload 2 0 1\ngstore 2 2\nstore 0 1 9\ndone\n",
+            b"thread 0\nref\n9\nend done\nthread 1\nok\nok\nok\nok\nref\nok\nok\nend done\n\
+            log 9\nmake 1 0 2 0\nmake 1 1 0 2\nwrite 1 f 0 1 ref 1\nwrite 1 n 1 1 num 9\nread 1 f 0 1 ref 1\n\
+            write 1 g 2 ref 1\nwrite 1 f 0 1 nil\nread 0 g 2 ref 1\nread 0 n 1 1 num 9\n",
+        ),
+    ];
+    for (trace, text) in cases {
+        assert_eq!(rt; written(&rt, &["step", "--log"], trace)?.as_slice(), text);
+    }
+    Ok(())
+}
+
+#[test]
+fn all_three_texts_stand_in_their_order(rt: HostRuntime) -> Result<(), Fail> {
+    let words = ["step", "--log", "--quiet", "--every=2", "--table"];
+    let text = b"thread 0\nreplies 2\nsum 0\nend done\n\
+        number,phase,held,live,bodies,stubs,end\n1,inactive,3,3,0,0,1\nlog 1\nmake 0 0 1 0\n";
+    assert_eq!(rt; written(&rt, &words, TRACE)?.as_slice(), text.as_slice());
+    Ok(())
+}
+
+/// The trace that the words of `gen` write.
+fn made<R: Threads + Sync + AllocGlobal + Abort>(
+    rt: &R,
+    kind: &str,
+    seed: &str,
+    size: &str,
+) -> Result<Vec<u8>, Fail> {
+    let words = [
+        "gen",
+        "--kind",
+        kind,
+        "--seed",
+        seed,
+        "--size",
+        size,
+        "--threads",
+        "2",
+    ];
+    written(rt, &words, b"")
+}
+
+#[test]
+fn a_long_list_is_summed(rt: HostRuntime) -> Result<(), Fail> {
+    let trace = made(&rt, "list", "1", "10000")?;
+    let text = b"thread 0\nreplies 70018\nsum 50074964\nend done\n\
+        thread 1\nreplies 70018\nsum 50074964\nend done\n";
+    let words = ["step", "--heap", "131072", "--quiet"];
+    assert_eq!(rt; written(&rt, &words, &trace)?.as_slice(), text.as_slice());
+    Ok(())
+}
+
+#[test]
+fn the_heap_is_not_seen_in_sums(rt: HostRuntime) -> Result<(), Fail> {
+    for kind in ["list", "queue", "table", "tree"] {
+        let trace = made(&rt, kind, "7", "500")?;
+        let large = written(&rt, &["step", "--quiet"], &trace)?;
+        let small = written(
+            &rt,
+            &["step", "--quiet", "--every", "50", "--heap=8192"],
+            &trace,
+        )?;
+        assert_eq!(rt; large.as_slice(), small.as_slice());
+    }
+    Ok(())
+}
+
 #[test]
 fn a_sink_that_fails_has_nothing(rt: HostRuntime) -> Result<(), Fail> {
     for word in ["step", "run"] {
@@ -125,6 +273,14 @@ fn words_that_mean_nothing_read_nothing(rt: HostRuntime) -> Result<(), Fail> {
         &["step", "--help"],
         &["step", "--heap", "16", "--heap=16"],
         &["step", "--seed", "1"],
+        &["step", "--quiet", "--quiet"],
+        &["step", "--log", "--table", "--log"],
+        &["step", "--table="],
+        &["step", "--quiet=true"],
+        &["step", "--quiet", "true"],
+        &["step", "--heap", "--quiet"],
+        &["step", "--qui"],
+        &["gen", "--quiet"],
         &["gen", "--kind", "tree", "--seed", "7", "--size", "2"],
         &[
             "gen",
@@ -216,7 +372,7 @@ fn a_report_has_each_reply_end_and_halt(rt: HostRuntime) -> Result<(), Fail> {
     };
     let whole = report(rt.alloc(), &replies, &[end], Some(full))?;
     assert_eq!(rt;
-        report_text(rt.alloc(), &whole)?.as_slice(),
+        report_text(rt.alloc(), &whole, REPLIES)?.as_slice(),
         b"thread 0\nok\nnull\nref\n18446744073709551615\nyes\nno\nnil\nrange\nend done\nhalt disk-full 7 0 12\n".as_slice()
     );
     let ends = [
@@ -231,7 +387,7 @@ fn a_report_has_each_reply_end_and_halt(rt: HostRuntime) -> Result<(), Fail> {
     ];
     let broken = report(rt.alloc(), &[], &ends, Some(Halt::DiskFault))?;
     assert_eq!(rt;
-        report_text(rt.alloc(), &broken)?.as_slice(),
+        report_text(rt.alloc(), &broken, REPLIES)?.as_slice(),
         b"thread 0\nend out-of-heap 3 64\nthread 1\nend disk-fault\nthread 2\nend damaged 2 0 9\nthread 3\nend halted\nhalt disk-fault\n".as_slice()
     );
     Ok(())

@@ -8,12 +8,12 @@ ghost use Rattle.melt_top.specs.Text.{refused_text};
 ghost use Rattle.melt_top.specs.Headline.{ReadAFront, RunDue, TraceDue, StepDue, MadeNone, MadeTrace, Due, IsRefused};
 ghost use Rattle.melt_top.specs.Headline.{ReadAtMost, Outcome, IsBuilt};
 
-use crate::command::{Command, Recipe, command_of};
+use crate::command::{Command, Recipe, Run, command_of};
 use crate::status::{Status, status_for};
 use crate::text::report_text;
 use melt_gen::{GenRefusal, generate};
 use melt_io::{Gate, ReadRefusal, Sink, Source, StaleDisk, read_all, write_all};
-use melt_model::{Config, NoMemory};
+use melt_model::NoMemory;
 use melt_step::run_schedule;
 use melt_trace::{MAX_BYTES, ParseRefusal, Trace, TraceError, parse, print, push_line};
 use std::alloc::Global;
@@ -45,12 +45,12 @@ impl Answer {
 }
 
 /// What is due for a run of a trace.
-fn run_answer(alloc: Global, config: Config, trace: &Trace) -> Result<Answer, NoMemory>
-    requires { InRanges config }
-    ensures { IfOk result (λ answer. RunDue trace.now config answer.status answer.text.items) }
+fn run_answer(alloc: Global, run: Run, trace: &Trace) -> Result<Answer, NoMemory>
+    requires { InRanges run.config }
+    ensures { IfOk result (λ answer. RunDue trace.now run answer.status answer.text.items) }
 {
-    let (report, _heap) = run_schedule(alloc, trace, config)?;
-    let text = report_text(alloc, &report)?;
+    let (report, _heap) = run_schedule(alloc, trace, run.config)?;
+    let text = report_text(alloc, &report, run.texts)?;
     Ok(Answer {
         status: status_for(&report),
         text,
@@ -58,28 +58,28 @@ fn run_answer(alloc: Global, config: Config, trace: &Trace) -> Result<Answer, No
 }
 
 /// What is due for the bytes of a trace.
-fn trace_answer(alloc: Global, config: Config, bytes: &[u8]) -> Result<Answer, NoMemory>
-    requires { InRanges config }
-    ensures { IfOk result (λ answer. TraceDue config bytes.now answer.status answer.text.items) }
+fn trace_answer(alloc: Global, run: Run, bytes: &[u8]) -> Result<Answer, NoMemory>
+    requires { InRanges run.config }
+    ensures { IfOk result (λ answer. TraceDue run bytes.now answer.status answer.text.items) }
 {
     match parse(alloc, bytes) {
-        Ok(trace) => run_answer(alloc, config, &trace),
+        Ok(trace) => run_answer(alloc, run, &trace),
         Err(ParseRefusal::Bad(error)) => Answer::refused(alloc, error),
         Err(ParseRefusal::NoMemory) => Err(NoMemory),
     }
 }
 
 /// What is due for the input of `step`.
-fn step_answer<S: Source>(alloc: Global, config: Config, input: &mut S) -> Result<Answer, NoMemory>
-    requires { InRanges config }
-    ensures due { IfOk result (λ answer. StepDue config
+fn step_answer<S: Source>(alloc: Global, run: Run, input: &mut S) -> Result<Answer, NoMemory>
+    requires { InRanges run.config }
+    ensures due { IfOk result (λ answer. StepDue run
         (record { before = S.left input.old; after = S.left input.new; faults_before = S.faults input.old; faults_after = S.faults input.new })
         answer.status answer.text.items) }
     ensures read { ReadAFront
         (record { before = S.left input.old; after = S.left input.new; faults_before = S.faults input.old; faults_after = S.faults input.new }) }
 {
     match read_all(alloc, input, MAX_BYTES) {
-        Ok(bytes) => trace_answer(alloc, config, &bytes),
+        Ok(bytes) => trace_answer(alloc, run, &bytes),
         Err(ReadRefusal::Fault) => Answer::line(alloc, Status::ReadFault, b"error read", &[]),
         Err(ReadRefusal::TooLong) => Answer::refused(alloc, TraceError::too_long()),
         Err(ReadRefusal::NoMemory) => Err(NoMemory),
@@ -111,7 +111,7 @@ fn answer_to<S: Source>(alloc: Global, words: &[String], input: &mut S) -> Resul
 {
     match command_of(alloc, words)? {
         None => Answer::line(alloc, Status::Usage, b"error usage", &[]),
-        Some(Command::Step(config)) => step_answer(alloc, config, input),
+        Some(Command::Step(run)) => step_answer(alloc, run, input),
         Some(Command::Gen(recipe)) => gen_answer(alloc, recipe),
     }
 }

@@ -11,6 +11,7 @@ use Rattle.melt_core.specs.Lending.{with_held}
 use Rattle.melt_core.specs.declared.machine.Core.{Core}
 use Rattle.melt_core.specs.declared.machine.Rest.{Rest}
 use Rattle.melt_core.proofs.Disks.{stands_settled}
+use Rattle.melt_model.specs.declared.reports.Journal.{Journal}
 use Rattle.melt_step.specs.Threads.{CoreCollected}
 use Rattle.melt_step.proofs.Collecting.{names_are, rest_formed, rest_collected, collected_named, finished_collected}
 use Rattle.melt_step.proofs.Collecting.{same_sizes, LeavesWords, left_words, planned_by}
@@ -90,7 +91,10 @@ returns-clause-plans c =
     subst (λ (core : Core). LeavesWords (view core) c.in_ok-journal.journal) (sym c.begin.ensures)
     (left_words c.finish-heap.result.0 c.collect_uncounted.new.heap rest after c.args.phase c.in_ok-journal.journal
     at_rest c.requires.phase (collects at)) in
+    let written : Journal = record c.in_ok-journal.journal { end = 1 } in
+    let leaves : LeavesWords (view c.begin.result) written =
+    record { held_within = left.held_within; live = left.live; within = left.within } in
     planned_by c.args.self.now c.plan.new.self _
-    (view c.begin.result) c.args.phase c.in_ok-journal.journal c.requires.planning c.plan.ensures.planning
+    (view c.begin.result) c.args.phase written c.requires.planning c.plan.ensures.planning
     c.plan.ensures.journal c.requires.phase of_phase
-    c.in_ok-push.ensures.items refl c.plan.ensures.next refl c.plan.ensures.config left
+    c.in_ok-push.ensures.items refl c.plan.ensures.next refl c.plan.ensures.config leaves

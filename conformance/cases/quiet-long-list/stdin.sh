@@ -1,0 +1,1 @@
+"$(dirname "$0")/../../generator" list 1 10000 2
