@@ -1,0 +1,1 @@
+def trace(rng): pass
