@@ -77,6 +77,31 @@ def commits(rng):
     return whole(mood, ordered, programs), given
 
 
+def stubs(rng):
+    """A few objects behind several globals, each of which leads to the disk until it is loaded itself."""
+    globals_, registers = rng.randint(2, 5), rng.randint(1, 3)
+    first = []
+    for number in range(rng.choice([1, 1, 2])):
+        first += [f"new {number} {rng.randint(0, 1)} {rng.randint(0, 2)}"] + ["store 1 0 0"] * (number and rng.random() < 0.5)
+    first += [f"gstore {g} {rng.randint(0, number)}" for g in range(globals_)] + ["drop 0", "drop 1"]
+
+    def acts(length):
+        words = [f"gload {rng.randrange(registers)} {rng.randrange(globals_)}", f"drop {rng.randrange(registers)}", "collect",
+                 f"load {rng.randrange(registers)} {rng.randrange(registers)} 0", f"gstore {rng.randrange(globals_)} {rng.randrange(registers)}"]
+        return [rng.choices(words, [5, 5, 6, 1, 0.5])[0] for _ in range(length)]
+
+    programs = [first + ["collect"] * 3]
+    for _ in range(rng.randint(4, 12)):
+        programs[0] += acts(1)
+    programs[0] += [f"drop {r}" for r in range(registers)] + ["collect"] * rng.randint(0, 3)
+    programs[0] += [f"gload {g} {g}" for g in range(globals_)] + [f"same {g} 0" for g in range(globals_)]
+    if rng.random() < 0.3:
+        programs.append(["collect"] * rng.randint(1, 3) + acts(3) + ["collect"])
+    given = options(rng, 30)
+    given.update(mark=0, move=0)
+    return whole(Globals(globals_), [f"order 0 {events_of(first)}"], programs), given
+
+
 def leaks(rng):
     """Lists that grow past the heap, and are walked at times."""
     threads = rng.choice([1, 1, 1, 2])
@@ -163,7 +188,7 @@ def options(rng, most):
     return given
 
 
-MOVING_KINDS = [returns, returns, returns, commits, commits, commits, leaks, leaks, holds, disks, others, others]
+MOVING_KINDS = [returns, returns, returns, commits, commits, commits, stubs, stubs, leaks, leaks, holds, disks, others, others]
 
 
 def trace(rng):

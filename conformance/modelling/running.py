@@ -260,8 +260,8 @@ class Run:
         self.journal.append(entry)
         self.planned = next_phase(entry, self.options)
         if self.say:
-            self.say(f"       collection {why}: {phase}; words in use {entry.live}, held {entry.held}; Bodies {entry.bodies}, "
-                     f"Stubs {entry.stubs}, the disk ends before word {entry.end}; planned is {self.planned}")
+            disk = f"; {entry.bodies} Bodies and {entry.stubs} Stubs, the disk ends before word {entry.end}" if entry.end > 1 else ""
+            self.say(f"       collection {why}: {phase}; {entry.live} words in use, {entry.held} held{disk}; the next is {self.planned}")
         return entry
 
     def tell(self, thread, text):
