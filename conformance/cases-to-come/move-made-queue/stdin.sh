@@ -1,0 +1,1 @@
+"$(dirname "$0")/../../generator" queue 3 800 2

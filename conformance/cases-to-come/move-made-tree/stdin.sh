@@ -1,0 +1,1 @@
+"$(dirname "$0")/../../generator" tree 3 600 2

@@ -1,0 +1,141 @@
+"""Random calls of the program: words, and the bytes of an input."""
+import itertools
+import random
+
+from fuzzing import moving
+from fuzzing.damage import CHANGES, SELDOM
+from fuzzing.traces import KINDS
+from modelling.traces import LARGEST_INPUT, Refusal, operations_in, script_of
+from modelling.words import FLAGS, MOVING, TEXTS
+
+MOST_OPERATIONS = 3_000   # a trace with more is not run: the model is slow
+MADE = ("list", "queue", "table", "tree")
+
+
+# ---------------------------------------------------------------- words
+
+
+def ordered_words(rng, given):
+    """The words of a call, the options in any order."""
+    if given.get("mark", 50) > given.get("move", 80):
+        given["move"] = 100
+    pairs = list(given.items())
+    rng.shuffle(pairs)
+    return ["step", *itertools.chain.from_iterable((f"--{name}", str(value)) for name, value in pairs)]
+
+
+def with_flags(rng, words):
+    """The same words with flags among them: the table and the log tell most, a sum of replies least."""
+    flags = [f"--{flag}" for flag, part in zip(FLAGS, (0.15, 0.7, 0.5)) if rng.random() < part]
+    rng.shuffle(flags)
+    return words[:1] + flags + words[1:] if rng.random() < 0.5 else words + flags
+
+
+def wrong_words(rng, words, parts):
+    """The words of a call with one of them changed."""
+    words = list(words)
+    words += rng.choice([[], ["--heap", "64"], ["--every", "2"], ["--mark", "0", "--move", "0"]])
+    change = rng.randrange(6)
+    at = rng.randrange(len(words))
+    names = ["--heap", "--mark", "--move", "--every"]
+    if parts:
+        names += ["--forward", "--disk", "--quiet", "--table", "--log"]
+    if change == 0:
+        words[at] = rng.choice(["step", "--help", "-h", "--", "--heap", "--mark", "--move", "--every", "--Heap", "--disk", "",
+                                "--heap=64", "16", "heap", "run", *names[4:]])
+    elif change == 1:
+        words.pop(at)
+    elif change == 2:
+        words.insert(at, rng.choice(["--heap", "16", "--every", "--", "step", *names[4:]]))
+    else:
+        name = rng.choice(names)
+        words += [name, rng.choice(["15", "16", "17", "0", "1", "49", "50", "51", "79", "80", "81", "99", "100", "101", "1048576", "1048577",
+                                    "4194304", "4194305", "4294967297", "18446744073709551616", "016", "+16", "-1", "1e3",
+                                    "", " 16", "16 ", "\u0661", *(["2", "65536", "65537", "268435456", "268435457"] if parts else [])])]
+    return words
+
+
+def words_of_gen(rng):
+    """The words of a trace that is made, at times with one of them wrong."""
+    kind, threads = rng.choice(MADE), rng.choice([1, 1, 2, 3, 8, rng.randint(0, 9)])
+    seed = rng.choice([0, 1, 7, 2**64 - 1, 2**64 - 2, rng.randrange(2**64), rng.randrange(2**64 + 9)])
+    size = rng.choice([1, 2, 7, 8, 15, 16, 17, 62, 63, rng.randint(0, 300)])
+    pairs = [["--kind", kind], ["--seed", str(seed)], ["--size", str(size)], ["--threads", str(threads)]]
+    rng.shuffle(pairs)
+    pairs = ["=".join(pair) if rng.random() < 0.2 else pair for pair in pairs]
+    words = ["gen", *itertools.chain.from_iterable([pair] if isinstance(pair, str) else pair for pair in pairs)]
+    if rng.random() < 0.3:
+        at = rng.randrange(len(words))
+        words[at:at + rng.choice([0, 1, 1, 2])] = rng.choice([[], ["0"], ["--size", "5"], ["List"], ["step"], ["--heap", "16"], ["--"]])
+    return words
+
+
+# ---------------------------------------------------------------- words and bytes
+
+
+def loosened(rng, lines):
+    """The same trace with skipped lines and more spaces."""
+    out = []
+    for line in lines:
+        if rng.random() < 0.1:
+            out.append(rng.choice(["", "   ", "# a comment", "#", "  # thread 0 \x7e"]))
+        out.append(rng.choice([line, " " + line, line + "  ", line.replace(" ", "   ")]) if rng.random() < 0.2 else line)
+    return out
+
+
+def sound(rng, parts):
+    """A trace that is one: its words and its bytes."""
+    if MOVING in parts:
+        lines, given = moving.trace(rng)
+    else:
+        lines, given = rng.choice(KINDS)(rng)
+    if rng.random() < 0.15:
+        lines = loosened(rng, lines)
+    data = "\n".join(lines).encode("latin-1")
+    words, data = ordered_words(rng, given), data if rng.random() < 0.05 else data + b"\n"
+    return with_flags(rng, words) if TEXTS in parts else words, data
+
+
+def damaged(rng, parts):
+    """A trace with a line or two changed, or a call with a word changed: its words and its bytes."""
+    words, data = sound(rng, parts)
+    if rng.random() < 0.15:
+        return wrong_words(rng, words, parts), data
+    lines = data.decode("latin-1").split("\n")
+    last = lines.pop()
+    if rng.random() < 0.04:
+        rng.choice(SELDOM)(rng, lines, 0)
+    else:
+        for _ in range(rng.choice([1, 1, 1, 2, 3])):
+            if lines:
+                rng.choice(CHANGES)(rng, lines, rng.randrange(len(lines)))
+    data = "".join(line + "\n" for line in lines) + last
+    return words, data[:-1 if rng.random() < 0.05 else None].encode("utf-8" if rng.random() < 0.1 else "latin-1")
+
+
+def made(rng, parts):
+    """A call of `gen`, which reads nothing."""
+    return words_of_gen(rng), b""
+
+
+CALLS = {"traces": [sound], "damaged": [damaged], "both": [sound, damaged], "gen": [made]}
+
+
+def is_small(data):
+    """Whether the model can run this, or refuses it, in a short time."""
+    if len(data) > LARGEST_INPUT:
+        return True
+    try:
+        script = script_of(data)
+    except Refusal:
+        return True
+    return sum(map(operations_in, script.programs)) <= MOST_OPERATIONS
+
+
+def call_of(seed, number, kind, parts):
+    """Call number NUMBER of a seed, for a program with these parts: its words and its bytes."""
+    for turn in itertools.count():
+        rng = random.Random(f"{seed} {number} {kind} {turn}")
+        words, data = CALLS[kind][number % len(CALLS[kind])](rng, parts)
+        if is_small(data):
+            return words, data

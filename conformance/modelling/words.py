@@ -1,0 +1,94 @@
+"""The words of a call, and what they mean."""
+from dataclasses import dataclass
+from typing import NamedTuple, Optional
+
+from modelling.traces import LARGEST_NUMBER, number_of
+
+# Parts that the model has, and the program is to get: objects that move to a disk; and other texts than replies.
+MOVING, TEXTS = "moving", "texts"
+PARTS = (MOVING, TEXTS)
+# Those that the program has by now.
+BUILT = frozenset()
+
+
+@dataclass
+class Step:
+    """A run of a trace."""
+    heap: int = 65_536
+    forward: int = 1_024
+    disk: int = 16_777_216
+    mark: int = 50
+    move: int = 80
+    every: Optional[int] = None
+    quiet: bool = False
+    table: bool = False
+    log: bool = False
+    moves: bool = False   # whether objects move at all
+
+
+class Gen(NamedTuple):
+    """A trace that is made from a number."""
+    kind: str
+    seed: int
+    size: int
+    threads: int
+
+
+STEP_RANGES = {"heap": (16, 4_194_304), "mark": (0, 100), "move": (0, 100), "every": (1, 1_048_576)}
+MOVING_RANGES = {"forward": (1, 65_536), "disk": (2, 268_435_456)}
+GEN_RANGES = {"seed": (0, LARGEST_NUMBER), "size": (1, 100_000), "threads": (1, 8)}
+FLAGS = ("quiet", "table", "log")
+KINDS = ("list", "queue", "table", "tree")
+
+
+def meant(words, parts=BUILT):
+    """What the words mean to a program with these parts, or None where they mean nothing."""
+    if words[:1] == ["step"]:
+        return step_of(words[1:], parts)
+    return gen_of(words[1:]) if words[:1] == ["gen"] else None
+
+
+def step_of(words, parts):
+    ranges = {**STEP_RANGES, **(MOVING_RANGES if MOVING in parts else {})}
+    given = given_by(words, ranges, FLAGS if TEXTS in parts else ())
+    given = given and numbers_in(given, ranges)
+    if given is None:
+        return None
+    step = Step(**given, moves=MOVING in parts)
+    return step if step.mark <= step.move else None
+
+
+def gen_of(words):
+    given = given_by(words, ("kind", *GEN_RANGES))
+    if given is None or given.keys() != {"kind", *GEN_RANGES} or given["kind"] not in KINDS:
+        return None
+    given = numbers_in(given, GEN_RANGES)
+    return None if given is None else Gen(**given)
+
+
+def given_by(words, options, flags=()):
+    """The text that stands for each option that is given, and True for each flag; None where a word is neither."""
+    given, rest = {}, iter(words)
+    for word in rest:
+        name, sign, value = word.partition("=")
+        key = name[2:]
+        if not name.startswith("--") or key in given:
+            return None
+        if key in flags and not sign:
+            given[key] = True
+        elif key in options:
+            given[key] = value if sign else next(rest, "")
+        else:
+            return None
+    return given
+
+
+def numbers_in(given, ranges):
+    """The same with numbers in the place of texts; None where one is not in its range."""
+    found = dict(given)
+    for key in given.keys() & ranges.keys():
+        number, (low, high) = number_of(given[key]), ranges[key]
+        if number is None or not low <= number <= high:
+            return None
+        found[key] = number
+    return found
