@@ -288,6 +288,8 @@ pub record LeavesWords (w : View) (journal : Journal) : Type 0 where
   pub held_within : journal.held ≤ journal.live
   pub live : w.free ≡ journal.live + 1
   pub within : journal.live ≤ length w.space.list
+  pub bodies : journal.bodies ≡ 0
+  pub stubs : journal.stubs ≡ 0
 
 -- they are those of what is in use, and what registers hold is a part of that
 pub left_words : (heap new : Heap) (rest after : Rest) (phase : Phase) (journal : Journal)
@@ -320,6 +322,8 @@ left_words heap new rest after phase journal at_rest copying collects =
           (λ n is. Alive.in_register n is) by_registers alive;
       live = omega (arith, has.told.live_words);
       within = omega (arith, fewer, size, told.within);
+      bodies = has.told.no_bodies;
+      stubs = has.told.no_stubs;
     }
 
 -- a collection of the phase was written down, and what it left is what the next one is planned by
@@ -327,8 +331,9 @@ pub planned_by : (old plans new : Collector) (w : View) (phase : Phase) (journal
     → IsPlanning plans → plans.journal ≡ old.journal → IsCopying phase → journal.phase ≡ phase
     → new.journal.items ≡ plans.journal.items ++ journal ∷ [] → new.planned ≡ plans.planned
     → plans.planned ≡ made_as (planned journal.live old.config.heap phase old.config.mark old.config.move_)
-    → new.config ≡ plans.config → plans.config ≡ old.config → LeavesWords w journal → PlansBy old new w phase
-planned_by old plans new w phase journal before planning same copying of_phase pushed keeps next config kept left =
+    → new.config ≡ plans.config → plans.config ≡ old.config → LeavesWords w journal → journal.end ≡ 1
+    → PlansBy old new w phase
+planned_by old plans new w phase journal before planning same copying of_phase pushed keeps next config kept left end =
     let stays : journal.phase ≢ Move = λ is. no_move phase copying (sym of_phase ∙ is) in
     let items : new.journal.items ≡ old.journal.items ++ journal ∷ [] = cc in
     record {
@@ -345,6 +350,7 @@ planned_by old plans new w phase journal before planning same copying of_phase p
       held_within = left.held_within;
       live = left.live;
       within = left.within;
+      disk = record { bodies = left.bodies; stubs = left.stubs; end = end };
       next =
           keeps ∙ (next ∙ ap (λ (p : Phase).
           made_as (planned journal.live old.config.heap p old.config.mark old.config.move_)) (sym of_phase));

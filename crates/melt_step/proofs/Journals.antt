@@ -8,7 +8,7 @@ use Rattle.melt_model.specs.declared.reports.Journal.{Journal}
 use Rattle.melt_model.specs.declared.reports.Phase.{Phase}
 use Rattle.melt_model.proofs.Histories.{last_place, slice_get-append_seam}
 use Rattle.melt_core.specs.Views.{View, view}
-use Rattle.melt_step.specs.Journals.{forced, next_of, before, IsTight, IsJournalOf}
+use Rattle.melt_step.specs.Journals.{forced, next_of, before, IsTight, OnNoDisk, IsJournalOf}
 use Rattle.melt_step.specs.Threads.{PlansBy, Planned, CollectorStands, JustCollected}
 use Rattle.melt_step.specs.declared.collector.Collector.{Collector}
 use Rattle.melt_step.specs.declared.run.Run.{Run}
@@ -36,8 +36,8 @@ MayBe config js phase = (phase ≡ next_of config (before js (length js)))
 
 -- one collection more
 journal_push : (config : Config) (js : List Journal) (e : Journal) → IsJournalOf config js → MayBe config js e.phase
-    → e.held ≤ e.live → e.live ≤ config.heap → IsJournalOf config (js ++ e ∷ [])
-journal_push config js e is may held live =
+    → e.held ≤ e.live → e.live ≤ config.heap → OnNoDisk e → IsJournalOf config (js ++ e ∷ [])
+journal_push config js e is may held live disk =
     let P : Journal → Option Journal → Type 0 =
     λ j last. (j.phase ≡ next_of config last) ⊎ ((j.phase ≡ forced) × IsTight config last) in
     record {
@@ -50,6 +50,7 @@ journal_push config js e is may held live =
             subst (P j) (sym (before_push js e k (omega (arith, place)))) here
       ];
       words = All-push (λ (j : Journal). (j.held ≤ j.live) × (j.live ≤ config.heap)) js e is.words (held, live);
+      disk = All-push OnNoDisk js e is.disk disk;
     }
 
 -- what a collector knows behind one collection more
@@ -61,7 +62,7 @@ collector_more config old new w phase stands plans words may =
     let entry : Journal = plans.entry in
     let pushed : IsJournalOf config (js ++ entry ∷ []) =
     journal_push config js entry stands.journal (subst (MayBe config js) (sym plans.of_phase) may) plans.held_within
-    (omega (arith, plans.within, words)) in
+    (omega (arith, plans.within, words)) plans.disk in
     record {
       planning = plans.planning;
       numbers = plans.config ∙ stands.numbers;

@@ -22,7 +22,7 @@ use Rattle.melt_step.specs.declared.run.Run.{Run}
 use Rattle.melt_step.specs.declared.thread.ThreadState.{ThreadState}
 use Rattle.melt_step.specs.declared.thread.Mode.{Mode}
 use Rattle.melt_step.specs.declared.thread.Mode.TheVariants.{Running, Due, Silent, Collecting, Asked, Lacking, Ended}
-use Rattle.melt_step.specs.Journals.{before, next_of, IsJournalOf}
+use Rattle.melt_step.specs.Journals.{before, next_of, OnNoDisk, IsJournalOf}
 use Rattle.melt_step.specs.Threads.{left, to_reply, IsEnded, IsNewThread, AreNewThreads, TableStands, IsPlanning}
 use Rattle.melt_step.specs.Threads.{RunStands}
 use Rattle.melt_step.proofs.Starting.{Table_new, collections_new}
@@ -105,6 +105,7 @@ Run_new script config entries globals threads heap rest run ranges all_globals a
             (record {
               phases = λ k j at. absurd (let wrong : slice_get [] k ≡ Some j = at in cc);
               words = All-nil (λ (j : Journal). (j.held ≤ j.live) × (j.live ≤ config.heap));
+              disk = All-nil OnNoDisk;
             });
         next = planned ∙ ap (λ (js : List Journal). next_of config (before js (length js))) (sym none);
       };

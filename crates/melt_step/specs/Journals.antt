@@ -31,9 +31,16 @@ abbrev pub before : List Journal → ℕ → Option Journal
 before journal zero = None
 before journal (suc k) = slice_get journal k
 
+-- Nothing is on a disk: the collection wrote no record, and word 1 is past all homes.
+pub record OnNoDisk (j : Journal) : Type 0 where
+  pub bodies : j.bodies ≡ 0
+  pub stubs : j.stubs ≡ 0
+  pub end : j.end ≡ 1
+
 -- Each collection is of the phase that was planned behind the one before it, or was forced, as it can be only where an
 -- object might have no room behind the one before. What registers hold is a part of what is in use, which the heap has.
 pub record IsJournalOf (config : Config) (journal : List Journal) : Type 0 where
   pub phases : (k : ℕ) (j : Journal) → slice_get journal k ≡ Some j → (j.phase ≡ next_of config (before journal k))
       ⊎ ((j.phase ≡ forced) × IsTight config (before journal k))
   pub words : All (λ j. (j.held ≤ j.live) × (j.live ≤ config.heap)) journal
+  pub disk : All OnNoDisk journal

@@ -27,7 +27,7 @@ use Rattle.melt_model.specs.declared.reports.Phase.{Phase}
 use Rattle.melt_model.specs.declared.reports.Phase.TheVariants.{Move}
 use Rattle.melt_core.specs.declared.answer.Pause.{Pause}
 use Rattle.melt_core.specs.declared.answer.Pause.TheVariants as pause
-use Rattle.melt_step.specs.Journals.{forced, next_of, before, IsJournalOf}
+use Rattle.melt_step.specs.Journals.{forced, next_of, before, OnNoDisk, IsJournalOf}
 use Rattle.melt_step.specs.declared.collector.Collector.{Collector}
 use Rattle.melt_step.specs.declared.run.Run.{Run}
 use Rattle.melt_core.specs.Changed.{stopped, HasRoomForEntry}
@@ -334,6 +334,7 @@ pub record PlansBy (old new : Collector) (w : View) (phase : Phase) : Type 0 whe
   pub held_within : entry.held ≤ entry.live
   pub live : w.free ≡ entry.live + 1
   pub within : entry.live ≤ length w.space.list
+  pub disk : OnNoDisk entry
   pub next : new.planned ≡ next_of old.config (Some entry)
 
 -- so many collections were made, each as it was planned

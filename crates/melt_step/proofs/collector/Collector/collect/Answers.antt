@@ -93,8 +93,14 @@ returns-clause-plans c =
     at_rest c.requires.phase (collects at)) in
     let written : Journal = record c.in_ok-journal.journal { end = 1 } in
     let leaves : LeavesWords (view c.begin.result) written =
-    record { held_within = left.held_within; live = left.live; within = left.within } in
+    record {
+      held_within = left.held_within;
+      live = left.live;
+      within = left.within;
+      bodies = left.bodies;
+      stubs = left.stubs;
+    } in
     planned_by c.args.self.now c.plan.new.self _
     (view c.begin.result) c.args.phase written c.requires.planning c.plan.ensures.planning
     c.plan.ensures.journal c.requires.phase of_phase
-    c.in_ok-push.ensures.items refl c.plan.ensures.next refl c.plan.ensures.config leaves
+    c.in_ok-push.ensures.items refl c.plan.ensures.next refl c.plan.ensures.config leaves refl
