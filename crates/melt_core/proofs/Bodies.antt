@@ -23,7 +23,8 @@ use Rattle.melt_core.specs.Views.{View, Standing, maps, state, rest_of, stage_of
 use Rattle.melt_core.proofs.Asked.{known_at, known_so}
 use Rattle.melt_core.proofs.Making.{AroundClaim}
 use Rattle.melt_core.proofs.Staying.{fetches_stays}
-use Rattle.melt_core.proofs.Storing.{Storing, none_stored, store_advances, stored_more, stored_on}
+use Rattle.melt_core.proofs.Retaining.{retained}
+use Rattle.melt_core.proofs.Storing.{Storing, none_stored, store_advances, stored_more}
 
 -- the stages around a claim for a copy
 pub around_copy : (disk : OnDisk) (v : View) (t : ℕ) (o : Op) (search : Search) (shape : Shape) → Asks disk v t o
@@ -83,7 +84,7 @@ pub copy_word_advances : (disk : OnDisk) (v : View) (space : SpaceWords) (t : �
     (stored word : ℕ) → Asks disk v t o → stage_of v t ≡ Some (Copying a stored) → stored + 1 < cost_of a.shape
     → word ≡ copy_word a.search.home a.shape (rest_of v t) (stored + 1)
     → SetsWord v.space space (a.address + (stored + 1)) word
-    → AdvancesOver disk v (stored_on v space t o (Copying a (stored + 1))) t o Going
+    → AdvancesOver disk v (retained v space t o (Copying a (stored + 1))) t o Going
 copy_word_advances disk v space t o a stored word asks at few is sets =
     let known = copying_known disk v t o a stored asks at in
     let place : ℕ = a.address + 1 + stored in
@@ -117,7 +118,7 @@ copy_word_advances disk v space t o a stored word asks at few is sets =
 pub copy_header_advances : (disk : OnDisk) (v : View) (space : SpaceWords) (t : ℕ) (o : Op) (a : Activation)
     (stored word : ℕ) → Asks disk v t o → stage_of v t ≡ Some (Copying a stored) → stored + 1 ≡ cost_of a.shape
     → word ≡ header_word (record { shape = a.shape; stale = false }) → SetsWord v.space space a.address word
-    → AdvancesOver disk v (stored_on v space t o (Copied a)) t o Going
+    → AdvancesOver disk v (retained v space t o (Copied a)) t o Going
 copy_header_advances disk v space t o a stored word asks at all is sets =
     let known = copying_known disk v t o a stored asks at in
     let storing : Storing disk v space t a.address (fresh_header a.shape) o (Copying a stored) (Copied a) =

@@ -240,7 +240,7 @@ module _ (maps : Maps) (s : State) (disk : OnDisk) (ends : disk.end ≡ s.base.e
   known_on rest (Searching search) is = searches_on search.place search.home search.tried is
   known_on rest (Missed search) is = (misses_on search is.0, λ (told : false ≡ true). absurd (cc))
   known_on rest (HeadRead search shape) is =
-      (misses_on search is.0, head_of search.home shape is.1, λ (told : false ≡ true). absurd (cc))
+      (misses_on search is.0, head_of search.home shape is.1, is.2, λ (told : false ≡ true). absurd (cc))
   known_on rest (BodyRead search shape) is = fetches_on rest search shape is
   known_on rest (Copying a stored) is = (
     fetches_on rest a.search a.shape is.0,
@@ -391,6 +391,7 @@ known_untold told m s rest (Missed search) is =
 known_untold told m s rest (HeadRead search shape) is = (
   misses_untold told m s search is.0,
   head_untold told s.base search.home shape is.1,
+  is.2,
   λ (tells : false ≡ true). absurd (cc),
 )
 known_untold told m s rest (BodyRead search shape) is = fetches_untold told m s rest search shape is

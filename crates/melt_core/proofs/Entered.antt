@@ -39,7 +39,7 @@ use Rattle.melt_core.proofs.Going.{goes, goes_on}
 use Rattle.melt_core.proofs.Keeping.{event_keeps}
 use Rattle.melt_core.proofs.Plain.{as_told}
 use Rattle.melt_core.proofs.Regions.{no_region_apart}
-use Rattle.melt_core.proofs.Retaining.{still_retains}
+use Rattle.melt_core.proofs.Retaining.{others_apart, still_retains}
 use Rattle.melt_core.proofs.Searching.{word_probes, sent_known, copy_more, few_more}
 use Rattle.melt_core.proofs.Standing.{Made, advances, same_rests, values_stay}
 use Rattle.melt_core.proofs.Staying.{hold_stays, looked_stays}
@@ -285,8 +285,7 @@ won_advances disk {v} {names} {t} {o} {a} {number} won =
             (let e : after ≡ c = cc in e) (won_known disk told won stands);
         fits = λ c same. subst (λ (d : Call). Fits (register_in v.held t) d.op d.stage) (let e : after ≡ c = cc in e)
             (fits_at disk v t o (Copied a) asks won.is.at);
-        mine_is = λ u d differ other. s.apart t u (record { op = o; stage = Copied a }) d (λ same. differ (sym same))
-            (call_at disk v t o (Copied a) asks won.is.at) other;
+        mine_is = others_apart disk v t o (Copied a) asks won.is.at;
         apart = λ c same u d differ other. subst (λ (x : Call). Apart (region_of x.stage) (region_of d.stage))
             (let e : after ≡ c = cc in e) (no_region_apart (region_of d.stage));
         counts = λ tells. won_counts disk won (as_told disk told v tells stands);

@@ -3,7 +3,7 @@ use Rattle.std.proofs.Common.{◌≡◌, ℕ, ◌+◌, ◌<◌, ◌≤◌, inl, 
 use Rattle.std.proofs.Common.{◌∷◌, ◌++◌, length, refl, sym, ◌∙◌, ap, subst, arith}
 use Rattle.std.proofs.Math.ListN.{set}
 use Rattle.std.proofs.lemmas.Bool.{cases_lt, eq-eqb, ne_eqb}
-use Rattle.std.specs.Prelude.{Bool, true, false, Option, None, Some, IsSome, if◌then◌else◌}
+use Rattle.std.specs.Prelude.{Bool, false, Option, None, Some, IsSome, if◌then◌else◌}
 use Rattle.std.specs.List.{filter_map, cons_option}
 use Rattle.melt_model.specs.History.{made as makes, shape_made}
 use Rattle.melt_model.proofs.Histories.{made-append}
@@ -37,27 +37,29 @@ use Rattle.melt_core.specs.declared.call.Stage.TheVariants.{Retrying, LackingCop
 use Rattle.melt_core.specs.declared.call.Task.TheVariants.{Make as Making}
 use Rattle.melt_core.specs.Answering.{Answers, entry}
 use Rattle.melt_core.specs.Known.{Known, Evolves, region, region_of}
-use Rattle.melt_core.specs.Events.{Event, quiet, claims as claims_words, publishes}
+use Rattle.melt_core.specs.Events.{Event, claims as claims_words, publishes}
 use Rattle.melt_core.specs.Stages.{Next, Fits, MustPause, Applies, Nothing, Word, Free, Publish}
 use Rattle.melt_core.specs.Stages.{change_of, cleared_by, task_of, Lacks}
-use Rattle.melt_core.specs.Changed.{with_call, with_register, noted}
+use Rattle.melt_core.specs.Changed.{stopped, with_call, with_register, noted}
 use Rattle.melt_core.specs.Advances.{Asks, AdvancesOver, InBounds, HasRoomFor, Sets}
 use Rattle.melt_core.specs.Views.{View, Standing, maps, state, shown, rest_of}
 use Rattle.melt_core.specs.Views.{call_of, stage_of, claimed_in, claims_left, maps_of, numbers_of}
 use Rattle.melt_core.specs.Views.{registers_in, held_value, held_values, values_of}
-use Rattle.melt_core.proofs.Asked.{call_at, fits_at, known_at, inside, next_fits, still_clears}
+use Rattle.melt_core.proofs.Asked.{call_at, fits_at, known_at, inside, next_fits}
 use Rattle.melt_core.proofs.Claims.{bounded_is, bounded_lacking, bounded_call}
-use Rattle.melt_core.proofs.Claims.{bounded_refused, claims_ends}
+use Rattle.melt_core.proofs.Claims.{claims_ends}
 use Rattle.melt_core.proofs.Counting.{Counts_same, Counts_published, room_for}
-use Rattle.melt_core.proofs.Words.{same_words, word_set}
+use Rattle.melt_core.proofs.Words.{word_set}
 use Rattle.melt_core.proofs.Answers.{new_answers}
 use Rattle.melt_core.proofs.Evolving.{evolves_event}
 use Rattle.melt_core.proofs.Staying.{hold_stays}
 use Rattle.melt_core.proofs.Registers.{register_keeps, register_other, registers_other, threads_set, values_set}
 use Rattle.melt_core.proofs.Values.{held_is, named_value}
 use Rattle.melt_core.proofs.Going.{goes}
-use Rattle.melt_core.proofs.Storing.{Storing, none_stored, others_apart, store_advances, stored_more}
+use Rattle.melt_core.proofs.Retaining.{others_apart}
+use Rattle.melt_core.proofs.Storing.{Storing, none_stored, store_advances, stored_more}
 use Rattle.melt_core.proofs.Plain.{as_told}
+use Rattle.melt_core.proofs.Refusing.{pause_advances}
 use Rattle.melt_core.proofs.Regions.{apart_sym, no_region_apart, claimed_owned, claimed_apart}
 use Rattle.melt_core.proofs.Standing.{Happens, Made, advances, call_here, kept_own, same_rests, values_stay}
 use Rattle.melt_core.proofs.Tasks.{LoadsNothing, new_is, no_load}
@@ -362,43 +364,15 @@ lacks_still s register rest stage need lacks = absurd lacks
 
 -- The call is refused for want of room, and the stop word is set.
 pub lack_advances : (disk : OnDisk) (v : View) (t need : ℕ) (o : Op) → Asks disk v t o → Lacks (stage_of v t) need
-    → AdvancesOver disk v (with_call (record v { stop = true }) t None) t o (Refused (Pause (Space need)))
+    → AdvancesOver disk v (with_call (stopped v) t None) t o (Refused (Pause (Space need)))
 lack_advances disk v t need o asks lacks =
-    let s : Standing false disk v = asks.stands in
-    let w : View = with_call (record v { stop = true }) t None in
-    let within : t < length v.calls = inside disk v t o asks in
-    let still : change_of (state disk v) (register_in v.held t) (rest_of v t) (stage_of v t) ≡ Nothing =
-    lacks_still (state disk v) (register_in v.held t) (rest_of v t) (stage_of v t) need lacks in
-    let made : Made disk v w t (cleared_by (stage_of v t)) = record {
-      mine = no_region;
-      act = None;
-      after = None;
-      happens = λ told stands. record {
-        event = subst (λ (k : ℕ). Event told v.log (maps v) (maps w) (state disk v) (state disk w) no_region k None)
-            (sym (still_clears (state disk v) (register_in v.held t) (rest_of v t) (stage_of v t) still))
-            (quiet refl (same_words disk v));
-        kept = kept_own disk told v w t None stands refl;
-        first = stands.first;
-        bounded = bounded_refused (length v.space.list) v.free v.stop v.calls t within stands.bounded;
-        may_hold = s.registers t;
-        known = λ c is. absurd (cc);
-        fits = λ c is. absurd (cc);
-        mine_is = λ u d differ is. no_region_apart (region_of d.stage);
-        apart = λ c is. absurd (cc);
-        counts = λ is. Counts_same disk v w t None (as_told disk told v is stands) asks.thread refl
-            (record { names = refl; words = refl; calls = refl; below = omega arith; within = inl (omega arith) });
-      };
-    } in
-    advances disk v w t o (Refused (Pause (Space need))) asks made refl
-    (subst (Applies (maps v) (maps w) (state disk v) (state disk w)) (sym still) (refl, same_words disk v))
-    (record {
+    pause_advances disk v t o (Space need) asks
+    (lacks_still (state disk v) (register_in v.held t) (rest_of v t) (stage_of v t) need lacks) (record {
       lacks = lacks;
-      call = call_here v w t None refl within;
-      own =
-          record { history = refl; registers = refl; values = refl };
+      call = call_here v (with_call (stopped v) t None) t None refl (inside disk v t o asks);
+      own = record { history = refl; registers = refl; values = refl };
       stop = refl;
     })
-    tt
 
 -- the view behind the publication of an object
 abbrev pub published : View → SpaceWords → Option heap.Names → ℕ → Shape → ℕ → ℕ → View

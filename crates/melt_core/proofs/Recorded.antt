@@ -1,5 +1,5 @@
 -- What a read of a record tells: how its load goes on, and that no record is found damaged where the disk tells its words.
-use Rattle.std.proofs.Common.{◌≡◌, ◌⊎◌, ℕ, ◌+◌, ◌<◌, ◌≤◌, ◌^◌, inl, inr, List, [], ◌++◌, length, take, drop, replicate, get_or, length-append}
+use Rattle.std.proofs.Common.{◌≡◌, ℕ, ◌+◌, ◌<◌, ◌≤◌, ◌≢◌, zero, suc, inl, inr, List, [], ◌++◌, length, take, drop, replicate, get_or, length-append}
 use Rattle.std.proofs.Common.{Result, Ok, Err, OnOk, IfOk, IfErr}
 use Rattle.std.proofs.Common.{refl, sym, ◌∙◌, ap, subst, arith}
 use Rattle.std.proofs.Math.ListN.{set, length-set}
@@ -7,7 +7,7 @@ use Rattle.std.proofs.lemmas.Bool.{cases_eq}
 use Rattle.std.proofs.lemmas.Bool.Decides.{eqb_tells}
 use Rattle.std.proofs.lemmas.List.{get_or-drop, get_or-take, get_or-set_same, get_or-set_other, get_or_default}
 use Rattle.std.proofs.lemmas.List.{get_or_append_left, length-drop, length-take-le}
-use Rattle.std.specs.Prelude.{Bool, true, false, ◌==◌, if◌then◌else◌, Option, None, Some, IfSome, IsSome, slice_index, slice_index_or}
+use Rattle.std.specs.Prelude.{Bool, true, false, ◌==◌, if◌then◌else◌, Option, None, Some, IfSome, IsSome, slice_index}
 use Rattle.std.specs.Result.{is_err}
 use Rattle.melt_model.specs.declared.operations.Op.{Op}
 use Rattle.melt_word.specs.Words.{IsShape, cost_of}
@@ -18,14 +18,13 @@ use Rattle.melt_record.specs.declared.head.Head.{Head}
 use Rattle.melt_record.specs.declared.head.Kind.{Kind}
 use Rattle.melt_record.specs.declared.head.Kind.TheVariants.{Body, Stub}
 use Rattle.melt_record.specs.Records.{IsHead, IsHeadDamage, IsSlotDamage, IsSlotWord, AreSlots}
-use Rattle.melt_io.specs.Outside.{Rose, words_at}
+use Rattle.melt_io.specs.Outside.{words_at}
 use Rattle.melt_io.proofs.WordBytes.{get_or-padded}
-use Rattle.melt_scion.specs.State.{Base, State}
-use Rattle.melt_scion.specs.Placed.{Maps, HeadIs}
-use Rattle.melt_scion.specs.Commits.{HasHead, HasRecord}
-use Rattle.melt_scion.specs.Scions.{Scions}
+use Rattle.melt_scion.specs.State.{State}
+use Rattle.melt_scion.specs.Placed.{HeadIs}
+use Rattle.melt_scion.specs.Commits.{HasHead}
 use Rattle.melt_scion.specs.Regions.{no_region}
-use Rattle.melt_scion.specs.Heaps.{OnDisk, Shows, register_in}
+use Rattle.melt_scion.specs.Heaps.{OnDisk, register_in}
 use Rattle.melt_scion.proofs.Searching.{scion_named, scion_same, no_head_damage, stub_live, no_slot_damage}
 use Rattle.melt_core.specs.declared.answer.Refusal.{Refusal}
 use Rattle.melt_core.specs.declared.answer.Refusal.TheVariants as refusal
@@ -40,8 +39,8 @@ use Rattle.melt_core.specs.Events.{Event, quiet}
 use Rattle.melt_core.specs.Stages.{Next, Nothing, ReadAs, ReadsAt, Lacks, Applies, body_stage, change_of, cleared_by}
 use Rattle.melt_core.specs.Stages.{reads_left}
 use Rattle.melt_core.specs.Changed.{with_call}
-use Rattle.melt_core.specs.Advances.{Asks, MayAdvance, Advances, AdvancesWhere, TellsDisk, Refuses, IsLost, NamesNoScion}
-use Rattle.melt_core.specs.Advances.{Breaks, IsDamage, Uses, reads_after, reads_from}
+use Rattle.melt_core.specs.Advances.{Asks, MayAdvance, Advances, AdvancesWhere, TellsDisk, Refuses, IsLost}
+use Rattle.melt_core.specs.Advances.{Breaks, IsDamage, Uses, reads_from}
 use Rattle.melt_core.specs.Views.{View, Standing, maps, state, stage_in, stage_of, rest_of, claimed_in, max_rest}
 use Rattle.melt_core.proofs.Asked.{asks_over, inside, known_at, known_so, still_clears}
 use Rattle.melt_core.proofs.Claims.{claims_ends}
@@ -166,6 +165,10 @@ head_stands disk v home end first second head ends is same_first same_second =
     (subst (λ (a : ℕ). IsHead home end a (disk.image (home + 1)) head) same_first
     (subst (λ (b : ℕ). IsHead home end first b head) same_second is))
 
+positive : (n : ℕ) → n ≢ 0 → 0 < n
+positive zero some = absurd (some refl)
+positive (suc n) some = omega arith
+
 -- The first two words at a home were read, in an event of a call that missed the home.
 pub record ReadsHead (end : ℕ) (image : Option (List ℕ)) (v : View) (t : ℕ) (o : Op) (search : Search) (words : List ℕ)
     : Type 0 where
@@ -232,7 +235,8 @@ module _ (end : ℕ) (image : Option (List ℕ)) (v : View) (t : ℕ) (o : Op) (
               })
           | inr some ↦
               subst (λ (b : Bool). Known told (maps v) (state disk v) (rest_of v t)
-              (if b then BodyRead search shape else HeadRead search shape)) (sym some.0) (missed.0, head, missed.1)
+              (if b then BodyRead search shape else HeadRead search shape)) (sym some.0)
+              (missed.0, head, positive (shape.refs + shape.nums) some.1, missed.1)
         ]
 
     -- and at a Stub
@@ -340,6 +344,7 @@ head_uses disk v w t o search stage head asks at moves goes count one =
     (call_here v w t (Some call) (ap (λ (x : View). x.calls) moves) (inside disk v t o asks)) in
     let before : reads_left (stage_of v t) ≡ 2 = ap reads_left at in
     record {
+      one = one;
       few = omega (arith, one, behind, before, head_reads (state disk v) search head.shape head.kind stage goes);
       fault = λ is. absurd (cc);
       count = count;
@@ -420,6 +425,7 @@ pub record Begins (written words : List ℕ) (n : ℕ) : Type 0 where
   pub size : length written ≡ max_rest
   pub same : (i : ℕ) → i < n → slice_index written i ≡ slice_index words i
 
+-- as one does whose front was read anew
 pub begins_with : (words buffer : List ℕ) (n k : ℕ) → length buffer ≡ max_rest → length words ≡ n → k ≡ n → n ≤ max_rest
     → Begins (words ++ drop k buffer) words n
 begins_with words buffer n k size read same few = record {
@@ -472,7 +478,7 @@ module _ (end : ℕ) (image : Option (List ℕ)) (v : View) (t : ℕ) (o : Op) (
         → Standing true disk v → ⊥
     rest_sound damaged bad tells stands =
         let known = known_rest true stands in
-        no_slot_damage (state disk v).base search.home (known.2 refl) shape words damaged (known.1.on_disk refl)
+        no_slot_damage (state disk v).base search.home (known.3 refl) shape words damaged (known.1.on_disk refl)
         (λ i below. rest_told tells i (omega arith))
         (subst (λ (e : ℕ). IsSlotDamage search.home e shape.refs words damaged) (sym ends) bad)
 

@@ -26,6 +26,13 @@ use Rattle.melt_core.proofs.Standing.{Made, advances, kept_own}
 use Rattle.melt_core.proofs.Staying.{hold_stays}
 use Rattle.melt_core.proofs.Words.{same_words}
 
+-- the words of others are apart from those of the call
+pub others_apart : (disk : OnDisk) (v : View) (t : ℕ) (o : Op) (stage : Stage) → Asks disk v t o → stage_of v t ≡ Some stage
+    → (u : ℕ) (d : Call) → u ≢ t → call_of v u ≡ Some d → Apart (region_of stage) (region_of d.stage)
+others_apart disk v t o stage asks at u d differ is =
+    asks.stands.apart t u (record { op = o; stage = stage }) d (λ same. differ (sym same))
+    (call_at disk v t o stage asks at) is
+
 -- the view behind the event
 abbrev pub retained : View → SpaceWords → ℕ → Op → Stage → View
 retained v space t o stage = with_call (record v { space = space }) t (Some (record { op = o; stage = stage }))
@@ -63,8 +70,7 @@ retains disk v space t o before after mine asks is =
     let claimed : claimed_in (Some call) ≡ claimed_in (call_of v t) =
     ap (λ (r : Region). r.words) is.keeps ∙ sym (ap claimed_in (call_at disk v t o before asks is.at)) in
     let apart : (u : ℕ) (d : Call) → u ≢ t → call_of v u ≡ Some d → Apart (region_of before) (region_of d.stage) =
-    λ u d differ other. s.apart t u (record { op = o; stage = before }) d (λ same. differ (sym same))
-    (call_at disk v t o before asks is.at) other in
+    others_apart disk v t o before asks is.at in
     let made : Made disk v w t (cleared_by (stage_of v t)) = record {
       mine = mine;
       act = None;

@@ -257,7 +257,7 @@ module _ (maps new : Maps) (s t : State) (cleared : ℕ) (formed : FormedWords m
   known_stays told rest (Missed search) stays is =
       (misses_stays told search is.0, record_stays told search.home is.1)
   known_stays told rest (HeadRead search shape) stays is =
-      (misses_stays told search is.0, head_stays told search.home shape is.1, record_stays told search.home is.2)
+      (misses_stays told search is.0, head_stays told search.home shape is.1, is.2, record_stays told search.home is.3)
   known_stays told rest (BodyRead search shape) stays is = fetches_stays told rest search shape is
   known_stays told rest (Copying a stored) stays is = (
     fetches_stays told rest a.search a.shape is.0,

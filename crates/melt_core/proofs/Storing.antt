@@ -1,8 +1,7 @@
 -- Private stores: a thread sets a word of the region that its call owns, and the call goes on with that region.
-use Rattle.std.proofs.Common.{◌≡◌, ◌≢◌, ℕ, ◌+◌, ◌<◌, ◌≤◌, inl, inr, length, refl, sym, ◌∙◌, ap, subst, arith}
-use Rattle.std.proofs.Math.ListN.{set}
+use Rattle.std.proofs.Common.{◌≡◌, ◌≢◌, ℕ, ◌+◌, ◌<◌, ◌≤◌, inl, inr, refl, sym, ◌∙◌, ap, subst, arith}
 use Rattle.std.proofs.lemmas.Bool.{cases_eq}
-use Rattle.std.specs.Prelude.{Bool, false, Option, None, Some}
+use Rattle.std.specs.Prelude.{Bool, false, None, Some}
 use Rattle.melt_model.specs.declared.operations.Op.{Op}
 use Rattle.melt_word.specs.Words.{cost_of}
 use Rattle.melt_word.specs.declared.header.Shape.{Shape}
@@ -15,22 +14,14 @@ use Rattle.melt_scion.specs.Changes.{WordChanges}
 use Rattle.melt_scion.specs.Heaps.{OnDisk, register_in}
 use Rattle.melt_scion.proofs.Geometry.{one_header, header_moves}
 use Rattle.melt_core.specs.declared.answer.StepResult.TheVariants.{Going}
-use Rattle.melt_core.specs.declared.call.Call.{Call}
 use Rattle.melt_core.specs.declared.call.Stage.{Stage}
 use Rattle.melt_core.specs.Known.{Known, Evolves, region, region_of}
 use Rattle.melt_core.specs.Events.{Event, stores}
-use Rattle.melt_core.specs.Stages.{Fits, Next, Applies, Word, change_of, cleared_by}
-use Rattle.melt_core.specs.Changed.{with_call}
+use Rattle.melt_core.specs.Stages.{Next, Applies, Word, change_of, cleared_by}
 use Rattle.melt_core.specs.Advances.{Asks, AdvancesOver}
-use Rattle.melt_core.specs.Views.{View, Standing, maps, state, rest_of, call_of, stage_of, claimed_in}
-use Rattle.melt_core.proofs.Asked.{call_at, inside, next_fits}
-use Rattle.melt_core.proofs.Claims.{bounded_is, bounded_call, claims_next}
-use Rattle.melt_core.proofs.Counting.{Counts_same}
+use Rattle.melt_core.specs.Views.{View, Standing, maps, state, rest_of, stage_of}
 use Rattle.melt_core.proofs.Evolving.{evolves_event}
-use Rattle.melt_core.proofs.Going.{goes}
-use Rattle.melt_core.proofs.Plain.{as_told}
-use Rattle.melt_core.proofs.Standing.{Made, advances, kept_own}
-use Rattle.melt_core.proofs.Staying.{hold_stays}
+use Rattle.melt_core.proofs.Retaining.{retained, retains}
 use Rattle.melt_core.proofs.Words.{word_set}
 
 -- an object apart from a region does not start in it
@@ -61,13 +52,6 @@ owns_stored m s t r at word formed owns from to changes = record {
       (header_moves s t b header (sym (changes.others b other)) starts) in
       subst (λ (h : Header). Apart (record { at = b; words = cost_of h.shape }) r) same apart;
 }
-
--- the words of others are apart from it
-pub others_apart : (disk : OnDisk) (v : View) (t : ℕ) (o : Op) (stage : Stage) → Asks disk v t o → stage_of v t ≡ Some stage
-    → (u : ℕ) (d : Call) → u ≢ t → call_of v u ≡ Some d → Apart (region_of stage) (region_of d.stage)
-others_apart disk v t o stage asks at u d differ is =
-    asks.stands.apart t u (record { op = o; stage = stage }) d (λ same. differ (sym same))
-    (call_at disk v t o stage asks at) is
 
 -- none of the words behind the header is stored yet
 pub none_stored : (m : Maps) (s : State) (address : ℕ) (shape : Shape) (holds : ℕ → ℕ) → Owns m s (region address shape)
@@ -108,74 +92,30 @@ pub record Storing (disk : OnDisk) (v : View) (space : SpaceWords) (t place word
       → Owns (maps v) s (region_of before) → WordChanges (state disk v) s place word
       → Known told (maps v) s (rest_of v t) after
 
--- the view behind it
-abbrev pub stored_on : View → SpaceWords → ℕ → Op → Stage → View
-stored_on v space t o stage = with_call (record v { space = space }) t (Some (record { op = o; stage = stage }))
-
 -- A word of the region was stored.
 pub store_advances : (disk : OnDisk) {v : View} {space : SpaceWords} {t place word : ℕ} {o : Op} {before after : Stage}
     → Storing disk v space t place word o before after
-    → AdvancesOver disk v (stored_on v space t o after) t o Going
+    → AdvancesOver disk v (retained v space t o after) t o Going
 store_advances disk {v} {space} {t} {place} {word} {o} {before} {after} is =
-    let asks : Asks disk v t o = is.asks in
-    let s : Standing false disk v = asks.stands in
-    let call : Call = record { op = o; stage = after } in
-    let w : View = stored_on v space t o after in
+    let s : Standing false disk v = is.asks.stands in
+    let w : View = retained v space t o after in
     let mine : Region = region_of before in
-    let within : t < length v.calls = inside disk v t o asks in
     let changes : WordChanges (state disk v) (state disk w) place word = word_set disk v space v.held place word is.sets in
     let owns : Owns (maps w) (state disk w) mine =
     owns_stored (maps v) (state disk v) (state disk w) mine place word s.holds.formed is.owns is.from is.to changes in
-    let next : Next (maps v) (state disk v) (register_in v.held t) v.stop o (stage_of v t) after =
-    subst (λ (g : Option Stage). Next (maps v) (state disk v) (register_in v.held t) v.stop o g after) (sym is.at)
-    is.next in
     let event : (told : Bool) → Event told v.log (maps v) (maps w) (state disk v) (state disk w) mine 0 None =
     λ told. stores mine place word refl is.owns is.from is.to changes in
     let evolves : Evolves (maps v) (maps w) (state disk v) (state disk w) 0 =
     evolves_event false v.log (maps v) (maps w) (state disk v) (state disk w) mine 0 None s.holds.formed
     (event false) in
-    let claimed : claimed_in (Some call) ≡ claimed_in (call_of v t) =
-    ap (λ (r : Region). r.words) is.keeps ∙ sym (ap claimed_in (call_at disk v t o before asks is.at)) in
-    let apart : (u : ℕ) (d : Call) → u ≢ t → call_of v u ≡ Some d → Apart mine (region_of d.stage) =
-    others_apart disk v t o before asks is.at in
-    let made : Made disk v w t (cleared_by (stage_of v t)) = record {
-      mine = mine;
-      act = None;
-      after = Some call;
-      happens = λ told stands. record {
-        event = subst (λ (k : ℕ). Event told v.log (maps v) (maps w) (state disk v) (state disk w) mine k None)
-            (sym (ap cleared_by is.at ∙ is.no_clear)) (event told);
-        kept = kept_own disk told v w t (Some call) stands refl;
-        first = stands.first;
-        bounded = bounded_is w (length v.space.list) v.free v.stop (set v.calls t (Some call)) is.sets.size refl refl
-            refl
-            (bounded_call (length v.space.list) v.free v.stop v.calls t (Some call) within
-            (claims_next (maps v) (state disk v) (register_in v.held t) v.stop o (stage_of v t) after next)
-            stands.bounded);
-        may_hold = λ r. hold_stays (maps v) (maps w) (state disk v) (state disk w) 0 stands.holds.formed evolves
-            (register_in v.held t r) (s.registers t r);
-        known = λ c same. subst (λ (d : Call). Known told (maps w) (state disk w) (rest_of v t) d.stage)
-            (let e : call ≡ c = cc in e) (is.known told stands (state disk w) evolves owns changes);
-        fits = λ c same. subst (λ (d : Call). Fits (register_in v.held t) d.op d.stage) (let e : call ≡ c = cc in e)
-            (next_fits (maps v) (state disk v) (register_in v.held t) v.stop o (call_of v t) after asks.continued
-            (λ d there. s.fits t d there) next);
-        mine_is = apart;
-        apart = λ c same u d differ other. subst (λ (x : Call). Apart (region_of x.stage) (region_of d.stage))
-            (let e : call ≡ c = cc in e)
-            (subst (λ (r : Region). Apart r (region_of d.stage)) (sym is.keeps) (apart u d differ other));
-        counts = λ same. Counts_same disk v w t (Some call) (as_told disk told v same stands) asks.thread refl
-            (record {
-              names = refl;
-              words = is.sets.size;
-              calls = refl;
-              below = omega (arith, claimed);
-              within = inl (omega (arith, claimed));
-            });
-      };
-    } in
-    advances disk v w t o Going asks made refl
-    (subst (λ (g : Option Stage). Applies (maps v) (maps w) (state disk v) (state disk w)
-    (change_of (state disk v) (register_in v.held t) (rest_of v t) g)) (sym is.at)
-    (subst (Applies (maps v) (maps w) (state disk v) (state disk w)) (sym is.change) (refl, changes)))
-    (goes disk v w t o after asks next refl (record { history = refl; registers = refl; values = refl }) refl)
-    tt
+    retains disk v space t o before after mine is.asks (record {
+      at = is.at;
+      keeps = is.keeps;
+      mine_is = inr refl;
+      no_clear = is.no_clear;
+      event = event;
+      words = is.sets.size;
+      applies = subst (Applies (maps v) (maps w) (state disk v) (state disk w)) (sym is.change) (refl, changes);
+      next = is.next;
+      known = λ told stands. is.known told stands (state disk w) evolves owns changes;
+    })

@@ -257,10 +257,10 @@ abbrev pub reads_after : StepResult → Option Stage → ℕ
 reads_after Going stage = reads_left stage
 reads_after result stage = 0
 
--- What an event leaves of a reader: it is used only where the disk is to be read, and a call reads twice at most. A fault
--- has its count.
+-- What an event leaves of a reader: it reads once at most, and so a call does twice at most. A fault has its count.
 pub record Uses (v w : View) (t : ℕ) (result : StepResult) (faults_before faults_after reads_before reads_after_it : ℕ)
     : Type 0 where
+  pub one : reads_after_it ≤ reads_before + 1
   pub few : reads_after_it + reads_after result (stage_of w t) ≤ reads_before + reads_left (stage_of v t)
   pub fault : result ≡ Refused refusal.DiskFault → Rose faults_before faults_after
   pub count : faults_before ≤ faults_after

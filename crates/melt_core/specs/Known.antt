@@ -112,7 +112,7 @@ Known told maps s rest (Lacking need) = s.base.size + 1 < s.free
 Known told maps s rest (Searching search) = Searches told maps s search.place search.home search.tried
 Known told maps s rest (Missed search) = Misses told maps s search × (told ≡ true → HasRecord s.base search.home)
 Known told maps s rest (HeadRead search shape) = Misses told maps s search × HasHead told s.base search.home shape
-    × (told ≡ true → HasRecord s.base search.home)
+    × (0 < shape.refs + shape.nums) × (told ≡ true → HasRecord s.base search.home)
 Known told maps s rest (BodyRead search shape) = Fetches told maps s rest search shape
 Known told maps s rest (Copying a stored) = Fetches told maps s rest a.search a.shape
     × HasStored maps s (region a.address a.shape) (copy_word a.search.home a.shape rest) stored

@@ -2,11 +2,10 @@
 //!
 //! Nothing that is read is trusted: what a record cannot say is found, and ends the call. Where the disk returns what was
 //! written, it is never found.
-ghost use Rattle.std.specs.Prelude.{◌≡◌, ℕ, ◌+◌, ◌^◌, ◌<◌, ◌≤◌, length, slice_index, IfErr, IfOk, IfSome, OnErr, OnOk, None, Some};
+ghost use Rattle.std.specs.Prelude.{◌≡◌, ℕ, ◌<◌, length, slice_index, IfErr, IfOk, None, Some};
 ghost use Rattle.melt_record.specs.declared.damage.Damaged.{Damaged as DamagedRecord};
 ghost use Rattle.melt_record.specs.declared.head.Head.{Head as RecordHead};
 ghost use Rattle.melt_record.specs.Records.{IsHead};
-ghost use Rattle.melt_io.specs.Outside.{Rose, words_at};
 ghost use Rattle.melt_scion.specs.Heaps.{OnDisk};
 ghost use Rattle.melt_core.specs.Advances.{Advances, Breaks, IsDamage, MayAdvance, NamesNoScion, Uses};
 ghost use Rattle.melt_core.specs.Changed.{with_call};
@@ -16,7 +15,7 @@ ghost use Rattle.melt_core.specs.Views.{stage_of, state, view};
 use crate::answer::{Refusal, StepResult};
 use crate::call::{Search, Stage};
 use crate::machine::Core;
-use melt_io::{Failed, RecordReader};
+use melt_io::RecordReader;
 use melt_model::Op;
 use melt_record::{Damaged, Head, Kind, decode_head, decode_rest};
 use melt_word::{Ref, Shape};
@@ -29,21 +28,6 @@ fn behind_head(search: Search, shape: Shape) -> Stage
         return Stage::BodyRead { search, shape };
     }
     Stage::HeadRead { search, shape }
-}
-
-/// Reads the words from word `at` on, if there are any to be read.
-fn read_words<R: RecordReader>(reader: &mut R, at: u32, words: &mut [u64]) -> Result<(), Failed>
-    requires { at + length words.old ≤ 2 ^ 32 }
-    ensures words { OnOk result (IfSome (R.image reader.old) (λ image. words.new ≡ words_at image at (length words.old))) }
-    ensures image { R.image reader.new ≡ R.image reader.old }
-    ensures failed { OnErr result (Rose (R.faults reader.old) (R.faults reader.new)) }
-    ensures count { R.faults reader.old ≤ R.faults reader.new }
-    ensures one_read { R.reads reader.new ≤ R.reads reader.old + 1 }
-{
-    if words.is_empty() {
-        return Ok(());
-    }
-    reader.read_at(at, words)
 }
 
 impl Core {
@@ -146,7 +130,7 @@ impl Core {
         let len = usize::from(shape.refs) + usize::from(shape.nums);
         let mut record = self.rest.records[thread as usize];
         let words = &mut record[..len];
-        if read_words(reader, search.home + 2, words).is_err() {
+        if reader.read_at(search.home + 2, words).is_err() {
             return self.lose(thread, Refusal::DiskFault);
         }
         if let Err(damaged) = decode_rest(search.home, end, shape, words) {

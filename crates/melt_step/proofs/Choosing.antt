@@ -267,7 +267,7 @@ collection_stands threads globals all heap new rest after a quiet c =
     let at_rest : AtRest true no_homes_on heap rest = record { stands = a.stands; quiet = quiet } in
     let collected : CoreCollected (view (core_of heap rest)) (view (core_of new after)) =
     rest_collected heap new rest after c.phase c.journal at_rest c.copying c.collects c.threads
-    (same_sizes rest.held.items after.held.items c.threads c.before c.behind) c.calls c.log c.made in
+    (same_sizes rest.held.items after.held.items c.threads c.before c.behind) c.calls c.records c.log c.made in
     all_as threads globals (view (core_of heap rest))
     (view (core_of new after)) all a collected.stays.stands collected.stays.history collected.stays.threads
     collected.stays.globals collected.stays.values

@@ -242,10 +242,10 @@ pub rest_collected : (heap new : Heap) (rest after : Rest) (phase : Phase) (jour
     → IsCopying phase → Collects heap rest.held.items new after.held.items phase journal
     → length after.held.items ≡ length rest.held.items
     → ((t : ℕ) → length (registers_in after.held.items t) ≡ length (registers_in rest.held.items t))
-    → after.calls.items ≡ rest.calls.items → after.log ≡ rest.log → after.made ≡ rest.made
-    → CoreCollected (view (core_of heap rest)) (view (core_of new after))
+    → after.calls.items ≡ rest.calls.items → after.records.items ≡ rest.records.items → after.log ≡ rest.log
+    → after.made ≡ rest.made → CoreCollected (view (core_of heap rest)) (view (core_of new after))
 unfolding collected_view
-rest_collected heap new rest after phase journal at_rest copying collects threads sizes calls log made =
+rest_collected heap new rest after phase journal at_rest copying collects threads sizes calls records log made =
     let same : collected_view new rest after.held.items ≡ view (core_of new after) = cc in
     subst (CoreCollected (view (core_of heap rest))) same
     (collected_stands heap new rest after.held.items phase journal at_rest copying collects threads sizes)
@@ -264,6 +264,7 @@ finished_collected v x w finished collected = record {
     quiet = collected.stays.quiet;
     globals = collected.stays.globals ∙ ap length finished.globals;
     words = collected.stays.words ∙ ap length finished.words;
+    forwards = collected.stays.forwards ∙ ap length finished.forward;
     threads = collected.stays.threads ∙ ap length finished.held;
     capacity = collected.stays.capacity ∙ finished.capacity;
     history = collected.stays.history ∙ finished.log;

@@ -55,6 +55,7 @@ pub record CollectsRest (heap : Heap) (rest : Rest) (new : Heap) (after : Rest) 
   pub before : All (λ (x : Registers). length x.regs ≡ 16) rest.held.items
   pub behind : All (λ (x : Registers). length x.regs ≡ 16) after.held.items
   pub calls : after.calls.items ≡ rest.calls.items
+  pub records : after.records.items ≡ rest.records.items
   pub log : after.log ≡ rest.log
   pub made : after.made ≡ rest.made
 

@@ -1,10 +1,8 @@
-use Rattle.std.proofs.Common.{◌≡◌, ◌≤◌, ◌+◌, ℕ, length, sym, ap, ◌∙◌, subst, arith}
-use Rattle.std.specs.Prelude.{IfSome}
-use Rattle.melt_io.specs.Outside.{words_at}
+use Rattle.std.proofs.Common.{◌≡◌, ◌+◌, sym, ◌∙◌, subst, arith}
 use Rattle.melt_core.specs.Advances.{Advances, IsDamage}
 use Rattle.melt_core.specs.declared.answer.StepResult.TheVariants.{Going}
 use Rattle.melt_core.specs.Changed.{with_call}
-use Rattle.melt_core.specs.Views.{View, view, max_rest}
+use Rattle.melt_core.specs.Views.{View, view}
 use Rattle.melt_core.proofs.Recorded.{rest_small, buffer_size, front_size, begins_with, head_fault, rest_damaged}
 use Rattle.melt_core.proofs.Recorded.{rest_is_damage, rest_advances, rest_read, is_damaged}
 use Rattle.melt_core.proofs.machine.Core.read_rest.Goals as goal
@@ -41,7 +39,7 @@ pub decode_rest-requires-clause-words : goal.decode_rest-requires-clause-words
 decode_rest-requires-clause-words g c =
     let whole : c.from.result + c.from-2.result ≡ c.args.shape.refs + c.args.shape.nums =
     omega (arith, c.from.ensures, c.from-2.ensures) in
-    c.read_words.auto.words
+    c.read_at.auto.words
     ∙ (front_size c.args.end (view c.args.self.now) c.args.thread c.args.op c.args.search c.args.shape
     c.index.result.now (c.from.result + c.from-2.result) c.requires.asks c.requires.stage c.index.ensures whole
     ∙ whole)
@@ -54,10 +52,10 @@ returns-in-Err-clause-advances g c =
     (sym c.lose-in-Err.ensures.over)
     (subst (Advances c.args.end image v (with_call v c.args.thread _) c.args.thread c.args.op)
     (sym c.lose-in-Err.ensures.refused)
-    (rest_damaged c.args.end image v c.args.thread c.args.op c.args.search c.args.shape c.read_words.new.words
+    (rest_damaged c.args.end image v c.args.thread c.args.op c.args.search c.args.shape c.read_at.new.words
     (rest_read c.args.end image v c.args.thread c.args.op c.args.search c.args.shape c.index.result.now
-    c.read_words.new.words (c.from.result + c.from-2.result) c.read_words.result c.requires.asks c.requires.stage
-    c.index.ensures (omega (arith, c.from.ensures, c.from-2.ensures)) c.read_words.ensures.words
+    c.read_at.new.words (c.from.result + c.from-2.result) c.read_at.result c.requires.asks c.requires.stage
+    c.index.ensures (omega (arith, c.from.ensures, c.from-2.ensures)) c.read_at.ensures.words
     (sym c.is_err.ensures.value) c.if-is_err.false) c.in-Err.damaged c.in-Err.ensures.err))
 
 pub returns-in-Err-clause-damage : goal.returns-in-Err-clause-damage
@@ -66,10 +64,10 @@ returns-in-Err-clause-damage g c = λ damaged is.
     let image = g.R.RecordReader.image c.args.reader.now in
     subst (IsDamage image c.args.end v c.args.thread)
     (is_damaged c.lose-in-Err.result c.in-Err.damaged damaged c.lose-in-Err.ensures.refused is)
-    (rest_is_damage c.args.end image v c.args.thread c.args.op c.args.search c.args.shape c.read_words.new.words
+    (rest_is_damage c.args.end image v c.args.thread c.args.op c.args.search c.args.shape c.read_at.new.words
     (rest_read c.args.end image v c.args.thread c.args.op c.args.search c.args.shape c.index.result.now
-    c.read_words.new.words (c.from.result + c.from-2.result) c.read_words.result c.requires.asks c.requires.stage
-    c.index.ensures (omega (arith, c.from.ensures, c.from-2.ensures)) c.read_words.ensures.words
+    c.read_at.new.words (c.from.result + c.from-2.result) c.read_at.result c.requires.asks c.requires.stage
+    c.index.ensures (omega (arith, c.from.ensures, c.from-2.ensures)) c.read_at.ensures.words
     (sym c.is_err.ensures.value) c.if-is_err.false) c.in-Err.damaged c.in-Err.ensures.err)
 
 pub returns-clause-advances : goal.returns-clause-advances
@@ -79,15 +77,15 @@ returns-clause-advances g c =
     let whole : c.from.result + c.from-2.result ≡ c.args.shape.refs + c.args.shape.nums =
     omega (arith, c.from.ensures, c.from-2.ensures) in
     subst (λ (w : View). Advances c.args.end image v w c.args.thread c.args.op Going) (sym c.set_stage.ensures)
-    (rest_advances c.args.end image v c.args.thread c.args.op c.args.search c.args.shape c.read_words.new.words
+    (rest_advances c.args.end image v c.args.thread c.args.op c.args.search c.args.shape c.read_at.new.words
     (rest_read c.args.end image v c.args.thread c.args.op c.args.search c.args.shape c.index.result.now
-    c.read_words.new.words (c.from.result + c.from-2.result) c.read_words.result c.requires.asks c.requires.stage
-    c.index.ensures whole c.read_words.ensures.words (sym c.is_err.ensures.value) c.if-is_err.false)
+    c.read_at.new.words (c.from.result + c.from-2.result) c.read_at.result c.requires.asks c.requires.stage
+    c.index.ensures whole c.read_at.ensures.words (sym c.is_err.ensures.value) c.if-is_err.false)
     _
-    (begins_with c.read_words.new.words c.index.result.now (c.args.shape.refs + c.args.shape.nums)
+    (begins_with c.read_at.new.words c.index.result.now (c.args.shape.refs + c.args.shape.nums)
     (c.from.result + c.from-2.result)
     (buffer_size c.args.end v c.args.thread c.args.op c.index.result.now c.requires.asks c.index.ensures)
-    (c.read_words.auto.words
+    (c.read_at.auto.words
     ∙ (front_size c.args.end v c.args.thread c.args.op c.args.search c.args.shape c.index.result.now
     (c.from.result + c.from-2.result) c.requires.asks c.requires.stage c.index.ensures whole ∙ whole))
     whole

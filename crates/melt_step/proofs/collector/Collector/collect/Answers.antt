@@ -74,7 +74,7 @@ returns-clause-collected c =
     (view (core_of c.collect_uncounted.new.heap after)) c.finish-heap.ensures.finished
     (rest_collected c.finish-heap.result.0 c.collect_uncounted.new.heap rest after c.args.phase c.in_ok-journal.journal
     (c.finish-heap.ensures.rests true no_homes_on c.requires.stands) c.requires.phase (collects at) same
-    (same_sizes rest.held.items after.held.items same before sixteen) refl refl refl))
+    (same_sizes rest.held.items after.held.items same before sixteen) refl refl refl refl))
 
 pub returns-clause-plans : goal.returns-clause-plans
 returns-clause-plans c =
