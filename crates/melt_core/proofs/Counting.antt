@@ -7,7 +7,7 @@ use Rattle.std.proofs.lemmas.List.Sums.{sum-map, sum_by-set}
 use Rattle.std.specs.Prelude.{◌↔◌, true, false, [], Option, None, Some}
 use Rattle.std.specs.Option.{option_map_or}
 use Rattle.melt_model.specs.History.{Shape as ModelShape, made as makes}
-use Rattle.melt_model.specs.Alive.{Alive, words_of, CostsSum}
+use Rattle.melt_model.specs.Alive.{words_of, CostsSum}
 use Rattle.melt_model.specs.declared.history.Act.TheVariants.{Make}
 use Rattle.melt_model.specs.declared.history.Entry.{Entry}
 use Rattle.melt_model.proofs.Histories.{shape-append}
@@ -25,7 +25,7 @@ use Rattle.melt_core.specs.declared.call.Stage.TheVariants.{Claimed}
 use Rattle.melt_scion.specs.Regions.{Owns, HasStored}
 use Rattle.melt_word.specs.Words.{IsShape}
 use Rattle.melt_core.specs.Known.{Known, region, region_of}
-use Rattle.melt_core.specs.Views.{View, Standing, Counts, InUse, value, maps, maps_of, state}
+use Rattle.melt_core.specs.Views.{View, Standing, Counts, InUse, maps, maps_of, state}
 use Rattle.melt_core.specs.Views.{call_of, rest_of, claimed_in, claimed}
 use Rattle.melt_core.specs.Advances.{HasRoom}
 use Rattle.melt_core.proofs.Values.{named_made}
