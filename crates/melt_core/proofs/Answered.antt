@@ -1,7 +1,7 @@
 -- Events that answer a call, and neither make an object nor own words.
 use Rattle.std.proofs.Common.{◌≡◌, ◌≢◌, ℕ, ◌<◌, List, length, get_or, refl, sym, ◌∙◌, ap, subst, inl}
 use Rattle.std.proofs.Math.ListN.{set}
-use Rattle.std.specs.Prelude.{Bool, true, false, [], Option, None, Some}
+use Rattle.std.specs.Prelude.{Bool, true, false, Option, None, Some}
 use Rattle.melt_model.specs.declared.history.Act.{Act}
 use Rattle.melt_model.specs.declared.operations.Op.{Op}
 use Rattle.melt_model.specs.declared.operations.Op.TheVariants as op
@@ -86,7 +86,7 @@ pub record Replies (disk : OnDisk) (v w : View) (t : ℕ) (o : Op) (reply : Repl
   pub no_pause : MustPause (length v.forward) (register_in v.held t) v.stop o (stage_of v t) → ⊥
   pub answers : Standing true disk v → Answers t v.log (values_of v t) o reply w.log (values_of w t)
   pub registers : (r : ℕ) → (Sets o r → ⊥) → register_in w.held t r ≡ register_in v.held t r
-  pub room : Standing true disk v → disk.homes ≡ [] → HasRoomFor v o
+  pub room : Standing true disk v → HasRoomFor disk.end v o
   pub clean : LeavesClean disk v w t o (Answered reply)
 
 answered : (disk : OnDisk) (v w : View) (t : ℕ) (o : Op) (reply : Reply) (act : Option Act) → Asks disk v t o
@@ -165,7 +165,7 @@ pub record Over (disk : OnDisk) (v w : View) (t : ℕ) (o : Op) (stage : Stage) 
   pub local : Local disk v w.held t
   pub answers : Standing true disk v → Answers t v.log (values_of v t) o reply w.log (values_of w t)
   pub registers : (r : ℕ) → (Sets o r → ⊥) → register_in w.held t r ≡ register_in v.held t r
-  pub room : HasRoomFor v o
+  pub room : HasRoomFor disk.end v o
   pub clean : LeavesClean disk v w t o (Answered reply)
 
 pub over_advances : (disk : OnDisk) (v w : View) (t : ℕ) (o : Op) (stage : Stage) (act : Option Act) (reply : Reply)
@@ -187,7 +187,7 @@ over_advances disk v w t o stage act reply asks is =
       no_pause = λ pause. ends.no_pause (subst (MustPause (length v.forward) (register_in v.held t) v.stop o) ends.at pause);
       answers = is.answers;
       registers = is.registers;
-      room = λ told none. is.room;
+      room = λ told. is.room;
       clean = is.clean;
     })
 
@@ -251,7 +251,7 @@ copy_advances disk v t dst src address asks first is =
           (value_held v.names (registers_in v.held t) src ∙ ap (held_value v.names) (sym is)) refl
           (values_set v t dst address asks.thread) refl;
       registers = λ r other. register_other v t dst address r asks.thread other;
-      room = λ told none. tt;
+      room = λ told. tt;
       clean = λ place d loads there tagged. no_load (register_in v.held t) (op.Copy dst src) place d tt loads;
     })
 
@@ -266,7 +266,7 @@ drop_advances disk v t r asks first =
       answers = λ told. drop_answers t v.log (values_of v t) r reply.Done v.log (values_of w t) refl
           (values_set v t r 0 asks.thread) refl;
       registers = λ k other. register_other v t r 0 k asks.thread other;
-      room = λ told none. tt;
+      room = λ told. tt;
       clean = λ place d loads there tagged. no_load (register_in v.held t) (op.Drop r) place d tt loads;
     })
 
@@ -282,7 +282,7 @@ differ_advances disk v t a b asks first differ =
           (values_of v t) ((told.holds.tells refl).one_address) (s.registers t a)
           (s.registers t b) differ refl refl refl;
       registers = λ k other. refl;
-      room = λ told none. tt;
+      room = λ told. tt;
       clean = λ place d loads there tagged. no_load (register_in v.held t) (op.Same a b) place d tt loads;
     })
 
@@ -302,9 +302,10 @@ holds_nil names regs (op.GLoad dst g) r access is none = absurd (cc)
 holds_nil names regs (op.GStore g src) r access is none = absurd (cc)
 holds_nil names regs o r access is none = absurd (cc)
 
-pub use_room : (v : View) (o : Op) (r : ℕ) (access : Access) → task_of o ≡ Some (Use r access) → HasRoomFor v o
-use_room v (op.New dst refs nums) r access is = absurd (cc)
-use_room v o r access is = tt
+pub use_room : (end : ℕ) (v : View) (o : Op) (r : ℕ) (access : Access) → task_of o ≡ Some (Use r access)
+    → HasRoomFor end v o
+use_room end v (op.New dst refs nums) r access is = absurd (cc)
+use_room end v o r access is = tt
 
 -- where the register is empty, no reference is loaded
 nil_clean : (disk : OnDisk) (v : View) (t : ℕ) (o : Op) (r : ℕ) (access : Access) → Standing false disk v
@@ -340,6 +341,6 @@ nil_advances disk v t o r access asks first task none =
       answers = λ told. nil_answers t v.log (values_of v t) o reply.Nil v.log (values_of v t)
           (holds_nil v.names (registers_in v.held t) o r access task none) refl refl refl;
       registers = λ k other. refl;
-      room = λ told none. use_room v o r access task;
+      room = λ told. use_room disk.end v o r access task;
       clean = nil_clean disk v t o r access s task none;
     })

@@ -7,11 +7,11 @@ use Rattle.std.proofs.lemmas.List.Sums.{sum-map, sum_by-set}
 use Rattle.std.specs.Prelude.{◌↔◌, true, false, [], Option, None, Some}
 use Rattle.std.specs.Option.{option_map_or}
 use Rattle.melt_model.specs.History.{Shape as ModelShape, made as makes}
-use Rattle.melt_model.specs.Alive.{Alive, words_of, CostsSum}
+use Rattle.melt_model.specs.Alive.{words_of, CostsSum}
 use Rattle.melt_model.specs.declared.history.Act.TheVariants.{Make}
 use Rattle.melt_model.specs.declared.history.Entry.{Entry}
 use Rattle.melt_model.proofs.Histories.{shape-append}
-use Rattle.melt_model.proofs.Sums.{CostsSum-same, CostsSum-cost, CostsSum-more, CostsSum-part}
+use Rattle.melt_model.proofs.Sums.{CostsSum-same, CostsSum-cost, CostsSum-more}
 use Rattle.melt_word.specs.Words.{cost_of}
 use Rattle.melt_word.specs.declared.header.Shape.{Shape}
 use Rattle.melt_scion.specs.Changes.{NameAppears}
@@ -25,11 +25,12 @@ use Rattle.melt_core.specs.declared.call.Stage.TheVariants.{Claimed}
 use Rattle.melt_scion.specs.Regions.{Owns, HasStored}
 use Rattle.melt_word.specs.Words.{IsShape}
 use Rattle.melt_core.specs.Known.{Known, region, region_of}
-use Rattle.melt_core.specs.Views.{View, Standing, Counts, InUse, value, maps, maps_of, state}
+use Rattle.melt_core.specs.Views.{View, Standing, Counts, InUse, maps, maps_of, state}
 use Rattle.melt_core.specs.Views.{call_of, rest_of, claimed_in, claimed}
 use Rattle.melt_core.specs.Advances.{HasRoom}
 use Rattle.melt_core.proofs.Values.{named_made}
-use Rattle.melt_core.proofs.Alive.{alive_sum, alive_in_use}
+use Rattle.melt_core.proofs.Alive.{alive_sum}
+use Rattle.melt_core.proofs.OnDiskCosts.{alive_within}
 
 -- what the regions of all calls take when one call is replaced
 claimed-set : (calls : List (Option Call)) (t : ℕ) (call : Option Call) → t < length calls
@@ -247,19 +248,18 @@ Counts_committed disk v w t address n shape after s within is =
       calls = is.calls;
     })
 
--- what was made had room beside all that is alive: its region and the objects in use lie in the heap
+-- what was made had room beside all that is alive: its region and the objects in use lie in the heap, the others on disk
 pub room_for : (disk : OnDisk) (v : View) (t address stored dst : ℕ) (c : Call) (shape : Shape) → Standing true disk v
-    → disk.homes ≡ []
     → t < length v.held
-    → call_of v t ≡ Some c → c.stage ≡ Claimed address shape stored dst → HasRoom v (2 + shape.refs + shape.nums)
-room_for disk v t address stored dst c shape s none within at stage =
+    → call_of v t ≡ Some c → c.stage ≡ Claimed address shape stored dst
+    → HasRoom disk.end v (2 + shape.refs + shape.nums)
+room_for disk v t address stored dst c shape s within at stage =
     let inside : t < length v.calls = let each : length v.calls ≡ length v.held = s.each in omega arith in
     let without : claimed (set v.calls t None) + claimed_in (call_of v t) ≡ claimed v.calls + 0 =
     claimed-set v.calls t None inside in
     let owned : claimed_in (call_of v t) ≡ cost_of shape = claimed_at v t address stored dst c shape at stage in
     let fits : (s.counts refl).in_use + claimed v.calls ≤ length v.space.list = (s.counts refl).within in
     let sum = alive_sum disk v s in
-    let part : sum.0 ≤ (s.counts refl).in_use =
-    CostsSum-part (words_of v.log) (Alive v.log (value v)) (InUse (maps v)) sum.0 (s.counts refl).in_use
-    (alive_in_use disk v s none) sum.1 (s.counts refl).adds_up in
+    let few : sum.0 + 1 ≤ (s.counts refl).in_use + disk.end =
+    alive_within disk v s (s.counts refl).in_use sum.0 (s.counts refl).adds_up sum.1 in
     record { alive = sum.0; adds_up = sum.1; fits = omega arith }

@@ -12,6 +12,7 @@ pub mod Keeping
 pub mod Disks
 pub mod Standing
 pub mod Alive
+pub mod OnDiskCosts
 pub mod Counting
 pub mod Plain
 pub mod Asked

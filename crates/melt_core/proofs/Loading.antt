@@ -119,10 +119,11 @@ sets_dst register o (Field object i) dst loads =
     subst (λ (p : Op). Sets p dst) (sym (load_is o loads.0 dst i loads.1)) refl
 sets_dst register o (Global g) dst loads = subst (λ (p : Op). Sets p dst) (sym (gload_is o dst g loads)) refl
 
-load_room : (v : View) (register : ℕ → ℕ) (o : Op) (place : Place) (dst : ℕ) → LoadsAt register o place dst
-    → HasRoomFor v o
-load_room v register o (Field object i) dst loads = subst (HasRoomFor v) (sym (load_is o loads.0 dst i loads.1)) tt
-load_room v register o (Global g) dst loads = subst (HasRoomFor v) (sym (gload_is o dst g loads)) tt
+load_room : (end : ℕ) (v : View) (register : ℕ → ℕ) (o : Op) (place : Place) (dst : ℕ) → LoadsAt register o place dst
+    → HasRoomFor end v o
+load_room end v register o (Field object i) dst loads =
+    subst (HasRoomFor end v) (sym (load_is o loads.0 dst i loads.1)) tt
+load_room end v register o (Global g) dst loads = subst (HasRoomFor end v) (sym (gload_is o dst g loads)) tt
 
 -- What a load shows that is answered, where words of the space or a global may have changed.
 record Reads (disk : OnDisk) (v m : View) (t : ℕ) (o : Op) (stage : Stage) (place : Place) (at : Slot) (dst address : ℕ)
@@ -157,7 +158,7 @@ read_advances disk v space globals t o stage place at dst address asks is =
       answers = λ told. read_answers disk v t o place at dst address asks.thread told is.finds is.is_slot;
       registers = λ r other. register_other v t dst address r asks.thread
           (λ same. other (subst (Sets o) (sym same) (sets_dst (register_in v.held t) o place dst is.finds.loads)));
-      room = load_room v (register_in v.held t) o place dst is.finds.loads;
+      room = load_room disk.end v (register_in v.held t) o place dst is.finds.loads;
       clean = λ other d loads there tagged. is.clean
           (subst (λ (p : Place). IsTagged (word_in (state disk m) p))
           (one_place (register_in v.held t) o other place d dst loads is.finds.loads)

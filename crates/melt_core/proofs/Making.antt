@@ -494,8 +494,8 @@ publish_advances disk {v} {space} {names} {t} {word} {o} {address} {stored} {dst
       registers = λ r other. register_other v t dst address r asks.thread
           (λ e. other (subst (λ (p : Op). Sets p r) (sym same) e));
       stop = refl;
-      room = λ told none. subst (HasRoomFor v) (sym same)
-          (room_for disk v t address stored dst before shape told none asks.thread call refl);
+      room = λ told. subst (HasRoomFor disk.end v) (sym same)
+          (room_for disk v t address stored dst before shape told asks.thread call refl);
     })
     (λ place d loads there tagged. no_load (register_in v.held t) o place d (subst LoadsNothing (sym task) tt) loads)
 

@@ -95,7 +95,7 @@ range_advances disk v t o r access shape asks at object lacks =
           (value_named v t r (register_in v.held t r) object.number refl object.named) lacks)
           (object_shape disk v (register_in v.held t r) object.number shape told object object.named) refl refl refl;
       registers = λ k other. refl;
-      room = use_room v o r access task;
+      room = use_room disk.end v o r access task;
       clean = range_clean v t o r access shape task object lacks;
     })
   where
@@ -145,7 +145,7 @@ get_advances disk v t o address j n number shape asks at named is =
           refl
           refl refl);
       registers = λ k other. refl;
-      room = use_room v o fits.0 (Get j) fits.1;
+      room = use_room disk.end v o fits.0 (Get j) fits.1;
       clean = λ place dst loads there tagged. no_load (register_in v.held t) o place dst
           (subst LoadsNothing (sym fits.1) tt) loads;
     })

@@ -54,7 +54,7 @@ record Writes (disk : OnDisk) (v w : View) (t : ℕ) (o : Op) (stage : Stage) (a
       (change_of (state disk v) (register_in v.held t) (rest_of v t) (Some stage))
   pub answers : Standing true disk v
       → Answers t v.log (values_of v t) o reply.Done (v.log ++ entry t act ∷ []) (values_of v t)
-  pub room : HasRoomFor v o
+  pub room : HasRoomFor disk.end v o
   pub loads_none : (place : Place) (dst : ℕ) → LoadsAt (register_in v.held t) o place dst → ⊥
 
 write_advances : (disk : OnDisk) (v : View) (space : SpaceWords) (globals : List ℕ) (t : ℕ) (o : Op) (stage : Stage)
@@ -129,7 +129,7 @@ store_advances disk v space globals t o (Field object i) at src address asks sto
           (object_shape disk v object slot.0 stores.0 told known slot.1) fits.3
           (value_held v.names (registers_in v.held t) src ∙ ap (held_value v.names) (sym is)) refl refl
           (ap (λ (q : Slot). v.log ++ entry t (Write q (held_value v.names address)) ∷ []) slot.2));
-      room = use_room v o fits.0 (Store i src) fits.1;
+      room = use_room disk.end v o fits.0 (Store i src) fits.1;
       loads_none = λ place dst loads. no_load (register_in v.held t) o place dst
           (subst LoadsNothing (sym fits.1) tt) loads;
     })
@@ -157,7 +157,7 @@ store_advances disk v space globals t o (Global g) at src address asks stores is
           (gstore_answers t v.log (values_of v t) g src (held_value v.names address) reply.Done _ _
           (value_held v.names (registers_in v.held t) src ∙ ap (held_value v.names) (sym is)) refl refl
           (ap (λ (q : Slot). v.log ++ entry t (Write q (held_value v.names address)) ∷ []) slot));
-      room = subst (HasRoomFor v) (sym same) tt;
+      room = subst (HasRoomFor disk.end v) (sym same) tt;
       loads_none = λ place dst loads. no_load (register_in v.held t) o place dst
           (subst LoadsNothing (sym fits.0) tt) loads;
     })
@@ -190,7 +190,7 @@ put_advances disk v space t o address j n number place shape asks at named is se
           (value_named v t fits.0 address n fits.2 named) (object_shape disk v address n shape told known named) fits.3
           refl
           refl refl);
-      room = use_room v o fits.0 (Put j number) fits.1;
+      room = use_room disk.end v o fits.0 (Put j number) fits.1;
       loads_none = λ place dst loads. no_load (register_in v.held t) o place dst
           (subst LoadsNothing (sym fits.1) tt) loads;
     })

@@ -1,5 +1,5 @@
 -- What one event does to a core.
-use Rattle.std.specs.Prelude.{◌≡◌, ◌≢◌, ◌⊎◌, ℕ, ◌+◌, ◌^◌, ◌<◌, ◌≤◌, Bool, true, false, List, [], length}
+use Rattle.std.specs.Prelude.{◌≡◌, ◌≢◌, ◌⊎◌, ℕ, ◌+◌, ◌^◌, ◌<◌, ◌≤◌, Bool, true, false, List, length}
 use Rattle.std.specs.Prelude.{Option, None, Some, IfSome, IsSome, slice_index}
 use Rattle.melt_model.specs.Alive.{Alive, words_of, CostsSum}
 use Rattle.melt_model.specs.declared.history.Act.{Act}
@@ -101,16 +101,17 @@ pub record Goes (disk : OnDisk) (v w : View) (t : ℕ) (o : Op) : Type 0 where
   pub own : KeepsOwn v w t
   pub stop : w.stop ≡ v.stop
 
--- so many words more have room beside those of the objects that registers and globals reach
-pub record HasRoom (v : View) (need : ℕ) : Type 0 where
+-- So many words more have room, in the heap and before this end of the disk, beside those of the objects that registers
+-- and globals reach. The first word on disk is 1.
+pub record HasRoom (end : ℕ) (v : View) (need : ℕ) : Type 0 where
   pub alive : ℕ
   pub adds_up : CostsSum (words_of v.log) (Alive v.log (value v)) alive
-  pub fits : alive + need ≤ length v.space.list
+  pub fits : alive + need + 1 ≤ length v.space.list + end
 
 -- the object that the operation makes, if it makes one, has room
-abbrev pub HasRoomFor : View → Op → Type 0
-HasRoomFor v (op.New dst refs nums) = HasRoom v (2 + refs + nums)
-HasRoomFor v o = Unit {0}
+abbrev pub HasRoomFor : ℕ → View → Op → Type 0
+HasRoomFor end v (op.New dst refs nums) = HasRoom end v (2 + refs + nums)
+HasRoomFor end v o = Unit {0}
 
 -- the operation sets the register
 abbrev pub Sets : Op → ℕ → Type 0
@@ -123,7 +124,7 @@ Sets o r = ⊥
 
 -- The call of the thread is answered, in an event that neither goes on nor has to pause. Reply, history and registers
 -- are those of the operation, where the words stand for the history; otherwise there is one entry more at most. What
--- the operation made had room, where no object is on disk.
+-- the operation made had room, in the heap and on disk.
 pub record IsAnswered (disk : OnDisk) (v w : View) (t : ℕ) (o : Op) (reply : Reply) : Type 0 where
   pub last : (next : Stage) → Next (maps v) (state disk v) (register_in v.held t) v.stop o (stage_of v t) next → ⊥
   pub no_pause : MustPause (length v.forward) (register_in v.held t) v.stop o (stage_of v t) → ⊥
@@ -132,7 +133,7 @@ pub record IsAnswered (disk : OnDisk) (v w : View) (t : ℕ) (o : Op) (reply : R
   pub history : (act : Option Act) × (w.log ≡ with_entry t v.log act)
   pub registers : (r : ℕ) → (Sets o r → ⊥) → register_in w.held t r ≡ register_in v.held t r
   pub stop : w.stop ≡ v.stop
-  pub room : Standing true disk v → disk.homes ≡ [] → HasRoomFor v o
+  pub room : Standing true disk v → HasRoomFor disk.end v o
 
 -- the call of the thread is refused, as the stop word is set; nothing changes
 pub record IsAsked (v w : View) (t : ℕ) (o : Op) : Type 0 where

@@ -46,13 +46,14 @@ waits_step v w t s mode stands is before =
 
 -- the same words have room, where history and registers are the same
 room_same : (v u : View) (need : ℕ) → u.log ≡ v.log → ((x : ℕ) → values_of u x ≡ values_of v x)
-    → length u.space.list ≡ length v.space.list → HasRoom u need → HasRoom v need
+    → length u.space.list ≡ length v.space.list → HasRoom no_homes_on.end u need
+    → HasRoom no_homes_on.end v need
 room_same v u need log values words room =
     let same : (t r : ℕ) → value v t r ≡ value u t r =
     λ t r. ap (λ (vs : List Value). value_in vs r) (sym (values t)) in
     let there : CostsSum (words_of v.log) (Alive v.log (value u)) room.alive =
     subst (λ (h : List Entry). CostsSum (words_of h) (Alive h (value u)) room.alive) log room.adds_up in
-    let fits : room.alive + need ≤ length u.space.list = room.fits in
+    let fits : room.alive + need + 1 ≤ length u.space.list + 1 = room.fits in
     record {
       alive = room.alive;
       adds_up =
@@ -66,7 +67,8 @@ room_same v u need log values words room =
 
 -- so has the object that an operation makes
 pub room_for_same : (v u : View) (o : Op) → u.log ≡ v.log → ((x : ℕ) → values_of u x ≡ values_of v x)
-    → length u.space.list ≡ length v.space.list → HasRoomFor u o → HasRoomFor v o
+    → length u.space.list ≡ length v.space.list → HasRoomFor no_homes_on.end u o
+    → HasRoomFor no_homes_on.end v o
 room_for_same v u (op.New dst refs nums) log values words room = room_same v u (2 + refs + nums) log values words room
 room_for_same v u o log values words room = tt
 
@@ -108,7 +110,7 @@ told_state v u w x t o reply s after next no_collect log values words stood answ
     let answers : Answers t v.log (values_of v t) o reply w.log (values_of w t) =
     subst (λ (h : List Entry). Answers t h (values_of v t) o reply w.log (values_of w t)) log
     (subst (λ (vs : List Value). Answers t u.log vs o reply w.log (values_of w t)) (values t) here) in
-    let room : HasRoomFor v o = room_for_same v u o log values words (answered.room stood refl) in
+    let room : HasRoomFor no_homes_on.end v o = room_for_same v u o log values words (answered.room stood) in
     elim (drop_cases w x t after.mode drops) [
       | inl ended ↦
           let dropped : HasDropped w x t = ended.1 in

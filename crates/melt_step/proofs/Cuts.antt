@@ -22,6 +22,7 @@ use Rattle.melt_model.proofs.Sums.{CostsSum-same}
 use Rattle.melt_model.proofs.Transcripts.{Transcript_so_far, registers_so_far, one_reply_each}
 use Rattle.melt_trace.specs.Script.{Script, operations}
 use Rattle.melt_scion.specs.declared.registers.Registers.{Registers}
+use Rattle.melt_scion.specs.Heaps.{no_homes_on}
 use Rattle.melt_core.specs.Views.{View, value, values_of, held_values}
 use Rattle.melt_core.specs.Advances.{HasRoom}
 use Rattle.melt_core.proofs.Values.{get_or_replicate}
@@ -376,14 +377,15 @@ words_same h a b held_words same reach =
 
 -- now: the next operation of a thread has so many words beside all that is alive
 pub had_room : (script : Script) (config : Config) (v : View) (states : List ThreadState) (t need : ℕ) (s : ThreadState)
-    → TableStands script config v states → slice_get states t ≡ Some s → (IsEnded s.mode → ⊥) → HasRoom v need
+    → TableStands script config v states → slice_get states t ≡ Some s → (IsEnded s.mode → ⊥)
+    → HasRoom no_homes_on.end v need
     → HadNow script v.log states config t (length (replies_of states t)) need
 had_room script config v states t need s table at goes room =
     let cut : Cut = now v.log states in
     let by_history : WordsBy script cut room.alive v.log =
     words_same v.log (value v) (registers_by script cut v.log) room.alive
     (λ u r. sym (registers_now script config v states u r table)) room.adds_up in
-    let fits : room.alive + need ≤ length v.space.list = room.fits in
+    let fits : room.alive + need + 1 ≤ length v.space.list + 1 = room.fits in
     let had : HadRoom script v.log (replies_of states) config t (length (replies_of states t)) need = record {
       cut = cut;
       is_cut = IsCutAt_now script config v states t s table at goes;

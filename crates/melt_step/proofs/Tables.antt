@@ -446,7 +446,8 @@ told_made script config v w states t k s after table at runs told below last dst
     let op_is : told.op ≡ New dst refs nums =
     same_Some told.op (New dst refs nums)
     (sym here ∙ (ap (λ (j : ℕ). slice_get (operations script t) j) (sym is_last) ∙ next)) in
-    let room : HasRoom v (2 + refs + nums) = subst (HasRoomFor v) op_is told.room in
+    let room : HasRoom no_homes_on.end v (2 + refs + nums) =
+    subst (HasRoomFor no_homes_on.end v) op_is told.room in
     subst (λ (j : ℕ). HadNow script v.log states config t j (2 + refs + nums))
     (ap length (replies_here states t s at) ∙ sym is_last)
     (had_room script config v states t (2 + refs + nums) s table at runs room)

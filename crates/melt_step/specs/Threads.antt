@@ -237,7 +237,7 @@ pub record ThreadTold (v w : View) (t : ℕ) (s after : ThreadState) : Type 0 wh
   pub in_registers : IsEnded after.mode ⊎ (registers ≡ values_of w t)
   pub dropped : IsEnded after.mode → values_of w t ≡ replicate 16 Nil
   pub call : call_of w t ≡ None
-  pub room : HasRoomFor v op
+  pub room : HasRoomFor no_homes_on.end v op
   pub not_due : owes_silent s.mode ≡ false
   pub no_collect : MayGo s.mode → op ≢ Collect
 
