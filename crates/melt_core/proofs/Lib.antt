@@ -38,3 +38,6 @@ pub mod ReadsLeft
 pub mod Recorded
 pub mod NoHomes
 pub mod Entered
+pub mod StaleBitsPassing
+pub mod StaleBitsTying
+pub mod StaleBitsLooks
