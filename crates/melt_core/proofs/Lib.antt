@@ -41,3 +41,5 @@ pub mod Entered
 pub mod StaleBitsPassing
 pub mod StaleBitsTying
 pub mod StaleBitsLooks
+pub mod StaleBitsHeaders
+pub mod StaleBitsStages
