@@ -43,3 +43,5 @@ pub mod StaleBitsTying
 pub mod StaleBitsLooks
 pub mod StaleBitsHeaders
 pub mod StaleBitsStages
+pub mod StaleBitsAnswers
+pub mod StaleBitsEvents

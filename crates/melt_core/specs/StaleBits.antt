@@ -23,7 +23,7 @@ use Rattle.melt_core.specs.declared.call.Stage.TheVariants.{Polled, Headed, Look
 use Rattle.melt_core.specs.declared.call.Stage.TheVariants.{Searching, Missed, HeadRead, BodyRead, Copying, Copied}
 use Rattle.melt_core.specs.declared.call.Stage.TheVariants.{Retrying, LackingCopy}
 use Rattle.melt_core.specs.Known.{SlotAt}
-use Rattle.melt_core.specs.Advances.{AdvancesWhere, Sets, TellsDisk}
+use Rattle.melt_core.specs.Advances.{AdvancesWhere, MayMove, TellsDisk}
 use Rattle.melt_core.specs.Epochs.{HasDropped, HasFinished}
 use Rattle.melt_core.specs.Views.{View, Standing, maps, state, stage_of, registers_in, InUse, IsQuiet}
 
@@ -146,9 +146,9 @@ pub record BitsTold (u s : Sight) : Type 0 where
   pub stale : (n : ℕ) → HasBit s n → HasBit u n
   pub used : (n : ℕ) → InUse s.maps n → Used s.log (length u.log) n → HasNoBit s n
 
--- the thread has the register that the operation sets
-abbrev pub HasRegister : View → ℕ → Op → Type 0
-HasRegister v t o = (r : ℕ) → Sets o r → r < length (registers_in v.held t)
+-- the thread has all its registers
+abbrev pub HasRegisters : View → ℕ → Type 0
+HasRegisters v t = length (registers_in v.held t) ≡ 16
 
 abbrev pub TiedTo : View → View → Type 0
 TiedTo u v = Tied (sight u) (sight v)
@@ -157,7 +157,7 @@ TiedTo u v = Tied (sight u) (sight v)
 pub record StaleBitLaws (u : View) : Type 0 where
   pub begins : IsQuiet u → TiedTo u u
   pub advances : (image : Option (List ℕ)) (disk : OnDisk) (v w : View) (t : ℕ) (o : Op) (result : StepResult) →
-      Standing true disk v → HasRegister v t o → TellsDisk image disk →
+      Standing true disk v → MayMove v t o → HasRegisters v t → TellsDisk image disk →
       AdvancesWhere (TellsDisk image disk) disk v w t o result → TiedTo u v → TiedTo u w
   pub asked : (v : View) → TiedTo u v → TiedTo u (record v { stop = true })
   pub dropped : (v w : View) (t : ℕ) → HasDropped v w t → TiedTo u v → TiedTo u w
