@@ -1,12 +1,12 @@
 -- What the entry of an answered call says of the objects that it gives and at which the call looked.
-use Rattle.std.proofs.Common.{◌≡◌, ◌≢◌, ◌⊎◌, ℕ, ◌+◌, ◌<◌, ◌≤◌, inl, inr, List, [], ◌∷◌, ◌++◌}
-use Rattle.std.proofs.Common.{length, take, refl, sym, ◌∙◌, ap, subst, arith}
+use Rattle.std.proofs.Common.{◌≡◌, ℕ, ◌<◌, ◌≤◌, inl, inr, List, [], ◌∷◌, ◌++◌}
+use Rattle.std.proofs.Common.{length, refl, sym, ◌∙◌, ap, subst, arith}
 use Rattle.std.proofs.Math.ListN.{length-map}
 use Rattle.std.proofs.lemmas.Bool.{cond_both}
 use Rattle.std.proofs.lemmas.List.{get_or-set_same, take-append-le}
 use Rattle.std.proofs.lemmas.Option.{same_Some, slice_get_within}
 use Rattle.std.proofs.Math.Seq.{take-length}
-use Rattle.std.specs.Prelude.{true, false, nat_lt, slice_get, slice_set, Option, None, Some, unwrap_or}
+use Rattle.std.specs.Prelude.{true, nat_lt, slice_set, Option, None, Some, unwrap_or}
 use Rattle.std.specs.Option.{option_map, option_map_or}
 use Rattle.melt_model.specs.History.{Shape, shape, last, given}
 use Rattle.melt_model.specs.Thread.{Deed, does, unchanged, on_part, found as reply_found, number, value_in}
@@ -15,7 +15,7 @@ use Rattle.melt_model.specs.declared.history.Value.TheVariants.{Nil, Ref, Num}
 use Rattle.melt_model.specs.declared.history.Slot.{Slot}
 use Rattle.melt_model.specs.declared.history.Slot.TheVariants as slot
 use Rattle.melt_model.specs.declared.history.Act.{Act}
-use Rattle.melt_model.specs.declared.history.Act.TheVariants.{Make, Read, Write}
+use Rattle.melt_model.specs.declared.history.Act.TheVariants.{Read, Write}
 use Rattle.melt_model.specs.declared.history.Entry.{Entry}
 use Rattle.melt_model.specs.declared.operations.Op.{Op}
 use Rattle.melt_model.specs.declared.operations.Op.TheVariants as op
@@ -191,7 +191,7 @@ loads_read disk v t o (Global g) dst at x s loads there is =
 
 -- the object that was watched is passed as the thread reads the slot
 read_passes : (v : View) (q t : ℕ) (look : Look) (x : Value) → (w : Watched q (sight v) t look)
-     → Passed (v.log ++ entry t (Read w.slot x) ∷ []) q w.number
+    → Passed (v.log ++ entry t (Read w.slot x) ∷ []) q w.number
 read_passes v q t look x w =
     let e : Entry = entry t (Read w.slot x) in
     inr (record {

@@ -13,10 +13,8 @@ use Rattle.melt_model.specs.declared.history.Entry.{Entry}
 use Rattle.melt_model.specs.declared.operations.Op.{Op}
 use Rattle.melt_model.specs.declared.operations.Op.TheVariants as op
 use Rattle.melt_model.specs.declared.operations.Reply.{Reply}
-use Rattle.melt_word.specs.Words.{cost_of, ref_word}
+use Rattle.melt_word.specs.Words.{ref_word}
 use Rattle.melt_word.specs.declared.header.Shape.{Shape}
-use Rattle.melt_word.specs.declared.reference.Ref.{Ref}
-use Rattle.melt_scion.specs.State.{State}
 use Rattle.melt_scion.specs.Changes.{SameWords}
 use Rattle.melt_scion.specs.Heaps.{OnDisk, register_in}
 use Rattle.melt_core.specs.declared.answer.Pause.TheVariants.{Asked, Space, Forward}
@@ -25,21 +23,19 @@ use Rattle.melt_core.specs.declared.answer.Refusal.TheVariants as refusal
 use Rattle.melt_core.specs.declared.answer.StepResult.{StepResult}
 use Rattle.melt_core.specs.declared.answer.StepResult.TheVariants.{Going, Answered, Refused}
 use Rattle.melt_core.specs.declared.call.Activation.{Activation}
-use Rattle.melt_core.specs.declared.call.Call.{Call}
 use Rattle.melt_core.specs.declared.call.Place.{Place}
 use Rattle.melt_core.specs.declared.call.Place.TheVariants.{Field, Global}
 use Rattle.melt_core.specs.declared.call.Stage.{Stage}
 use Rattle.melt_core.specs.declared.call.Stage.TheVariants.{Looked, Cleared, Claimed, Copied}
-use Rattle.melt_core.specs.declared.call.Task.TheVariants.{Make as Making}
 use Rattle.melt_core.specs.Answering.{Answers, entry, with_entry}
-use Rattle.melt_core.specs.Known.{HasLooked, Known, word_in}
+use Rattle.melt_core.specs.Known.{Known, word_in}
 use Rattle.melt_core.specs.Stages.{Applies, Next, Nothing, change_of, cleared_by, next_forward, reached}
 use Rattle.melt_core.specs.Advances.{Asks, AdvancesOver, AdvancesWhere, Goes, IsAnswered, MayMove, Refuses, TellsDisk}
-use Rattle.melt_core.specs.Views.{View, Standing, maps, state, call_of, stage_of, stage_in, registers_in, rest_of}
-use Rattle.melt_core.specs.Views.{values_of, InUse}
-use Rattle.melt_core.specs.StaleBits.{Passed, HasBit, HasNoBit, HasRegisters, Look, look_of, pending, Pending, sight}
+use Rattle.melt_core.specs.Views.{View, Standing, maps, state, stage_of, stage_in, rest_of}
+use Rattle.melt_core.specs.Views.{values_of}
+use Rattle.melt_core.specs.StaleBits.{Passed, HasNoBit, HasRegisters, Look, look_of, pending, Pending, sight}
 use Rattle.melt_core.specs.StaleBits.{TiedTo, Watched}
-use Rattle.melt_core.proofs.Asked.{asks_over, call_at, fits_at, known_so}
+use Rattle.melt_core.proofs.Asked.{asks_over, fits_at, known_so}
 use Rattle.melt_core.proofs.Disks.{stands_untold}
 use Rattle.melt_core.proofs.NoHomes.{as_told_by}
 use Rattle.melt_core.proofs.Tasks.{new_is}
@@ -91,11 +87,11 @@ module _ (disk : OnDisk) (u v w : View) (t : ℕ) (o : Op) (result : StepResult)
       | inr at ↦ inr (out.appears bit.address n at bit.named).1
       | inl old ↦ elim (eqb_tells bit.address (cleared_by (stage_of v t))) [
         | inl here ↦ inr (inr (record {
-            thread = t;
-            address = bit.address;
-            is = out.clears bit.address (not_null disk v bit.address n s old) (sym here.1);
-            named = bit.named;
-          }))
+          thread = t;
+          address = bit.address;
+          is = out.clears bit.address (not_null disk v bit.address n s old) (sym here.1);
+          named = bit.named;
+        }))
         | inr other ↦ inl (bit_before disk v w (cleared_by (stage_of v t)) s is.evolves bit.address n bit.shape false old
             other.1 bit.small bit.word)
       ]
@@ -167,13 +163,15 @@ module _ (disk : OnDisk) (u v w : View) (t : ℕ) (o : Op) (result : StepResult)
       appears = λ a n at named.
           let waits : pending (Some goes.stage) ≡ Some a =
           goes_appears (maps v) (state disk v) (register_in v.held t) v.stop o (stage_of v t) goes.stage a goes.next
-          at in
-          (goes_fresh a n waits named, inr (record {
-            thread = t;
-            address = a;
-            is = ap pending at_next ∙ waits;
-            named = named;
-          }));
+          at in (
+            goes_fresh a n waits named,
+            inr (record {
+              thread = t;
+              address = a;
+              is = ap pending at_next ∙ waits;
+              named = named;
+            }),
+          );
       clears = λ a some clears. ap pending at_next
           ∙ goes_clears (maps v) (state disk v) (register_in v.held t) v.stop o (stage_of v t) goes.stage a goes.next
           some clears;
@@ -237,8 +235,7 @@ module _ (disk : OnDisk) (u v w : View) (t : ℕ) (o : Op) (result : StepResult)
         answers.history ∙ ap (with_entry t v.log) makes in
         let used : Passed w.log (length u.log) (made v.log) =
         subst (λ (h : List Entry). Passed h (length u.log) (made v.log)) (sym log)
-        (inl (used_push v.log (entry t (Make shape.refs shape.nums)) (length u.log) (made v.log) tied.since refl)) in
-        (
+        (inl (used_push v.log (entry t (Make shape.refs shape.nums)) (length u.log) (made v.log) tied.since refl)) in (
           subst (HasNoBit (sight w)) number held.fresh,
           inl (subst (Passed w.log (length u.log)) number used),
         )

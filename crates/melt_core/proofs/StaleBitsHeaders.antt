@@ -1,5 +1,5 @@
 -- The headers of objects before an event and after it.
-use Rattle.std.proofs.Common.{◌≡◌, ◌≢◌, ◌⊎◌, ℕ, ◌+◌, ◌<◌, ◌≤◌, inl, inr, refl, sym, ◌∙◌, ap, subst, arith}
+use Rattle.std.proofs.Common.{◌≡◌, ◌≢◌, ◌⊎◌, ℕ, ◌≤◌, inl, inr, refl, sym, ◌∙◌, ap, subst, arith}
 use Rattle.std.proofs.lemmas.Bool.Decides.{eqb_tells}
 use Rattle.std.specs.Prelude.{Bool, true, false, Some}
 use Rattle.melt_word.specs.Words.{IsShape, header_word}
@@ -40,7 +40,6 @@ not_null disk v a n s named = λ null.
 
 module _ (disk : OnDisk) (v w : View) (cleared : ℕ) (s : Standing true disk v)
     (evolves : Evolves (maps v) (maps w) (state disk v) (state disk w) cleared) where
-
   -- an object without the bit stays without
   pub fresh_stays : (n : ℕ) → HasNoBit (sight v) n → HasNoBit (sight w) n
   fresh_stays n bit =

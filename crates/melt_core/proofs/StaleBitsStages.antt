@@ -1,5 +1,5 @@
 -- What the stage of a call says of the object that its next event brings into use, clears or reads.
-use Rattle.std.proofs.Common.{◌≡◌, ◌≢◌, ◌⊎◌, ℕ, ◌+◌, ◌*◌, ◌<◌, inl, inr, List, refl, sym, ◌∙◌, ap, subst, arith}
+use Rattle.std.proofs.Common.{◌≡◌, ◌≢◌, ◌⊎◌, ℕ, ◌+◌, ◌*◌, ◌<◌, inl, inr, List, sym, ◌∙◌, ap, subst, arith}
 use Rattle.std.proofs.lemmas.Bool.Decides.{eqb_tells}
 use Rattle.std.proofs.lemmas.Option.{same_Some}
 use Rattle.std.specs.Prelude.{Bool, true, false, ◌==◌, if◌then◌else◌, Option, None, Some}
@@ -19,7 +19,7 @@ use Rattle.melt_core.specs.declared.call.Stage.TheVariants.{Retrying, LackingCop
 use Rattle.melt_word.specs.declared.reference.Ref.{Ref}
 use Rattle.melt_core.specs.Known.{Known, HasLooked}
 use Rattle.melt_core.specs.Stages.{Change, Nothing, Word, SetGlobal, Free, Clear, Untag, Publish, Commit}
-use Rattle.melt_core.specs.Stages.{Applies, Next, change_of, cleared_by, next_forward, reached, Lacks, SearchesOn, ReadsAt}
+use Rattle.melt_core.specs.Stages.{Applies, Next, change_of, cleared_by, next_forward, Lacks, SearchesOn, ReadsAt}
 use Rattle.melt_core.specs.StaleBits.{Look, home_look, look_of, pending}
 
 -- an object comes into use at the address by the change
@@ -62,8 +62,11 @@ module _ (s : State) (register : ℕ → ℕ) (rest : List ℕ) where
       → Appears s (change_of s register rest (Some (Claimed address shape stored dst))) a
       → AppearsAt s (Some (Claimed address shape stored dst)) a
   claimed_appears address stored dst a shape is = elim (eqb_tells (stored + 1) (cost_of shape)) [
-    | inl all ↦ (all.1, subst (λ (b : Bool). Appears s (if b then Publish address shape
-        else Word (address + 1 + stored) 0) a) all.0 is)
+    | inl all ↦ (
+      all.1,
+      subst (λ (b : Bool). Appears s (if b then Publish address shape
+          else Word (address + 1 + stored) 0) a) all.0 is,
+    )
     | inr more ↦ absurd (subst (λ (b : Bool). Appears s (if b then Publish address shape
         else Word (address + 1 + stored) 0) a) more.0 is)
   ]

@@ -1,5 +1,5 @@
 -- What an event owes to the stale bit, and that it stays tied to the history by it.
-use Rattle.std.proofs.Common.{◌≡◌, ◌≢◌, ◌⊎◌, ℕ, ◌+◌, ◌<◌, ◌≤◌, inl, inr, List, [], ◌∷◌, ◌++◌}
+use Rattle.std.proofs.Common.{◌≡◌, ◌≢◌, ◌⊎◌, ℕ, ◌<◌, ◌≤◌, inl, inr, List, [], ◌∷◌}
 use Rattle.std.proofs.Common.{length, take, refl, sym, ◌∙◌, ap, subst, arith, length-append}
 use Rattle.std.proofs.lemmas.Bool.Decides.{eqb_tells}
 use Rattle.std.proofs.lemmas.List.{take-append-le}
@@ -22,7 +22,7 @@ use Rattle.melt_core.specs.declared.call.Place.TheVariants.{Field, Global}
 use Rattle.melt_core.specs.Answering.{entry, with_entry}
 use Rattle.melt_core.specs.Known.{SlotAt}
 use Rattle.melt_core.specs.Views.{InUse}
-use Rattle.melt_core.specs.StaleBits.{Used, Passed, Sight, BitIs, HasBit, HasNoBit, Look, look_of, pending, Pending}
+use Rattle.melt_core.specs.StaleBits.{Used, Passed, Sight, HasBit, HasNoBit, Look, look_of, pending, Pending}
 use Rattle.melt_core.specs.StaleBits.{Watched, Tied, BitsTold}
 use Rattle.melt_core.proofs.StaleBitsPassing.{passed_grows, used_last, gives_within}
 
@@ -157,11 +157,11 @@ module _ (t : ℕ) (act : Option Act) (u s w : Sight) (touches : Touches (length
   pending_later n is = elim (eqb_tells is.thread t) [
     | inl same ↦ inl (touches.exchanges is.address n (ap (λ (x : ℕ). pending (s.stage x)) (sym same.1) ∙ is.is) is.named)
     | inr other ↦ inr (record {
-        thread = is.thread;
-        address = is.address;
-        is = ap pending (touches.others is.thread other.1) ∙ is.is;
-        named = touches.names is.address n is.named;
-      })
+      thread = is.thread;
+      address = is.address;
+      is = ap pending (touches.others is.thread other.1) ∙ is.is;
+      named = touches.names is.address n is.named;
+    })
   ]
 
   cleared_later : (n : ℕ) → HasNoBit w n → HasNoBit u n ⊎ (Passed w.log (length u.log) n ⊎ Pending w n)

@@ -25,7 +25,7 @@ use Rattle.melt_core.specs.declared.call.Stage.TheVariants.{Retrying, LackingCop
 use Rattle.melt_core.specs.Known.{SlotAt}
 use Rattle.melt_core.specs.Advances.{AdvancesWhere, MayMove, TellsDisk}
 use Rattle.melt_core.specs.Epochs.{HasDropped, HasFinished}
-use Rattle.melt_core.specs.Views.{View, Standing, maps, state, stage_of, registers_in, InUse, IsQuiet}
+use Rattle.melt_core.specs.Views.{View, Standing, maps, stage_of, registers_in, InUse, IsQuiet}
 
 -- an entry from place q on gives the object
 pub record Used (h : List Entry) (q n : ℕ) : Type 0 where

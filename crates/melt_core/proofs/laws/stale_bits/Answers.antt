@@ -1,14 +1,13 @@
-use Rattle.std.proofs.Common.{◌≡◌, ℕ, zero, suc, refl, sym, ◌∙◌, ap, subst, List}
+use Rattle.std.proofs.Common.{◌≡◌, ℕ, zero, suc, refl, sym, ap, subst, List}
 use Rattle.std.proofs.Math.Path.{fun_ext}
-use Rattle.std.specs.Prelude.{Option, true, slice_index, slice_set}
+use Rattle.std.specs.Prelude.{Option, slice_index, slice_set}
 use Rattle.melt_model.specs.declared.history.Entry.{Entry}
 use Rattle.melt_space.specs.Space.{SpaceWords, word_at}
 use Rattle.melt_scion.specs.declared.heap.Names as heap
-use Rattle.melt_scion.specs.Heaps.{OnDisk}
 use Rattle.melt_core.specs.declared.call.Call.{Call}
 use Rattle.melt_core.specs.Epochs.{HasDropped, HasFinished, no_registers}
-use Rattle.melt_core.specs.Views.{View, Standing, call_in, maps_of, stage_in}
-use Rattle.melt_core.specs.StaleBits.{Sight, StaleBitLaws, Tied, TiedTo, sight}
+use Rattle.melt_core.specs.Views.{View, call_in, maps_of, stage_in}
+use Rattle.melt_core.specs.StaleBits.{Tied, TiedTo, sight}
 use Rattle.melt_core.proofs.StaleBitsTying.{tied_first, tied_tells}
 use Rattle.melt_core.proofs.StaleBitsEvents.{advances_tied}
 use Rattle.melt_core.proofs.laws.stale_bits.Goals as goal
