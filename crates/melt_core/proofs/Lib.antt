@@ -39,3 +39,10 @@ pub mod ReadsLeft
 pub mod Recorded
 pub mod NoHomes
 pub mod Entered
+pub mod StaleBitsPassing
+pub mod StaleBitsTying
+pub mod StaleBitsLooks
+pub mod StaleBitsHeaders
+pub mod StaleBitsStages
+pub mod StaleBitsAnswers
+pub mod StaleBitsEvents

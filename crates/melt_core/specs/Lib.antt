@@ -8,3 +8,4 @@ pub mod Advances
 pub mod Epochs
 pub mod Lending
 pub mod Shared
+pub mod StaleBits

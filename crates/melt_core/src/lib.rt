@@ -16,7 +16,7 @@ mod record;
 mod write;
 
 pub use answer::{Pause, Refusal, StepResult};
-pub use laws::shared_words;
+pub use laws::{shared_words, stale_bits};
 pub use machine::{Core, Rest};
 
 #[cfg(test)]
