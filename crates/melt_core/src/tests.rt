@@ -11,12 +11,14 @@ use std::alloc::Global;
 use std::process::Abort;
 use std::test::Fail;
 
-/// Reads zeros, and does not tell of a disk.
+/// The reader of a disk to which nothing was ever written.
 #[derive(Drop)]
 struct NoDisk;
 
 impl RecordReader for NoDisk {
-    ghost image = { λ _. None };
+    ghost use Rattle.std.specs.Prelude.{Some, []};
+
+    ghost image = { λ _. Some [] };
 
     ghost faults = { λ _. 0 };
 
@@ -83,37 +85,35 @@ fn same(a: u8, b: u8) -> Op {
     Op::Same { a, b }
 }
 
-/// A core over a new heap of so many words and one global, under two threads. The history has room for 32 entries.
+/// A core over a new heap of so many words, one global and three forwarding words, under two threads. The history has room
+/// for 32 entries.
 fn new_core(alloc: Global, words: u32) -> Result<Core, NoMemory>
     requires { words < 2 ^ 30 }
     ensures stands { IfOk result (λ core. Standing false no_homes_on (view core)) }
     ensures quiet { IfOk result (λ core. IsQuiet (view core)) }
     ensures threads { IfOk result (λ core. length (view core).held ≡ 2) }
+    ensures forwards { IfOk result (λ core. length (view core).forward ≤ 16) }
     ensures history { IfOk result (λ core. (view core).log ≡ []) }
     ensures room { IfOk result (λ core. 32 ≤ (view core).capacity) }
 {
-    let heap = Heap::new(alloc, words, 1, 0, true)?;
+    let heap = Heap::new(alloc, words, 1, 3, true)?;
     let rest = Rest::new(alloc, 2, 32)?;
     Ok(Core::begin(heap, rest))
 }
 
-/// Makes one event over a disk without homes.
-fn advance<R: RecordReader>(core: &mut Core, thread: u32, op: Op, reader: &mut R) -> StepResult
+/// Makes one event over a disk without homes: word 1 is past all of them.
+fn advance(core: &mut Core, thread: u32, op: Op) -> StepResult
     requires { Asks no_homes_on (view core.old) thread op }
     ensures { AdvancesOver no_homes_on (view core.old) (view core.new) thread op result }
 {
-    core.advance(thread, op, 1, reader)
+    core.advance(thread, op, 1, &mut NoDisk)
 }
 
 /// Makes the events of a call until it is over. Answers how many these were, and what the last came to.
-fn run_call<R: RecordReader>(
-    core: &mut Core,
-    thread: u32,
-    op: Op,
-    reader: &mut R,
-) -> (u32, StepResult)
+fn run_call(core: &mut Core, thread: u32, op: Op) -> (u32, StepResult)
     requires asks { Asks no_homes_on (view core.old) thread op }
     requires no_call { call_of (view core.old) thread ≡ None }
+    requires forwards { length (view core.old).forward ≤ 16 }
     ensures stands { Standing false no_homes_on (view core.new) }
     ensures others { KeepsOthers (view core.old) (view core.new) thread }
     ensures over { call_of (view core.new) thread ≡ None }
@@ -121,7 +121,7 @@ fn run_call<R: RecordReader>(
 {
     let mut events = 0;
     loop {
-        match advance(core, thread, op, reader) {
+        match advance(core, thread, op) {
             StepResult::Going => events += 1,
             result => return (events + 1, result),
         }
@@ -163,6 +163,7 @@ fn paused(thread: u32, op: Op, events: u32, pause: Pause) -> Wanted {
 fn expect<R: Abort>(rt: &R, core: &mut Core, calls: &[Wanted])
     requires stands { Standing false no_homes_on (view core.old) }
     requires quiet { IsQuiet (view core.old) }
+    requires forwards { length (view core.old).forward ≤ 16 }
     requires room { length (view core.old).log + length calls.now ≤ (view core.old).capacity }
     requires few { length (view core.old).log + length calls.now ≤ 2 ^ 32 }
     ensures stands { Standing false no_homes_on (view core.new) }
@@ -174,7 +175,7 @@ fn expect<R: Abort>(rt: &R, core: &mut Core, calls: &[Wanted])
         assert!(rt; is_in_bounds(globals, wanted.op));
         let threads = core.rest.held.len();
         assert!(rt; (wanted.thread as usize) < threads);
-        let (events, result) = run_call(core, wanted.thread, wanted.op, &mut NoDisk);
+        let (events, result) = run_call(core, wanted.thread, wanted.op);
         assert_eq!(rt; result, wanted.result, "at {at}");
         assert_eq!(rt; events, wanted.events, "at {at}");
     }
@@ -281,8 +282,8 @@ fn objects_that_are_made_at_once_stand_apart(rt: HostRuntime) -> Result<(), Fail
         } else {
             StepResult::Answered(Reply::Done)
         };
-        let first = advance(&mut core, 0, op, &mut NoDisk);
-        let second = advance(&mut core, 1, op, &mut NoDisk);
+        let first = advance(&mut core, 0, op);
+        let second = advance(&mut core, 1, op);
         assert_eq!(rt; first, wanted, "after {events}");
         assert_eq!(rt; second, wanted, "after {events}");
     }

@@ -1,10 +1,19 @@
--- The disk is one of those that end at word 1.
+-- The disk is one of those that end at word 1, and its reader tells that it has no words.
 use Rattle.std.proofs.Common.{refl}
+use Rattle.std.specs.Prelude.{[], Some}
 use Rattle.melt_scion.specs.Heaps.{no_homes_on}
+use Rattle.melt_core.specs.Advances.{TellsDisk}
+use Rattle.melt_core.specs.Views.{view}
+use Rattle.melt_core.proofs.NoHomes.{as_told_by}
 use Rattle.melt_core.proofs.tests.advance.Goals as goal
 
 pub advance-requires : goal.advance-requires
-advance-requires g c = record { disk = no_homes_on; ends = refl; no_homes = refl; asks = c.requires }
+advance-requires c = record { disk = no_homes_on; ends = refl; asks = c.requires }
+
+tells_nothing : TellsDisk (Some []) no_homes_on
+tells_nothing = (refl, λ k. refl)
 
 pub returns : goal.returns
-returns g c = c.advance.ensures.over no_homes_on refl
+returns c =
+    as_told_by (TellsDisk (Some []) no_homes_on) no_homes_on (view c.args.core.now) (view c.advance.new.self)
+    c.args.thread c.args.op c.advance.result tells_nothing (c.advance.ensures.advances.over no_homes_on refl)

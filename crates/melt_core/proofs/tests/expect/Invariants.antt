@@ -10,5 +10,6 @@ invariant-loop-at g l =
     IsQuiet (view l.core) ×
     (length (view l.core).globals ≡ length (view l.initial.core).globals) ×
     (length (view l.core).held ≡ length (view l.initial.core).held) ×
+    (length (view l.core).forward ≡ length (view l.initial.core).forward) ×
     ((view l.core).capacity ≡ (view l.initial.core).capacity) ×
     (length (view l.core).log ≤ length (view l.initial.core).log + l.at-counter)
