@@ -4,7 +4,7 @@ use Rattle.std.proofs.Common.{inl, inr}
 use Rattle.std.proofs.lemmas.Bool.{cases_eq}
 use Rattle.std.proofs.lemmas.List.{length-replicate}
 use Rattle.std.proofs.lemmas.List.Elements.{All-nil}
-use Rattle.std.specs.Prelude.{All, Option, replicate}
+use Rattle.std.specs.Prelude.{All, Option, IsSome, replicate}
 use Rattle.melt_model.specs.History.{Legal}
 use Rattle.melt_model.specs.Standing.{Stands}
 use Rattle.melt_model.specs.Thread.{does}
@@ -17,7 +17,7 @@ use Rattle.melt_model.specs.declared.operations.Op.TheVariants.{Collect}
 use Rattle.melt_model.specs.declared.operations.Reply.{Reply}
 use Rattle.melt_model.specs.declared.operations.Reply.TheVariants.{Done}
 use Rattle.melt_model.proofs.Transcripts.{Stands_start, Stands_local, Transcript_so_far}
-use Rattle.melt_scion.specs.Heaps.{no_homes_on, IsNewHeap}
+use Rattle.melt_scion.specs.Heaps.{OnDisk, no_homes_on, IsNewHeap}
 use Rattle.melt_scion.specs.declared.heap.Heap.{Heap}
 use Rattle.melt_scion.specs.declared.heap.Names as name_table
 use Rattle.melt_scion.specs.declared.registers.Registers.{Registers}
@@ -25,7 +25,7 @@ use Rattle.melt_core.specs.Answering.{with_entry}
 use Rattle.melt_core.specs.Views.{View, view, values_of, registers_in, held_values, IsQuiet, Standing}
 use Rattle.melt_core.specs.Changed.{stopped}
 use Rattle.melt_core.specs.Epochs.{no_registers, IsNewRest, AtRest, core_of, HasFinished, HasDropped}
-use Rattle.melt_core.specs.Advances.{MayAdvance, AdvancesOver, KeepsOthers, IsAnswered, Goes, Refuses, TellsDisk}
+use Rattle.melt_core.specs.Advances.{AdvancesOver, KeepsOthers, IsAnswered, Goes, Refuses, TellsDisk}
 use Rattle.melt_core.proofs.NoHomes.{as_told_by}
 use Rattle.melt_core.specs.declared.machine.Rest.{Rest}
 use Rattle.melt_core.specs.declared.answer.Pause.TheVariants as pause
@@ -35,9 +35,8 @@ use Rattle.melt_core.specs.declared.answer.StepResult.{StepResult}
 use Rattle.melt_core.specs.declared.answer.StepResult.TheVariants.{Going, Answered, Refused}
 use Rattle.melt_core.proofs.Resting.{start_at_rest, stands_stopped}
 use Rattle.melt_step.specs.Choices.{SoFar, nothing_yet, with_reply, SetsSoFar, SetsBy, CollectsRest, Chosen, AreTold}
-use Rattle.melt_step.specs.Threads.{CoreCollected}
-use Rattle.melt_step.proofs.Collecting.{rest_collected, same_sizes}
 use Rattle.melt_step.proofs.Modes.{dropped_keeps}
+use Rattle.melt_step.proofs.PlannedRest.{RestCarried, planned_rest}
 use Rattle.melt_step.proofs.Starting.{registers_new}
 use Rattle.melt_step.proofs.Telling.{told_with, with_own, Stands_answers}
 
@@ -47,9 +46,9 @@ record StandsSoFar (v : View) (t : ℕ) (s : SoFar) : Type 0 where
   pub told : Stands v.log t s.ops s.replies registers
   pub in_registers : t < length v.held → s.over ≡ false → registers ≡ values_of v t
 
--- all threads do
-record AllStand (threads globals : ℕ) (v : View) (all : ℕ → SoFar) : Type 0 where
-  pub stands : Standing true no_homes_on v
+-- all threads do, over this disk
+record AllStand (threads globals : ℕ) (disk : OnDisk) (v : View) (all : ℕ → SoFar) : Type 0 where
+  pub stands : Standing true disk v
   pub has_threads : length v.held ≡ threads
   pub words : length v.globals ≡ globals
   pub each : (t : ℕ) → StandsSoFar v t (all t)
@@ -64,12 +63,12 @@ stands_as v w t s log threads values st = record {
   in_registers = λ within open_. st.in_registers (subst (λ (n : ℕ). t < n) threads within) open_ ∙ sym values;
 }
 
--- all threads stand as before, in a view with the same history and registers
-all_as : (threads globals : ℕ) (v w : View) (all : ℕ → SoFar) → AllStand threads globals v all
-    → Standing true no_homes_on w
+-- all threads stand as before, in a view with the same history and registers, over whatever disk it stands
+all_as : (threads globals : ℕ) (disk later : OnDisk) (v w : View) (all : ℕ → SoFar)
+    → AllStand threads globals disk v all → Standing true later w
     → w.log ≡ v.log → length w.held ≡ length v.held → length w.globals ≡ length v.globals
-    → ((t : ℕ) → values_of w t ≡ values_of v t) → AllStand threads globals w all
-all_as threads globals v w all a stands log threads_stay words values = record {
+    → ((t : ℕ) → values_of w t ≡ values_of v t) → AllStand threads globals later w all
+all_as threads globals disk later v w all a stands log threads_stay words values = record {
   stands = stands;
   has_threads = threads_stay ∙ a.has_threads;
   words = words ∙ a.words;
@@ -78,9 +77,9 @@ all_as threads globals v w all a stands log threads_stay words values = record {
 }
 
 -- and in the same view, where what threads have behind them is the same
-all_same : (threads globals : ℕ) (v : View) (all after : ℕ → SoFar) → AllStand threads globals v all
-    → ((u : ℕ) → after u ≡ all u) → AllStand threads globals v after
-all_same threads globals v all after a same = record {
+all_same : (threads globals : ℕ) (disk : OnDisk) (v : View) (all after : ℕ → SoFar)
+    → AllStand threads globals disk v all → ((u : ℕ) → after u ≡ all u) → AllStand threads globals disk v after
+all_same threads globals disk v all after a same = record {
   stands = a.stands;
   has_threads = a.has_threads;
   words = a.words;
@@ -97,37 +96,37 @@ all_values v w t others own u = elim (cases_eq u t) [
 ]
 
 -- an event that leaves the history
-event_stays : (threads globals : ℕ) (v w : View) (all after : ℕ → SoFar) (t : ℕ) → AllStand threads globals v all
-    → Standing true no_homes_on w → KeepsOthers v w t → w.log ≡ v.log → values_of w t ≡ values_of v t
-    → ((u : ℕ) → after u ≡ all u)
-    → AllStand threads globals w after
-event_stays threads globals v w all after t a stands others log values same =
-    all_same threads globals w all after
-    (all_as threads globals v w all a stands log others.threads others.globals (all_values v w t others values)) same
+event_stays : (threads globals : ℕ) (disk : OnDisk) (v w : View) (all after : ℕ → SoFar) (t : ℕ)
+    → AllStand threads globals disk v all → Standing true disk w → KeepsOthers v w t → w.log ≡ v.log
+    → values_of w t ≡ values_of v t → ((u : ℕ) → after u ≡ all u) → AllStand threads globals disk w after
+event_stays threads globals disk v w all after t a stands others log values same =
+    all_same threads globals disk w all after
+    (all_as threads globals disk disk v w all a stands log others.threads others.globals
+    (all_values v w t others values)) same
 
 -- what is left of history and registers by a call that paused
-paused_stays : (threads globals : ℕ) (v w : View) (all after : ℕ → SoFar) (t : ℕ) (o : Op) (cause : Refusal)
-    → AllStand threads globals v all → Standing true no_homes_on w → KeepsOthers v w t → Refuses (Unit {0}) no_homes_on v w t o cause
-    → ((u : ℕ) → after u ≡ all u) → AllStand threads globals w after
-paused_stays threads globals v w all after t o (refusal.Pause pause.Asked) a stands others refused same =
-    event_stays threads globals v w all after t a stands others (ap (λ (x : View). x.log) refused.same)
+paused_stays : (threads globals : ℕ) (disk : OnDisk) (v w : View) (all after : ℕ → SoFar) (t : ℕ) (o : Op)
+    (cause : Refusal) → AllStand threads globals disk v all → Standing true disk w → KeepsOthers v w t
+    → Refuses (Unit {0}) disk v w t o cause → ((u : ℕ) → after u ≡ all u) → AllStand threads globals disk w after
+paused_stays threads globals disk v w all after t o (refusal.Pause pause.Asked) a stands others refused same =
+    event_stays threads globals disk v w all after t a stands others (ap (λ (x : View). x.log) refused.same)
     (ap (λ (x : View). values_of x t) refused.same) same
-paused_stays threads globals v w all after t o (refusal.Pause (pause.Space need)) a stands others refused same =
-    event_stays threads globals v w all after t a stands others refused.own.history refused.own.values same
-paused_stays threads globals v w all after t o (refusal.Pause pause.Forward) a stands others refused same =
-    event_stays threads globals v w all after t a stands others refused.own.history refused.own.values same
-paused_stays threads globals v w all after t o refusal.DiskFault a stands others refused same =
-    event_stays threads globals v w all after t a stands others refused.1.own.history refused.1.own.values same
-paused_stays threads globals v w all after t o (refusal.Damaged damaged) a stands others refused same =
-    event_stays threads globals v w all after t a stands others refused.lost.own.history refused.lost.own.values same
+paused_stays threads globals disk v w all after t o (refusal.Pause (pause.Space need)) a stands others refused same =
+    event_stays threads globals disk v w all after t a stands others refused.own.history refused.own.values same
+paused_stays threads globals disk v w all after t o (refusal.Pause pause.Forward) a stands others refused same =
+    event_stays threads globals disk v w all after t a stands others refused.own.history refused.own.values same
+paused_stays threads globals disk v w all after t o refusal.DiskFault a stands others refused same =
+    event_stays threads globals disk v w all after t a stands others refused.1.own.history refused.1.own.values same
+paused_stays threads globals disk v w all after t o (refusal.Damaged damaged) a stands others refused same =
+    event_stays threads globals disk v w all after t a stands others refused.lost.own.history refused.lost.own.values
+    same
 
 -- a thread that was answered, and the others
-answered_stands : (threads globals : ℕ) (v w : View) (all after : ℕ → SoFar) (t : ℕ) (o : Op) (reply : Reply)
-    → AllStand threads globals v all → (all t).over ≡ false → t < length v.held → Standing true no_homes_on w
-    → KeepsOthers v w t
-    → IsAnswered no_homes_on v w t o reply → SetsSoFar all after t (with_reply (all t) o reply)
-    → AllStand threads globals w after
-answered_stands threads globals v w all after t o reply a open_ within stands others answered sets =
+answered_stands : (threads globals : ℕ) (disk : OnDisk) (v w : View) (all after : ℕ → SoFar) (t : ℕ) (o : Op)
+    (reply : Reply) → AllStand threads globals disk v all → (all t).over ≡ false → t < length v.held
+    → Standing true disk w → KeepsOthers v w t → IsAnswered disk v w t o reply
+    → SetsSoFar all after t (with_reply (all t) o reply) → AllStand threads globals disk w after
+answered_stands threads globals disk v w all after t o reply a open_ within stands others answered sets =
     let st : StandsSoFar v t (all t) = a.each t in
     let answers = answered.answers a.stands in
     let legal : Legal w.log (length v.globals) = subst (Legal w.log) others.globals (stands.legal refl) in
@@ -162,25 +161,25 @@ answered_stands threads globals v w all after t o reply a open_ within stands ot
     }
 
 -- an event
-event_stands : (threads globals : ℕ) (v w : View) (all after : ℕ → SoFar) (t : ℕ) (o : Op) (result : StepResult)
-    → AllStand threads globals v all → (all t).over ≡ false → MayAdvance 1 v t o
-    → AdvancesOver no_homes_on v w t o result
-    → SetsBy all after t o result → AllStand threads globals w after
-event_stands threads globals v w all after t o Going a open_ may advances sets =
-    let goes : Goes no_homes_on v w t o = advances.outcome in
-    event_stays threads globals v w all after t a
+event_stands : (threads globals : ℕ) (disk : OnDisk) (v w : View) (all after : ℕ → SoFar) (t : ℕ) (o : Op)
+    (result : StepResult) → AllStand threads globals disk v all → (all t).over ≡ false → t < length v.held
+    → AdvancesOver disk v w t o result → SetsBy all after t o result → AllStand threads globals disk w after
+event_stands threads globals disk v w all after t o Going a open_ within advances sets =
+    let goes : Goes disk v w t o = advances.outcome in
+    event_stays threads globals disk v w all after t a
     (advances.keeps true (λ told. tt) a.stands) advances.others goes.own.history goes.own.values sets
-event_stands threads globals v w all after t o (Answered reply) a open_ may advances sets =
-    answered_stands threads globals v w all after t o reply a open_ may.asks.thread
+event_stands threads globals disk v w all after t o (Answered reply) a open_ within advances sets =
+    answered_stands threads globals disk v w all after t o reply a open_ within
     (advances.keeps true (λ told. tt) a.stands) advances.others advances.outcome sets
-event_stands threads globals v w all after t o (Refused cause) a open_ may advances sets =
-    paused_stays threads globals v w all after t o cause a
+event_stands threads globals disk v w all after t o (Refused cause) a open_ within advances sets =
+    paused_stays threads globals disk v w all after t o cause a
     (advances.keeps true (λ told. tt) a.stands) advances.others advances.outcome sets
 
 -- a `collect` was answered
-collect_stands : (threads globals : ℕ) (v : View) (all after : ℕ → SoFar) (t : ℕ) → AllStand threads globals v all
-    → SetsSoFar all after t (with_reply (all t) Collect Done) → AllStand threads globals v after
-collect_stands threads globals v all after t a sets =
+collect_stands : (threads globals : ℕ) (disk : OnDisk) (v : View) (all after : ℕ → SoFar) (t : ℕ)
+    → AllStand threads globals disk v all → SetsSoFar all after t (with_reply (all t) Collect Done)
+    → AllStand threads globals disk v after
+collect_stands threads globals disk v all after t a sets =
     let st : StandsSoFar v t (all t) = a.each t in
     let here : StandsSoFar v t (with_reply (all t) Collect Done) = record {
       registers = st.registers;
@@ -200,10 +199,10 @@ collect_stands threads globals v all after t a sets =
     }
 
 -- a thread dropped its registers
-dropped_stands : (threads globals : ℕ) (v w : View) (all after : ℕ → SoFar) (t : ℕ) → AllStand threads globals v all
-    → HasDropped v w t → KeepsOthers v w t → SetsSoFar all after t (record (all t) { over = true })
-    → AllStand threads globals w after
-dropped_stands threads globals v w all after t a dropped others sets =
+dropped_stands : (threads globals : ℕ) (disk : OnDisk) (v w : View) (all after : ℕ → SoFar) (t : ℕ)
+    → AllStand threads globals disk v all → HasDropped v w t → KeepsOthers v w t
+    → SetsSoFar all after t (record (all t) { over = true }) → AllStand threads globals disk w after
+dropped_stands threads globals disk v w all after t a dropped others sets =
     let log : w.log ≡ v.log = ap (λ (x : View). x.log) dropped.only in
     let st : StandsSoFar v t (all t) = a.each t in
     let here : StandsSoFar w t (record (all t) { over = true }) = record {
@@ -212,7 +211,7 @@ dropped_stands threads globals v w all after t a dropped others sets =
       in_registers = λ within open_. absurd (cc);
     } in
     record {
-      stands = dropped.keeps true no_homes_on a.stands;
+      stands = dropped.keeps true disk a.stands;
       has_threads = others.threads ∙ a.has_threads;
       words = others.globals ∙ a.words;
       each = λ u. elim (cases_eq u t) [
@@ -228,7 +227,7 @@ dropped_stands threads globals v w all after t a dropped others sets =
 start_stands : (threads globals words forward entries : ℕ) (heap : Heap) (rest : Rest) (all : ℕ → SoFar)
     → AtRest true no_homes_on heap rest
     → IsNewHeap words globals forward true heap → IsNewRest threads entries rest → ((t : ℕ) → all t ≡ nothing_yet)
-    → AllStand threads globals (view (core_of heap rest)) all
+    → AllStand threads globals no_homes_on (view (core_of heap rest)) all
 start_stands threads globals words forward entries heap rest all at_rest new_heap new_rest none =
     let v : View = view (core_of heap rest) in
     let count : length rest.held.items ≡ threads = ap length new_rest.held ∙ length-replicate threads no_registers in
@@ -250,66 +249,105 @@ start_stands threads globals words forward entries heap rest all at_rest new_hea
     }
 
 -- a new epoch
-epoch_stands : (threads globals : ℕ) (v : View) (all : ℕ → SoFar) (heap : Heap) (rest : Rest)
-    → AllStand threads globals v all → AtRest true no_homes_on heap rest → HasFinished v (view (core_of heap rest))
-    → AllStand threads globals (view (core_of heap rest)) all
-epoch_stands threads globals v all heap rest a at_rest finished =
-    all_as threads globals v (view (core_of heap rest)) all a at_rest.stands finished.log (ap length finished.held)
-    (ap length finished.globals) (λ t.
+epoch_stands : (threads globals : ℕ) (disk : OnDisk) (v : View) (all : ℕ → SoFar) (heap : Heap) (rest : Rest)
+    → AllStand threads globals disk v all → AtRest true disk heap rest → HasFinished v (view (core_of heap rest))
+    → AllStand threads globals disk (view (core_of heap rest)) all
+epoch_stands threads globals disk v all heap rest a at_rest finished =
+    all_as threads globals disk disk v (view (core_of heap rest)) all a at_rest.stands finished.log
+    (ap length finished.held) (ap length finished.globals) (λ t.
     ap (λ (names : Option name_table.Names). held_values names (registers_in rest.held.items t)) finished.names
     ∙ ap (λ (held : List Registers). held_values v.names (registers_in held t)) finished.held)
 
+-- all threads stand over some disk with this end, which tells these words
+record StandTold (threads globals end : ℕ) (image : Option (List ℕ)) (v : View) (all : ℕ → SoFar) : Type 0 where
+  pub disk : OnDisk
+  pub ends : disk.end ≡ end
+  pub tells : TellsDisk image disk
+  pub all_stand : AllStand threads globals disk v all
+
+-- over the same disk, in another view
+told_as : (threads globals end : ℕ) (image : Option (List ℕ)) (v w : View) (all after : ℕ → SoFar)
+    → (s : StandTold threads globals end image v all) → AllStand threads globals s.disk w after
+    → StandTold threads globals end image w after
+told_as threads globals end image v w all after s stand =
+    record { disk = s.disk; ends = s.ends; tells = s.tells; all_stand = stand }
+
 -- a collection
-collection_stands : (threads globals : ℕ) (all : ℕ → SoFar) (heap new : Heap) (rest after : Rest)
-    → AllStand threads globals (view (core_of heap rest)) all → IsQuiet (view (core_of heap rest))
-    → CollectsRest heap rest new after → AllStand threads globals (view (core_of new after)) all
-collection_stands threads globals all heap new rest after a quiet c =
-    let at_rest : AtRest true no_homes_on heap rest = record { stands = a.stands; quiet = quiet } in
-    let collected : CoreCollected (view (core_of heap rest)) (view (core_of new after)) =
-    rest_collected heap new rest after c.phase c.journal at_rest c.copying c.collects c.threads
-    (same_sizes rest.held.items after.held.items c.threads c.before c.behind) c.calls c.records c.log c.made in
-    all_as threads globals (view (core_of heap rest))
-    (view (core_of new after)) all a collected.stays.stands collected.stays.history collected.stays.threads
-    collected.stays.globals collected.stays.values
+collection_stands : (threads globals end end_after : ℕ) (image image_after : Option (List ℕ)) (all : ℕ → SoFar)
+    (heap new : Heap) (rest after : Rest) → StandTold threads globals end image (view (core_of heap rest)) all
+    → IsQuiet (view (core_of heap rest)) → CollectsRest end end_after image image_after heap rest new after
+    → IsSome image_after → StandTold threads globals end_after image_after (view (core_of new after)) all
+collection_stands threads globals end end_after image image_after all heap new rest after s quiet c told =
+    let carried : RestCarried end_after image_after heap new rest after =
+    planned_rest s.disk heap new rest after c.phase end end_after image image_after c.journal
+    (record { stands = s.all_stand.stands; quiet = quiet }) s.ends s.tells.1 c.collects c.only in
+    let log : after.log ≡ rest.log = c.only.log in
+    let same : after.log.items ≡ rest.log.items = cc in
+    record {
+      disk = carried.later;
+      ends = carried.ends;
+      tells = (told, carried.shows);
+      all_stand = all_as threads globals s.disk carried.later (view (core_of heap rest)) (view (core_of new after)) all
+          s.all_stand carried.at_rest.stands same c.only.threads
+          carried.globals carried.values;
+    }
 
 -- they stand after each choice
-chosen_stands : (threads globals : ℕ) (v : View) (all : ℕ → SoFar) → Chosen threads globals v all
-    → AllStand threads globals v all
-chosen_stands threads globals v all (Chosen.starts _ _ words forward entries heap rest small few new_heap new_rest is
-    none) =
-    subst (λ (x : View). AllStand threads globals x all) (sym is)
-    (start_stands threads globals words forward entries heap rest all
-    (start_at_rest true words globals forward threads entries heap rest small few new_heap new_rest) new_heap new_rest
-    none)
-chosen_stands threads globals w after (Chosen.event v _ all _ t o image result chosen open_ may tells advances sets) =
-    event_stands threads globals v w all after t o result
-    (chosen_stands threads globals v all chosen) open_ may
-    (as_told_by (TellsDisk image no_homes_on) no_homes_on v w t o result tells (advances.over no_homes_on refl)) sets
-chosen_stands threads globals w all (Chosen.asks v _ _ chosen is) =
-    let a : AllStand threads globals v all = chosen_stands threads globals v all chosen in
-    subst (λ (x : View). AllStand threads globals x all) (sym is)
-    (all_as threads globals v (stopped v) all a (stands_stopped no_homes_on true v a.stands) refl refl refl (λ t. refl))
-chosen_stands threads globals v after (Chosen.collect _ all _ t chosen sets) =
-    collect_stands threads globals v all after t (chosen_stands threads globals v all chosen) sets
-chosen_stands threads globals w after (Chosen.drops v _ all _ t chosen none dropped sets) =
-    dropped_stands threads globals v w all after t (chosen_stands threads globals v all chosen) dropped
-    (dropped_keeps v w t dropped) sets
-chosen_stands threads globals w all (Chosen.epoch v _ _ heap rest chosen quiet rests finished is) =
-    let a : AllStand threads globals v all = chosen_stands threads globals v all chosen in
-    subst (λ (x : View). AllStand threads globals x all) (sym is)
-    (epoch_stands threads globals v all heap rest a (rests true no_homes_on a.stands) finished)
-chosen_stands threads globals w all (Chosen.collection v _ _ heap new rest after chosen was quiet collects is) =
-    let a : AllStand threads globals v all = chosen_stands threads globals v all chosen in
-    subst (λ (x : View). AllStand threads globals x all) (sym is)
-    (collection_stands threads globals all heap new rest after
-    (subst (λ (x : View). AllStand threads globals x all) was a) (subst IsQuiet was quiet) collects)
+chosen_stands : (threads globals end : ℕ) (image : Option (List ℕ)) (v : View) (all : ℕ → SoFar)
+    → Chosen threads globals end image v all → StandTold threads globals end image v all
+chosen_stands threads globals _ _ v all (Chosen.starts _ _ words forward entries heap rest small few new_heap new_rest
+    is none) =
+    record {
+      disk = no_homes_on;
+      ends = refl;
+      tells = (refl, λ k. refl);
+      all_stand = subst (λ (x : View). AllStand threads globals no_homes_on x all) (sym is)
+          (start_stands threads globals words forward entries heap rest all
+          (start_at_rest true words globals forward threads entries heap rest small few new_heap new_rest) new_heap
+          new_rest none);
+    }
+chosen_stands threads globals end image w after (Chosen.event _ _ v _ all _ t o result chosen open_ may advances sets) =
+    let s : StandTold threads globals end image v all = chosen_stands threads globals end image v all chosen in
+    told_as threads globals end image v w all after s
+    (event_stands threads globals s.disk v w all after t o result s.all_stand open_ may.asks.thread
+    (as_told_by (TellsDisk image s.disk) s.disk v w t o result s.tells (advances.over s.disk s.ends)) sets)
+chosen_stands threads globals end image w all (Chosen.asks _ _ v _ _ chosen is) =
+    let s : StandTold threads globals end image v all = chosen_stands threads globals end image v all chosen in
+    told_as threads globals end image v w all all s
+    (subst (λ (x : View). AllStand threads globals s.disk x all) (sym is)
+    (all_as threads globals s.disk s.disk v (stopped v) all s.all_stand
+    (stands_stopped s.disk true v s.all_stand.stands) refl refl refl (λ t. refl)))
+chosen_stands threads globals end image v after (Chosen.collect _ _ _ all _ t chosen sets) =
+    let s : StandTold threads globals end image v all = chosen_stands threads globals end image v all chosen in
+    told_as threads globals end image v v all after s
+    (collect_stands threads globals s.disk v all after t s.all_stand sets)
+chosen_stands threads globals end image w after (Chosen.drops _ _ v _ all _ t chosen none dropped sets) =
+    let s : StandTold threads globals end image v all = chosen_stands threads globals end image v all chosen in
+    told_as threads globals end image v w all after s
+    (dropped_stands threads globals s.disk v w all after t s.all_stand dropped (dropped_keeps v w t dropped) sets)
+chosen_stands threads globals end image w all (Chosen.epoch _ _ v _ _ heap rest chosen quiet rests finished settled
+    is) =
+    let s : StandTold threads globals end image v all = chosen_stands threads globals end image v all chosen in
+    told_as threads globals end image v w all all s
+    (subst (λ (x : View). AllStand threads globals s.disk x all) (sym is)
+    (epoch_stands threads globals s.disk v all heap rest s.all_stand (rests true s.disk s.all_stand.stands) finished))
+chosen_stands threads globals _ _ w all (Chosen.collection end end_after image image_after v _ _ heap new rest after
+    chosen was quiet collects told is) =
+    let s : StandTold threads globals end image v all = chosen_stands threads globals end image v all chosen in
+    subst (λ (x : View). StandTold threads globals end_after image_after x all) (sym is)
+    (collection_stands threads globals end end_after image image_after all heap new rest after
+    (subst (λ (x : View). StandTold threads globals end image x all) was s) (subst IsQuiet was quiet) collects told)
 
 -- threads that stand in a history were told what it gives them
-pub chosen_told : (threads globals : ℕ) (v : View) (all : ℕ → SoFar) → Chosen threads globals v all
-    → AreTold threads globals v all
-chosen_told threads globals v all chosen =
-    let a : AllStand threads globals v all = chosen_stands threads globals v all chosen in
+pub chosen_told : (threads globals end : ℕ) (image : Option (List ℕ)) (v : View) (all : ℕ → SoFar)
+    → Chosen threads globals end image v all → AreTold threads globals end image v all
+chosen_told threads globals end image v all chosen =
+    let s : StandTold threads globals end image v all = chosen_stands threads globals end image v all chosen in
+    let a : AllStand threads globals s.disk v all = s.all_stand in
     record {
+      disk = s.disk;
+      ends = s.ends;
+      tells = s.tells;
       stands = a.stands;
       legal = subst (Legal v.log) a.words (a.stands.legal refl);
       transcripts = λ t more. let st : StandsSoFar v t (all t) =

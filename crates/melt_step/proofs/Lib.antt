@@ -4,6 +4,7 @@ pub mod Telling
 pub mod Tables
 pub mod Counting
 pub mod Modes
+pub mod PlannedRest
 pub mod Choosing
 pub mod Potentials
 pub mod Starting

@@ -1,5 +1,7 @@
--- A run by any choices: which thread makes the next event, and where epochs end and collections come.
-use Rattle.std.specs.Prelude.{◌≡◌, ◌≢◌, ℕ, ◌^◌, ◌<◌, ◌≤◌, Bool, true, false, List, [], ◌∷◌, ◌++◌, length, All, Option, None}
+-- A run by any choices: which thread makes the next event, and where epochs end and collections come. Objects may have
+-- homes on a disk, which is shown by its end and by the words that it tells.
+use Rattle.std.specs.Prelude.{◌≡◌, ◌≢◌, ℕ, ◌^◌, ◌<◌, ◌≤◌, Bool, true, false, List, [], ◌∷◌, ◌++◌, length, All}
+use Rattle.std.specs.Prelude.{Option, None, Some, IsSome}
 use Rattle.melt_model.specs.History.{Legal}
 use Rattle.melt_model.specs.Thread.{Transcript}
 use Rattle.melt_model.specs.declared.history.Entry.{Entry}
@@ -9,10 +11,10 @@ use Rattle.melt_model.specs.declared.operations.Reply.{Reply}
 use Rattle.melt_model.specs.declared.operations.Reply.TheVariants.{Done}
 use Rattle.melt_model.specs.declared.reports.Journal.{Journal}
 use Rattle.melt_model.specs.declared.reports.Phase.{Phase}
-use Rattle.melt_scion.specs.Heaps.{OnDisk, no_homes_on, IsNewHeap}
+use Rattle.melt_scion.specs.Heaps.{OnDisk, IsNewHeap, IsSettled}
 use Rattle.melt_scion.specs.declared.heap.Heap.{Heap}
 use Rattle.melt_scion.specs.declared.registers.Registers.{Registers}
-use Rattle.melt_copy.specs.Copying.{Collects, IsCopying}
+use Rattle.melt_move.specs.Planned.{CollectsPlanned}
 use Rattle.melt_core.specs.Views.{View, view, call_of, IsQuiet, Standing}
 use Rattle.melt_core.specs.Changed.{stopped}
 use Rattle.melt_core.specs.Epochs.{IsNewRest, AtRest, core_of, HasFinished, HasDropped}
@@ -45,12 +47,8 @@ SetsBy all after t o (Answered reply) = SetsSoFar all after t (with_reply (all t
 SetsBy all after t o Going = (u : ℕ) → after u ≡ all u
 SetsBy all after t o (Refused refusal) = (u : ℕ) → after u ≡ all u
 
--- A collection of a heap and its registers, of which each thread has 16; calls and history stay.
-pub record CollectsRest (heap : Heap) (rest : Rest) (new : Heap) (after : Rest) : Type 0 where
-  pub phase : Phase
-  pub journal : Journal
-  pub copying : IsCopying phase
-  pub collects : Collects heap rest.held.items new after.held.items phase journal
+-- Of threads and history nothing changed but what the registers hold, of which each thread has 16.
+pub record OnlyRegisters (rest after : Rest) : Type 0 where
   pub threads : length after.held.items ≡ length rest.held.items
   pub before : All (λ (x : Registers). length x.regs ≡ 16) rest.held.items
   pub behind : All (λ (x : Registers). length x.regs ≡ 16) after.held.items
@@ -59,34 +57,53 @@ pub record CollectsRest (heap : Heap) (rest : Rest) (new : Heap) (after : Rest) 
   pub log : after.log ≡ rest.log
   pub made : after.made ≡ rest.made
 
--- A run so far, by any choices among what the public calls of a core and the collection do, each where it may be
--- called: a new core, an event of a thread over a reader of a disk without words, the stop word set, an answer to a `collect`, a thread that drops its
--- registers, a new epoch, and a collection between two epochs.
-pub data Chosen (threads globals : ℕ) : View → (ℕ → SoFar) → Type 0 where
+-- A planned collection of some phase, of a heap and its registers and of a disk, with the end and the words that it
+-- tells before and after; calls and history stay.
+pub record CollectsRest (end end_after : ℕ) (told told_after : Option (List ℕ)) (heap : Heap) (rest : Rest) (new : Heap)
+    (after : Rest) : Type 0 where
+  pub phase : Phase
+  pub journal : Journal
+  pub collects : CollectsPlanned phase heap new rest.held.items after.held.items end end_after told told_after journal
+  pub only : OnlyRegisters rest after
+
+-- A run so far, by any choices among what the public calls of a core and the planned collection do, each where it may
+-- be called: a new core and a disk without homes, an event of a thread over a reader that tells the words of the disk,
+-- the stop word set, an answer to a `collect`, a thread that drops its registers, a new epoch of a settled heap, and a
+-- planned collection between two epochs, after which the disk tells its words still.
+pub data Chosen (threads globals : ℕ) : (end : ℕ) → (image : Option (List ℕ)) → View → (ℕ → SoFar) → Type 0 where
   starts : (v : View) (all : ℕ → SoFar) (words forward entries : ℕ) (heap : Heap) (rest : Rest) → words < 2 ^ 30
       → threads ≤ 8 → IsNewHeap words globals forward true heap → IsNewRest threads entries rest
       → v ≡ view (core_of heap rest)
-      → ((t : ℕ) → all t ≡ nothing_yet) → Chosen threads globals v all
-  event : (v w : View) (all after : ℕ → SoFar) (t : ℕ) (o : Op) (image : Option (List ℕ)) (result : StepResult)
-      → Chosen threads globals v all → (all t).over ≡ false → MayAdvance 1 v t o → TellsDisk image no_homes_on
-      → Advances 1 image v w t o result → SetsBy all after t o result → Chosen threads globals w after
-  asks : (v w : View) (all : ℕ → SoFar) → Chosen threads globals v all → w ≡ stopped v → Chosen threads globals w all
-  collect : (v : View) (all after : ℕ → SoFar) (t : ℕ) → Chosen threads globals v all
-      → SetsSoFar all after t (with_reply (all t) Collect Done) → Chosen threads globals v after
-  drops : (v w : View) (all after : ℕ → SoFar) (t : ℕ) → Chosen threads globals v all → call_of v t ≡ None
-      → HasDropped v w t → SetsSoFar all after t (record (all t) { over = true }) → Chosen threads globals w after
-  epoch : (v w : View) (all : ℕ → SoFar) (heap : Heap) (rest : Rest) → Chosen threads globals v all → IsQuiet v
+      → ((t : ℕ) → all t ≡ nothing_yet) → Chosen threads globals 1 (Some []) v all
+  event : (end : ℕ) (image : Option (List ℕ)) (v w : View) (all after : ℕ → SoFar) (t : ℕ) (o : Op)
+      (result : StepResult) → Chosen threads globals end image v all → (all t).over ≡ false → MayAdvance end v t o
+      → Advances end image v w t o result → SetsBy all after t o result → Chosen threads globals end image w after
+  asks : (end : ℕ) (image : Option (List ℕ)) (v w : View) (all : ℕ → SoFar) → Chosen threads globals end image v all
+      → w ≡ stopped v → Chosen threads globals end image w all
+  collect : (end : ℕ) (image : Option (List ℕ)) (v : View) (all after : ℕ → SoFar) (t : ℕ)
+      → Chosen threads globals end image v all → SetsSoFar all after t (with_reply (all t) Collect Done)
+      → Chosen threads globals end image v after
+  drops : (end : ℕ) (image : Option (List ℕ)) (v w : View) (all after : ℕ → SoFar) (t : ℕ)
+      → Chosen threads globals end image v all → call_of v t ≡ None → HasDropped v w t
+      → SetsSoFar all after t (record (all t) { over = true }) → Chosen threads globals end image w after
+  epoch : (end : ℕ) (image : Option (List ℕ)) (v w : View) (all : ℕ → SoFar) (heap : Heap) (rest : Rest)
+      → Chosen threads globals end image v all → IsQuiet v
       → ((told : Bool) (disk : OnDisk) → Standing told disk v → AtRest told disk heap rest)
-      → HasFinished v (view (core_of heap rest))
-      → w ≡ view (core_of heap rest) → Chosen threads globals w all
-  collection : (v w : View) (all : ℕ → SoFar) (heap new : Heap) (rest after : Rest) → Chosen threads globals v all
-      → v ≡ view (core_of heap rest) → IsQuiet v → CollectsRest heap rest new after → w ≡ view (core_of new after)
-      → Chosen threads globals w all
+      → HasFinished v (view (core_of heap rest)) → IsSettled heap → w ≡ view (core_of heap rest)
+      → Chosen threads globals end image w all
+  collection : (end end_after : ℕ) (image image_after : Option (List ℕ)) (v w : View) (all : ℕ → SoFar)
+      (heap new : Heap) (rest after : Rest) → Chosen threads globals end image v all → v ≡ view (core_of heap rest)
+      → IsQuiet v → CollectsRest end end_after image image_after heap rest new after → IsSome image_after
+      → w ≡ view (core_of new after) → Chosen threads globals end_after image_after w all
 
 -- There is one legal history, with entries of the threads alone; the replies that each thread has by now are those that
--- it gives, whatever operations are to come; and the words stand for it.
-pub record AreTold (threads globals : ℕ) (v : View) (all : ℕ → SoFar) : Type 0 where
-  pub stands : Standing true no_homes_on v
+-- it gives, whatever operations are to come; and over a disk with this end, which tells these words, the words of the
+-- heap stand for it.
+pub record AreTold (threads globals end : ℕ) (image : Option (List ℕ)) (v : View) (all : ℕ → SoFar) : Type 0 where
+  pub disk : OnDisk
+  pub ends : disk.end ≡ end
+  pub tells : TellsDisk image disk
+  pub stands : Standing true disk v
   pub legal : Legal v.log globals
   pub transcripts : (t : ℕ) (more : List Op) → Transcript v.log t ((all t).ops ++ more) (all t).replies
   pub own_threads : All (λ (e : Entry). e.thread < threads) v.log
