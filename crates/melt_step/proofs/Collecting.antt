@@ -180,7 +180,7 @@ module _ (disk later : OnDisk) (heap new : Heap) (rest : Rest) (registers : List
       (is.placed.registers t)
 
   -- what was collected stands for what it stood for before
-  collected_for : (phase : Phase) (after : Maps) (to home scion : ℕ → ℕ) → KeepsTables heap new → IsSettled new
+  pub collected_for : (phase : Phase) (after : Maps) (to home scion : ℕ → ℕ) → KeepsTables heap new → IsSettled new
       → HasMaps new after
       → Collected phase (maps_of heap.names) after (state_of heap rest.held.items disk) (state_of new registers later)
       to home scion
@@ -307,6 +307,12 @@ pub same_sizes : (old new : List Registers) → length new ≡ length old → Al
     → length (registers_in new t) ≡ length (registers_in old t)
 same_sizes old new threads before after t = sizes_at old new t threads before after (cases_lt t (length old))
 
+-- a rest in which nothing but registers changed shows what the rest before it shows with these registers
+pub same_view : (new : Heap) (rest after : Rest) → after.calls.items ≡ rest.calls.items
+    → after.records.items ≡ rest.records.items → after.log ≡ rest.log → after.made ≡ rest.made
+    → collected_view new rest after.held.items ≡ view (core_of new after)
+same_view new rest after calls records log made = cc
+
 -- they were collected, and nothing else of the rest changed
 pub rest_collected : (heap new : Heap) (rest after : Rest) (phase : Phase) (journal : Journal)
     → AtRest true no_homes_on heap rest
@@ -316,8 +322,7 @@ pub rest_collected : (heap new : Heap) (rest after : Rest) (phase : Phase) (jour
     → after.calls.items ≡ rest.calls.items → after.records.items ≡ rest.records.items → after.log ≡ rest.log
     → after.made ≡ rest.made → CoreCollected (view (core_of heap rest)) (view (core_of new after))
 rest_collected heap new rest after phase journal at_rest copying collects threads sizes calls records log made =
-    let same : collected_view new rest after.held.items ≡ view (core_of new after) = cc in
-    subst (CoreCollected (view (core_of heap rest))) same
+    subst (CoreCollected (view (core_of heap rest))) (same_view new rest after calls records log made)
     (collected_stands heap new rest after.held.items phase journal at_rest copying collects threads sizes)
 
 -- the collected heap has names

@@ -59,6 +59,16 @@ pub record CollectsRest (heap : Heap) (rest : Rest) (new : Heap) (after : Rest) 
   pub log : after.log ≡ rest.log
   pub made : after.made ≡ rest.made
 
+-- Nothing of a rest changed but its registers, of which each thread has 16 before and after.
+pub record OnlyRegisters (rest after : Rest) : Type 0 where
+  pub threads : length after.held.items ≡ length rest.held.items
+  pub before : All (λ (x : Registers). length x.regs ≡ 16) rest.held.items
+  pub behind : All (λ (x : Registers). length x.regs ≡ 16) after.held.items
+  pub calls : after.calls.items ≡ rest.calls.items
+  pub records : after.records.items ≡ rest.records.items
+  pub log : after.log ≡ rest.log
+  pub made : after.made ≡ rest.made
+
 -- A run so far, by any choices among what the public calls of a core and the collection do, each where it may be
 -- called: a new core, an event of a thread over a reader of a disk without words, the stop word set, an answer to a `collect`, a thread that drops its
 -- registers, a new epoch, and a collection between two epochs.
