@@ -24,7 +24,7 @@ use Rattle.melt_scion.specs.Collected.{Collected, CountsWords}
 use Rattle.melt_scion.specs.Names.{name_at}
 use Rattle.melt_scion.specs.GhostMaps.{NamePairs}
 use Rattle.melt_scion.specs.Heaps.{OnDisk, no_homes_on, HasNames, HasMaps, KeepsNames, KeepsTables, NamesMade, IsFormed}
-use Rattle.melt_scion.specs.Heaps.{IsSettled, state_of}
+use Rattle.melt_scion.specs.Heaps.{TablesMade, IsSettled, state_of}
 use Rattle.melt_scion.specs.declared.heap.Names as heap
 use Rattle.melt_scion.specs.declared.heap.Heap.{Heap}
 use Rattle.melt_scion.specs.declared.registers.Registers.{Registers}
@@ -51,9 +51,16 @@ names_are None pairs some = absurd (cc)
 names_are (Some names) pairs some = (λ address. refl, λ home. refl)
 
 -- names that are there are for all words
-pub names_made : (names : Option heap.Names) (words : ℕ) → length (numbers_of names) ≡ words → NamesMade words names
+names_made : (names : Option heap.Names) (words : ℕ) → length (numbers_of names) ≡ words → NamesMade words names
 names_made None words room = tt
 names_made (Some names) words room = room
+
+-- the tables of a heap at rest were made for its words
+pub tables_made : (disk : OnDisk) (heap : Heap) (rest : Rest) → AtRest true disk heap rest → TablesMade heap
+tables_made disk heap rest at_rest = record {
+  scions = at_rest.stands.scions_made;
+  names = names_made heap.names (length heap.space.list) at_rest.stands.room;
+}
 
 -- heap and registers may be collected
 pub rest_formed : (heap : Heap) (rest : Rest) → AtRest true no_homes_on heap rest → IsFormed heap rest.held.items
@@ -61,10 +68,7 @@ rest_formed heap rest at_rest = record {
   maps = maps_of heap.names;
   disk = no_homes_on;
   names = names_are heap.names heap.maps at_rest.stands.named;
-  made = record {
-    scions = at_rest.stands.scions_made;
-    names = names_made heap.names (length heap.space.list) at_rest.stands.room;
-  };
+  made = tables_made no_homes_on heap rest at_rest;
   formed = record { words = at_rest.stands.holds.formed; registers = at_rest.stands.registers };
 }
 

@@ -21,7 +21,7 @@ use Rattle.melt_core.specs.Views.{Standing, IsQuiet}
 use Rattle.melt_core.specs.Epochs.{AtRest, core_of}
 use Rattle.melt_core.proofs.Alive.{placed as placed_now}
 use Rattle.melt_step.specs.Choices.{OnlyRegisters}
-use Rattle.melt_step.proofs.Collecting.{StandsFor, collected_view, names_are, names_made, standing_for, values_for}
+use Rattle.melt_step.proofs.Collecting.{StandsFor, collected_view, names_are, tables_made, standing_for, values_for}
 use Rattle.melt_step.proofs.Collecting.{collected_for, copied_for, same_sizes, same_view}
 
 -- What a collection left stands at rest over the disk after it, which ends there and shows what it tells. There are as
@@ -96,8 +96,6 @@ settled_on disk heap mid rest told between at_rest shows settles =
     let counts : Counts v = s.counts refl in
     let used : mid.space.used ≡ heap.space.used = settles.all.used in
     let size : length mid.space.list ≡ length heap.space.list = settles.all.size in
-    let made : TablesMade heap =
-    record { scions = s.scions_made; names = names_made heap.names (length heap.space.list) s.room } in
     let names : heap.names ≡ mid.names = sym settles.all.names in
     record {
       later = with_image disk kept.image;
@@ -107,7 +105,7 @@ settled_on disk heap mid rest told between at_rest shows settles =
         placed = subst (λ (n : Option name_table.Names). Placed v.log (value v) (maps_of n)
             (state_of mid rest.held.items (with_image disk kept.image))) names
             (kept_placed disk heap mid rest between at_rest kept);
-        tables = settled_tables heap mid settles.all made;
+        tables = settled_tables heap mid settles.all (tables_made disk heap rest at_rest);
         settled = settles.settled;
         size = size;
         globals = ap length settles.all.globals;
