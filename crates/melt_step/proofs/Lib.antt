@@ -19,3 +19,4 @@ pub mod Reporting
 pub mod Collecting
 pub mod Ending
 pub mod Turning
+pub mod PlannedRest
