@@ -5,4 +5,4 @@ abbrev pub ghosts-collect_uncounted : goal.ghosts-collect_uncounted
 ghosts-collect_uncounted g a = record { name = a.blank.name; parts = a.blank.parts }
 
 abbrev pub invariant-loop-phase : goal.invariant-loop-phase
-invariant-loop-phase l = IsFormedOn l.heap l.held l.stale.end
+invariant-loop-phase g l = IsFormedOn l.heap l.held l.stale.end
