@@ -1,0 +1,100 @@
+"""What bench/gen, bench/flags and bench/start share: the program, the largest traces, and how a process is measured."""
+import bisect
+import os
+import pathlib
+import re
+import shutil
+import subprocess
+import sys
+import tempfile
+import time
+from typing import NamedTuple
+
+PROGRAM = pathlib.Path(__file__).resolve().parent.parent / "crates/melt_top/out/melt_top"
+KINDS = ["list", "queue", "table", "tree"]
+SIZES = range(1, 100001)  # objects of each thread
+MEASURE = "/usr/bin/time"
+USAGE = 1  # the status of words that ask for too many operations
+
+
+class Cost(NamedTuple):
+    seconds: float
+    processor: float  # seconds too, of this process alone
+
+
+def fail(text):
+    sys.exit(f"bench/{pathlib.Path(sys.argv[0]).name}: {text}")
+
+
+def built(program):
+    """The path of the program, where it is there."""
+    path = os.path.realpath(program)
+    if not os.access(path, os.X_OK):
+        fail(f"{program} is not there: run ./melt once, which builds it")
+    return path
+
+
+def compiled(source, folder):
+    """A program of this text in C."""
+    text, program = pathlib.Path(folder, "plain.c"), pathlib.Path(folder, "plain")
+    text.write_text(source)
+    subprocess.run([os.environ.get("CC", "gcc"), "-O2", "-Wall", "-o", program, text], check=True)
+    return str(program)
+
+
+def run(words, given=subprocess.DEVNULL, into=subprocess.DEVNULL):
+    """Runs a process once, with its input from a file and its output into one. Answers what it took."""
+    if given != subprocess.DEVNULL:
+        given.seek(0)
+    if into != subprocess.DEVNULL:
+        into.seek(0)
+        into.truncate()
+    begun = time.perf_counter()
+    child = subprocess.Popen(words, stdin=given, stdout=into)
+    _, status, usage = os.wait4(child.pid, 0)
+    seconds = time.perf_counter() - begun
+    child.returncode = os.waitstatus_to_exitcode(status)
+    if child.returncode:
+        fail(f"{' '.join(map(str, words))} ended with status {child.returncode}")
+    return Cost(seconds, usage.ru_utime + usage.ru_stime)
+
+
+def peak(words, given=subprocess.DEVNULL, into=subprocess.DEVNULL):
+    """The peak of memory in MiB, or None where GNU time is missing."""
+    if not os.access(MEASURE, os.X_OK):
+        return None
+    with tempfile.NamedTemporaryFile() as told:
+        run([MEASURE, "-f", "%M", "-o", told.name, *words], given, into)
+        return int(told.read().split()[-1]) / 1024
+
+
+def instructions(words, given=subprocess.DEVNULL):
+    """How many instructions a process takes outside the system, or None where valgrind is missing."""
+    if shutil.which("valgrind") is None:
+        return None
+    with tempfile.NamedTemporaryFile("r") as told:
+        run(["valgrind", "--tool=cachegrind", "--cache-sim=no", "--cachegrind-out-file=/dev/null",
+             f"--log-file={told.name}", *words], given)
+        return int(re.search(r"I +refs: +([\d,]+)", told.read())[1].replace(",", ""))
+
+
+def least(costs):
+    """The best time of each sort."""
+    return Cost(*map(min, zip(*costs)))
+
+
+def gen(program, kind, seed, size, threads):
+    """The words that make a trace."""
+    return [program, "gen", "--kind", kind, "--seed", str(seed), "--size", str(size), "--threads", str(threads)]
+
+
+def largest(program, kind, seed, threads):
+    """The largest size that `melt gen` accepts."""
+    def is_refused(size):
+        return subprocess.run(gen(program, kind, seed, size, threads), stdout=subprocess.DEVNULL).returncode == USAGE
+    return SIZES[bisect.bisect_left(SIZES, True, key=is_refused) - 1]
+
+
+def shown(number, form):
+    """The number in this form, or a dash where it is not known."""
+    return "-" if number is None else format(number, form)
