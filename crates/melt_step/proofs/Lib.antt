@@ -19,4 +19,3 @@ pub mod Reporting
 pub mod Collecting
 pub mod Ending
 pub mod Turning
-pub mod PlannedRest
