@@ -235,19 +235,15 @@ place_slot disk v (Field object i) is = (slot.Field is.1.number i, (is.1.number,
 place_slot disk v (Global g) is = (slot.Global g, refl)
 
 -- and a reference with a tag stands for an object.
+named_object : (name : Option ℕ) (v : Value) → option_map Ref name ≡ Some v → (n : ℕ) × (v ≡ Ref n)
+named_object None v is = absurd (cc)
+named_object (Some n) v is = (n, sym (same_Some (Ref n) v is))
+
 tag_object : (m : Maps) (r : words.Ref) (v : Value) → HasTag r → value_of m r ≡ Some v → (n : ℕ) × (v ≡ Ref n)
 tag_object m word.Null v tag is = absurd tag
 tag_object m (word.Clean a) v tag is = absurd tag
-tag_object m (word.Stale a) v tag is = of_name (m.address a) v is
-  where
-    of_name : (name : Option ℕ) (v : Value) → option_map Ref name ≡ Some v → (n : ℕ) × (v ≡ Ref n)
-    of_name None v is = absurd (cc)
-    of_name (Some n) v is = (n, sym (same_Some (Ref n) v is))
-tag_object m (word.Disk home) v tag is = of_name (m.home home) v is
-  where
-    of_name : (name : Option ℕ) (v : Value) → option_map Ref name ≡ Some v → (n : ℕ) × (v ≡ Ref n)
-    of_name None v is = absurd (cc)
-    of_name (Some n) v is = (n, sym (same_Some (Ref n) v is))
+tag_object m (word.Stale a) v tag is = named_object (m.address a) v is
+tag_object m (word.Disk home) v tag is = named_object (m.home home) v is
 
 -- So a call that finds one watches the object from then on.
 pub watch_begins : (disk : OnDisk) (v : View) (q t : ℕ) (look : Look) → Standing true disk v

@@ -107,7 +107,7 @@ module _ (disk : OnDisk) (u v w : View) (t : ℕ) (o : Op) (result : StepResult)
   tied_by : (act : Option Act) → TiedTo u v → Outcomes disk (length u.log) t act v w → TiedTo u w
   tied_by act tied out = tied_later t act (sight u) (sight v) (sight w) (touched act out) tied
 
-  -- A CALL THAT GOES ON
+  -- A call that goes on:
   same_word : (place : Place) → SameWords (state disk v) (state disk w)
       → word_in (state disk w) place ≡ word_in (state disk v) place
   same_word (Field object i) kept = kept.word (object + 2 + i)
@@ -183,7 +183,7 @@ module _ (disk : OnDisk) (u v w : View) (t : ℕ) (o : Op) (result : StepResult)
   over : stage_of w t ≡ None → IfSome (look_of (stage_of w t)) (Watched (length u.log) (sight w) t)
   over nothing = subst (λ (g : Option Stage). IfSome (look_of g) (Watched (length u.log) (sight w) t)) (sym nothing) tt
 
-  -- A CALL THAT IS REFUSED
+  -- A call that is refused:
   refused : MayBeRefused (stage_of v t) → w.log ≡ v.log → stage_of w t ≡ None
       → Outcomes disk (length u.log) t None v w
   refused may log nothing = record {
@@ -210,7 +210,7 @@ module _ (disk : OnDisk) (u v w : View) (t : ℕ) (o : Op) (result : StepResult)
       refused (reads_refused (stage_of v t) damaged.home out.lost.reads) out.lost.own.history
       (ap stage_in out.lost.call)
 
-  -- A CALL THAT IS ANSWERED
+  -- A call that is answered:
   module _ (reply : Reply) (asks : Asks disk v t o) (sixteen : HasRegisters v t) (tied : TiedTo u v)
       (out : IsAnswered disk v w t o reply) where
     answers : Answers t v.log (values_of v t) o reply w.log (values_of w t)
@@ -306,7 +306,7 @@ module _ (disk : OnDisk) (u v w : View) (t : ℕ) (o : Op) (result : StepResult)
     answered : TiedTo u w
     answered = tied_by (does v.log (values_of v t) o answers.value).act tied is_answered
 
--- THE LAW
+-- by its outcome
 event_tied : (disk : OnDisk) (u v w : View) (t : ℕ) (o : Op) (result : StepResult) → Standing true disk v
     → Asks disk v t o → HasRegisters v t → AdvancesOver disk v w t o result → TiedTo u v → TiedTo u w
 event_tied disk u v w t o Going s asks sixteen is tied =

@@ -103,7 +103,6 @@ used_last h e q n used =
           ∙ (ap (λ (x : Entry). given (take used.place (h ++ e ∷ [])) x.act) new.1 ∙ g.2))
     ]
 
--- FOR ONE THREAD
 -- what an entry that reads gives is what it read
 given_read : (before : List Entry) (act : Act) (slot : Slot) (value : Value) → read_of act ≡ Some (slot, value)
     → given before act ≡ Some value
@@ -134,7 +133,7 @@ moment_is h q n thread one looked =
           absurd (omega arith)
     ]
 
--- so what was passed was used
+-- so on one thread what was passed was used
 pub passed_used : (h : List Entry) (globals q n thread : ℕ) → Legal h globals → OneThread h q thread → Passed h q n
     → Used h q n
 passed_used h globals q n thread legal one (inl used) = used

@@ -60,6 +60,7 @@ pub record Sight : Type 0 where
   pub word : ℕ → ℕ
   pub stage : ℕ → Option Stage
 
+-- what a view shows of that
 abbrev pub sight : View → Sight
 sight v = record { log = v.log; maps = maps v; word = word_at v.space; stage = stage_of v }
 
@@ -71,9 +72,11 @@ pub record BitIs (s : Sight) (n : ℕ) (stale : Bool) : Type 0 where
   pub small : IsShape shape
   pub word : s.word address ≡ header_word (record { shape = shape; stale = stale })
 
+-- it is in use with the bit
 abbrev pub HasBit : Sight → ℕ → Type 0
 HasBit s n = BitIs s n true
 
+-- or without it
 abbrev pub HasNoBit : Sight → ℕ → Type 0
 HasNoBit s n = BitIs s n false
 
@@ -138,8 +141,9 @@ pub record Tied (u s : Sight) : Type 0 where
   pub stale : (n : ℕ) → HasBit s n → HasBit u n
   pub used : (n : ℕ) → InUse s.maps n → Used s.log (length u.log) n → HasNoBit s n
 
--- What that says where no call is in flight. An object without the bit that had it at first, or was not in use, was passed
--- since. One that has the bit had it at first. One that was used since has none.
+-- What that says where no call is in flight. An object without the bit had none at first, or was passed since: so it was
+-- passed if it had the bit at first, or was not in use. One that has the bit had it at first. One that was used since and
+-- is in use has none.
 pub record BitsTold (u s : Sight) : Type 0 where
   pub since : (n : ℕ) → HasNoBit s n → HasNoBit u n ⊎ Passed s.log (length u.log) n
   pub passed : (n : ℕ) → HasNoBit s n → HasBit u n ⊎ (InUse u.maps n → ⊥) → Passed s.log (length u.log) n
@@ -150,17 +154,22 @@ pub record BitsTold (u s : Sight) : Type 0 where
 abbrev pub HasRegisters : View → ℕ → Type 0
 HasRegisters v t = length (registers_in v.held t) ≡ 16
 
+-- the bits that a view shows are tied to those that another showed before
 abbrev pub TiedTo : View → View → Type 0
 TiedTo u v = Tied (sight u) (sight v)
 
--- The stale bit is tied to the history from the beginning of an epoch to its end, where the disk tells its words.
+-- Where the disk tells its words, the stale bit is tied to the history from this view on.
 pub record StaleBitLaws (u : View) : Type 0 where
+  -- it is so at the beginning, with no call in flight
   pub begins : IsQuiet u → TiedTo u u
+  -- each event of a thread keeps it
   pub advances : (image : Option (List ℕ)) (disk : OnDisk) (v w : View) (t : ℕ) (o : Op) (result : StepResult) →
       Standing true disk v → MayMove v t o → HasRegisters v t → TellsDisk image disk →
       AdvancesWhere (TellsDisk image disk) disk v w t o result → TiedTo u v → TiedTo u w
+  -- and so do a request to stop, a thread that lets its registers hold nothing, and the end
   pub asked : (v : View) → TiedTo u v → TiedTo u (record v { stop = true })
   pub dropped : (v w : View) (t : ℕ) → HasDropped v w t → TiedTo u v → TiedTo u w
   pub finished : (v w : View) → HasFinished v w → TiedTo u v → TiedTo u w
+  -- which tells what became of each bit
   pub tells : (disk : OnDisk) (v : View) → Standing true disk u → IsQuiet v → TiedTo u v →
       BitsTold (sight u) (sight v)
