@@ -19,11 +19,12 @@ use Rattle.melt_model.specs.declared.reports.Journal.{Journal}
 use Rattle.melt_model.proofs.Sums.{CostsSum-part}
 use Rattle.melt_scion.specs.State.{State}
 use Rattle.melt_scion.specs.Placed.{Maps, IsNamed, Placed}
-use Rattle.melt_scion.specs.Moves.{Leaves, MovesNames}
-use Rattle.melt_scion.specs.Collected.{CountsWords}
+use Rattle.melt_scion.specs.Moves.{Leaves}
+use Rattle.melt_scion.specs.Collected.{Collected, CountsWords}
 use Rattle.melt_scion.specs.Names.{name_at}
 use Rattle.melt_scion.specs.GhostMaps.{NamePairs}
-use Rattle.melt_scion.specs.Heaps.{no_homes_on, HasNames, KeepsNames, NamesMade, IsFormed, state_of}
+use Rattle.melt_scion.specs.Heaps.{OnDisk, no_homes_on, HasNames, HasMaps, KeepsNames, KeepsTables, NamesMade, IsFormed}
+use Rattle.melt_scion.specs.Heaps.{TablesMade, IsSettled, state_of}
 use Rattle.melt_scion.specs.declared.heap.Names as heap
 use Rattle.melt_scion.specs.declared.heap.Heap.{Heap}
 use Rattle.melt_scion.specs.declared.registers.Registers.{Registers}
@@ -36,7 +37,7 @@ use Rattle.melt_copy.specs.Copying.{IsCopying, Collects, HasCollected}
 use Rattle.melt_core.specs.declared.call.Call.{Call}
 use Rattle.melt_core.specs.declared.machine.Rest.{Rest}
 use Rattle.melt_core.specs.Views.{View, view, maps, maps_of, state, value, values_of, numbers_of, registers_in}
-use Rattle.melt_core.specs.Views.{held_values, call_of, claimed, claimed_in, InUse, Counts, Standing}
+use Rattle.melt_core.specs.Views.{held_values, call_of, claimed, claimed_in, InUse, Bounded, Standing}
 use Rattle.melt_core.specs.Epochs.{AtRest, core_of, HasFinished}
 use Rattle.melt_core.proofs.Values.{same_values}
 use Rattle.melt_policy.specs.Policy.{planned}
@@ -54,16 +55,20 @@ names_made : (names : Option heap.Names) (words : ℕ) → length (numbers_of na
 names_made None words room = tt
 names_made (Some names) words room = room
 
+-- the tables of a heap at rest were made for its words
+pub tables_made : (disk : OnDisk) (heap : Heap) (rest : Rest) → AtRest true disk heap rest → TablesMade heap
+tables_made disk heap rest at_rest = record {
+  scions = at_rest.stands.scions_made;
+  names = names_made heap.names (length heap.space.list) at_rest.stands.room;
+}
+
 -- heap and registers may be collected
 pub rest_formed : (heap : Heap) (rest : Rest) → AtRest true no_homes_on heap rest → IsFormed heap rest.held.items
 rest_formed heap rest at_rest = record {
   maps = maps_of heap.names;
   disk = no_homes_on;
   names = names_are heap.names heap.maps at_rest.stands.named;
-  made = record {
-    scions = at_rest.stands.scions_made;
-    names = names_made heap.names (length heap.space.list) at_rest.stands.room;
-  };
+  made = tables_made no_homes_on heap rest at_rest;
   formed = record { words = at_rest.stands.holds.formed; registers = at_rest.stands.registers };
 }
 
@@ -96,10 +101,6 @@ none_leave Inactive s copying a leaves = leaves
 none_leave Mark s copying a leaves = leaves
 none_leave Move s copying a leaves = copying
 
--- what is in use after a collection was in use before it
-was_in_use : (old new : Maps) (to : ℕ → ℕ) (n : ℕ) → MovesNames old new to → InUse new n → InUse old n
-was_in_use old new to n names is = let from = names.only is.0 n is.1 in (from.0, from.3)
-
 -- the words of what is in use, counted by headers, are those of the objects of the history
 in_use_costs : (h : List Entry) (value : ℕ → ℕ → Value) (m : Maps) (s : State) (total : ℕ) → Placed h value m s
     → CountsWords s (IsNamed m) total → CostsSum (words_of h) (InUse m) total
@@ -116,8 +117,133 @@ unclaimed (c ∷ calls) quiet =
     omega (arith, sum-map claimed_in calls, sum-map claimed_in (c ∷ calls), sum_by-cons claimed_in c calls)
 
 -- the view of a rest behind a collection, with the calls and the history from before
-collected_view : Heap → Rest → List Registers → View
+abbrev pub collected_view : Heap → Rest → List Registers → View
 collected_view new rest registers = record (view (core_of new rest)) { held = registers }
+
+-- A heap and registers that stand, over a disk, for what another heap stood for with the registers of the rest. They
+-- have as many words and globals, and no forwarding word is filled.
+pub record StandsFor (later : OnDisk) (heap new : Heap) (rest : Rest) (registers : List Registers) : Type 0 where
+  pub placed : Placed rest.log.items (value (view (core_of heap rest))) (maps_of new.names)
+      (state_of new registers later)
+  pub tables : KeepsTables heap new
+  pub settled : IsSettled new
+  pub size : length new.space.list ≡ length heap.space.list
+  pub globals : length new.globals ≡ length heap.globals
+  pub bounded : Bounded (collected_view new rest registers)
+  pub in_use : ℕ
+  pub adds_up : CostsSum (words_of rest.log.items) (InUse (maps_of new.names)) in_use
+  pub below : in_use ≤ new.space.used
+  pub within : in_use ≤ length new.space.list
+
+module _ (disk later : OnDisk) (heap new : Heap) (rest : Rest) (registers : List Registers)
+    (at_rest : AtRest true disk heap rest) where
+  -- such a heap stands for the history of the rest
+  pub standing_for : StandsFor later heap new rest registers → length registers ≡ length rest.held.items
+      → Standing true later (collected_view new rest registers)
+  standing_for is threads =
+      let v : View = view (core_of heap rest) in
+      let s : Standing true disk v = at_rest.stands in
+      let size : length new.space.list ≡ length heap.space.list = is.size in
+      let none : claimed v.calls ≡ 0 = unclaimed v.calls at_rest.quiet in
+      record {
+        named = keeps_some heap.names new.names s.named is.tables.names;
+        room = keeps_room heap.names new.names is.tables.names ∙ (s.room ∙ sym size);
+        scions_made = scions_kept (length heap.space.list) (length new.space.list) heap.scions new.scions
+            is.tables.scions size s.scions_made;
+        few = subst (λ (n : ℕ). n ≤ 8) (sym threads) s.few;
+        each = s.each ∙ sym threads;
+        buffers = s.buffers ∙ sym threads;
+        rests = λ u below. s.rests u (subst (λ (n : ℕ). u < n) threads below);
+        counted = s.counted;
+        first = omega arith;
+        bounded = is.bounded;
+        holds = record {
+          formed = is.placed.formed.words;
+          no_gaps = settled_gaps (state_of new registers later) is.settled;
+          tells = λ told. is.placed.tells;
+        };
+        legal = λ told. subst (Legal v.log) (sym is.globals) (s.legal refl);
+        registers = is.placed.formed.registers;
+        known = λ t c call. let quiet : call_of v t ≡ None = at_rest.quiet t in absurd (cc);
+        fits = λ t c call. let quiet : call_of v t ≡ None = at_rest.quiet t in absurd (cc);
+        apart = λ t u c d other call at. let quiet : call_of v t ≡ None = at_rest.quiet t in absurd (cc);
+        counts = λ told. record {
+          in_use = is.in_use;
+          adds_up = is.adds_up;
+          below = let below = is.below in omega (arith, none, below);
+          within = let within = is.within in omega (arith, none, within);
+        };
+      }
+
+  -- and registers for the values that they held
+  pub values_for : StandsFor later heap new rest registers
+      → ((t : ℕ) → length (registers_in registers t) ≡ length (registers_in rest.held.items t)) → (t : ℕ)
+      → values_of (collected_view new rest registers) t ≡ values_of (view (core_of heap rest)) t
+  values_for is sizes t =
+      same_values heap.names new.names (registers_in rest.held.items t) (registers_in registers t) (sizes t)
+      (is.placed.registers t)
+
+  -- what was collected stands for what it stood for before
+  pub collected_for : (phase : Phase) (after : Maps) (to home scion : ℕ → ℕ) → KeepsTables heap new → IsSettled new
+      → HasMaps new after
+      → Collected phase (maps_of heap.names) after (state_of heap rest.held.items disk) (state_of new registers later)
+      to home scion
+      → CountsWords (state_of new registers later) (IsNamed after) new.space.used
+      → StandsFor later heap new rest registers
+  collected_for phase after to home scion tables settled names collected live =
+      let v : View = view (core_of heap rest) in
+      let t : State = state_of new registers later in
+      let same : after ≡ maps_of new.names =
+      same_maps heap.names new.names new.maps after at_rest.stands.named tables.names names in
+      let placed : Placed v.log (value v) after t =
+      collected.placed v.log (value v) (placed_now disk v at_rest.stands) in
+      let adds_up : CostsSum (words_of v.log) (InUse after) new.space.used =
+      in_use_costs v.log (value v) after t new.space.used placed live in
+      let free : new.space.used + 1 ≤ length new.space.list + 1 = collected.words.free in
+      record {
+        placed = subst (λ (m : Maps). Placed v.log (value v) m t) same placed;
+        tables = tables;
+        settled = settled;
+        size = collected.words.size;
+        globals = collected.words.globals;
+        bounded = inl free;
+        in_use = new.space.used;
+        adds_up = subst (λ (m : Maps). CostsSum (words_of v.log) (InUse m) new.space.used) same adds_up;
+        below = omega arith;
+        within = omega (arith, free);
+      }
+
+-- what a copying collection made of the heap, over the disk and with the maps with which it stood
+has_collected : (disk : OnDisk) (heap new : Heap) (rest : Rest) (registers : List Registers) (phase : Phase)
+    (journal : Journal) → AtRest true disk heap rest → Collects heap rest.held.items new registers phase journal
+    → HasCollected (maps_of heap.names) disk heap new rest.held.items registers phase journal
+has_collected disk heap new rest registers phase journal at_rest collects =
+    collects.each (maps_of heap.names) disk (names_are heap.names heap.maps at_rest.stands.named)
+    (placed_now disk (view (core_of heap rest)) at_rest.stands).formed
+
+-- over a disk without homes it left the words of what is alive
+alive_words : (heap new : Heap) (rest : Rest) (registers : List Registers) (phase : Phase) (journal : Journal)
+    → AtRest true no_homes_on heap rest → IsCopying phase → Collects heap rest.held.items new registers phase journal
+    → CostsSum (words_of rest.log.items) (Alive rest.log.items (value (view (core_of heap rest)))) journal.live
+alive_words heap new rest registers phase journal at_rest copying collects =
+    let v : View = view (core_of heap rest) in
+    let has : HasCollected (maps v) no_homes_on heap new rest.held.items registers phase journal =
+    has_collected no_homes_on heap new rest registers phase journal at_rest collects in
+    live_costs v.log (value v) (maps v) (state no_homes_on v) (placed_now no_homes_on v at_rest.stands) phase has.after
+    (state_of new registers no_homes_on) has.to has.home has.scion journal.live (at_rest.stands.legal refl) refl
+    (none_leave phase (state no_homes_on v) copying) has.collected has.live
+
+-- a copying collection leaves, over any disk, what stands for the same
+pub copied_for : (disk : OnDisk) (heap new : Heap) (rest : Rest) (registers : List Registers) (phase : Phase)
+    (journal : Journal) → AtRest true disk heap rest → Collects heap rest.held.items new registers phase journal
+    → StandsFor disk heap new rest registers
+copied_for disk heap new rest registers phase journal at_rest collects =
+    let has : HasCollected (maps_of heap.names) disk heap new rest.held.items registers phase journal =
+    has_collected disk heap new rest registers phase journal at_rest collects in
+    let used : journal.live ≡ new.space.used = has.told.live_words in
+    collected_for disk disk heap new rest registers at_rest phase has.after has.to has.home has.scion collects.tables
+    collects.settled has.names has.collected
+    (subst (CountsWords (state_of new registers disk) (IsNamed has.after)) used has.live)
 
 -- the collected heap and registers stand for the history of the rest
 collected_stands : (heap new : Heap) (rest : Rest) (registers : List Registers) (phase : Phase) (journal : Journal)
@@ -125,78 +251,27 @@ collected_stands : (heap new : Heap) (rest : Rest) (registers : List Registers) 
     → length registers ≡ length rest.held.items
     → ((t : ℕ) → length (registers_in registers t) ≡ length (registers_in rest.held.items t))
     → CoreCollected (view (core_of heap rest)) (collected_view new rest registers)
-unfolding collected_view
 collected_stands heap new rest registers phase journal at_rest copying collects threads sizes =
     let v : View = view (core_of heap rest) in
     let w : View = collected_view new rest registers in
-    let s : Standing true no_homes_on v = at_rest.stands in
-    let before : Placed v.log (value v) (maps v) (state no_homes_on v) = placed_now no_homes_on v s in
-    let has : HasCollected (maps v) no_homes_on heap new rest.held.items registers phase journal =
-    collects.each (maps v) no_homes_on (names_are heap.names heap.maps s.named) before.formed in
-    let placed_at : Placed v.log (value v) has.after (state no_homes_on w) = has.collected.placed v.log (value v) before
-    in
-    let same : has.after ≡ maps w =
-    same_maps heap.names new.names new.maps has.after s.named collects.tables.names has.names in
-    let placed : Placed v.log (value v) (maps w) (state no_homes_on w) =
-    subst (λ (m : Maps). Placed v.log (value v) m (state no_homes_on w)) same placed_at in
-    let values : (t : ℕ) → values_of w t ≡ values_of v t = λ t.
-    same_values heap.names new.names (registers_in rest.held.items t) (registers_in registers t) (sizes t)
-    (placed.registers t) in
+    let is : StandsFor no_homes_on heap new rest registers =
+    copied_for no_homes_on heap new rest registers phase journal at_rest collects in
+    let values : (t : ℕ) → values_of w t ≡ values_of v t =
+    values_for no_homes_on no_homes_on heap new rest registers at_rest is sizes in
     let value_is : value v ≡ value w =
     fun_ext (λ t. fun_ext (λ r. ap (λ (vs : List Value). value_in vs r) (sym (values t)))) in
-    let size : length new.space.list ≡ length heap.space.list = has.collected.words.size in
-    let globals : length new.globals ≡ length heap.globals = has.collected.words.globals in
-    let none : claimed v.calls ≡ 0 = unclaimed v.calls at_rest.quiet in
-    let used : journal.live ≡ new.space.used = has.told.live_words in
-    let counted : CountsWords (state no_homes_on w) (IsNamed has.after) new.space.used =
-    subst (CountsWords (state no_homes_on w) (IsNamed has.after)) used has.live in
-    let live : CostsSum (words_of v.log) (InUse has.after) new.space.used =
-    in_use_costs v.log (value v) has.after (state no_homes_on w) new.space.used placed_at counted in
-    let told : Counts v = s.counts refl in
-    let fewer : new.space.used ≤ told.in_use =
-    CostsSum-part (words_of v.log) (InUse has.after) (InUse (maps v)) new.space.used told.in_use
-    (λ n is. was_in_use (maps v) has.after has.to n has.collected.names is) live
-    told.adds_up in
+    let used : journal.live ≡ new.space.used =
+    (has_collected no_homes_on heap new rest registers phase journal at_rest collects).told.live_words in
     let alive : CostsSum (words_of v.log) (Alive v.log (value w)) new.space.used =
     subst (λ (f : ℕ → ℕ → Value). CostsSum (words_of v.log) (Alive v.log f) new.space.used) value_is
-    (live_costs v.log (value v) (maps v) (state no_homes_on v) before phase has.after (state no_homes_on w) has.to
-    has.home has.scion
-    new.space.used (s.legal refl) refl (none_leave phase (state no_homes_on v) copying) has.collected counted) in
-    let within : new.space.used ≤ length new.space.list = omega (arith, none, size, fewer, told.within) in
+    (subst (CostsSum (words_of v.log) (Alive v.log (value v))) used
+    (alive_words heap new rest registers phase journal at_rest copying collects)) in
     record {
       stays = record {
-        stands = record {
-          named = keeps_some heap.names new.names s.named collects.tables.names;
-          room = keeps_room heap.names new.names collects.tables.names ∙ (s.room ∙ sym size);
-          scions_made = scions_kept (length heap.space.list) (length new.space.list) heap.scions new.scions
-              collects.tables.scions size s.scions_made;
-          few = subst (λ (n : ℕ). n ≤ 8) (sym threads) s.few;
-          each = s.each ∙ sym threads;
-          buffers = s.buffers ∙ sym threads;
-          rests = λ u below. s.rests u (subst (λ (n : ℕ). u < n) threads below);
-          counted = s.counted;
-          first = omega arith;
-          bounded = inl (omega (arith, within));
-          holds = record {
-            formed = placed.formed.words;
-            no_gaps = settled_gaps (state no_homes_on w) collects.settled;
-            tells = λ is. placed.tells;
-          };
-          legal = λ is. subst (Legal v.log) (sym globals) (s.legal refl);
-          registers = placed.formed.registers;
-          known = λ t c is. let quiet : call_of v t ≡ None = at_rest.quiet t in absurd (cc);
-          fits = λ t c is. let quiet : call_of v t ≡ None = at_rest.quiet t in absurd (cc);
-          apart = λ t u c d other is at. let quiet : call_of v t ≡ None = at_rest.quiet t in absurd (cc);
-          counts = λ is. record {
-            in_use = new.space.used;
-            adds_up = subst (λ (m : Maps). CostsSum (words_of v.log) (InUse m) new.space.used) same live;
-            below = omega (arith, none);
-            within = omega (arith, none, within);
-          };
-        };
+        stands = standing_for no_homes_on no_homes_on heap new rest registers at_rest is threads;
         quiet = at_rest.quiet;
-        globals = globals;
-        words = size;
+        globals = is.globals;
+        words = is.size;
         forwards = collects.tables.forwards;
         threads = threads;
         capacity = refl;
@@ -236,6 +311,12 @@ pub same_sizes : (old new : List Registers) → length new ≡ length old → Al
     → length (registers_in new t) ≡ length (registers_in old t)
 same_sizes old new threads before after t = sizes_at old new t threads before after (cases_lt t (length old))
 
+-- a rest in which nothing but registers changed shows what the rest before it shows with these registers
+pub same_view : (new : Heap) (rest after : Rest) → after.calls.items ≡ rest.calls.items
+    → after.records.items ≡ rest.records.items → after.log ≡ rest.log → after.made ≡ rest.made
+    → collected_view new rest after.held.items ≡ view (core_of new after)
+same_view new rest after calls records log made = cc
+
 -- they were collected, and nothing else of the rest changed
 pub rest_collected : (heap new : Heap) (rest after : Rest) (phase : Phase) (journal : Journal)
     → AtRest true no_homes_on heap rest
@@ -244,10 +325,8 @@ pub rest_collected : (heap new : Heap) (rest after : Rest) (phase : Phase) (jour
     → ((t : ℕ) → length (registers_in after.held.items t) ≡ length (registers_in rest.held.items t))
     → after.calls.items ≡ rest.calls.items → after.records.items ≡ rest.records.items → after.log ≡ rest.log
     → after.made ≡ rest.made → CoreCollected (view (core_of heap rest)) (view (core_of new after))
-unfolding collected_view
 rest_collected heap new rest after phase journal at_rest copying collects threads sizes calls records log made =
-    let same : collected_view new rest after.held.items ≡ view (core_of new after) = cc in
-    subst (CoreCollected (view (core_of heap rest))) same
+    subst (CoreCollected (view (core_of heap rest))) (same_view new rest after calls records log made)
     (collected_stands heap new rest after.held.items phase journal at_rest copying collects threads sizes)
 
 -- the collected heap has names
@@ -296,30 +375,18 @@ pub left_words : (heap new : Heap) (rest after : Rest) (phase : Phase) (journal 
     → LeavesWords (view (core_of new after)) journal
 left_words heap new rest after phase journal at_rest copying collects =
     let v : View = view (core_of heap rest) in
-    let s : Standing true no_homes_on v = at_rest.stands in
-    let t : State = state_of new after.held.items no_homes_on in
-    let before : Placed v.log (value v) (maps v) (state no_homes_on v) = placed_now no_homes_on v s in
     let has : HasCollected (maps v) no_homes_on heap new rest.held.items after.held.items phase journal =
-    collects.each (maps v) no_homes_on (names_are heap.names heap.maps s.named) before.formed in
-    let placed_at : Placed v.log (value v) has.after t = has.collected.placed v.log (value v) before in
-    let told : Counts v = s.counts refl in
-    let live : CostsSum (words_of v.log) (InUse has.after) journal.live =
-    in_use_costs v.log (value v) has.after t journal.live placed_at has.live in
-    let alive : CostsSum (words_of v.log) (Alive v.log (value v)) journal.live =
-    live_costs v.log (value v) (maps v) (state no_homes_on v) before phase has.after t has.to has.home has.scion
-    journal.live
-    (s.legal refl) refl (none_leave phase (state no_homes_on v) copying) has.collected has.live in
+    has_collected no_homes_on heap new rest after.held.items phase journal at_rest collects in
     let by_registers : CostsSum (words_of v.log) (Held (value v)) journal.held =
-    held_costs v.log (value v) (maps v) (state no_homes_on v) before journal.held has.held_words in
-    let fewer : journal.live ≤ told.in_use =
-    CostsSum-part (words_of v.log) (InUse has.after) (InUse (maps v)) journal.live told.in_use
-    (λ n is. was_in_use (maps v) has.after has.to n has.collected.names is) live told.adds_up in
-    let size : length new.space.list ≡ length heap.space.list = has.collected.words.size in
+    held_costs v.log (value v) (maps v) (state no_homes_on v) (placed_now no_homes_on v at_rest.stands) journal.held
+    has.held_words in
+    let free : new.space.used + 1 ≤ length new.space.list + 1 = has.collected.words.free in
     record {
       held_within = CostsSum-part (words_of v.log) (Held (value v)) (Alive v.log (value v)) journal.held journal.live
-          (λ n is. Alive.in_register n is) by_registers alive;
+          (λ n is. Alive.in_register n is) by_registers
+          (alive_words heap new rest after.held.items phase journal at_rest copying collects);
       live = omega (arith, has.told.live_words);
-      within = omega (arith, fewer, size, told.within);
+      within = omega (arith, free, has.told.live_words);
     }
 
 -- a collection of the phase was written down, and what it left is what the next one is planned by
