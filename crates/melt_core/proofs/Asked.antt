@@ -23,11 +23,10 @@ use Rattle.melt_word.specs.declared.header.Shape.{Shape}
 use Rattle.melt_core.specs.declared.call.Place.{Place}
 use Rattle.melt_core.specs.declared.call.Place.TheVariants.{Field, Global}
 use Rattle.melt_core.specs.declared.call.Search.{Search}
-use Rattle.melt_core.specs.declared.call.Activation.{Activation}
 use Rattle.melt_core.specs.Stages.{Fits, LoadsAt, FindsTag, Probes, ReadAs, Next, Nothing, change_of, cleared_by}
 use Rattle.melt_core.specs.Stages.{further, retried, reached}
 use Rattle.melt_core.specs.Advances.{Asks, Continues, MayMove}
-use Rattle.melt_core.specs.Views.{View, Standing, maps, state, call_of, stage_in, stage_of, claimed_in, rest_of}
+use Rattle.melt_core.specs.Views.{View, Standing, maps, state, call_of, stage_in, stage_of, rest_of}
 
 -- the call at a stage is of the operation
 at_stage : (c : Option Call) (o : Op) (stage : Stage) → Continues c o → stage_in c ≡ Some stage

@@ -9,12 +9,8 @@ use Rattle.std.specs.Prelude.{Bool, true, false, map, sum, slice_set, Option, No
 use Rattle.melt_model.specs.declared.operations.Op.{Op}
 use Rattle.melt_scion.specs.State.{State}
 use Rattle.melt_scion.specs.Placed.{Maps}
-use Rattle.melt_core.specs.declared.call.Place.TheVariants.{Field}
 use Rattle.melt_word.specs.Words.{cost_of}
 use Rattle.melt_core.specs.Stages.{Next, Lacks, Probes, reached, retried}
-use Rattle.melt_core.specs.declared.call.Access.TheVariants.{Load}
-use Rattle.melt_core.specs.declared.call.Task.{Task}
-use Rattle.melt_word.specs.declared.reference.Ref.TheVariants.{Stale}
 use Rattle.melt_core.specs.declared.call.Stage.{Stage}
 use Rattle.melt_core.specs.declared.call.Search.{Search}
 use Rattle.melt_core.specs.declared.call.Stage.TheVariants.{Polled, Headed, Looked, Cleared, Claimed, Lacking}

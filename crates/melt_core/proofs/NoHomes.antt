@@ -8,7 +8,7 @@ use Rattle.melt_word.specs.declared.reference.Ref.TheVariants.{Stale, Disk}
 use Rattle.melt_model.specs.declared.operations.Op.{Op}
 use Rattle.melt_scion.specs.State.{State}
 use Rattle.melt_scion.specs.Heaps.{OnDisk}
-use Rattle.melt_core.specs.declared.answer.Pause.TheVariants.{Asked, Space, Forward}
+use Rattle.melt_core.specs.declared.answer.Pause.TheVariants.{Forward}
 use Rattle.melt_core.specs.declared.answer.Refusal.TheVariants as refusal
 use Rattle.melt_core.specs.declared.answer.StepResult.{StepResult}
 use Rattle.melt_core.specs.declared.answer.StepResult.TheVariants.{Going, Answered, Refused}
@@ -20,7 +20,7 @@ use Rattle.melt_core.specs.declared.call.Stage.TheVariants.{Looked, Searching, M
 use Rattle.melt_core.specs.declared.call.Stage.TheVariants.{Retrying, LackingCopy}
 use Rattle.melt_core.specs.Known.{Searches, Known}
 use Rattle.melt_core.specs.Stages.{FindsTag, Probes, ReadAs, reached, ReadsAt, SearchesOn}
-use Rattle.melt_core.specs.Advances.{AdvancesWhere, AdvancesOver, Outcome, IsLost}
+use Rattle.melt_core.specs.Advances.{AdvancesWhere, AdvancesOver, Outcome}
 use Rattle.melt_core.specs.Views.{View, Standing, maps, state, rest_of, call_of, stage_of, stage_in}
 
 -- an event that needs the disk's words told, where they are

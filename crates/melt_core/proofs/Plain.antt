@@ -21,7 +21,7 @@ use Rattle.melt_core.specs.Known.{Known, region_of}
 use Rattle.melt_core.specs.Stages.{Fits}
 use Rattle.melt_core.specs.Events.{Event}
 use Rattle.melt_core.specs.Views.{View, Standing, Counts, maps, state, numbers_of, registers_in}
-use Rattle.melt_core.specs.Views.{call_of, stage_in, stage_of, rest_of, claimed_in, claims_left}
+use Rattle.melt_core.specs.Views.{stage_in, stage_of, rest_of, claimed_in, claims_left}
 use Rattle.melt_core.proofs.Keeping.{event_keeps}
 use Rattle.melt_core.proofs.Staying.{hold_stays}
 use Rattle.melt_core.proofs.Regions.{no_region_apart}

@@ -1,13 +1,12 @@
 -- How often a call still reads the disk, and that an event which reads nothing is none of those that may fail.
-use Rattle.std.proofs.Common.{◌≡◌, ℕ, ◌+◌, ◌<◌, ◌≤◌, inl, inr, get_or, refl, sym, ◌∙◌, ap, subst, arith}
+use Rattle.std.proofs.Common.{◌≡◌, ℕ, ◌+◌, ◌≤◌, inl, inr, get_or, refl, sym, ◌∙◌, ap, subst, arith}
 use Rattle.std.proofs.lemmas.Bool.{cases_lt}
 use Rattle.std.proofs.lemmas.List.{get_or_default}
-use Rattle.std.specs.Prelude.{Bool, true, false, ◌==◌, if◌then◌else◌, length, Option, None, Some}
-use Rattle.melt_io.specs.Outside.{Rose}
+use Rattle.std.specs.Prelude.{Bool, true, false, ◌==◌, if◌then◌else◌, Option, None, Some}
 use Rattle.melt_model.specs.declared.operations.Op.{Op}
 use Rattle.melt_word.specs.Words.{cost_of}
 use Rattle.melt_word.specs.declared.header.Shape.{Shape}
-use Rattle.melt_word.specs.declared.reference.Ref.TheVariants.{Stale, Disk}
+use Rattle.melt_word.specs.declared.reference.Ref.TheVariants.{Disk}
 use Rattle.melt_record.specs.declared.damage.Damaged.{Damaged}
 use Rattle.melt_record.specs.declared.head.Kind.{Kind}
 use Rattle.melt_record.specs.declared.head.Kind.TheVariants.{Body, Stub}
@@ -17,10 +16,6 @@ use Rattle.melt_scion.specs.Heaps.{OnDisk, register_in}
 use Rattle.melt_core.specs.declared.answer.Refusal.TheVariants as refusal
 use Rattle.melt_core.specs.declared.answer.StepResult.{StepResult}
 use Rattle.melt_core.specs.declared.answer.StepResult.TheVariants.{Going, Answered, Refused}
-use Rattle.melt_core.specs.declared.call.Access.TheVariants.{Load, Store, Get, Put}
-use Rattle.melt_core.specs.declared.call.Task.TheVariants.{Make, Use, LoadGlobal, StoreGlobal}
-use Rattle.melt_core.specs.declared.call.Place.{Place}
-use Rattle.melt_core.specs.declared.call.Place.TheVariants.{Field, Global}
 use Rattle.melt_core.specs.declared.call.Search.{Search}
 use Rattle.melt_core.specs.declared.call.Call.{Call}
 use Rattle.melt_core.specs.declared.call.Stage.{Stage}
@@ -28,8 +23,8 @@ use Rattle.melt_core.specs.declared.call.Stage.TheVariants.{Polled, Headed, Look
 use Rattle.melt_core.specs.declared.call.Stage.TheVariants.{Searching, Missed, HeadRead, BodyRead, Copying, Copied}
 use Rattle.melt_core.specs.declared.call.Stage.TheVariants.{Retrying, LackingCopy}
 use Rattle.melt_core.specs.Stages.{Next, Probes, ReadAs, ReadsAt, NeedsNoRead, reads_left, body_stage}
-use Rattle.melt_core.specs.Stages.{further, retried, reached}
-use Rattle.melt_core.specs.Advances.{Asks, AdvancesOver, IsDamage, MayAdvance, Moves, Uses, Outcome, reads_after}
+use Rattle.melt_core.specs.Stages.{retried, reached}
+use Rattle.melt_core.specs.Advances.{Asks, AdvancesOver, MayAdvance, Moves, Uses, Outcome, reads_after}
 use Rattle.melt_core.specs.Views.{View, maps, state, call_of, stage_in, stage_of}
 use Rattle.melt_core.proofs.Asked.{inside}
 

@@ -1,5 +1,5 @@
 -- What a read of a record tells: how its load goes on, and that no record is found damaged where the disk tells its words.
-use Rattle.std.proofs.Common.{◌≡◌, ◌⊎◌, ℕ, ◌+◌, ◌<◌, ◌≤◌, ◌^◌, inl, inr, List, [], ◌++◌, length, take, drop, replicate, get_or, length-append}
+use Rattle.std.proofs.Common.{◌≡◌, ℕ, ◌+◌, ◌<◌, ◌≤◌, inl, inr, List, [], ◌++◌, length, take, drop, replicate, get_or, length-append}
 use Rattle.std.proofs.Common.{Result, Ok, Err, OnOk, IfOk, IfErr}
 use Rattle.std.proofs.Common.{refl, sym, ◌∙◌, ap, subst, arith}
 use Rattle.std.proofs.Math.ListN.{set, length-set}
@@ -7,7 +7,7 @@ use Rattle.std.proofs.lemmas.Bool.{cases_eq}
 use Rattle.std.proofs.lemmas.Bool.Decides.{eqb_tells}
 use Rattle.std.proofs.lemmas.List.{get_or-drop, get_or-take, get_or-set_same, get_or-set_other, get_or_default}
 use Rattle.std.proofs.lemmas.List.{get_or_append_left, length-drop, length-take-le}
-use Rattle.std.specs.Prelude.{Bool, true, false, ◌==◌, if◌then◌else◌, Option, None, Some, IfSome, IsSome, slice_index, slice_index_or}
+use Rattle.std.specs.Prelude.{Bool, true, false, ◌==◌, if◌then◌else◌, Option, None, Some, IfSome, IsSome, slice_index}
 use Rattle.std.specs.Result.{is_err}
 use Rattle.melt_model.specs.declared.operations.Op.{Op}
 use Rattle.melt_word.specs.Words.{IsShape, cost_of}
@@ -18,14 +18,13 @@ use Rattle.melt_record.specs.declared.head.Head.{Head}
 use Rattle.melt_record.specs.declared.head.Kind.{Kind}
 use Rattle.melt_record.specs.declared.head.Kind.TheVariants.{Body, Stub}
 use Rattle.melt_record.specs.Records.{IsHead, IsHeadDamage, IsSlotDamage, IsSlotWord, AreSlots}
-use Rattle.melt_io.specs.Outside.{Rose, words_at}
+use Rattle.melt_io.specs.Outside.{words_at}
 use Rattle.melt_io.proofs.WordBytes.{get_or-padded}
-use Rattle.melt_scion.specs.State.{Base, State}
-use Rattle.melt_scion.specs.Placed.{Maps, HeadIs}
-use Rattle.melt_scion.specs.Commits.{HasHead, HasRecord}
-use Rattle.melt_scion.specs.Scions.{Scions}
+use Rattle.melt_scion.specs.State.{State}
+use Rattle.melt_scion.specs.Placed.{HeadIs}
+use Rattle.melt_scion.specs.Commits.{HasHead}
 use Rattle.melt_scion.specs.Regions.{no_region}
-use Rattle.melt_scion.specs.Heaps.{OnDisk, Shows, register_in}
+use Rattle.melt_scion.specs.Heaps.{OnDisk, register_in}
 use Rattle.melt_scion.proofs.Searching.{scion_named, scion_same, no_head_damage, stub_live, no_slot_damage}
 use Rattle.melt_core.specs.declared.answer.Refusal.{Refusal}
 use Rattle.melt_core.specs.declared.answer.Refusal.TheVariants as refusal
@@ -40,8 +39,8 @@ use Rattle.melt_core.specs.Events.{Event, quiet}
 use Rattle.melt_core.specs.Stages.{Next, Nothing, ReadAs, ReadsAt, Lacks, Applies, body_stage, change_of, cleared_by}
 use Rattle.melt_core.specs.Stages.{reads_left}
 use Rattle.melt_core.specs.Changed.{with_call}
-use Rattle.melt_core.specs.Advances.{Asks, MayAdvance, Advances, AdvancesWhere, TellsDisk, Refuses, IsLost, NamesNoScion}
-use Rattle.melt_core.specs.Advances.{Breaks, IsDamage, Uses, reads_after, reads_from}
+use Rattle.melt_core.specs.Advances.{Asks, MayAdvance, Advances, AdvancesWhere, TellsDisk, Refuses, IsLost}
+use Rattle.melt_core.specs.Advances.{Breaks, IsDamage, Uses, reads_from}
 use Rattle.melt_core.specs.Views.{View, Standing, maps, state, stage_in, stage_of, rest_of, claimed_in, max_rest}
 use Rattle.melt_core.proofs.Asked.{asks_over, inside, known_at, known_so, still_clears}
 use Rattle.melt_core.proofs.Claims.{claims_ends}

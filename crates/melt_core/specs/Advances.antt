@@ -6,7 +6,6 @@ use Rattle.melt_model.specs.declared.history.Act.{Act}
 use Rattle.melt_model.specs.declared.operations.Op.{Op}
 use Rattle.melt_model.specs.declared.operations.Op.TheVariants as op
 use Rattle.melt_model.specs.declared.operations.Reply.{Reply}
-use Rattle.melt_word.specs.Words.{cost_of}
 use Rattle.melt_word.specs.declared.header.Shape.{Shape}
 use Rattle.melt_record.specs.declared.damage.Damaged.{Damaged}
 use Rattle.melt_record.specs.declared.head.Kind.TheVariants.{Stub}

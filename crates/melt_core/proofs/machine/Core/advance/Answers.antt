@@ -1,5 +1,4 @@
 use Rattle.std.proofs.Common.{refl}
-use Rattle.melt_core.specs.Advances.{Advances}
 use Rattle.melt_core.specs.Stages.{NeedsNoRead}
 use Rattle.melt_core.specs.Views.{View, stage_of, view}
 use Rattle.melt_core.proofs.Disks.{moves_advance}

@@ -1,10 +1,6 @@
-use Rattle.std.proofs.Common.{List, ℕ, refl, sym, ap, subst, arith}
-use Rattle.std.specs.Prelude.{Option, Some, ◌≡◌}
-use Rattle.melt_record.specs.declared.damage.Damaged.{Damaged}
+use Rattle.std.proofs.Common.{sym, subst}
 use Rattle.melt_core.specs.Advances.{Advances, IsDamage}
-use Rattle.melt_core.specs.declared.answer.Refusal.TheVariants as refusal
-use Rattle.melt_core.specs.declared.answer.StepResult.{StepResult}
-use Rattle.melt_core.specs.declared.answer.StepResult.TheVariants.{Going, Refused}
+use Rattle.melt_core.specs.declared.answer.StepResult.TheVariants.{Going}
 use Rattle.melt_core.specs.Changed.{with_call}
 use Rattle.melt_core.specs.Views.{View, view}
 use Rattle.melt_core.proofs.Recorded.{missed_fault, head_advances, head_damaged, head_is_damage, head_uses, ok_of}

@@ -1,10 +1,8 @@
-use Rattle.std.proofs.Common.{◌≡◌, ◌≤◌, ◌+◌, ℕ, length, sym, ap, ◌∙◌, subst, arith}
-use Rattle.std.specs.Prelude.{IfSome}
-use Rattle.melt_io.specs.Outside.{words_at}
+use Rattle.std.proofs.Common.{◌≡◌, ◌+◌, sym, ◌∙◌, subst, arith}
 use Rattle.melt_core.specs.Advances.{Advances, IsDamage}
 use Rattle.melt_core.specs.declared.answer.StepResult.TheVariants.{Going}
 use Rattle.melt_core.specs.Changed.{with_call}
-use Rattle.melt_core.specs.Views.{View, view, max_rest}
+use Rattle.melt_core.specs.Views.{View, view}
 use Rattle.melt_core.proofs.Recorded.{rest_small, buffer_size, front_size, begins_with, head_fault, rest_damaged}
 use Rattle.melt_core.proofs.Recorded.{rest_is_damage, rest_advances, rest_read, is_damaged}
 use Rattle.melt_core.proofs.machine.Core.read_rest.Goals as goal
