@@ -4,11 +4,11 @@ from typing import NamedTuple, Optional
 
 from modelling.traces import LARGEST_NUMBER, number_of
 
-# Parts that the model has, and the program is to get: objects that move to a disk; and other texts than replies.
+# Parts that the model had before the program: objects that move to a disk; and other texts than replies.
 MOVING, TEXTS = "moving", "texts"
 PARTS = (MOVING, TEXTS)
 # Those that the program has by now.
-BUILT = frozenset()
+BUILT = frozenset({TEXTS})
 
 
 @dataclass
