@@ -5,6 +5,7 @@ import pathlib
 import shutil
 import subprocess
 import tempfile
+import time
 
 from fuzzing.calls import call_of
 from modelling.program import answer
