@@ -3,6 +3,7 @@
 #![tactic(auto)]
 
 pub mod config;
+pub mod ghosts;
 pub mod history;
 pub mod operations;
 pub mod plain;
@@ -11,6 +12,7 @@ pub mod steps;
 pub mod words;
 
 pub use config::Config;
+pub use ghosts::Ghost;
 pub use history::{Act, Entries, Entry, Slot, Value};
 pub use operations::{Op, Replies, Reply};
 pub use reports::{Halt, Journal, Journals, Phase, Report, ThreadEnd, ThreadReport, ThreadReports};
