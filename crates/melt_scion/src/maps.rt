@@ -1,30 +1,30 @@
 //! The maps of a heap that keeps no names, for contracts alone.
 ghost use Rattle.std.specs.Prelude.{◌≡◌};
-ghost use Rattle.melt_scion.specs.GhostMaps.{NamePairs, name_pairs_code, no_pairs};
+ghost use Rattle.melt_scion.specs.GhostMaps.{NamePairs, no_pairs};
 
+use melt_model::Ghost;
+use std::collections::LinkedList;
 use std::fmt;
-use std::marker::{Model, PhantomData};
+use std::marker::Model;
+
+/// Pairs of a key and the number of an object. No value of it is ever made.
+type Pairs = LinkedList<(u32, u32)>;
 
 /// The numbers of the objects of a heap, by their addresses and by their homes, as only contracts see them. It takes no
 /// bytes, so no code can ask it for a number.
 #[derive(Drop)]
 pub struct GhostMaps {
-    marker: PhantomData<()>,
-    ghost pairs: { NamePairs } by { name_pairs_code },
+    pairs: Ghost<(Pairs, Pairs)>,
 }
 
 impl Model for GhostMaps {
     ghost use Rattle.melt_scion.specs.GhostMaps.{NamePairs, name_pairs_code};
-    ghost use base.Fml.{ftrue};
 
     ghost Value = { NamePairs };
 
     ghost coded = { name_pairs_code };
 
-    ghost view = { λ maps. maps.pairs };
-
-    // They say nothing of memory, so any pairs will do.
-    ghost also_owns = { λ _. ftrue };
+    ghost view = { λ maps. record { addresses = maps.pairs.0; homes = maps.pairs.1 } };
 }
 
 impl GhostMaps {
@@ -41,9 +41,8 @@ impl GhostMaps {
         ghost pairs: { NamePairs }
         ensures { result ≡ pairs }
     {
-        let _ = from;
         GhostMaps {
-            marker: PhantomData,
+            pairs: Ghost::pick(from),
         }
     }
 }
@@ -53,10 +52,6 @@ impl fmt::Debug for GhostMaps {
         f.write_str("GhostMaps")
     }
 }
-
-unsafe impl Send for GhostMaps {}
-
-unsafe impl Sync for GhostMaps {}
 
 #[cfg(test)]
 mod tests;

@@ -124,6 +124,10 @@ impl ScionTable {
         ensures first { result ≡ first_of self.now.live }
         ensures table { IsTable self.now }
     {
+        // Where all numbers are unused, no place need be looked at.
+        if self.unused.len() == self.pairs.len() {
+            return None;
+        }
         live_above(&self.pairs, 0)
     }
 
