@@ -63,6 +63,14 @@ impl<'d, D: StaleDisk> StaleSpace<'d, D> {
         }
     }
 
+    /// Hands back the disk.
+    pub fn into_disk(self) -> &'d mut D
+        ensures same_disk { result.ghost_name ≡ self.entry.disk.ghost_name }
+        ensures disk { result.now ≡ self.entry.disk.now }
+    {
+        self.disk
+    }
+
     /// The first word that no home may reach.
     pub fn limit(&self) -> u32
         ensures { result ≡ self.now.limit }

@@ -102,3 +102,19 @@ fn a_lend_that_fails_leaves_the_records(rt: HostRuntime) -> Result<(), Fail> {
     );
     Ok(())
 }
+
+#[test]
+fn the_disk_comes_back_with_what_was_written(rt: HostRuntime) -> Result<(), Fail> {
+    let mut disk = SteadyDisk::new(rt.alloc());
+    let mut space = StaleSpace::new(&mut disk, 9);
+    assert_eq!(rt; space.reserve_home(SHAPE), Ok(1));
+    space.write_body(1, SHAPE, &[7])?;
+    let back = space.into_disk();
+    back.write_at(4, &[8])?;
+    assert_eq!(rt;
+        disk.image.as_slice(),
+        [0, 4_295_032_833, 0, 7, 8].as_slice()
+    );
+    assert_eq!(rt; disk.writes, 2);
+    Ok(())
+}
