@@ -108,7 +108,7 @@ module _ (h : List Entry) (value : ℕ → ℕ → Value) (maps : Maps) (s : Sta
   ]
 
 -- a thread that is not there holds nothing
-held_within : (v : View) (t r n : ℕ) → value_in (values_of v t) r ≡ Ref n → t < length v.held
+pub held_within : (v : View) (t r n : ℕ) → value_in (values_of v t) r ≡ Ref n → t < length v.held
 held_within v t r n is = elim (cases_lt t (length v.held)) [
   | inl below ↦ below
   | inr past ↦ absurd (

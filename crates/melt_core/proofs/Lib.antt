@@ -46,3 +46,4 @@ pub mod StaleBitsHeaders
 pub mod StaleBitsStages
 pub mod StaleBitsAnswers
 pub mod StaleBitsEvents
+pub mod Holdings

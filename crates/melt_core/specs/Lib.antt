@@ -9,3 +9,4 @@ pub mod Epochs
 pub mod Lending
 pub mod Shared
 pub mod StaleBits
+pub mod Holdings

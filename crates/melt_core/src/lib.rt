@@ -5,6 +5,7 @@ mod advance;
 pub mod answer;
 mod body;
 pub mod call;
+mod held;
 mod laws;
 mod load;
 pub mod machine;

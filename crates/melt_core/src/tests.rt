@@ -294,6 +294,26 @@ fn objects_that_are_made_at_once_stand_apart(rt: HostRuntime) -> Result<(), Fail
     Ok(())
 }
 
+#[test]
+fn what_registers_hold_is_counted_once(rt: HostRuntime) -> Result<(), Fail> {
+    let mut core = new_core(rt.alloc(), 10)?;
+    assert_eq!(rt; core.held(), 0);
+    let calls = [
+        answered(0, new(0, 1, 2), 7, Reply::Done),
+        answered(0, gstore(0, 0), 2, Reply::Done),
+        answered(1, gload(5, 0), 2, Reply::Ref),
+        answered(1, new(6, 0, 1), 5, Reply::Done),
+        answered(1, Op::Copy { dst: 15, src: 6 }, 1, Reply::Done),
+        answered(0, new(1, 0, 0), 4, Reply::Done),
+        answered(0, Op::Drop { r: 1 }, 1, Reply::Done),
+    ];
+    expect(&rt, &mut core, &calls);
+    assert_eq!(rt; core.held(), 8);
+    core.drop_all(1);
+    assert_eq!(rt; core.held(), 5);
+    Ok(())
+}
+
 /// Calls of two threads, of which all but the copy and the one out of range have an entry.
 fn calls_with_entries() -> [Wanted; 10]
     ensures { length result ≡ 10 }
