@@ -28,3 +28,5 @@ pub mod Costs
 pub mod Stubs
 pub mod SettlingOne
 pub mod Settled
+pub mod Visited
+pub mod Reachable

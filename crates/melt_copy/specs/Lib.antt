@@ -4,3 +4,4 @@ pub mod Tracking
 pub mod Copied
 pub mod Reaching
 pub mod Settling
+pub mod Visits

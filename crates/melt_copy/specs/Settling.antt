@@ -2,7 +2,7 @@
 -- its home word names both, and its forwarding word is empty.
 use Rattle.std.specs.Prelude.{◌≡◌, ◌≢◌, ◌⊎◌, ℕ, ◌+◌, ◌<◌, ◌≤◌, zero, suc, nat_lt, List, [], length, count_by, take}
 use Rattle.std.specs.Prelude.{slice_index}
-use Rattle.std.specs.Prelude.{slice_set, Option, Some}
+use Rattle.std.specs.Prelude.{slice_set, Option, Some, IsSome}
 use Rattle.melt_model.specs.declared.history.Entry.{Entry}
 use Rattle.melt_word.specs.Words.{home_word}
 use Rattle.melt_word.specs.declared.header.Header.{Header}
@@ -51,6 +51,10 @@ abbrev pub Keeps : Heap → Heap → ℕ → Option (List ℕ) → Option (List 
 Keeps old new end before after = (maps : Maps) (disk : OnDisk) (held : List Registers) → disk.end ≡ end
     → Shows before disk.image → HasMaps old maps → FormedWords maps (state_of old held disk)
     → HasKept maps disk held old new after
+
+-- Where words were told, words still are. What they are is said elsewhere.
+abbrev pub StillTold : Option (List ℕ) → Option (List ℕ) → Type 0
+StillTold before after = IsSome before → IsSome after
 
 -- The object at the address has its home by a live scion.
 pub record HasScion (heap : Heap) (home address : ℕ) : Type 0 where

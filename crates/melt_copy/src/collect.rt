@@ -8,12 +8,13 @@
 //! up to the front are those of the objects in registers, each counted once, however many registers hold it. What
 //! globals refer to comes behind them, then the objects of live scions, to which records on disk refer, and then what
 //! slots do.
-ghost use Rattle.std.specs.Prelude.{◌≡◌, ℕ, ◌<◌, ◌≤◌, length, IfOk, OnErr};
+ghost use Rattle.std.specs.Prelude.{◌≡◌, ℕ, ◌+◌, ◌*◌, ◌<◌, ◌≤◌, length, IfOk, OnErr};
 ghost use Rattle.melt_scion.specs.Heaps.{IsFormed, IsSettled};
 ghost use Rattle.melt_scion.specs.Scions.{IsTable};
 ghost use Rattle.melt_copy.specs.Copying.{Collects, IsCopying};
 ghost use Rattle.melt_copy.specs.Copied.{AreRenamed, Copies, IsPutBack, MayRename, NumbersAre};
 ghost use Rattle.melt_copy.specs.Tracking.{goes};
+ghost use Rattle.melt_copy.specs.Visits.{CountsReached, VisitsAtMost};
 
 use crate::commit::{forward_held, numbers_of, rename};
 use crate::copy::{copy_objects, move_words};
@@ -45,7 +46,8 @@ pub fn numbers_for<L: Ledger>(
     moves: &[Relocation],
     steps: &mut Steps<L>,
 ) -> Result<Vec<Option<u32>>, NoMemory>
-    ensures { IfOk result (λ numbers. NumbersAre names.now moves.now numbers.items) }
+    ensures numbers { IfOk result (λ numbers. NumbersAre names.now moves.now numbers.items) }
+    ensures visits { steps.new ≤ steps.old + length moves.now }
 {
     match names {
         Some(names) => numbers_of(alloc, &names.addresses, moves, steps),
@@ -71,7 +73,10 @@ fn copy_out<L: Ledger>(
     steps: &mut Steps<L>,
 ) -> Result<Copied, NoMemory>
     requires formed { IsFormed heap.now held.now }
-    ensures { IfOk result (Copies phase heap.now held.now) }
+    ensures copies { IfOk result (Copies phase heap.now held.now) }
+    ensures visits { (objects : ℕ) → CountsReached heap.now held.now objects
+        → steps.new ≤ steps.old + 17 * length held.now + length heap.now.globals
+        + 2 * length heap.now.scions.live + 3 * objects }
 {
     let LiveSet {
         mut forwarding,
@@ -112,7 +117,8 @@ pub fn rename_all<L: Ledger>(
     steps: &mut Steps<L>,
 )
     requires { MayRename used names.old moves.now numbers.now }
-    ensures { AreRenamed names.old maps.old names.new maps.new moves.now }
+    ensures names { AreRenamed names.old maps.old names.new maps.new moves.now }
+    ensures visits { steps.new ≤ steps.old + length moves.now }
 {
     match names {
         Some(names) => rename(&mut names.addresses, used, moves, numbers, steps),
@@ -132,7 +138,9 @@ fn put_back<L: Ledger>(
     requires live { copied.live.items ≡ heap.old.scions.live }
     requires table { IsTable heap.old.scions }
     requires names { MayRename heap.old.space.used heap.old.names copied.forwarding.moves.items copied.numbers.items }
-    ensures { IsPutBack heap.old heap.new held.old held.new copied }
+    ensures put { IsPutBack heap.old heap.new held.old held.new copied }
+    ensures visits { steps.new ≤ steps.old + 17 * length held.old + length copied.live.items
+        + length copied.forwarding.moves.items }
 {
     let used = heap.space.used();
     heap.space.replace(copied.words);
@@ -154,7 +162,8 @@ fn put_back<L: Ledger>(
 /// Collects a heap: the objects that registers, globals and live scions reach stay in use, packed from word 1 on, and
 /// all others are gone. Nothing is written to a disk or read from one. Phase Inactive keeps all tags and stale bits.
 /// Phase Mark makes each object stale that no register holds, and each direct reference in slots and globals. Counts
-/// one step for each turn of a loop.
+/// one step for each turn of a loop, and for each word that is copied with others at once: at most four for each word
+/// of what can be reached, and for each live scion, global and register.
 ///
 /// Takes all its memory before the first change.
 pub fn collect_copy<L: Ledger>(
@@ -170,6 +179,7 @@ pub fn collect_copy<L: Ledger>(
     ensures collected { IfOk result (Collects heap.old held.old heap.new held.new phase) }
     ensures heap_stays { OnErr result (heap.new ≡ heap.old) }
     ensures registers_stay { OnErr result (held.new ≡ held.old) }
+    ensures visits { VisitsAtMost 4 heap.old held.old steps.old steps.new }
 {
     let room = room_for_copy(alloc, heap)?;
     let copied = copy_out(alloc, heap, room, held, phase, steps)?;

@@ -7,7 +7,7 @@
 //! which another one is still to take its number away. So the numbers of all objects that stay are read before the
 //! first change, in the order of the moves; then the names of the words in use are cleared, and each object gets its
 //! number again where it stands now.
-ghost use Rattle.std.specs.Prelude.{◌≡◌, ℕ, ◌<◌, ◌≤◌, length, map, slice_get, slice_index, Some, None, IfOk};
+ghost use Rattle.std.specs.Prelude.{◌≡◌, ℕ, ◌+◌, ◌*◌, ◌<◌, ◌≤◌, length, map, slice_get, slice_index, Some, None, IfOk};
 ghost use Rattle.melt_scion.specs.Heaps.{register_in};
 ghost use Rattle.melt_scion.specs.Names.{name_at};
 ghost use Rattle.melt_copy.specs.declared.forwarding.Relocation.{Relocation};
@@ -27,7 +27,9 @@ fn forward_thread<L: Ledger>(
     steps: &mut Steps<L>,
 )
     requires { goes forwarding.now 0 ≡ 0 }
-    ensures { (r : ℕ) → slice_index registers.new.regs r ≡ goes forwarding.now (slice_index registers.old.regs r) }
+    ensures registers { (r : ℕ) → slice_index registers.new.regs r
+        ≡ goes forwarding.now (slice_index registers.old.regs r) }
+    ensures visits { steps.new ≡ steps.old + 16 }
 {
     for address in registers.regs.iter_mut() {
         steps.tick();
@@ -42,7 +44,8 @@ pub fn forward_held<L: Ledger>(
     steps: &mut Steps<L>,
 )
     requires { goes forwarding.now 0 ≡ 0 }
-    ensures { (t r : ℕ) → register_in held.new t r ≡ goes forwarding.now (register_in held.old t r) }
+    ensures registers { (t r : ℕ) → register_in held.new t r ≡ goes forwarding.now (register_in held.old t r) }
+    ensures visits { steps.new ≡ steps.old + 17 * length held.old }
 {
     for registers in held.iter_mut() {
         steps.tick();
@@ -57,7 +60,9 @@ pub fn numbers_of<L: Ledger>(
     moves: &[Relocation],
     steps: &mut Steps<L>,
 ) -> Result<Vec<Option<u32>>, NoMemory>
-    ensures { IfOk result (λ numbers. numbers.items ≡ map (λ (m : Relocation). name_at names.now m.from) moves.now) }
+    ensures numbers { IfOk result (λ numbers.
+        numbers.items ≡ map (λ (m : Relocation). name_at names.now m.from) moves.now) }
+    ensures visits { steps.new ≤ steps.old + length moves.now }
 {
     let mut numbers = Vec::with_capacity(alloc, moves.len())?;
     for m in moves {
@@ -84,6 +89,7 @@ pub fn rename<L: Ledger>(
         → m.to ≡ n.to → i ≡ j }
     ensures names { (k : ℕ) → name_at names.new k ≡ name_after (name_at names.old) moves.now k }
     ensures size { length names.new ≡ length names.old }
+    ensures visits { steps.new ≤ steps.old + length moves.now }
 {
     names.clear(used);
     for (m, number) in moves.iter().zip(numbers) {

@@ -8,11 +8,11 @@
 //! All is read from the old words, and none of them changes meanwhile. So an object that was found still has its header
 //! there, from which its shape and its stale bit come, and a slot still refers to an old address. The new addresses
 //! stand in a table beside the words.
-ghost use Rattle.std.specs.Prelude.{◌≡◌, ◌≢◌, ℕ, ◌+◌, ◌<◌, ◌≤◌, length, slice_index, IfOk, OnOk};
+ghost use Rattle.std.specs.Prelude.{◌≡◌, ◌≢◌, ℕ, ◌+◌, ◌*◌, ◌<◌, ◌≤◌, length, slice_index, IfOk, OnOk};
 ghost use Rattle.melt_word.specs.Words.{IsHeader, IsShape, cost_of, header_word};
 ghost use Rattle.melt_word.specs.declared.header.Header.{Header};
 ghost use Rattle.melt_scion.specs.State.{State};
-ghost use Rattle.melt_copy.specs.Moving.{WordMoves, ObjectMoves, header_after};
+ghost use Rattle.melt_copy.specs.Moving.{WordMoves, ObjectMoves, header_after, words_in};
 ghost use Rattle.melt_copy.specs.Tracking.{Extends, Grows, HasCopied, Tracks, TracksIn, TracksOf, goes, word_in};
 
 use crate::forwarding::{Forwarding, Relocation};
@@ -20,6 +20,15 @@ use melt_model::{NoMemory, Phase, Steps};
 use melt_space::Space;
 use melt_word::{Header, Shape, cost, encode_header};
 use std::sync::ledger::Ledger;
+
+/// Counts a step for each of the words, which are copied at once.
+pub fn visit_words<L: Ledger>(words: &[u64], steps: &mut Steps<L>)
+    ensures { steps.new ≡ steps.old + length words.now }
+{
+    for _word in words {
+        steps.tick();
+    }
+}
 
 /// Puts the words of references behind those that are there, each after the move. Finds the objects to which they
 /// refer.
@@ -38,6 +47,7 @@ pub fn move_words<L: Ledger>(
         (slice_index out.new.items (length out.old.items + i))) }
     ensures grows { Grows forwarding.old forwarding.new }
     ensures tracks { (s : State) → TracksIn space.now s forwarding.old words.now → Tracks space.now s forwarding.new }
+    ensures visits { steps.new ≤ steps.old + length words.now }
 {
     for word in words {
         steps.tick();
@@ -75,13 +85,16 @@ fn copy_object<L: Ledger>(
         → ObjectMoves phase held (goes forwarding.new) s (word_in out.new.items) m) }
     ensures grows { Grows forwarding.old forwarding.new }
     ensures tracks { (s : State) → TracksOf space.now s forwarding.old m → Tracks space.now s forwarding.new }
+    ensures visits { steps.new ≤ steps.old + cost_of m.shape }
 {
     let object = space.words_at(m.from, cost(m.shape));
     // Before the slots stand the header and the home word.
     let numbers = 2 + m.shape.refs as usize;
     let header = move_header(phase, held, m.shape, object[0]);
+    visit_words(&object[..2], steps);
     out.extend_from_slice(&[header, object[1]])?;
     move_words(out, forwarding, space, phase, &object[2..numbers], steps)?;
+    visit_words(&object[numbers..], steps);
     out.extend_from_slice(&object[numbers..])?;
     Ok(())
 }
@@ -103,6 +116,8 @@ pub fn copy_objects<L: Ledger>(
     ensures copied { IfOk result (λ words. (s : State) → Tracks space.now s forwarding.old
         → HasCopied phase front space.now s forwarding.new words.items (length forwarding.new.moves.items)) }
     ensures grows { Grows forwarding.old forwarding.new }
+    ensures tracks { (s : State) → Tracks space.now s forwarding.old → Tracks space.now s forwarding.new }
+    ensures visits { steps.new ≤ steps.old + 2 * words_in forwarding.new.moves.items }
 {
     words.clear();
     let mut done = 0;

@@ -4,12 +4,14 @@
 //! home only where one that leaves refers to it. The objects are found in the order in which `collect_copy` finds
 //! them: those in registers first, then what globals refer to, then the objects of live scions, then what slots do. So
 //! the number of those in registers tells of each whether a register holds it.
-ghost use Rattle.std.specs.Prelude.{◌≡◌, ◌≢◌, ℕ, slice_index, IfOk, OnOk};
+ghost use Rattle.std.specs.Prelude.{◌≡◌, ◌≢◌, ℕ, ◌+◌, ◌*◌, ◌≤◌, length, slice_index, IfOk, OnOk};
 ghost use Rattle.melt_scion.specs.Heaps.{IsFormed};
 ghost use Rattle.melt_scion.specs.State.{State};
+ghost use Rattle.melt_copy.specs.Moving.{words_in};
 ghost use Rattle.melt_copy.specs.Reaching.{FindsAll, FindsFront, FindsSlots, FindsWords, Reaches};
 ghost use Rattle.melt_copy.specs.Tracking.{FindsHeld, FindsThreads, Grows, Tracks, TracksHeld, TracksIn, TracksOf};
 ghost use Rattle.melt_copy.specs.Tracking.{TracksThreads, goes};
+ghost use Rattle.melt_copy.specs.Visits.{CountsReached};
 
 use crate::forwarding::{Forwarding, Relocation};
 use crate::scions::{find_scions, live_scions};
@@ -42,6 +44,7 @@ fn find_held<L: Ledger>(
     ensures grows { Grows forwarding.old forwarding.new }
     ensures tracks { (s : State) → TracksHeld space.now s forwarding.old (slice_index registers.now.regs)
         → Tracks space.now s forwarding.new }
+    ensures visits { steps.new ≤ steps.old + 16 }
 {
     for address in &registers.regs {
         steps.tick();
@@ -64,6 +67,7 @@ fn find_all_held<L: Ledger>(
     ensures grows { Grows forwarding.old forwarding.new }
     ensures tracks { (s : State) → TracksThreads space.now s forwarding.old held.now
         → Tracks space.now s forwarding.new }
+    ensures visits { steps.new ≤ steps.old + 17 * length held.now }
 {
     for registers in held {
         steps.tick();
@@ -80,7 +84,8 @@ pub fn find_front<L: Ledger>(
     steps: &mut Steps<L>,
 ) -> Result<LiveSet, NoMemory>
     requires formed { IsFormed heap.now held.now }
-    ensures { IfOk result (FindsFront heap.now held.now) }
+    ensures finds { IfOk result (FindsFront heap.now held.now) }
+    ensures visits { steps.new ≤ steps.old + 17 * length held.now }
 {
     let mut forwarding = Forwarding::new(alloc, heap.space.used())?;
     find_all_held(&mut forwarding, &heap.space, held, steps)?;
@@ -104,6 +109,7 @@ fn find_words<L: Ledger>(
     ensures finds { OnOk result (FindsWords (goes forwarding.new) words.now) }
     ensures grows { Grows forwarding.old forwarding.new }
     ensures tracks { (s : State) → TracksIn space.now s forwarding.old words.now → Tracks space.now s forwarding.new }
+    ensures visits { steps.new ≤ steps.old + length words.now }
 {
     for word in words {
         steps.tick();
@@ -124,6 +130,7 @@ fn find_slots<L: Ledger>(
         → FindsSlots s (goes forwarding.new) m) }
     ensures grows { Grows forwarding.old forwarding.new }
     ensures tracks { (s : State) → TracksOf space.now s forwarding.old m → Tracks space.now s forwarding.new }
+    ensures visits { steps.new ≤ steps.old + m.shape.refs }
 {
     // Before the slots stand the header and the home word.
     let slots = space.words_at(m.from + 2, u32::from(m.shape.refs));
@@ -141,6 +148,7 @@ fn find_rest<L: Ledger>(
         → FindsAll s (goes forwarding.new) forwarding.new.moves.items) }
     ensures grows { Grows forwarding.old forwarding.new }
     ensures tracks { (s : State) → Tracks space.now s forwarding.old → Tracks space.now s forwarding.new }
+    ensures visits { steps.new ≤ steps.old + words_in forwarding.new.moves.items }
 {
     let mut done = 0;
     while done < forwarding.moves.len() {
@@ -163,7 +171,10 @@ pub fn reach<L: Ledger>(
     steps: &mut Steps<L>,
 ) -> Result<LiveSet, NoMemory>
     requires formed { IsFormed heap.now held.now }
-    ensures { IfOk result (Reaches heap.now held.now) }
+    ensures reaches { IfOk result (Reaches heap.now held.now) }
+    ensures visits { (objects : ℕ) → CountsReached heap.now held.now objects
+        → steps.new ≤ steps.old + 17 * length held.now + length heap.now.globals
+        + 2 * length heap.now.scions.live + objects }
 {
     let mut live = find_front(alloc, heap, held, steps)?;
     let found = &mut live.forwarding;

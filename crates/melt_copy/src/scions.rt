@@ -2,7 +2,7 @@
 //!
 //! They are listed once, before the first object moves. A scion keeps its number and its home, so its record on disk
 //! stays right, and only the address beside it is that of the object after the collection.
-ghost use Rattle.std.specs.Prelude.{◌≡◌, ℕ, IfOk, OnOk};
+ghost use Rattle.std.specs.Prelude.{◌≡◌, ℕ, ◌+◌, ◌≤◌, length, IfOk, OnOk};
 ghost use Rattle.melt_scion.specs.Scions.{IsTable};
 ghost use Rattle.melt_scion.specs.State.{State};
 ghost use Rattle.melt_copy.specs.Tracking.{FindsScions, Grows, MovesScions, Tracks, TracksScions, goes};
@@ -22,6 +22,7 @@ pub fn live_scions<L: Ledger>(
 ) -> Result<Vec<u32>, NoMemory>
     ensures live { IfOk result (λ live. live.items ≡ scions.now.live) }
     ensures table { IsTable scions.now }
+    ensures visits { steps.new ≤ steps.old + length scions.now.live }
 {
     let mut live = Vec::new(alloc);
     let mut next = scions.first();
@@ -48,6 +49,7 @@ pub fn find_scions<L: Ledger>(
     ensures grows { Grows forwarding.old forwarding.new }
     ensures tracks { (s : State) → TracksScions space.now s forwarding.old scions.now
         → Tracks space.now s forwarding.new }
+    ensures visits { steps.new ≤ steps.old + length live.now }
 {
     for scion in live {
         steps.tick();
@@ -67,7 +69,8 @@ pub fn move_scions<L: Ledger>(
 )
     requires live { live.now ≡ scions.old.live }
     requires table { IsTable scions.old }
-    ensures { MovesScions (goes forwarding.now) scions.old scions.new }
+    ensures moves { MovesScions (goes forwarding.now) scions.old scions.new }
+    ensures visits { steps.new ≡ steps.old + length live.now }
 {
     for scion in live {
         steps.tick();

@@ -10,7 +10,8 @@
 ghost use Rattle.std.specs.Prelude.{◌≡◌, ◌<◌, ◌≤◌, length, slice_index, IfOk, MatchOption, OnOk, OnErr};
 ghost use Rattle.melt_forward.specs.Forwarding.{IsForwarding, Sends};
 ghost use Rattle.melt_io.specs.Outside.{Rose, counted};
-ghost use Rattle.melt_copy.specs.Settling.{IsFormedTo, Keeps, RisesBy, SettlesAt, SettlesBelow, StopsAtOne, filled};
+ghost use Rattle.melt_copy.specs.Settling.{IsFormedTo, Keeps, RisesBy, SettlesAt, SettlesBelow, StillTold, StopsAtOne};
+ghost use Rattle.melt_copy.specs.Settling.{filled};
 ghost use Rattle.melt_scion.specs.Heaps.{IsSettled};
 
 use melt_disk::StaleSpace;
@@ -43,6 +44,7 @@ fn settle_one<D: StaleDisk>(
     ensures settles { OnOk result (SettlesAt heap.old heap.new place home address) }
     ensures stays { OnErr result (heap.new ≡ heap.old) }
     ensures keeps { Keeps heap.old heap.new space.old.end (D.image space.old.disk.now) (D.image space.new.disk.now) }
+    ensures tells { StillTold (D.image space.old.disk.now) (D.image space.new.disk.now) }
     ensures one_write { D.writes space.new.disk.now ≡ counted (D.writes space.old.disk.now) 1 }
     ensures failed { OnErr result (Rose (D.faults space.old.disk.now) (D.faults space.new.disk.now)) }
     ensures count { D.faults space.old.disk.now ≤ D.faults space.new.disk.now }
@@ -72,6 +74,7 @@ fn settle_one<D: StaleDisk>(
 pub fn settle<D: StaleDisk>(heap: &mut Heap, space: &mut StaleSpace<'_, D>) -> Result<u32, Failed>
     requires { IsFormedTo heap.old space.old.end }
     ensures keeps { Keeps heap.old heap.new space.old.end (D.image space.old.disk.now) (D.image space.new.disk.now) }
+    ensures tells { StillTold (D.image space.old.disk.now) (D.image space.new.disk.now) }
     ensures formed { IsFormedTo heap.new space.new.end }
     ensures settled { OnOk result (IsSettled heap.new) }
     ensures all { OnOk result (SettlesBelow heap.old heap.new (length heap.old.forward)) }

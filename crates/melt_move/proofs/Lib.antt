@@ -35,3 +35,4 @@ pub mod Collected
 pub mod AsBefore
 pub mod TwoCalls
 pub mod Planning
+pub mod Visited

@@ -1,12 +1,14 @@
 -- A write to a disk, as an image of the disk's words has it.
 use Rattle.std.proofs.Common.{◌≡◌, ℕ, ◌+◌, ◌-◌, ◌<◌, ◌≤◌, ◌⊎◌, List, ◌++◌, length, take, drop, replicate, cond, inl}
 use Rattle.std.proofs.Common.{inr, ltb, Option, None, Some, refl, sym, ap, ◌∙◌, arith, length-append}
-use Rattle.std.specs.Prelude.{slice_index}
+use Rattle.std.specs.Prelude.{slice_index, IsSome}
 use Rattle.std.proofs.lemmas.Bool.Decides.{nat_tests}
 use Rattle.std.proofs.lemmas.List.{get_or-append-add, get_or_append_left}
 use Rattle.melt_io.specs.Outside.{SameOutside, Writes, with_words}
 use Rattle.melt_io.proofs.Images.{length-front, with_words-outside}
+use Rattle.melt_disk.specs.Homes.{KeepsApart}
 use Rattle.melt_scion.specs.Heaps.{Shows}
+use Rattle.melt_copy.specs.Settling.{StillTold}
 
 -- What an image became has these words from word `at` on, and all others as they were.
 pub record Puts (old : ℕ → ℕ) (at : ℕ) (words : List ℕ) (new : ℕ → ℕ) : Type 0 where
@@ -68,3 +70,10 @@ write_shows (Some old) at words (Some new) image shows writes =
         ]);
       };
     }
+
+-- A write at one home, whether it ends well or fails, leaves words told that were told.
+pub told_apart : (old : Option (List ℕ)) (home m : ℕ) (new : Option (List ℕ)) → KeepsApart old home m new
+    → StillTold old new
+told_apart None home m new apart = λ told. absurd (let some : IsSome {T = List ℕ} None = told in cc)
+told_apart (Some old) home m None apart = elim apart [ ]
+told_apart (Some old) home m (Some new) apart = λ told. refl

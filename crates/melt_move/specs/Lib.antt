@@ -9,3 +9,4 @@ pub mod Collecting
 pub mod ScionTurns
 pub mod KeptDisk
 pub mod Planned
+pub mod Visits

@@ -2,10 +2,10 @@
 //!
 //! They are encoded from the words of before, in which every object still stands where its references say, and every
 //! home is known by then: so a Body is written once, in whichever order they come.
-ghost use Rattle.std.specs.Prelude.{◌≡◌, ◌≤◌, ◌<◌, ◌+◌, ◌^◌, ℕ, OnOk, OnErr, length, slice_index};
+ghost use Rattle.std.specs.Prelude.{◌≡◌, ◌≤◌, ◌<◌, ◌+◌, ◌*◌, ◌^◌, ℕ, OnOk, OnErr, length, slice_index};
 ghost use Rattle.melt_io.specs.Outside.{Rose, counted};
 ghost use Rattle.melt_record.specs.Records.{AreSlots, IsSlotWord};
-ghost use Rattle.melt_word.specs.Words.{IsRef};
+ghost use Rattle.melt_word.specs.Words.{IsRef, cost_of};
 ghost use Rattle.melt_word.specs.declared.reference.Ref.TheVariants.{Disk};
 ghost use Rattle.melt_space.specs.Space.{word_at};
 ghost use Rattle.melt_scion.specs.State.{State};
@@ -15,9 +15,11 @@ ghost use Rattle.melt_move.specs.KeptDisk.{KeepsDisk};
 ghost use Rattle.melt_move.specs.Bodies.{AreLeavingRefs, BecomesHome, Departs, EncodesSlots, IsLeavingRef, IsNamed};
 ghost use Rattle.melt_move.specs.Bodies.{WritesBodies, WritesBody};
 ghost use Rattle.melt_move.specs.Plans.{HasRoom, IsDecision, home_by, need_for};
+ghost use Rattle.melt_move.specs.Visits.{leaving_words};
 
 use crate::choice::Departure;
 use crate::decision::Decision;
+use melt_copy::visit_words;
 use melt_disk::StaleSpace;
 use melt_io::{Failed, StaleDisk};
 use melt_model::Steps;
@@ -66,6 +68,7 @@ fn encode_refs<L: Ledger>(
     ensures becomes { (s : State) → AreLeavingRefs space.now s decision.now words.old
         → (i : ℕ) → i < length words.old
         → BecomesHome s decision.now (slice_index words.old i) (slice_index words.new i) }
+    ensures visits { steps.new ≡ steps.old + length words.old }
 {
     for word in words.iter_mut() {
         steps.tick();
@@ -86,9 +89,11 @@ fn encode_slots<L: Ledger>(
     requires departs { (s : State) × Departs space.now s decision.now d }
     ensures slots { AreSlots (2 ^ 32) d.shape.refs slots.new }
     ensures encodes { (s : State) → Departs space.now s decision.now d → EncodesSlots s decision.now d slots.new }
+    ensures visits { steps.new + 1 ≤ steps.old + 2 * cost_of d.shape }
 {
     let object = space.words_at(d.from, cost(d.shape));
     // Before the slots stand the header and the home word.
+    visit_words(&object[2..], steps);
     slots.copy_from_slice(&object[2..]);
     encode_refs(&mut slots[..d.shape.refs as usize], decision, space, steps);
 }
@@ -106,9 +111,10 @@ fn write_body<D: StaleDisk, L: Ledger>(
     ensures written { OnOk result ((s : State) (image : ℕ → ℕ) → Departs space.now s decision.now d
         → Shows (D.image disk.old.disk.now) image → (after : ℕ → ℕ) × Shows (D.image disk.new.disk.now) after
         × WritesBody s (home_by s.word decision.now) disk.old.end d image after) }
+    ensures visits { steps.new + 1 ≤ steps.old + 2 * cost_of d.shape }
     ensures one_write { D.writes disk.new.disk.now ≡ counted (D.writes disk.old.disk.now) 1 }
     ensures failed { OnErr result (Rose (D.faults disk.old.disk.now) (D.faults disk.new.disk.now)) }
-    ensures keeps { KeepsDisk D.faults D.read_faults D.lends disk.old disk.new }
+    ensures keeps { KeepsDisk D.image D.faults D.read_faults D.lends disk.old disk.new }
     ensures end { disk.new.end ≡ disk.old.end }
 {
     let mut room = [0; MAX_SLOTS];
@@ -130,10 +136,11 @@ pub fn write_bodies<D: StaleDisk, L: Ledger>(
         → Shows (D.image disk.old.disk.now) image → (after : ℕ → ℕ) × Shows (D.image disk.new.disk.now) after
         × WritesBodies s (home_by s.word decision.now) disk.old.end decision.now.choice.leaving.items
         (length decision.now.choice.leaving.items) image after) }
+    ensures visits { steps.new ≤ steps.old + 2 * leaving_words decision.now.choice.leaving.items }
     ensures one_write_each { OnOk result (RisesBy (length decision.now.choice.leaving.items)
         (D.writes disk.old.disk.now) (D.writes disk.new.disk.now)) }
     ensures failed { OnErr result (Rose (D.faults disk.old.disk.now) (D.faults disk.new.disk.now)) }
-    ensures keeps { KeepsDisk D.faults D.read_faults D.lends disk.old disk.new }
+    ensures keeps { KeepsDisk D.image D.faults D.read_faults D.lends disk.old disk.new }
     ensures end { disk.new.end ≡ disk.old.end }
 {
     // The end is the number of a word, so each home before it is one too.

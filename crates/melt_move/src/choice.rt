@@ -2,7 +2,7 @@
 //!
 //! An object leaves where it has the stale bit and no register holds it. Those in registers were found first, so that
 //! their number decides. What stays is found anew, by the same kind of table and list, and so gets its new place.
-ghost use Rattle.std.specs.Prelude.{◌≡◌, ℕ, IfOk};
+ghost use Rattle.std.specs.Prelude.{◌≡◌, ℕ, ◌+◌, ◌≤◌, length, IfOk};
 ghost use Rattle.melt_scion.specs.State.{State};
 ghost use Rattle.melt_word.specs.Words.{IsHeader, header_word};
 ghost use Rattle.melt_word.specs.declared.header.Header.{Header};
@@ -53,8 +53,9 @@ pub fn choose<L: Ledger>(
     steps: &mut Steps<L>,
 ) -> Result<Choice, NoMemory>
     requires { (s : State) × IsSeen space.now s × IsLiveSet s live.now }
-    ensures { IfOk result (λ choice. (s : State) → IsSeen space.now s → IsLiveSet s live.now
+    ensures chooses { IfOk result (λ choice. (s : State) → IsSeen space.now s → IsLiveSet s live.now
         → IsChoice s live.now choice) }
+    ensures visits { steps.new ≤ steps.old + length live.now.forwarding.moves.items }
 {
     let mut stay = Forwarding::new(alloc, space.used())?;
     let mut leaving = Vec::new(alloc);

@@ -3,7 +3,7 @@
 //! All that can be refused is refused before the first change: memory is taken while everything is decided and copied,
 //! and the disk is asked for room for all new homes at once. Then only a write to the disk may fail, and since homes
 //! from before may be written by then, the heap is given up where one does.
-ghost use Rattle.std.specs.Prelude.{◌≡◌, ◌≤◌, ◌<◌, ◌+◌, ◌^◌, ℕ, [], length, IfOk, IfErr, OnOk, OnErr, MatchOption};
+ghost use Rattle.std.specs.Prelude.{◌≡◌, ◌≤◌, ◌<◌, ◌+◌, ◌*◌, ◌^◌, ℕ, [], length, IfOk, IfErr, OnOk, OnErr, MatchOption};
 ghost use Rattle.std.specs.Prelude.{IsErrOf};
 ghost use Rattle.melt_io.specs.Outside.{Rose};
 ghost use Rattle.melt_disk.specs.Homes.{need_of};
@@ -14,11 +14,14 @@ ghost use Rattle.melt_move.specs.Collecting.{CarriesOut, CopiesOut, Decides, Hol
 ghost use Rattle.melt_move.specs.Collecting.{LacksDisk};
 ghost use Rattle.melt_move.specs.Collecting.{Moves, AreShapes, HasRoomFor, IsRefused, SameNames};
 ghost use Rattle.melt_copy.specs.Copied.{NumbersAre};
+ghost use Rattle.melt_copy.specs.Moving.{words_in};
 ghost use Rattle.melt_copy.specs.Settling.{RisesBy};
+ghost use Rattle.melt_copy.specs.Visits.{CountsReached, VisitsAtMost};
 ghost use Rattle.melt_move.specs.KeptDisk.{KeepsDisk};
 ghost use Rattle.melt_move.specs.GivenScions.{given_count};
 ghost use Rattle.melt_move.specs.NamedHomes.{HasSpare};
 ghost use Rattle.melt_move.specs.Plans.{HasRoom, need_for};
+ghost use Rattle.melt_move.specs.Visits.{leaving_words, visits_in};
 
 use crate::bodies::write_bodies;
 use crate::commit::{Copied, put_back};
@@ -72,6 +75,9 @@ fn prepare<L: Ledger>(
     ensures first { IfOk result (λ prepared. prepared.0.homes.first ≡ first) }
     ensures room { IfOk result (λ prepared. prepared.1.items ≡ []) }
     ensures spare { IfOk result (λ prepared. HasSpare prepared.0.homes heap.new.names) }
+    ensures visits { (objects : ℕ) → CountsReached heap.old held.now objects
+        → steps.new ≤ steps.old + 17 * length held.now + length heap.old.globals
+        + 2 * length heap.old.scions.live + 3 * objects }
 {
     let decision = decide(alloc, heap, held, first, steps)?;
     let room = heap.space.room_for_copy(alloc)?;
@@ -112,6 +118,8 @@ fn copy_out<L: Ledger>(
     ensures copies { IfOk result (CopiesOut heap.now held.now decision.now) }
     ensures numbers { IfOk result (λ copied. NumbersAre heap.now.names decision.now.choice.stay.moves.items
         copied.numbers.items) }
+    ensures visits { steps.new ≤ steps.old + length heap.now.globals
+        + length decision.now.choice.stay.moves.items + 2 * words_in decision.now.choice.stay.moves.items }
 {
     let globals = Vec::with_capacity(alloc, heap.globals.items.len())?;
     let numbers = numbers_for(alloc, &heap.names, &decision.choice.stay.moves, steps)?;
@@ -136,6 +144,7 @@ fn reserve_homes<D: StaleDisk, L: Ledger>(
     ensures limit { disk.new.limit ≡ disk.old.limit }
     ensures same_disk { disk.new.disk.ghost_name ≡ disk.old.disk.ghost_name }
     ensures disk { disk.new.disk.now ≡ disk.old.disk.now }
+    ensures visits { steps.new ≡ steps.old + length given.now }
 {
     for g in given {
         steps.tick();
@@ -174,8 +183,11 @@ fn carry_out<D: StaleDisk, L: Ledger>(
     ensures writes { IfOk result (λ count. RisesBy (length decision.now.choice.leaving.items + count)
         (D.writes disk.old.disk.now) (D.writes disk.new.disk.now)) }
     ensures grows { disk.new.end ≡ disk.old.end + need_for decision.now.homes.given.items }
+    ensures visits { steps.new ≤ steps.old + 17 * length held.old + 2 * length decision.now.homes.given.items
+        + 2 * leaving_words decision.now.choice.leaving.items + length decision.now.choice.leaving.items
+        + 2 * length decision.now.choice.stay.moves.items }
     ensures failed { OnErr result (Rose (D.faults disk.old.disk.now) (D.faults disk.new.disk.now)) }
-    ensures keeps { KeepsDisk D.faults D.read_faults D.lends disk.old disk.new }
+    ensures keeps { KeepsDisk D.image D.faults D.read_faults D.lends disk.old disk.new }
 {
     reserve_homes(disk, &decision.homes.given, steps);
     write_bodies(disk, decision, &heap.space, steps)?;
@@ -186,7 +198,8 @@ fn carry_out<D: StaleDisk, L: Ledger>(
 
 /// Makes all registers hold nothing.
 pub fn drop_held<L: Ledger>(held: &mut [Registers], steps: &mut Steps<L>)
-    ensures { HoldNothing held.new }
+    ensures nothing { HoldNothing held.new }
+    ensures visits { steps.new ≡ steps.old + length held.old }
 {
     for registers in held.iter_mut() {
         steps.tick();
@@ -197,7 +210,8 @@ pub fn drop_held<L: Ledger>(held: &mut [Registers], steps: &mut Steps<L>)
 /// Collects a heap, and moves to the disk what has the stale bit and is in no register: a Body is written for each such
 /// object that can be reached, and for no other. An object that stays and to which one that left refers gets a home
 /// with a Stub. What stays is marked as in phase Mark. Nothing is read from the disk. Counts one step for each turn of
-/// a loop.
+/// a loop, and for each word that is copied with others at once: at most eight for each word of what can be reached,
+/// and for each live scion, global and register.
 ///
 /// Takes all its memory before the first change, and asks for all its room on the disk before the first write.
 pub fn collect_move<D: StaleDisk, L: Ledger>(
@@ -215,10 +229,11 @@ pub fn collect_move<D: StaleDisk, L: Ledger>(
     ensures writes { IfOk result (λ done.
         RisesBy (done.1.bodies + done.1.stubs) (D.writes disk.old.disk.now) (D.writes disk.new.disk.now)) }
     ensures fits { OnOk result (disk.new.end ≤ disk.old.limit) }
+    ensures visits { VisitsAtMost (visits_in Phase.Move) heap held.old steps.old steps.new }
     ensures refused { IfErr result (λ refusal. IsRefused heap held.old held.new disk.old disk.new refusal) }
     ensures failed { IsErrOf result MoveRefusal.DiskFault
         → Rose (D.faults disk.old.disk.now) (D.faults disk.new.disk.now) }
-    ensures keeps { KeepsDisk D.faults D.read_faults D.lends disk.old disk.new }
+    ensures keeps { KeepsDisk D.image D.faults D.read_faults D.lends disk.old disk.new }
 {
     let (decision, room) = match prepare(alloc, &mut heap, held, disk.end(), steps) {
         Ok(prepared) => prepared,

@@ -2,7 +2,7 @@
 //!
 //! A new home is named while the names of addresses are still those from before, since that is where the number of its
 //! object stands. Registers and names then go as in every collection.
-ghost use Rattle.std.specs.Prelude.{◌≡◌, ◌≤◌, ◌+◌, ◌^◌, ℕ, length};
+ghost use Rattle.std.specs.Prelude.{◌≡◌, ◌≤◌, ◌+◌, ◌*◌, ◌^◌, ℕ, length};
 ghost use Rattle.melt_copy.specs.Copied.{MayRename};
 ghost use Rattle.melt_copy.specs.Tracking.{goes};
 ghost use Rattle.melt_move.specs.Collecting.{IsPutBack};
@@ -37,7 +37,8 @@ fn name_each<L: Ledger>(
 )
     requires spare { length homes.now.given.items ≤ names.old.spare }
     requires room { homes.now.first + need_for homes.now.given.items ≤ 2 ^ 32 }
-    ensures { NamesGiven homes.now (name_at addresses.now) (home_name names.old) (home_name names.new) }
+    ensures names { NamesGiven homes.now (name_at addresses.now) (home_name names.old) (home_name names.new) }
+    ensures visits { steps.new ≤ steps.old + length homes.now.given.items }
 {
     // Behind the last home, this may be one more than a `u32` holds.
     let mut home = u64::from(homes.first);
@@ -59,7 +60,8 @@ pub fn name_homes<L: Ledger>(
 )
     requires spare { HasSpare homes.now names.old }
     requires room { homes.now.first + need_for homes.now.given.items ≤ 2 ^ 32 }
-    ensures { NamesHomesOf homes.now names.old maps.old names.new maps.new }
+    ensures names { NamesHomesOf homes.now names.old maps.old names.new maps.new }
+    ensures visits { steps.new ≤ steps.old + length homes.now.given.items }
 {
     match names {
         Some(names) => name_each(&mut names.homes, &names.addresses, homes, steps),
@@ -81,7 +83,9 @@ pub fn put_back<L: Ledger>(
         copied.numbers.items }
     requires spare { HasSpare decision.now.homes heap.old.names }
     requires room { decision.now.homes.first + need_for decision.now.homes.given.items ≤ 2 ^ 32 }
-    ensures { IsPutBack heap.old heap.new held.old held.new decision.now copied }
+    ensures put { IsPutBack heap.old heap.new held.old held.new decision.now copied }
+    ensures visits { steps.new ≤ steps.old + 17 * length held.old + length decision.now.homes.given.items
+        + length decision.now.choice.stay.moves.items }
 {
     let used = heap.space.used();
     heap.space.replace(copied.words);

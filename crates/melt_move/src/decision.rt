@@ -1,9 +1,10 @@
 //! All that a collection decides before its first change.
-ghost use Rattle.std.specs.Prelude.{◌≡◌, ℕ, IfOk};
+ghost use Rattle.std.specs.Prelude.{◌≡◌, ℕ, ◌+◌, ◌*◌, ◌≤◌, length, IfOk};
 ghost use Rattle.melt_space.specs.Space.{word_at};
 ghost use Rattle.melt_scion.specs.State.{State, Reached};
 ghost use Rattle.melt_scion.specs.Placed.{Maps, Formed};
 ghost use Rattle.melt_scion.specs.Heaps.{IsFormed, IsSettled, OnDisk, state_of};
+ghost use Rattle.melt_copy.specs.Visits.{CountsReached};
 ghost use Rattle.melt_move.specs.Plans.{HasRoom, IsDecision, home_by};
 
 use crate::choice::{Choice, choose};
@@ -41,6 +42,9 @@ pub fn decide<L: Ledger>(
     ensures decides { IfOk result (λ decision. (maps : Maps) (disk : OnDisk) → disk.end ≡ first
         → Formed maps (state_of heap.now held.now disk)
         → IsDecision heap.now.space (state_of heap.now held.now disk) decision) }
+    ensures visits { (objects : ℕ) → CountsReached heap.now held.now objects
+        → steps.new ≤ steps.old + 17 * length held.now + length heap.now.globals
+        + 2 * length heap.now.scions.live + 3 * objects }
 {
     let live = reach(alloc, heap, held, steps)?;
     let choice = choose(alloc, &heap.space, &live, steps)?;

@@ -3,7 +3,7 @@
 //! A Body refers to homes alone. So beside the objects that leave, those that stay and to which they refer get a home.
 //! The new homes lie one behind the other, first those of the objects that leave, then the others, each in the order in
 //! which they were found. Before the disk was asked for room only their distances from the first one are known.
-ghost use Rattle.std.specs.Prelude.{◌≡◌, ◌≢◌, ◌↔◌, ◌^◌, ◌<◌, ℕ, [], length, slice_index, Some, IfOk, OnOk};
+ghost use Rattle.std.specs.Prelude.{◌≡◌, ◌≢◌, ◌↔◌, ◌^◌, ◌+◌, ◌<◌, ◌≤◌, ℕ, [], length, slice_index, Some, IfOk, OnOk};
 ghost use Rattle.melt_space.specs.Space.{word_at};
 ghost use Rattle.melt_scion.specs.State.{State, RefersTo};
 ghost use Rattle.melt_copy.specs.Moving.{IsRefWord};
@@ -11,6 +11,7 @@ ghost use Rattle.melt_copy.specs.declared.live.LiveSet.{LiveSet};
 ghost use Rattle.melt_move.specs.GivingHomes.{AreSlots, GivesTo, HasGiven, HasMarks, IsAmong, IsAmongMarked, IsOffered};
 ghost use Rattle.melt_move.specs.GivingHomes.{MarksSlots, WasChosen, offset_at};
 ghost use Rattle.melt_move.specs.Plans.{AreDepartures, GivesNew, IsChoice, IsSeen, new_home};
+ghost use Rattle.melt_move.specs.Visits.{leaving_words};
 
 use crate::choice::{Choice, Departure};
 use melt_model::{NoMemory, Steps};
@@ -75,7 +76,8 @@ fn address_in(word: u64) -> Option<u32>
 /// Marks the objects to which the slots of an object refer.
 fn mark_slots<L: Ledger>(marks: &mut [bool], slots: &[u64], steps: &mut Steps<L>)
     requires { AreSlots slots.now (length marks.old) }
-    ensures { MarksSlots slots.now (length slots.now) marks.old marks.new }
+    ensures marks { MarksSlots slots.now (length slots.now) marks.old marks.new }
+    ensures visits { steps.new ≡ steps.old + length slots.now }
 {
     for slot in slots {
         steps.tick();
@@ -93,8 +95,9 @@ fn mark_named<L: Ledger>(
     steps: &mut Steps<L>,
 ) -> Result<Vec<bool>, NoMemory>
     requires { (s : State) × IsSeen space.now s × AreDepartures s leaving.now }
-    ensures { IfOk result (λ marks. (s : State) → IsSeen space.now s → AreDepartures s leaving.now
+    ensures marks { IfOk result (λ marks. (s : State) → IsSeen space.now s → AreDepartures s leaving.now
         → HasMarks s marks.items) }
+    ensures visits { steps.new ≤ steps.old + leaving_words leaving.now }
 {
     let mut marks = vec![in alloc; false; space.used() as usize + 1]?;
     for d in leaving {
@@ -153,6 +156,7 @@ impl Giving {
             (IsAmong choice.now.leaving.items (length choice.now.leaving.items)) self.old.homes self.new.homes) }
         ensures all { OnOk result ((s : State) → HasGiven space.now s self.old → WasChosen s choice.now
             → HasGiven space.now s self.new) }
+        ensures visits { steps.new ≤ steps.old + length choice.now.leaving.items }
     {
         for d in &choice.leaving {
             steps.tick();
@@ -177,6 +181,7 @@ impl Giving {
             self.old.homes self.new.homes) }
         ensures all { OnOk result ((s : State) → HasGiven space.now s self.old → WasChosen s choice.now
             → HasMarks s marks.now → HasGiven space.now s self.new) }
+        ensures visits { steps.new ≤ steps.old + length choice.now.stay.moves.items }
     {
         for m in &choice.stay.moves {
             steps.tick();
@@ -201,6 +206,8 @@ pub fn give_homes<L: Ledger>(
     ensures first { IfOk result (λ homes. homes.first ≡ first) }
     ensures gives { IfOk result (λ homes. (s : State) (live : LiveSet) → IsSeen space.now s → IsChoice s live choice.now
         → GivesNew s homes) }
+    ensures visits { steps.new ≤ steps.old + leaving_words choice.now.leaving.items
+        + length choice.now.leaving.items + length choice.now.stay.moves.items }
 {
     let marks = mark_named(alloc, space, &choice.leaving, steps)?;
     let mut giving = Giving::new(alloc, space, first)?;

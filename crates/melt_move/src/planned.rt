@@ -7,10 +7,12 @@ ghost use Rattle.std.specs.Prelude.{◌≡◌, ◌≤◌, ◌<◌, ◌+◌, ◌^
 ghost use Rattle.melt_io.specs.Outside.{Rose};
 ghost use Rattle.melt_scion.specs.Heaps.{IsSettled};
 ghost use Rattle.melt_copy.specs.Settling.{RisesBy};
+ghost use Rattle.melt_copy.specs.Visits.{VisitsAtMost};
 ghost use Rattle.melt_move.specs.Collecting.{IsFormedOn};
 ghost use Rattle.melt_move.specs.KeptDisk.{KeepsDisk};
 ghost use Rattle.melt_move.specs.Planned.{CollectsIn, CollectsPlanned, IsRefusedIn, IsRefusedPlanned};
 ghost use Rattle.melt_move.specs.Planned.{phase_done, plan_after};
+ghost use Rattle.melt_move.specs.Visits.{VisitsPlanned, visits_in};
 
 use crate::collect::{MoveRefusal, collect_move, drop_held};
 use melt_copy::{collect_copy, settle};
@@ -61,10 +63,11 @@ fn collect_in<D: StaleDisk, L: Ledger>(
     ensures writes { IfOk result (λ done.
         RisesBy (done.1.bodies + done.1.stubs) (D.writes disk.old.disk.now) (D.writes disk.new.disk.now)) }
     ensures fits { OnOk result (phase ≡ Phase.Move → disk.new.end ≤ disk.old.limit) }
+    ensures visits { VisitsAtMost (visits_in phase) heap held.old steps.old steps.new }
     ensures refused { IfErr result (λ refusal. IsRefusedIn phase heap held.old held.new disk.old disk.new refusal) }
     ensures failed { IsErrOf result MoveRefusal.DiskFault
         → Rose (D.faults disk.old.disk.now) (D.faults disk.new.disk.now) }
-    ensures keeps { KeepsDisk D.faults D.read_faults D.lends disk.old disk.new }
+    ensures keeps { KeepsDisk D.image D.faults D.read_faults D.lends disk.old disk.new }
 {
     match phase {
         Phase::Move => collect_move(alloc, heap, held, disk, steps),
@@ -101,12 +104,13 @@ pub fn collect_planned<D: StaleDisk, L: Ledger>(
     ensures writes { IfOk result (λ done.
         RisesBy (done.1.bodies + done.1.stubs) (D.writes disk.old.disk.now) (D.writes disk.new.disk.now)) }
     ensures fits { OnOk result (phase_done force plan.old.next ≡ Phase.Move → disk.new.end ≤ disk.old.limit) }
+    ensures visits { VisitsPlanned (phase_done force plan.old.next) heap held.old steps.old steps.new }
     ensures refused { IfErr result (λ refusal. IsRefusedPlanned D.image D.writes (phase_done force plan.old.next) heap
         held.old held.new disk.old disk.new refusal) }
     ensures plan_stays { OnErr result (plan.new ≡ plan.old) }
     ensures failed { IsErrOf result MoveRefusal.DiskFault
         → Rose (D.faults disk.old.disk.now) (D.faults disk.new.disk.now) }
-    ensures keeps { KeepsDisk D.faults D.read_faults D.lends disk.old disk.new }
+    ensures keeps { KeepsDisk D.image D.faults D.read_faults D.lends disk.old disk.new }
 {
     let Ok(settled) = settle(&mut heap, disk) else {
         drop_held(held, steps);

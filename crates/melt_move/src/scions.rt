@@ -3,7 +3,7 @@
 //! A scion goes with its object. Those of the objects that leave are freed first, so that their numbers are given
 //! again; then each object that stays has its scion told where it is now, or, where it has a new home, is given a scion
 //! and gets its Stub there.
-ghost use Rattle.std.specs.Prelude.{◌≡◌, ◌≤◌, ◌+◌, ◌^◌, ◌<◌, ℕ, [], ◌∷◌, OnOk, OnErr, IfOk, MatchOption};
+ghost use Rattle.std.specs.Prelude.{◌≡◌, ◌≤◌, ◌+◌, ◌^◌, ◌<◌, ℕ, [], ◌∷◌, length, OnOk, OnErr, IfOk, MatchOption};
 ghost use Rattle.melt_io.specs.Outside.{Rose, counted};
 ghost use Rattle.melt_space.specs.Space.{IsWord, word_at};
 ghost use Rattle.melt_scion.specs.Heaps.{Shows};
@@ -51,7 +51,8 @@ pub fn free_scions<L: Ledger>(
 )
     requires decided { (s : State) × IsDecision space.now s decision.now × NamesScionsOf s scions.old }
     requires table { IsTable scions.old }
-    ensures { FreesScions (word_at space.now) decision.now.choice.leaving.items scions.old scions.new }
+    ensures frees { FreesScions (word_at space.now) decision.now.choice.leaving.items scions.old scions.new }
+    ensures visits { steps.new ≡ steps.old + length decision.now.choice.leaving.items }
 {
     for d in &decision.choice.leaving {
         steps.tick();
@@ -79,7 +80,7 @@ fn give_scion<D: StaleDisk>(
         × Shows (D.image disk.new.disk.now) after × WritesStub heap.new m home disk.old.end image after) }
     ensures one_write { D.writes disk.new.disk.now ≡ counted (D.writes disk.old.disk.now) 1 }
     ensures failed { OnErr result (Rose (D.faults disk.old.disk.now) (D.faults disk.new.disk.now)) }
-    ensures keeps { KeepsDisk D.faults D.read_faults D.lends disk.old disk.new }
+    ensures keeps { KeepsDisk D.image D.faults D.read_faults D.lends disk.old disk.new }
     ensures end { disk.new.end ≡ disk.old.end }
 {
     let scion = heap.scions.add(home, m.to);
@@ -106,7 +107,7 @@ fn update_scion<D: StaleDisk>(
     ensures one_write_each { IfOk result (λ count.
         RisesBy count (D.writes disk.old.disk.now) (D.writes disk.new.disk.now)) }
     ensures failed { OnErr result (Rose (D.faults disk.old.disk.now) (D.faults disk.new.disk.now)) }
-    ensures keeps { KeepsDisk D.faults D.read_faults D.lends disk.old disk.new }
+    ensures keeps { KeepsDisk D.image D.faults D.read_faults D.lends disk.old disk.new }
     ensures end { disk.new.end ≡ disk.old.end }
 {
     if let Some(scion) = scion_of(&heap.space, m.to) {
@@ -137,10 +138,11 @@ pub fn give_scions<D: StaleDisk, L: Ledger>(
         × WritesStubs decision.now.homes decision.now.choice.stay.moves.items heap.new disk.old.end image after) }
     ensures stubs { IfOk result (λ count. count ≡ given_count decision.now.homes decision.now.choice.stay.moves.items) }
     ensures few { IfOk result (λ count. count < 2 ^ 30) }
+    ensures visits { steps.new ≤ steps.old + length decision.now.choice.stay.moves.items }
     ensures one_write_each { IfOk result (λ count.
         RisesBy count (D.writes disk.old.disk.now) (D.writes disk.new.disk.now)) }
     ensures failed { OnErr result (Rose (D.faults disk.old.disk.now) (D.faults disk.new.disk.now)) }
-    ensures keeps { KeepsDisk D.faults D.read_faults D.lends disk.old disk.new }
+    ensures keeps { KeepsDisk D.image D.faults D.read_faults D.lends disk.old disk.new }
     ensures end { disk.new.end ≡ disk.old.end }
 {
     let mut stubs = 0;

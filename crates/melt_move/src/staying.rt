@@ -2,19 +2,20 @@
 //!
 //! An object that stays keeps its home word. A reference to one that stays becomes stale, and one to an object that
 //! leaves becomes that object's home.
-ghost use Rattle.std.specs.Prelude.{◌≡◌, ℕ, ◌+◌, ◌<◌, [], length, slice_index, IfOk, OnOk};
+ghost use Rattle.std.specs.Prelude.{◌≡◌, ℕ, ◌+◌, ◌*◌, ◌<◌, ◌≤◌, [], length, slice_index, IfOk, OnOk};
 ghost use Rattle.melt_word.specs.Words.{IsRef, cost_of};
 ghost use Rattle.melt_word.specs.declared.reference.Ref.TheVariants.{Disk, Stale};
 ghost use Rattle.melt_space.specs.Space.{word_at};
 ghost use Rattle.melt_scion.specs.State.{State};
 ghost use Rattle.melt_scion.specs.Moves.{by_place};
+ghost use Rattle.melt_copy.specs.Moving.{words_in};
 ghost use Rattle.melt_copy.specs.Tracking.{Extends, goes, word_in};
 ghost use Rattle.melt_move.specs.Plans.{HasRoom, IsDecision, home_by};
 ghost use Rattle.melt_move.specs.Staying.{AreSources, Follows, IsSource, ObjectStays, StandIn, Stays, StaysAs};
 ghost use Rattle.melt_move.specs.Staying.{WordsStay};
 
 use crate::decision::Decision;
-use melt_copy::{Relocation, move_header};
+use melt_copy::{Relocation, move_header, visit_words};
 use melt_model::{NoMemory, Phase, Steps};
 use melt_space::Space;
 use melt_word::{Ref, cost, decode_ref, encode_ref};
@@ -61,6 +62,7 @@ fn append_words<L: Ledger>(
     ensures stay { OnOk result ((s : State) → AreSources space.now s decision.now words.now
         → (i : ℕ) → i < length words.now
         → StaysAs s decision.now (slice_index words.now i) (slice_index out.new.items (length out.old.items + i))) }
+    ensures visits { steps.new ≤ steps.old + length words.now }
 {
     for word in words {
         steps.tick();
@@ -79,8 +81,9 @@ pub fn copy_words<L: Ledger>(
 ) -> Result<Vec<u64>, NoMemory>
     requires empty { out.items ≡ [] }
     requires sources { (s : State) × AreSources space.now s decision.now words.now }
-    ensures { IfOk result (λ out. (s : State) → AreSources space.now s decision.now words.now
+    ensures stay { IfOk result (λ out. (s : State) → AreSources space.now s decision.now words.now
         → WordsStay s decision.now words.now out.items) }
+    ensures visits { steps.new ≤ steps.old + length words.now }
 {
     append_words(&mut out, decision, space, words, steps)?;
     Ok(out)
@@ -99,13 +102,16 @@ fn append_object<L: Ledger>(
     ensures extends { OnOk result (Extends out.old.items out.new.items (cost_of m.shape)) }
     ensures object { OnOk result ((s : State) → Stays space.now s decision.now m → m.to ≡ length out.old.items + 1
         → ObjectStays s decision.now held (word_in out.new.items) m) }
+    ensures visits { steps.new ≤ steps.old + cost_of m.shape }
 {
     let object = space.words_at(m.from, cost(m.shape));
     // Before the slots stand the header and the home word.
     let numbers = 2 + m.shape.refs as usize;
     let header = move_header(Phase::Move, held, m.shape, object[0]);
+    visit_words(&object[..2], steps);
     out.extend_from_slice(&[header, object[1]])?;
     append_words(out, decision, space, &object[2..numbers], steps)?;
+    visit_words(&object[numbers..], steps);
     out.extend_from_slice(&object[numbers..])?;
     Ok(())
 }
@@ -120,8 +126,9 @@ pub fn copy_staying<L: Ledger>(
     requires empty { out.items ≡ [] }
     requires room { HasRoom decision.now }
     requires decided { (s : State) × IsDecision space.now s decision.now }
-    ensures { IfOk result (λ out. (s : State) → IsDecision space.now s decision.now
+    ensures stand { IfOk result (λ out. (s : State) → IsDecision space.now s decision.now
         → StandIn s decision.now out.items) }
+    ensures visits { steps.new ≤ steps.old + 2 * words_in decision.now.choice.stay.moves.items }
 {
     for (k, m) in decision.choice.stay.moves.iter().enumerate() {
         steps.tick();

@@ -1,5 +1,6 @@
-use Rattle.std.proofs.Common.{◌≡◌, refl, sym, ◌∙◌, length, None}
+use Rattle.std.proofs.Common.{◌≡◌, refl, sym, ◌∙◌, length, None, arith}
 use Rattle.std.proofs.lemmas.List.{length_push}
+use Rattle.std.proofs.lemmas.Option.{slice_get_within}
 use Rattle.std.proofs.lemmas.Slice.Zip.{zip_turn}
 use Rattle.melt_scion.specs.Names.{name_at}
 use Rattle.melt_copy.proofs.Committing.{IsMoveAt, move_at, name_after_more, unnamed_before, number_of}
@@ -31,6 +32,10 @@ loop-m-preserved-in-Some-number g c =
           (name_at c.set.new.self) c.args.moves.now _ _ c.in-Some.m.now turn.0
           (length_push c.loop-m.yielded _) c.loop-m.invariant.names here c.set.ensures.others;
       size = c.set.ensures.size ∙ c.loop-m.invariant.size;
+      visits = let more = length_push c.loop-m.yielded (c.in-Some.m, c.in-Some.number) in
+          omega (arith, c.loop-m.invariant.visits, c.tick.ensures, more);
+      within = let at = slice_get_within c.args.moves.now _ c.in-Some.m.now turn.0.at in
+          omega (arith, at, length_push c.loop-m.yielded (c.in-Some.m, c.in-Some.number));
     }
 
 pub loop-m-preserved : goal.loop-m-preserved
@@ -44,4 +49,8 @@ loop-m-preserved g c =
           (name_at c.loop-m.names) c.args.moves.now _ _ m turn.0
           (length_push c.loop-m.yielded _) c.loop-m.invariant.names here (λ _ _. refl);
       size = c.loop-m.invariant.size;
+      visits = let more = length_push c.loop-m.yielded (c.in-Some.m, c.in-Some.number) in
+          omega (arith, c.loop-m.invariant.visits, c.tick.ensures, more);
+      within = let at = slice_get_within c.args.moves.now _ m turn.0.at in
+          omega (arith, at, length_push c.loop-m.yielded (c.in-Some.m, c.in-Some.number));
     }

@@ -1,7 +1,9 @@
-use Rattle.std.proofs.Common.{◌≡◌, arith, length, subst}
+use Rattle.std.proofs.Common.{◌≡◌, arith, length, subst, refl}
+use Rattle.std.proofs.lemmas.Option.{slice_get_read}
 use Rattle.melt_copy.specs.Tracking.{HasCopied}
 use Rattle.melt_copy.proofs.Growth.{Grows-more}
 use Rattle.melt_copy.proofs.Queue.{next_object, copied_more, count_fits, longer}
+use Rattle.melt_copy.proofs.Visited.{turn_words, turn_within, first_words}
 use Rattle.melt_copy.proofs.copy.copy_objects.Goals as goal
 
 pub copy_object-requires : goal.copy_object-requires
@@ -39,7 +41,46 @@ loop-done-preserved g c = record {
       (omega (arith, c.loop-done-test.true, c.len.ensures, c.loop-done.forwarding.moves.ok.0)) c.index-m.ensures
       c.copy_object.ensures.grows (c.copy_object.ensures.tracks s of) c.in_ok-copy_object.ensures.extends
       (c.in_ok-copy_object.ensures.object s of);
+  visits =
+      let at = slice_get_read c.loop-done.forwarding.moves.items (length c.loop-done.forwarding.moves.items)
+      c.loop-done.done c.index-m.result.now refl
+      (omega (arith, c.loop-done-test.true, c.len.ensures, c.loop-done.forwarding.moves.ok.0)) c.index-m.ensures in
+      omega (
+        arith,
+        c.loop-done.invariant.visits,
+        c.tick.ensures,
+        c.copy_object.ensures.visits,
+        turn_words c.loop-done.forwarding c.copy_object.new.forwarding c.loop-done.done c.index-m.result.now
+            c.copy_object.ensures.grows at,
+      );
 }
+
+pub returns-in_err-copy_object-clause-tracks : goal.returns-in_err-copy_object-clause-tracks
+returns-in_err-copy_object-clause-tracks g c = λ s tracks. c.copy_object.ensures.tracks s
+    (next_object c.args.space.now s c.loop-done.forwarding c.loop-done.done c.index-m.result.now
+    (c.loop-done.invariant.copied s tracks).tracks
+    (omega (arith, c.loop-done-test.true, c.len.ensures, c.loop-done.forwarding.moves.ok.0)) c.index-m.ensures)
+
+pub returns-in_err-copy_object-clause-visits : goal.returns-in_err-copy_object-clause-visits
+returns-in_err-copy_object-clause-visits g c =
+    let at = slice_get_read c.loop-done.forwarding.moves.items (length c.loop-done.forwarding.moves.items)
+    c.loop-done.done c.index-m.result.now refl
+    (omega (arith, c.loop-done-test.true, c.len.ensures, c.loop-done.forwarding.moves.ok.0)) c.index-m.ensures in
+    omega (
+      arith,
+      c.loop-done.invariant.visits,
+      c.tick.ensures,
+      c.copy_object.ensures.visits,
+      turn_within c.loop-done.forwarding c.copy_object.new.forwarding c.loop-done.done c.index-m.result.now
+          c.copy_object.ensures.grows at,
+    )
+
+pub returns-clause-tracks : goal.returns-clause-tracks
+returns-clause-tracks g c = λ s tracks. (c.loop-done.invariant.copied s tracks).tracks
+
+pub returns-clause-visits : goal.returns-clause-visits
+returns-clause-visits g c =
+    omega (arith, c.loop-done.invariant.visits, first_words c.loop-done.forwarding.moves.items c.loop-done.done)
 
 pub returns-clause-copied : goal.returns-clause-copied
 returns-clause-copied g c = λ s tracks.

@@ -1,5 +1,6 @@
-use Rattle.std.proofs.Common.{◌≤◌, ◌+◌, ◌-◌, length}
+use Rattle.std.proofs.Common.{◌≤◌, ◌+◌, ◌*◌, ◌-◌, length, take}
 use Rattle.melt_scion.specs.State.{State}
+use Rattle.melt_copy.specs.Moving.{words_in}
 use Rattle.melt_copy.specs.Tracking.{Grows, HasCopied, Tracks}
 use Rattle.melt_copy.proofs.copy.copy_objects.Given as goal
 
@@ -9,6 +10,7 @@ invariant-loop-done g l = record {
   grows : Grows l.fn.forwarding l.forwarding;
   copied : (s : State) → Tracks l.space s l.fn.forwarding
       → HasCopied l.phase l.front l.space s l.forwarding l.words.items l.done;
+  visits : l.steps ≤ l.fn.steps + 2 * words_in (take l.done l.forwarding.moves.items);
 }
 
 abbrev pub decreases-loop-done : goal.decreases-loop-done

@@ -30,4 +30,5 @@ loop-word-preserved g c = record {
       c.move_word.ensures.grows;
   tracks = word_tracked c.args.space.now c.args.forwarding.now c.loop-word.forwarding c.args.words.now
       c.loop-word.word-index c.loop-word.invariant.tracks (omega arith) c.move_word.new.self c.move_word.ensures.tracks;
+  visits = omega (arith, c.loop-word.invariant.visits, c.tick.ensures);
 }

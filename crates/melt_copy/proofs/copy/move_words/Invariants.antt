@@ -1,4 +1,4 @@
-use Rattle.std.proofs.Common.{ℕ, ◌+◌, ◌<◌, length}
+use Rattle.std.proofs.Common.{ℕ, ◌+◌, ◌<◌, ◌≤◌, length}
 use Rattle.std.specs.Prelude.{slice_index}
 use Rattle.melt_scion.specs.State.{State}
 use Rattle.melt_copy.specs.Moving.{WordMoves}
@@ -13,4 +13,5 @@ invariant-loop-word g l = record {
       (slice_index l.out.items (length l.fn.out.items + i));
   grows : Grows l.fn.forwarding l.forwarding;
   tracks : (s : State) → TracksIn l.space s l.fn.forwarding l.words → Tracks l.space s l.forwarding;
+  visits : l.steps ≤ l.fn.steps + l.word-index;
 }

@@ -41,4 +41,5 @@ loop-registers-preserved g c = record {
       c.loop-registers.registers-index _ (omega arith)
       (get_or_default c.args.held.now c.loop-registers.registers-index _ _ (omega arith)) threads
       (c.loop-registers.invariant.tracks s threads));
+  visits = omega (arith, c.loop-registers.invariant.visits, c.tick.ensures, c.find_held.ensures.visits);
 }

@@ -1,4 +1,4 @@
-use Rattle.std.proofs.Common.{◌≡◌, ◌≢◌, ℕ, ◌<◌}
+use Rattle.std.proofs.Common.{◌≡◌, ◌≢◌, ℕ, ◌+◌, ◌*◌, ◌<◌, ◌≤◌}
 use Rattle.std.specs.Prelude.{slice_get, Some, ◌⊎◌}
 use Rattle.melt_scion.specs.State.{State}
 use Rattle.melt_scion.specs.Heaps.{register_in}
@@ -13,4 +13,5 @@ invariant-loop-registers g l = record {
       → (slice_get l.fn.forwarding.moves.items k ≡ Some m) ⊎ ((t : ℕ) × (r : ℕ) × (register_in l.held t r ≡ m.from));
   grows : Grows l.fn.forwarding l.forwarding;
   tracks : (s : State) → TracksThreads l.space s l.fn.forwarding l.held → Tracks l.space s l.forwarding;
+  visits : l.steps ≤ l.fn.steps + 17 * l.registers-index;
 }

@@ -26,9 +26,10 @@ overflow_sub-held_words g c =
     let found = c.find_all_held.ensures.tracks start.0 start.1 in
     omega (arith, found.holds.behind)
 
-pub returns : goal.returns
-returns g c =
+pub returns-clause-finds : goal.returns-clause-finds
+returns-clause-finds g c =
     finds_front c.args.heap.now c.args.held.now c.in_ok-forwarding.forwarding c.used.result
-    (begins g (goal.at.returns g c).In_ok-forwarding) c.find_all_held.new.forwarding c.find_all_held.ensures.tracks
-    c.in_ok-find_all_held.ensures.finds c.len-front.result (c.find_all_held.new.forwarding.next - 1)
+    (begins g (goal.at.returns-clause-finds g c).In_ok-forwarding) c.find_all_held.new.forwarding
+    c.find_all_held.ensures.tracks c.in_ok-find_all_held.ensures.finds c.len-front.result
+    (c.find_all_held.new.forwarding.next - 1)
     (omega (arith, c.len-front.ensures, c.find_all_held.new.forwarding.moves.ok.0)) refl

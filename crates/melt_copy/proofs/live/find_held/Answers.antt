@@ -1,4 +1,4 @@
-use Rattle.std.proofs.Common.{◌+◌, sym, subst}
+use Rattle.std.proofs.Common.{◌+◌, sym, subst, arith}
 use Rattle.std.specs.Prelude.{slice_index}
 use Rattle.melt_copy.specs.declared.forwarding.Forwarding.{Forwarding}
 use Rattle.melt_copy.proofs.Held.{tracks_register, HoldsSoFar, holds_found, holds_empty}
@@ -31,12 +31,24 @@ loop-address-preserved g c =
           (holds_found c.args.space.now c.args.forwarding.now c.loop-address.forwarding w.find.new.self register n
           before w.if-address-ne0.true _ w.in_ok-find.ensures.found.1 w.in_ok-find.ensures.found.0 w.find.ensures.grows
           w.find.ensures.only w.find.ensures.tracks) in
-          record { all = after.all; each = after.each; grows = after.grows; tracks = after.tracks }
+          record {
+            all = after.all;
+            each = after.each;
+            grows = after.grows;
+            tracks = after.tracks;
+            visits = omega (arith, c.loop-address.invariant.visits, c.tick.ensures);
+          }
       | else-address-ne0 w ↦
           let after : HoldsSoFar c.args.space.now c.args.forwarding.now c.if-address-ne0.forwarding register (n + 1) =
           subst (λ (p : Forwarding). HoldsSoFar c.args.space.now c.args.forwarding.now p register (n + 1))
           (sym w.forwarding-is)
           (holds_empty c.args.space.now c.args.forwarding.now c.loop-address.forwarding register n before
           w.if-address-ne0.false) in
-          record { all = after.all; each = after.each; grows = after.grows; tracks = after.tracks }
+          record {
+            all = after.all;
+            each = after.each;
+            grows = after.grows;
+            tracks = after.tracks;
+            visits = omega (arith, c.loop-address.invariant.visits, c.tick.ensures);
+          }
     ]

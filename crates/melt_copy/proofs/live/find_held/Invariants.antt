@@ -1,4 +1,4 @@
-use Rattle.std.proofs.Common.{◌≡◌, ◌≢◌, ℕ, ◌<◌}
+use Rattle.std.proofs.Common.{◌≡◌, ◌≢◌, ℕ, ◌+◌, ◌<◌, ◌≤◌}
 use Rattle.std.specs.Prelude.{slice_index, slice_get, Some, ◌⊎◌}
 use Rattle.melt_scion.specs.State.{State}
 use Rattle.melt_copy.specs.declared.forwarding.Relocation.{Relocation}
@@ -14,4 +14,5 @@ invariant-loop-address g l = record {
   grows : Grows l.fn.forwarding l.forwarding;
   tracks : (s : State) → TracksHeld l.space s l.fn.forwarding (slice_index l.registers.regs)
       → Tracks l.space s l.forwarding;
+  visits : l.steps ≤ l.fn.steps + l.address-index;
 }

@@ -3,6 +3,7 @@ use Rattle.std.proofs.lemmas.Option.{slice_get_within, slice_get_read}
 use Rattle.melt_copy.proofs.Growth.{Grows-more}
 use Rattle.melt_copy.proofs.Queue.{next_object, count_fits, longer}
 use Rattle.melt_copy.proofs.Following.{objects_more}
+use Rattle.melt_copy.proofs.Visited.{turn_words, turn_within, first_words}
 use Rattle.melt_copy.proofs.live.find_rest.Goals as goal
 
 pub find_slots-requires : goal.find_slots-requires
@@ -44,7 +45,33 @@ loop-done-preserved g c =
       tracks = λ s tracks. c.find_slots.ensures.tracks s
           (next_object c.args.space.now s c.loop-done.forwarding c.loop-done.done c.index-m.result.now
           (c.loop-done.invariant.tracks s tracks) below c.index-m.ensures);
+      visits = omega (
+        arith,
+        c.loop-done.invariant.visits,
+        c.tick.ensures,
+        c.find_slots.ensures.visits,
+        turn_words c.loop-done.forwarding c.find_slots.new.forwarding c.loop-done.done c.index-m.result.now
+            c.find_slots.ensures.grows at,
+      );
     }
+
+pub returns-in_err-find_slots-clause-visits : goal.returns-in_err-find_slots-clause-visits
+returns-in_err-find_slots-clause-visits g c =
+    let at = slice_get_read c.loop-done.forwarding.moves.items (length c.loop-done.forwarding.moves.items)
+    c.loop-done.done c.index-m.result.now refl
+    (omega (arith, c.loop-done-test.true, c.len.ensures, c.loop-done.forwarding.moves.ok.0)) c.index-m.ensures in
+    omega (
+      arith,
+      c.loop-done.invariant.visits,
+      c.tick.ensures,
+      c.find_slots.ensures.visits,
+      turn_within c.loop-done.forwarding c.find_slots.new.forwarding c.loop-done.done c.index-m.result.now
+          c.find_slots.ensures.grows at,
+    )
+
+pub returns-clause-visits : goal.returns-clause-visits
+returns-clause-visits g c =
+    omega (arith, c.loop-done.invariant.visits, first_words c.loop-done.forwarding.moves.items c.loop-done.done)
 
 pub returns-clause-finds : goal.returns-clause-finds
 returns-clause-finds g c = λ s tracks k m at.

@@ -21,6 +21,7 @@ loop-word-preserved g c = record {
       c.find_word.ensures.grows;
   tracks = word_tracked c.args.space.now c.args.forwarding.now c.loop-word.forwarding c.args.words.now
       c.loop-word.word-index c.loop-word.invariant.tracks (omega arith) c.find_word.new.self c.find_word.ensures.tracks;
+  visits = omega (arith, c.loop-word.invariant.visits, c.tick.ensures);
 }
 
 pub returns-clause-finds : goal.returns-clause-finds

@@ -1,4 +1,4 @@
-use Rattle.std.proofs.Common.{◌≢◌, ℕ, ◌<◌}
+use Rattle.std.proofs.Common.{◌≢◌, ℕ, ◌+◌, ◌<◌, ◌≤◌}
 use Rattle.std.specs.Prelude.{slice_index}
 use Rattle.melt_scion.specs.State.{State, RefersTo}
 use Rattle.melt_copy.specs.Tracking.{Grows, Tracks, TracksIn, goes}
@@ -10,4 +10,5 @@ invariant-loop-word g l = record {
       → goes l.forwarding address ≢ 0;
   grows : Grows l.fn.forwarding l.forwarding;
   tracks : (s : State) → TracksIn l.space s l.fn.forwarding l.words → Tracks l.space s l.forwarding;
+  visits : l.steps ≤ l.fn.steps + l.word-index;
 }

@@ -44,7 +44,12 @@ loop-scion-preserved g c =
           let there =
           subst (λ (p : Forwarding). IsFoundSoFar c.args.space.now c.args.forwarding.now p table live (n + 1))
           (sym w.forwarding-is) after in
-          record { finds = there.finds; grows = there.grows; tracks = there.tracks }
+          record {
+            finds = there.finds;
+            grows = there.grows;
+            tracks = there.tracks;
+            visits = omega (arith, c.loop-scion.invariant.visits, c.tick.ensures);
+          }
       | in_default w ↦
           let after : IsFoundSoFar c.args.space.now c.args.forwarding.now c.loop-scion.forwarding table live (n + 1) =
           no_scion_found c.args.space.now c.args.forwarding.now c.loop-scion.forwarding table live n
@@ -57,7 +62,12 @@ loop-scion-preserved g c =
           let there =
           subst (λ (p : Forwarding). IsFoundSoFar c.args.space.now c.args.forwarding.now p table live (n + 1))
           (sym w.forwarding-is) after in
-          record { finds = there.finds; grows = there.grows; tracks = there.tracks }
+          record {
+            finds = there.finds;
+            grows = there.grows;
+            tracks = there.tracks;
+            visits = omega (arith, c.loop-scion.invariant.visits, c.tick.ensures);
+          }
     ]
 
 pub returns-clause-finds : goal.returns-clause-finds

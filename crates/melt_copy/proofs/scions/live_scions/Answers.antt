@@ -1,5 +1,6 @@
-use Rattle.std.proofs.Common.{List, ℕ, sym, subst}
+use Rattle.std.proofs.Common.{List, ℕ, sym, subst, ap, ◌∙◌, length, arith}
 use Rattle.std.specs.Prelude.{Some}
+use Rattle.std.proofs.lemmas.List.{length_push}
 use Rattle.melt_copy.proofs.Walking.{IsWalked, walk_live, walk_more}
 use Rattle.melt_copy.proofs.scions.live_scions.Goals as goal
 
@@ -21,4 +22,6 @@ loop-next-preserved g c =
           subst (λ (xs : List ℕ). IsWalked live xs c.next-next.result) (sym c.in_ok-push.ensures.items)
           (walk_more live c.loop-next.live.items c.in-Some.scion walked c.next-next.result
           c.loop-next.invariant.table.live_once c.next-next.ensures.next);
+      visits = let longer = ap length c.in_ok-push.ensures.items ∙ length_push c.loop-next.live.items c.in-Some.scion in
+          omega (arith, longer, c.loop-next.invariant.visits, c.tick.ensures);
     }

@@ -4,7 +4,7 @@ use Rattle.std.specs.Prelude.{Result, Ok, Err, OnErr, slice_index}
 use Rattle.melt_io.specs.Outside.{counted}
 use Rattle.melt_disk.specs.Homes.{Stale}
 use Rattle.melt_scion.specs.declared.heap.Heap.{Heap}
-use Rattle.melt_copy.specs.Settling.{Keeps, SettlesBelow, StopsAtOne, RisesBy, filled}
+use Rattle.melt_copy.specs.Settling.{Keeps, SettlesBelow, StillTold, StopsAtOne, RisesBy, filled}
 use Rattle.melt_copy.proofs.Settled.{IsSettledSoFar, keeps_both, so_far_none, so_far_past, so_far_more, forwarding_word}
 use Rattle.melt_copy.proofs.Settled.{sends_filled, counted_more, rises_more, all_settled}
 use Rattle.melt_copy.proofs.settling.settle.Goals as goal
@@ -18,6 +18,7 @@ if_it_fails P (Err failed) p = p
 pub loop-place-init : goal.loop-place-init
 loop-place-init g c = record {
   so_far = so_far_none c.args.heap.now c.args.space.now.end (g.D.StaleDisk.image c.args.space.now.disk.now) c.requires;
+  tells = λ told. told;
   writes = refl;
   count = omega arith;
   read_faults = refl;
@@ -110,6 +111,8 @@ loop-place-preserved g c =
                 (g.D.StaleDisk.image s.disk.now) (place + 1) c.match-sent_at.settled) (sym w.space-is)
                 (subst (λ (n : ℕ). IsSettledSoFar old w.settle_one.new.heap end before after (place + 1) n)
                 (sym w.settled-is) more));
+            tells = subst (λ (s : Space). StillTold before (g.D.StaleDisk.image s.disk.now)) (sym w.space-is)
+                (λ told. w.settle_one.ensures.tells (inv.tells told));
             writes = subst (λ (s : Space). RisesBy c.match-sent_at.settled writes (g.D.StaleDisk.writes s.disk.now))
                 (sym w.space-is)
                 (subst (λ (n : ℕ). RisesBy n writes (g.D.StaleDisk.writes w.settle_one.new.space.disk.now))
@@ -135,6 +138,8 @@ loop-place-preserved g c =
                 (subst (λ (s : Space). IsSettledSoFar old now end before (g.D.StaleDisk.image s.disk.now) (place + 1)
                 c.match-sent_at.settled) (sym w.space-is)
                 (subst (λ (n : ℕ). IsSettledSoFar old now end before between (place + 1) n) (sym w.settled-is) past));
+            tells = subst (λ (s : Space). StillTold before (g.D.StaleDisk.image s.disk.now)) (sym w.space-is)
+                inv.tells;
             writes = subst (λ (s : Space). RisesBy c.match-sent_at.settled writes (g.D.StaleDisk.writes s.disk.now))
                 (sym w.space-is)
                 (subst (λ (n : ℕ). RisesBy n writes (g.D.StaleDisk.writes c.loop-place.space.disk.now))

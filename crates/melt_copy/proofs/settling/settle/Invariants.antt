@@ -1,5 +1,5 @@
 use Rattle.std.proofs.Common.{◌≡◌, ◌≤◌}
-use Rattle.melt_copy.specs.Settling.{RisesBy}
+use Rattle.melt_copy.specs.Settling.{RisesBy, StillTold}
 use Rattle.melt_copy.proofs.Settled.{IsSettledSoFar}
 use Rattle.melt_copy.proofs.settling.settle.Given as goal
 
@@ -7,6 +7,7 @@ abbrev pub invariant-loop-place : goal.invariant-loop-place
 invariant-loop-place g l = record {
   so_far : IsSettledSoFar l.initial.heap l.heap l.initial.space.end (g.D.StaleDisk.image l.initial.space.disk.now)
       (g.D.StaleDisk.image l.space.disk.now) l.place l.settled;
+  tells : StillTold (g.D.StaleDisk.image l.initial.space.disk.now) (g.D.StaleDisk.image l.space.disk.now);
   writes : RisesBy l.settled (g.D.StaleDisk.writes l.initial.space.disk.now)
       (g.D.StaleDisk.writes l.space.disk.now);
   count : g.D.StaleDisk.faults l.initial.space.disk.now ≤ g.D.StaleDisk.faults l.space.disk.now;

@@ -30,6 +30,7 @@ loop-word-preserved g c =
           c.loop-word.words n are (omega arith) same)));
       rest = λ i behind. rest_stays c.loop-word.words n c.encode_slot.result i behind
           ∙ c.loop-word.invariant.rest i (omega (arith, behind));
+      visits = omega (arith, c.loop-word.invariant.visits, c.tick.ensures);
     }
 
 pub returns-clause-becomes : goal.returns-clause-becomes

@@ -1,11 +1,33 @@
-use Rattle.std.proofs.Common.{◌≡◌, ℕ, length, arith, ap, refl, subst, ◌∙◌}
+use Rattle.std.proofs.Common.{◌≡◌, ℕ, ◌+◌, length, take, arith, ap, refl, subst, ◌∙◌}
+use Rattle.std.specs.Prelude.{slice_index_or}
+use Rattle.melt_word.specs.Words.{cost_of}
 use Rattle.melt_copy.specs.Settling.{RisesBy}
 use Rattle.melt_copy.proofs.Settled.{rises_more}
 use Rattle.melt_move.specs.Bodies.{WritesBodies}
 use Rattle.melt_move.specs.Plans.{HasRoom, home_by}
 use Rattle.melt_move.proofs.Written.{departs_in, bodies_none, bodies_shown}
 use Rattle.melt_move.proofs.TwoCalls.{keeps_disk_none, keeps_disk_both}
+use Rattle.melt_move.specs.Visits.{leaving_words}
+use Rattle.melt_move.proofs.Elements.{read_at}
+use Rattle.melt_move.proofs.Visited.{leaving-first, leaving-next}
+use Rattle.melt_move.proofs.bodies.write_bodies.Given.{Over}
 use Rattle.melt_move.proofs.bodies.write_bodies.Goals as goal
+use Rattle.melt_move.proofs.bodies.write_bodies.Goals.{After-tick}
+
+-- the words of the objects until that of this turn, with it
+next_words : (g : Over) (c : After-tick g)
+    → leaving_words (take (c.loop-d.d-index + 1) c.args.decision.now.choice.leaving.items)
+    ≡ leaving_words (take c.loop-d.d-index c.args.decision.now.choice.leaving.items)
+    + cost_of (slice_index_or c.deref-d-items.result.now c.loop-d.d-index (record {
+      from = 0;
+      shape = record { refs = 0; nums = 0 };
+    })).shape
+next_words g c =
+    leaving-next c.args.decision.now.choice.leaving.items c.loop-d.d-index _
+    (read_at c.deref-d-items.result.now c.args.decision.now.choice.leaving.items c.loop-d.d-index (record {
+      from = 0;
+      shape = record { refs = 0; nums = 0 };
+    }) c.deref-d-items.ensures.value c.loop-d-test.true)
 
 pub loop-d-init : goal.loop-d-init
 loop-d-init g c = record {
@@ -16,8 +38,10 @@ loop-d-init g c = record {
         image,
   );
   writes = refl;
-  keeps = keeps_disk_none g.D.StaleDisk.faults g.D.StaleDisk.read_faults g.D.StaleDisk.lends c.args.disk.now;
+  keeps = keeps_disk_none g.D.StaleDisk.image g.D.StaleDisk.faults g.D.StaleDisk.read_faults g.D.StaleDisk.lends
+      c.args.disk.now;
   end = refl;
+  visits = omega arith;
 }
 
 pub write_body-requires-clause-departs : goal.write_body-requires-clause-departs
@@ -44,15 +68,28 @@ loop-d-preserved g c =
       writes = rises_more c.loop-d.d-index (g.D.StaleDisk.writes c.args.disk.now.disk.now)
           (g.D.StaleDisk.writes c.loop-d.disk.disk.now) (g.D.StaleDisk.writes c.write_body.new.disk.disk.now)
           before.writes c.write_body.ensures.one_write;
-      keeps = keeps_disk_both g.D.StaleDisk.faults g.D.StaleDisk.read_faults g.D.StaleDisk.lends c.args.disk.now
-          c.loop-d.disk c.write_body.new.disk before.keeps c.write_body.ensures.keeps;
+      keeps = keeps_disk_both g.D.StaleDisk.image g.D.StaleDisk.faults g.D.StaleDisk.read_faults g.D.StaleDisk.lends
+          c.args.disk.now c.loop-d.disk c.write_body.new.disk before.keeps c.write_body.ensures.keeps;
       end = c.write_body.ensures.end ∙ before.end;
+      visits =
+          let next = next_words g (goal.at.loop-d-preserved g c).After-tick in
+          omega (arith, before.visits, c.tick.ensures, c.write_body.ensures.visits, next);
     }
+
+pub returns-in_err-write_body-clause-visits : goal.returns-in_err-write_body-clause-visits
+returns-in_err-write_body-clause-visits g c =
+    let next = next_words g (goal.at.returns-in_err-write_body-clause-visits g c).After-tick in
+    let all = leaving-first c.args.decision.now.choice.leaving.items (c.loop-d.d-index + 1) in
+    omega (arith, c.loop-d.invariant.visits, c.tick.ensures, c.write_body.ensures.visits, next, all)
+
+pub returns-clause-visits : goal.returns-clause-visits
+returns-clause-visits g c =
+    omega (arith, c.loop-d.invariant.visits, leaving-first c.args.decision.now.choice.leaving.items c.loop-d.d-index)
 
 pub returns-in_err-write_body-clause-keeps : goal.returns-in_err-write_body-clause-keeps
 returns-in_err-write_body-clause-keeps g c =
-    keeps_disk_both g.D.StaleDisk.faults g.D.StaleDisk.read_faults g.D.StaleDisk.lends c.args.disk.now c.loop-d.disk
-    c.write_body.new.disk c.loop-d.invariant.keeps c.write_body.ensures.keeps
+    keeps_disk_both g.D.StaleDisk.image g.D.StaleDisk.faults g.D.StaleDisk.read_faults g.D.StaleDisk.lends
+    c.args.disk.now c.loop-d.disk c.write_body.new.disk c.loop-d.invariant.keeps c.write_body.ensures.keeps
 
 pub returns-clause-one_write_each : goal.returns-clause-one_write_each
 returns-clause-one_write_each g c =

@@ -70,9 +70,9 @@ give_scions-requires-after_bounds g c = λ κs within.
     c.reserve_homes.ensures.end ∙ ap (λ (l : List Given). c.args.disk.now.end + need_for l) c.deref.ensures.value in
     let kept = c.write_bodies.ensures.end in
     await_scions c.args.heap.now c.args.held.now formed.disk c.args.decision.now decided formed.maps formed.formed
-    formed.made c.free_scions.new.scions c.free_scions.ensures c.put_back.new.heap c.put_back.new.held
+    formed.made c.free_scions.new.scions c.free_scions.ensures.frees c.put_back.new.heap c.put_back.new.held
     c.args.copied stand
-    c.put_back.ensures c.write_bodies.new.disk.end (omega (arith, first, grown, kept))
+    c.put_back.ensures.put c.write_bodies.new.disk.end (omega (arith, first, grown, kept))
     (let small = c.requires.small in omega (arith, first, grown, kept, small))
 
 pub returns-clause-carries : goal.returns-clause-carries
@@ -91,8 +91,8 @@ returns-clause-carries g c =
     (subst (λ d. Shows (g.D.StaleDisk.image d) disk.image) (sym c.reserve_homes.ensures.disk) shows) in
     let stubs = written bodies.0 bodies.1 in
     carries_out maps c.args.heap.now c.args.held.now disk c.args.decision.now decided formed c.requires.formed.made
-    c.requires.settled c.free_scions.new.scions c.free_scions.ensures c.put_back.new.heap c.put_back.new.held
-    c.args.copied stand stay c.put_back.ensures c.give_scions.new.heap have c.give_scions.new.disk.end
+    c.requires.settled c.free_scions.new.scions c.free_scions.ensures.frees c.put_back.new.heap c.put_back.new.held
+    c.args.copied stand stay c.put_back.ensures.put c.give_scions.new.heap have c.give_scions.new.disk.end
     (omega (arith, first, grown, kept, last))
     (let small = c.requires.small in omega (arith, first, grown, kept, last, small))
     disk.image bodies.0 stubs.0 (λ k. refl)
@@ -104,13 +104,14 @@ returns-clause-carries g c =
 
 -- the disk is kept while homes are reserved and Bodies are written
 kept_first : (g : Over) (c : After-write_bodies g)
-    → KeepsDisk g.D.StaleDisk.faults g.D.StaleDisk.read_faults g.D.StaleDisk.lends c.args.disk.now
+    → KeepsDisk g.D.StaleDisk.image g.D.StaleDisk.faults g.D.StaleDisk.read_faults g.D.StaleDisk.lends c.args.disk.now
     c.write_bodies.new.disk
 kept_first g c =
     let reserves = c.reserve_homes.ensures in
-    keeps_disk_both g.D.StaleDisk.faults g.D.StaleDisk.read_faults g.D.StaleDisk.lends c.args.disk.now
-    c.reserve_homes.new.disk c.write_bodies.new.disk
-    (keeps_disk_same g.D.StaleDisk.faults g.D.StaleDisk.read_faults g.D.StaleDisk.lends c.args.disk.now
+    keeps_disk_both g.D.StaleDisk.image g.D.StaleDisk.faults g.D.StaleDisk.read_faults g.D.StaleDisk.lends
+    c.args.disk.now c.reserve_homes.new.disk c.write_bodies.new.disk
+    (keeps_disk_same g.D.StaleDisk.image g.D.StaleDisk.faults g.D.StaleDisk.read_faults g.D.StaleDisk.lends
+    c.args.disk.now
     c.reserve_homes.new.disk reserves.disk reserves.limit reserves.same_disk) c.write_bodies.ensures.keeps
 
 pub returns-in_err-write_bodies-clause-keeps : goal.returns-in_err-write_bodies-clause-keeps
@@ -119,7 +120,8 @@ returns-in_err-write_bodies-clause-keeps g c =
 
 pub returns-clause-keeps : goal.returns-clause-keeps
 returns-clause-keeps g c =
-    keeps_disk_both g.D.StaleDisk.faults g.D.StaleDisk.read_faults g.D.StaleDisk.lends c.args.disk.now
+    keeps_disk_both g.D.StaleDisk.image g.D.StaleDisk.faults g.D.StaleDisk.read_faults g.D.StaleDisk.lends
+    c.args.disk.now
     c.write_bodies.new.disk c.give_scions.new.disk (kept_first g (goal.at.returns-clause-keeps g c).After-write_bodies)
     c.give_scions.ensures.keeps
 

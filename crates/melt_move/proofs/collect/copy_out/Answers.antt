@@ -14,4 +14,5 @@ copy_staying-requires-clause-decided g c =
 pub returns-clause-copies : goal.returns-clause-copies
 returns-clause-copies g c =
     copies_out _ c.args.heap.now c.args.held.now c.heap.view_is c.args.decision.now c.requires.decides
-    c.requires.room c.deref-2.result.now c.deref-2.ensures.value _ c.in_ok-words.ensures c.in_ok-globals-2.ensures
+    c.requires.room c.deref-2.result.now c.deref-2.ensures.value _ c.in_ok-words.ensures.stand
+    c.in_ok-globals-2.ensures.stay

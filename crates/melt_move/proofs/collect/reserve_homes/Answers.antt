@@ -32,4 +32,5 @@ loop-g-preserved g c =
       limit = c.reserve_home-home.ensures.limit ∙ before.limit;
       same_disk = c.reserve_home-home.ensures.same_disk ∙ before.same_disk;
       disk = c.reserve_home-home.ensures.disk ∙ before.disk;
+      visits = omega (arith, before.visits, c.tick.ensures);
     }

@@ -8,4 +8,5 @@ invariant-loop-g g l = record {
   limit : l.disk.limit ≡ l.fn.disk.limit;
   same_disk : l.disk.disk.ghost_name ≡ l.fn.disk.disk.ghost_name;
   disk : l.disk.disk.now ≡ l.fn.disk.disk.now;
+  visits : l.steps ≡ l.fn.steps + l.g-index;
 }

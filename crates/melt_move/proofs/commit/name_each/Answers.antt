@@ -74,6 +74,7 @@ loop-g-preserved g c =
             names = subst (λ (n : NamedHomes). NamesFirst homes (i + 1) number old (home_name n)) (sym w.names-is) more;
             spare = (let same = ap (λ (n : NamedHomes). n.spare) w.names-is in
                 omega (arith, falls, same, c.loop-g.invariant.spare));
+            visits = omega (arith, c.loop-g.invariant.visits, c.tick.ensures);
           }
       | in_default w ↦
           let same : NamesFirst homes (i + 1) number old (home_name c.loop-g.names) =
@@ -84,11 +85,12 @@ loop-g-preserved g c =
             names = subst (λ (n : NamedHomes). NamesFirst homes (i + 1) number old (home_name n)) (sym w.names-is) same;
             spare = (let kept = ap (λ (n : NamedHomes). n.spare) w.names-is in
                 omega (arith, kept, c.loop-g.invariant.spare));
+            visits = omega (arith, c.loop-g.invariant.visits, c.tick.ensures);
           }
     ]
 
-pub returns : goal.returns
-returns g c =
+pub returns-clause-names : goal.returns-clause-names
+returns-clause-names g c =
     let whole = ap length c.deref-g-items.ensures.value in
     names_all c.args.homes.now _ _ _ _ (omega (arith, whole, c.loop-g-test.false, c.loop-g.auto.g-index-end))
     c.loop-g.invariant.names

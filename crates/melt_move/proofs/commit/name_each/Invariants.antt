@@ -10,4 +10,5 @@ invariant-loop-g g l = record {
   home_is : l.home ≡ home_at l.homes l.g-index;
   names : NamesFirst l.homes l.g-index (name_at l.addresses) (home_name l.fn.names) (home_name l.names);
   spare : length l.homes.given.items ≤ l.names.spare + l.g-index;
+  visits : l.steps ≤ l.fn.steps + l.g-index;
 }

@@ -22,7 +22,7 @@ give_named-requires-clause-chosen g c =
       s,
       c.in_ok-give_leaving.ensures.all s (c.in_ok-giving.ensures.all s c.requires.2) (c.requires.1, c.requires.3),
       (c.requires.1, c.requires.3),
-      subst (HasMarks s) (sym c.deref-2.ensures.value) (c.in_ok-marks.ensures s c.requires.2
+      subst (HasMarks s) (sym c.deref-2.ensures.value) (c.in_ok-marks.ensures.marks s c.requires.2
           (subst (AreDepartures s) (sym c.deref.ensures.value) c.requires.3.leave)),
     )
 
@@ -30,7 +30,7 @@ pub returns-clause-gives : goal.returns-clause-gives
 returns-clause-gives g c = λ s live seen is.
     let has = c.in_ok-give_leaving.ensures.all s (c.in_ok-giving.ensures.all s seen) (live, is) in
     let marks = subst (HasMarks s) (sym c.deref-2.ensures.value)
-    (c.in_ok-marks.ensures s seen (subst (AreDepartures s) (sym c.deref.ensures.value) is.leave)) in
+    (c.in_ok-marks.ensures.marks s seen (subst (AreDepartures s) (sym c.deref.ensures.value) is.leave)) in
     gives_new c.args.space.now s c.args.choice.now c.deref-2.result.now _ _ c.give_named.new.self
     (c.in_ok-give_named.ensures.all s has (live, is) marks) (live, is) marks c.in_ok-give_leaving.ensures.gives
     c.in_ok-give_named.ensures.gives

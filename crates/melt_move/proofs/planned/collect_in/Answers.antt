@@ -11,6 +11,9 @@ use Rattle.melt_move.specs.Collecting.{IsFormedOn, Moves}
 use Rattle.melt_move.specs.Planned.{CollectsIn}
 use Rattle.melt_move.proofs.Planning.{collects_copied, formed_copied, formed_moved, refuses_copied}
 use Rattle.melt_move.proofs.TwoCalls.{keeps_disk_none}
+use Rattle.melt_copy.specs.Visits.{VisitsAtMost}
+use Rattle.melt_move.specs.Visits.{visits_in}
+use Rattle.melt_move.proofs.Visited.{copying_visits}
 use Rattle.melt_move.proofs.planned.collect_in.Goals as goal
 
 pub returns-in-Move-clause-collects : goal.returns-in-Move-clause-collects
@@ -30,6 +33,11 @@ returns-in-Move-clause-formed g c =
     (λ (done : Heap × Journal). IsFormedOn done.0 c.collect_move.new.held c.collect_move.new.disk.end)
     (λ done moves. formed_moved c.args.heap done.0 c.args.held.now c.collect_move.new.held c.args.disk.now.end
     c.collect_move.new.disk.end before after done.1 c.requires.formed moves) c.collect_move.ensures.moves
+
+pub returns-in-Move-clause-visits : goal.returns-in-Move-clause-visits
+returns-in-Move-clause-visits g c =
+    subst (λ (phase : Phase). VisitsAtMost (visits_in phase) c.args.heap c.args.held.now c.args.steps.now
+    c.collect_move.new.steps) (sym c.in-Move.is) c.collect_move.ensures.visits
 
 pub returns-in-Ok : goal.returns-in-Ok
 returns-in-Ok g c =
@@ -57,10 +65,13 @@ returns-in-Ok g c =
       few = omega (arith, stubs);
       writes = subst (λ (n : ℕ). RisesBy n writes writes) none refl;
       fits = λ moving. absurd (subst IsCopying moving copying);
+      visits = copying_visits c.args.phase c.args.heap c.args.held.now c.args.steps.now c.collect_copy.new.steps copying
+          c.collect_copy.ensures.visits;
       refused = tt;
       failed = λ is. absurd (cc);
       keeps =
-          keeps_disk_none g.D.StaleDisk.faults g.D.StaleDisk.read_faults g.D.StaleDisk.lends c.args.disk.now;
+          keeps_disk_none g.D.StaleDisk.image g.D.StaleDisk.faults g.D.StaleDisk.read_faults g.D.StaleDisk.lends
+          c.args.disk.now;
     }
 
 pub returns-in-Err : goal.returns-in-Err
@@ -73,6 +84,8 @@ returns-in-Err g c =
       few = tt;
       writes = tt;
       fits = tt;
+      visits = copying_visits c.args.phase c.args.heap c.args.held.now c.args.steps.now c.collect_copy.new.steps copying
+          c.collect_copy.ensures.visits;
       refused =
           refuses_copied c.args.phase c.args.heap c.args.held.now c.collect_copy.new.held c.args.disk.now
           c.args.disk.now (NoMemory c.collect_copy.new.heap) copying (record {
@@ -83,5 +96,6 @@ returns-in-Err g c =
           });
       failed = λ is. absurd (cc);
       keeps =
-          keeps_disk_none g.D.StaleDisk.faults g.D.StaleDisk.read_faults g.D.StaleDisk.lends c.args.disk.now;
+          keeps_disk_none g.D.StaleDisk.image g.D.StaleDisk.faults g.D.StaleDisk.read_faults g.D.StaleDisk.lends
+          c.args.disk.now;
     }

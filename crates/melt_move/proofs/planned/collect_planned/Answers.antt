@@ -1,9 +1,11 @@
-use Rattle.std.proofs.Common.{◌≡◌, ℕ, ◌+◌, ◌<◌, length, sym, ◌∙◌, ap, subst, arith}
+use Rattle.std.proofs.Common.{◌≡◌, ℕ, ◌+◌, ◌<◌, length, sym, ◌∙◌, ap, subst, arith, inr}
 use Rattle.std.proofs.lemmas.Result.{err_from_is_err_and}
 use Rattle.std.specs.Prelude.{◌^◌}
 use Rattle.melt_model.specs.declared.reports.Phase.{Phase}
 use Rattle.melt_model.specs.declared.reports.Journal.{Journal}
 use Rattle.melt_copy.specs.Settling.{RisesBy, filled}
+use Rattle.melt_copy.specs.Visits.{VisitsAtMost}
+use Rattle.melt_move.specs.Visits.{visits_in}
 use Rattle.melt_move.specs.Collecting.{IsFormedOn}
 use Rattle.melt_move.specs.Planned.{CollectsIn, IsRefusedIn, Settles, phase_done}
 use Rattle.melt_move.proofs.Planning.{few_filled, formed_settled, formed_to, refused_settled}
@@ -101,3 +103,23 @@ returns-clause-writes g c =
     let all : settled + (alone.bodies + alone.stubs) ≡ alone.bodies + (settled + alone.stubs) = omega arith in
     subst (λ (n : ℕ). RisesBy n before after) all (rises_both settled (alone.bodies + alone.stubs) before
     (writes c.settle.new.space.disk.now) after c.in-Ok.ensures.writes c.in_ok-heap.ensures.writes)
+
+pub returns-in_err-heap-clause-visits : goal.returns-in_err-heap-clause-visits
+returns-in_err-heap-clause-visits g c = inr (record {
+  mid = c.settle.new.heap;
+  settled = c.in-Ok.ensures.settled;
+  all = c.in-Ok.ensures.all;
+  visits =
+      subst (λ (p : Phase). VisitsAtMost (visits_in p) c.settle.new.heap c.args.held.now c.args.steps.now
+      c.collect_in.new.steps) c.phase-phase.ensures c.collect_in.ensures.visits;
+})
+
+pub returns-clause-visits : goal.returns-clause-visits
+returns-clause-visits g c = inr (record {
+  mid = c.settle.new.heap;
+  settled = c.in-Ok.ensures.settled;
+  all = c.in-Ok.ensures.all;
+  visits =
+      subst (λ (p : Phase). VisitsAtMost (visits_in p) c.settle.new.heap c.args.held.now c.args.steps.now
+      c.collect_in.new.steps) c.phase-phase.ensures c.collect_in.ensures.visits;
+})

@@ -42,7 +42,7 @@ pub free-requires : goal.free-requires
 free-requires g c =
     still_live c.args.space.now c.requires.decided.0 c.args.decision.now c.args.scions.now c.requires.decided.1
     c.requires.decided.2 c.loop-d.d-index _ c.loop-d.scions c.in-Some.ensures.0 c.in-Some.scion
-    (turn_is g (goal.at.free-requires g c).After-tick) c.loop-d.invariant c.in-Some.ensures.1
+    (turn_is g (goal.at.free-requires g c).After-tick) c.loop-d.invariant.frees c.in-Some.ensures.1
 
 pub loop-d-preserved : goal.loop-d-preserved
 loop-d-preserved g c =
@@ -51,18 +51,27 @@ loop-d-preserved g c =
     let i = c.loop-d.d-index in
     let old = c.args.scions.now in
     let at = turn_is g (goal.at.loop-d-preserved g c).After-tick in
-    elim c.match-scion_of.branch [
-      | in-Some w ↦
-          subst (λ (now : Scions). FreesFirst word leaving (i + 1) old now) (sym w.scions-is)
-          (frees_more word leaving i _ old c.loop-d.scions at c.loop-d.invariant w.free.new.self _ w.in-Some.scion
-          w.in-Some.ensures.1 w.free.ensures.frees w.free.ensures.table)
-      | in_default w ↦
-          subst (λ (now : Scions). FreesFirst word leaving (i + 1) old now) (sym w.scions-is)
-          (frees_none word leaving i _ old c.loop-d.scions at c.loop-d.invariant w.in_default.ensures)
-    ]
+    record {
+      frees = elim c.match-scion_of.branch [
+        | in-Some w ↦
+            subst (λ (now : Scions). FreesFirst word leaving (i + 1) old now) (sym w.scions-is)
+            (frees_more word leaving i _ old c.loop-d.scions at c.loop-d.invariant.frees w.free.new.self _
+            w.in-Some.scion
+            w.in-Some.ensures.1 w.free.ensures.frees w.free.ensures.table)
+        | in_default w ↦
+            subst (λ (now : Scions). FreesFirst word leaving (i + 1) old now) (sym w.scions-is)
+            (frees_none word leaving i _ old c.loop-d.scions at c.loop-d.invariant.frees w.in_default.ensures)
+      ];
+      visits = omega (arith, c.loop-d.invariant.visits, c.tick.ensures);
+    }
 
-pub returns : goal.returns
-returns g c =
+pub returns-clause-visits : goal.returns-clause-visits
+returns-clause-visits g c =
+    let whole = ap length c.deref-d-items.ensures.value in
+    omega (arith, whole, c.loop-d-test.false, c.loop-d.auto.d-index-end, c.loop-d.invariant.visits)
+
+pub returns-clause-frees : goal.returns-clause-frees
+returns-clause-frees g c =
     let whole = ap length c.deref-d-items.ensures.value in
     frees_all (word_at c.args.space.now) c.args.decision.now.choice.leaving.items c.loop-d.d-index c.args.scions.now
-    c.loop-d.scions (omega (arith, whole, c.loop-d-test.false, c.loop-d.auto.d-index-end)) c.loop-d.invariant
+    c.loop-d.scions (omega (arith, whole, c.loop-d-test.false, c.loop-d.auto.d-index-end)) c.loop-d.invariant.frees

@@ -38,8 +38,10 @@ loop-m-init g c =
         stubs_start homes moves c.args.heap.now c.args.disk.now.end image,
       );
       stubs = refl;
+      visits = omega arith;
       writes = refl;
-      keeps = keeps_disk_none g.D.StaleDisk.faults g.D.StaleDisk.read_faults g.D.StaleDisk.lends c.args.disk.now;
+      keeps = keeps_disk_none g.D.StaleDisk.image g.D.StaleDisk.faults g.D.StaleDisk.read_faults g.D.StaleDisk.lends
+          c.args.disk.now;
       end = refl;
     }
 
@@ -106,15 +108,16 @@ loop-m-preserved g c =
       writes = rises_both c.loop-m.stubs c.in_ok-stubs.field-0 (g.D.StaleDisk.writes c.args.disk.now.disk.now)
           (g.D.StaleDisk.writes c.loop-m.disk.disk.now) (g.D.StaleDisk.writes c.update_scion.new.disk.disk.now)
           before.writes turn.one_write_each;
-      keeps = keeps_disk_both g.D.StaleDisk.faults g.D.StaleDisk.read_faults g.D.StaleDisk.lends c.args.disk.now
-          c.loop-m.disk c.update_scion.new.disk before.keeps made.keeps;
+      keeps = keeps_disk_both g.D.StaleDisk.image g.D.StaleDisk.faults g.D.StaleDisk.read_faults g.D.StaleDisk.lends
+          c.args.disk.now c.loop-m.disk c.update_scion.new.disk before.keeps made.keeps;
       end = made.end ∙ before.end;
+      visits = omega (arith, before.visits, c.tick.ensures);
     }
 
 pub returns-in_err-stubs-clause-keeps : goal.returns-in_err-stubs-clause-keeps
 returns-in_err-stubs-clause-keeps g c =
-    keeps_disk_both g.D.StaleDisk.faults g.D.StaleDisk.read_faults g.D.StaleDisk.lends c.args.disk.now c.loop-m.disk
-    c.update_scion.new.disk c.loop-m.invariant.keeps c.update_scion.ensures.keeps
+    keeps_disk_both g.D.StaleDisk.image g.D.StaleDisk.faults g.D.StaleDisk.read_faults g.D.StaleDisk.lends
+    c.args.disk.now c.loop-m.disk c.update_scion.new.disk c.loop-m.invariant.keeps c.update_scion.ensures.keeps
 
 pub returns-clause-few : goal.returns-clause-few
 returns-clause-few g c =

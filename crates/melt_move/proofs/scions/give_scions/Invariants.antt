@@ -1,4 +1,4 @@
-use Rattle.std.proofs.Common.{◌≡◌, ℕ, take}
+use Rattle.std.proofs.Common.{◌≡◌, ℕ, ◌+◌, ◌≤◌, take}
 use Rattle.melt_scion.specs.Heaps.{Shows}
 use Rattle.melt_copy.specs.Settling.{RisesBy}
 use Rattle.melt_move.specs.KeptDisk.{KeepsDisk}
@@ -15,6 +15,8 @@ invariant-loop-m g l = record {
       after;
   stubs : l.stubs ≡ given_count l.decision.homes (take l.m-index l.decision.choice.stay.moves.items);
   writes : RisesBy l.stubs (g.D.StaleDisk.writes l.fn.disk.disk.now) (g.D.StaleDisk.writes l.disk.disk.now);
-  keeps : KeepsDisk g.D.StaleDisk.faults g.D.StaleDisk.read_faults g.D.StaleDisk.lends l.fn.disk l.disk;
+  keeps : KeepsDisk g.D.StaleDisk.image g.D.StaleDisk.faults g.D.StaleDisk.read_faults g.D.StaleDisk.lends
+      l.fn.disk l.disk;
   end : l.disk.end ≡ l.fn.disk.end;
+  visits : l.steps ≤ l.fn.steps + l.m-index;
 }

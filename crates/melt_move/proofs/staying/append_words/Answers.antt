@@ -22,6 +22,7 @@ loop-word-preserved g c = record {
       (c.loop-word.invariant.stay s sources)
       (c.stays_as.ensures s (source_at c.args.space.now s c.args.decision.now c.args.words.now c.loop-word.word-index
       sources (omega arith)));
+  visits = omega (arith, c.loop-word.invariant.visits, c.tick.ensures);
 }
 
 pub returns-clause-stay : goal.returns-clause-stay

@@ -1,4 +1,4 @@
-use Rattle.std.proofs.Common.{ℕ, ◌+◌, ◌<◌, length}
+use Rattle.std.proofs.Common.{ℕ, ◌+◌, ◌<◌, ◌≤◌, length}
 use Rattle.std.specs.Prelude.{slice_index}
 use Rattle.melt_scion.specs.State.{State}
 use Rattle.melt_copy.specs.Tracking.{Extends}
@@ -10,4 +10,5 @@ invariant-loop-word g l = record {
   extends : Extends l.fn.out.items l.out.items l.word-index;
   stay : (s : State) → AreSources l.space s l.decision l.words → (i : ℕ) → i < l.word-index
       → StaysAs s l.decision (slice_index l.words i) (slice_index l.out.items (length l.fn.out.items + i));
+  visits : l.steps ≤ l.fn.steps + l.word-index;
 }

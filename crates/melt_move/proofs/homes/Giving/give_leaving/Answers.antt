@@ -37,4 +37,5 @@ loop-d-preserved g c =
       all = λ s has chosen.
           c.in_ok-give_missing.ensures.all s (c.loop-d.invariant.all s has chosen)
           (leaving_offered s c.args.choice.now chosen c.loop-d.d-index _ at);
+      visits = omega (arith, c.loop-d.invariant.visits, c.tick.ensures);
     }

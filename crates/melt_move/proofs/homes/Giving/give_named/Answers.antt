@@ -55,6 +55,7 @@ loop-m-preserved g c =
         all = λ s has chosen has_marks. subst (HasGiven c.args.space.now s) (sym w.self-is)
             (w.in_ok-give_missing.ensures.all s (c.loop-m.invariant.all s has chosen has_marks)
             (named_offered s c.args.choice.now chosen marks has_marks n _ at w.if-marks-m.true));
+        visits = omega (arith, c.loop-m.invariant.visits, c.tick.ensures);
       }
       | else-marks-m w ↦ record {
         gives =
@@ -64,6 +65,7 @@ loop-m-preserved g c =
             (λ marked. let clean = w.if-marks-m.false in cc) c.loop-m.invariant.gives);
         all = λ s has chosen has_marks. subst (HasGiven c.args.space.now s) (sym w.self-is)
             (c.loop-m.invariant.all s has chosen has_marks);
+        visits = omega (arith, c.loop-m.invariant.visits, c.tick.ensures);
       }
     ]
 

@@ -1,3 +1,4 @@
+use Rattle.std.proofs.Common.{◌+◌, ◌≤◌}
 use Rattle.melt_space.specs.Space.{word_at}
 use Rattle.melt_scion.specs.State.{State}
 use Rattle.melt_move.specs.GivingHomes.{HasGiven, HasMarks, WasChosen, GivesTo, IsAmongMarked}
@@ -9,4 +10,5 @@ invariant-loop-m g l = record {
       l.self.homes;
   all : (s : State) → HasGiven l.space s l.fn.self → WasChosen s l.choice → HasMarks s l.marks
       → HasGiven l.space s l.self;
+  visits : l.steps ≤ l.fn.steps + l.m-index;
 }
