@@ -1,0 +1,272 @@
+-- A load keeps the rule: the words stay, and the seat learns what it found.
+use Rattle.std.proofs.Common.{◌≡◌, ◌⊎◌, ℕ, zero, suc, ◌<◌, Bool, true, List, [], ◌∷◌, ◌++◌, get_or}
+use Rattle.std.proofs.Common.{refl, sym, ◌∙◌, ap, subst, arith, inl, inr}
+use Rattle.std.specs.Prelude.{Option, None, Some}
+use Rattle.std.specs.Option.{option_map}
+use lib.ListN.{get_elem?}
+use mathlib.Core.Option.{some, some-injective, some-ne-none}
+use Rattle.atomic_table.proofs.Lists.{at_longer}
+use Rattle.melt_model.specs.History.{last}
+use Rattle.melt_model.specs.declared.history.Act.{Act}
+use Rattle.melt_model.specs.declared.history.Act.TheVariants.{Read}
+use Rattle.melt_model.specs.declared.history.Slot.{Slot}
+use Rattle.melt_model.specs.declared.history.Slot.TheVariants as slot
+use Rattle.melt_model.specs.declared.history.Value.{Value}
+use Rattle.melt_model.specs.declared.history.Value.TheVariants.{Nil, Ref, Num}
+use Rattle.melt_word.proofs.OneToOne.{same_ref}
+use Rattle.melt_word.specs.Words.{IsRef, ref_word}
+use Rattle.melt_word.specs.declared.header.Shape.{Shape}
+use Rattle.melt_word.specs.declared.reference.Ref as word
+use Rattle.melt_word.specs.declared.reference.Ref.TheVariants.{Null, Clean, Stale, Disk}
+use Rattle.melt_scion.specs.Changes.{SameWords}
+use Rattle.melt_scion.specs.Placed.{MayStand, value_of}
+use Rattle.melt_scion.specs.Regions.{Region, no_region, Apart}
+use Rattle.melt_scion.specs.State.{State, IsFresh}
+use Rattle.melt_core.proofs.Places.{place_stands}
+use Rattle.melt_core.proofs.Regions.{no_region_apart}
+use Rattle.melt_core.specs.Answering.{with_entry}
+use Rattle.melt_core.specs.Events.{Event, LastAt, IsNumberWord, number_place}
+use Rattle.melt_core.specs.Events.Event.{quiet, reads_place, reads_number}
+use Rattle.melt_core.specs.Known.{IsPlace, SlotAt, IsTagged, HasTag, HasLooked, word_in}
+use Rattle.melt_core.specs.declared.call.Place.{Place}
+use Rattle.melt_rule.proofs.Keeping.{IsStep, sees, adds}
+use Rattle.melt_rule.specs.Rule.{Has, SeatStands, Kept}
+use Rattle.melt_rule.specs.Shown.{shows, Knows, owned}
+use Rattle.melt_rule.specs.Tells.{HasAll, Adds, behind, Reaches, Looks, Ends, Polls}
+use Rattle.melt_rule.specs.declared.began.Pair.{Pair}
+use Rattle.melt_rule.specs.declared.began.Start.{Start}
+use Rattle.melt_rule.specs.declared.view.Doing.{Doing}
+use Rattle.melt_rule.specs.declared.view.Doing.TheVariants.{Looked, Searching}
+use Rattle.melt_rule.specs.declared.view.View.{View}
+
+pub same : (s : State) → SameWords s s
+same s = record { base = refl; free = refl; word = λ k. refl; global = λ g. refl; forward = λ p. refl }
+
+-- the word of a reference without a tag has none
+no_tag : (r : word.Ref) (found : ℕ) → IsRef r → found ≡ ref_word r → (HasTag r → ⊥) → IsTagged found → ⊥
+no_tag r found range is none tagged =
+    none (subst HasTag (same_ref tagged.reference r tagged.in_range range (sym tagged.is ∙ is)) tagged.tag)
+
+-- a home that stands for a value has an object
+home_object : (home : Option ℕ) (value : Value) → option_map Ref home ≡ Some value → (n : ℕ) × (home ≡ Some n)
+home_object None value is = absurd (cc)
+home_object (Some n) value is = (n, refl)
+
+-- a pair more
+pub snoc_old : (l : List Pair) (x : Pair) → HasAll l (l ++ x ∷ [])
+snoc_old l x a n has = (has.0, at_longer l (x ∷ []) has.0 (record { address = a; object = n }) has.1)
+
+pub snoc_new : (l : List Pair) (x : Pair) (a n : ℕ) → Has (l ++ x ∷ []) a n
+    → Has l a n ⊎ (x ≡ record { address = a; object = n })
+snoc_new [] x a n (zero, e) = inr (some-injective x _ e)
+snoc_new [] x a n (suc i, e) = absurd (some-ne-none _ (sym e))
+snoc_new (y ∷ l) x a n (zero, e) = inl (0, e)
+snoc_new (y ∷ l) x a n (suc i, e) = elim (snoc_new l x a n (i, e)) [ inl t ↦ inl (suc t.0, t.1) | inr t ↦ inr t ]
+
+pub snoc_here : (l : List Pair) (x : Pair) → Has (l ++ x ∷ []) x.address x.object
+snoc_here [] x = (0, refl)
+snoc_here (y ∷ l) x = let t = snoc_here l x in (suc t.0, t.1)
+
+module _ (start : Start) (words : List ℕ) (views : List View) (kept : Kept start words views) (id : ℕ) (v : View)
+    (at : get_elem? views id ≡ some v) (live : 0 < v.parts) where
+  abbrev pub now : State
+  now = shows start.began words
+
+  abbrev pub Step : View → Type 0
+  Step w = IsStep start words words views kept id v at live w
+
+  pub stood : SeatStands start.began kept.maps now kept.history v
+  stood = kept.seats id v at live
+
+  -- What a load shows of the view behind it: the pairs that it knows, and its call, which owns no words.
+  pub record Learns (known : List Pair) (doing : Option Doing) : Type 0 where
+    pub more : HasAll v.known known
+    pub named : (a n : ℕ) → Has known a n → kept.maps.address a ≡ Some n
+    pub fresh : (a n : ℕ) → Has known a n → IsFresh now a
+    pub knows : Knows start.began.told kept.maps now v.rest doing
+    pub none : owned doing ≡ no_region
+
+  pub learns_same : (doing : Option Doing) → Knows start.began.told kept.maps now v.rest doing → owned doing ≡ no_region
+      → Learns v.known doing
+  learns_same doing knows none = record {
+    more = λ a n has. has;
+    named = stood.known;
+    fresh = stood.fresh;
+    knows = knows;
+    none = none;
+  }
+
+  -- and of the stop word
+  pub loads : (act : Option Act) (known : List Pair) (doing : Option Doing) (stopped : Bool)
+      → Event start.began.told kept.history kept.maps kept.maps now now no_region 0 act → Learns known doing
+      → (stopped ≡ true → get_or words 0 0 ≡ 1)
+      → Step (record (behind v (with_entry v.thread kept.history act) known doing) { stopped = stopped })
+  loads act known doing stopped event learns set_ = record {
+    maps = kept.maps;
+    mine = no_region;
+    cleared = 0;
+    act = act;
+    event = event;
+    mine_apart = λ i u other is alive. no_region_apart (owned u.doing);
+    size = refl;
+    names = λ a n is. inl is;
+    parts = refl;
+    thread = refl;
+    began = refl;
+    away = refl;
+    seen = refl;
+    own_seen = refl;
+    more = learns.more;
+    known = learns.named;
+    fresh = learns.fresh;
+    doing = learns.knows;
+    apart = λ i u other is alive. subst (λ (r : Region). Apart r (owned u.doing)) (sym learns.none)
+        (no_region_apart (owned u.doing));
+    sums = record { free = refl; bound = inl (omega arith); over = kept.sums.over id v at; won = refl };
+    stops = record {
+      bit = inl refl;
+      causes = λ has. has;
+      stopped = set_;
+      spaced = kept.stop.spaced id v at;
+      lacks = kept.stop.lacks id v at;
+      forwarded = kept.stop.forwarded id v at;
+    };
+  }
+
+  -- a load without an entry
+  pub reaches : (doing : Option Doing) → Knows start.began.told kept.maps now v.rest doing → owned doing ≡ no_region
+      → Step (behind v kept.history v.known doing) × Reaches v (behind v kept.history v.known doing) doing
+  unfolding loads
+  reaches doing knows none =
+      let w : View = behind v kept.history v.known doing in
+      let step : Step w = loads None v.known doing v.stopped (quiet refl (same now)) (learns_same doing knows none)
+      (kept.stop.stopped id v at) in
+      (step, record { sees = sees start words words views kept id v at live w step refl; is = refl })
+
+  -- a load of the stop word, which is set
+  pub stops : get_or words 0 0 ≡ 1
+      → let w : View = record (behind v kept.history v.known None) { stopped = true } in Step w × Polls v w true
+  unfolding loads
+  stops one =
+      let w : View = record (behind v kept.history v.known None) { stopped = true } in
+      let step : Step w = loads None v.known None true (quiet refl (same now)) (learns_same None tt refl) (λ is. one) in
+      (step, (sees start words words views kept id v at live w step refl, refl))
+
+  -- the view behind a load that is answered
+  abbrev pub read : Slot → Value → List Pair → View
+  read slot value known = behind v (with_entry v.thread kept.history (Some (Read slot value))) known None
+
+  -- it is answered by the word of a place
+  pub reads : (place : Place) (slot : Slot) (value : Value) (known : List Pair) → IsPlace kept.maps now place
+      → (IsTagged (word_in now place) → ⊥) → (start.began.told ≡ true → LastAt kept.history kept.maps place slot value)
+      → Learns known None → Step (read slot value known) × Adds v (read slot value known).seen (Read slot value)
+  unfolding loads
+  reads place slot value known there clean last_at learns =
+      let act : Option Act = Some (Read slot value) in
+      let w : View = read slot value known in
+      let step : Step w = loads act known None v.stopped
+      (reads_place place slot value refl (same now) there clean last_at)
+      learns
+      (kept.stop.stopped id v at) in
+      (step, adds start words words views kept id v at live w step (Read slot value) refl)
+
+  -- or by a number word
+  pub numbers : (object n j : ℕ) (shape : Shape) → IsNumberWord kept.maps now object shape n j
+      → let value : Value = Num (now.word (number_place object shape j)) in
+      Step (read (slot.Cell n j) value v.known) × Ends v (read (slot.Cell n j) value v.known) (Read (slot.Cell n j) value)
+  unfolding loads
+  numbers object n j shape is =
+      let value : Value = Num (now.word (number_place object shape j)) in
+      let act : Option Act = Some (Read (slot.Cell n j) value) in
+      let w : View = read (slot.Cell n j) value v.known in
+      let step : Step w = loads act v.known None v.stopped (reads_number object n j shape refl (same now) is)
+      (learns_same None tt refl)
+      (kept.stop.stopped id v at) in (
+        step,
+        record { adds = adds start words words views kept id v at live w step (Read (slot.Cell n j) value) refl; is = refl },
+      )
+
+  -- the word of a place, which is that of a reference, stands for the last value of its slot
+  pub stands_at : (place : Place) (slot : Slot) (r : word.Ref) → IsPlace kept.maps now place → SlotAt kept.maps place slot
+      → IsRef r → word_in now place ≡ ref_word r → start.began.told ≡ true
+      → value_of kept.maps r ≡ Some (last kept.history slot)
+  stands_at place slot r there is_slot range is told =
+      let stands = place_stands kept.history kept.maps now place slot (kept.holds.tells told) there is_slot in
+      let one : stands.reference ≡ r = same_ref stands.reference r stands.in_range range (sym stands.is ∙ is) in
+      subst (λ (x : word.Ref). value_of kept.maps x ≡ Some (last kept.history slot)) one stands.stands_for
+
+  -- what a look at a place finds
+  pub looks : (place : Place) (slot : Slot) (r : word.Ref) → IsPlace kept.maps now place → SlotAt kept.maps place slot
+      → IsRef r → word_in now place ≡ ref_word r → MayStand kept.maps now r → (w : View) × Step w × Looks v w slot place r
+  looks place slot Null there is_slot range is may =
+      let r = reads place slot Nil v.known there (no_tag Null (word_in now place) range is (λ tag. tag))
+      (λ told. record {
+        slot = is_slot;
+        last = let e : Some Nil ≡ Some (last kept.history slot) = stands_at place slot Null there is_slot range is told in cc;
+      })
+      (learns_same None tt refl) in (
+        read slot Nil v.known,
+        r.0,
+        record { value = Nil; adds = r.1; names = inl (refl, refl); more = λ a n has. has; is = refl },
+      )
+  looks place slot (Clean a) there is_slot range is may =
+      let n : ℕ = may.0.0 in
+      let named : kept.maps.address a ≡ Some n = may.0.1 in
+      let pair : Pair = record { address = a; object = n } in
+      let known : List Pair = v.known ++ pair ∷ [] in
+      let r = reads place slot (Ref n) known there (no_tag (Clean a) (word_in now place) range is (λ tag. tag))
+      (λ told. record {
+        slot = is_slot;
+        last =
+            let e : Some (Ref n) ≡ Some (last kept.history slot) =
+            ap (option_map Ref) (sym named) ∙ stands_at place slot (Clean a) there is_slot range is told in
+            cc;
+      })
+      (record {
+        more = snoc_old v.known pair;
+        named = λ b m has. elim (snoc_new v.known pair b m has) [
+          | inl before ↦ stood.known b m before
+          | inr this ↦ subst (λ (x : Pair). kept.maps.address x.address ≡ Some x.object) this named
+        ];
+        fresh = λ b m has. elim (snoc_new v.known pair b m has) [
+          | inl before ↦ stood.fresh b m before
+          | inr this ↦ subst (λ (x : Pair). IsFresh now x.address) this may.1
+        ];
+        knows = tt;
+        none = refl;
+      }) in (
+        read slot (Ref n) known,
+        r.0,
+        record {
+          value = Ref n;
+          adds = r.1;
+          names = inr (n, refl, snoc_here v.known pair);
+          more = snoc_old v.known pair;
+          is = refl;
+        },
+      )
+  looks place slot (Stale a) there is_slot range is may =
+      let looked : HasLooked kept.maps now place (Stale a) = record {
+        at = there;
+        in_range = range;
+        tag = tt;
+        may_stand = may;
+        unless_clean = λ tagged. is;
+      } in
+      let r = reaches (Some (Looked place (Stale a) a)) (looked, record { named = may; same = λ told. refl }) refl in
+      (behind v kept.history v.known (Some (Looked place (Stale a) a)), r.0, r.1)
+  looks place slot (Disk home) there is_slot range is may =
+      let looked : HasLooked kept.maps now place (Disk home) = record {
+        at = there;
+        in_range = range;
+        tag = tt;
+        may_stand = may;
+        unless_clean = λ tagged. is;
+      } in
+      let r = reaches (Some (Searching place home 0)) (record {
+        looked = looked;
+        probed = record { few = omega arith; others = λ i less. absurd (omega arith) };
+        object = λ told. home_object (kept.maps.home home) (last kept.history slot)
+            (stands_at place slot (Disk home) there is_slot range is told);
+      }) refl in
+      (behind v kept.history v.known (Some (Searching place home 0)), r.0, r.1)

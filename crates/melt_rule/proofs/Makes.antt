@@ -1,0 +1,499 @@
+-- A claim, a store into the own region and the store of its header keep the rule.
+use Rattle.std.proofs.Common.{◌≡◌, ◌≢◌, ◌⊎◌, ℕ, suc, ◌+◌, ◌-◌, ◌*◌, ◌^◌, ◌<◌, ◌≤◌, Bool, true, false}
+use Rattle.std.proofs.Common.{List, [], ◌∷◌, ◌++◌, length, get_or, refl, sym, ◌∙◌, ap, subst, arith, inl, inr, eq-eqb, ne_eqb}
+use Rattle.std.proofs.Math.ListN.{set, length-set}
+use Rattle.std.proofs.lemmas.Bool.{cases_lt, cases_eq}
+use Rattle.std.proofs.lemmas.List.{get_or-set_other, append_cancel_right}
+use Rattle.std.proofs.lemmas.List.Sums.{sum_by-cons}
+use Rattle.std.specs.List.{sum_by}
+use Rattle.std.specs.Prelude.{Option, None, Some, ◌==◌, ◌||◌, if◌then◌else◌}
+use lib.ListN.{get_elem?}
+use mathlib.Core.Option.{some}
+use Rattle.melt_model.specs.History.{made}
+use Rattle.melt_model.specs.declared.history.Act.{Act}
+use Rattle.melt_model.specs.declared.history.Act.TheVariants.{Make}
+use Rattle.melt_model.specs.declared.history.Entry.{Entry}
+use Rattle.melt_word.specs.Words.{IsShape, cost_of, header_word}
+use Rattle.melt_word.specs.declared.header.Header.{Header}
+use Rattle.melt_word.specs.declared.header.Shape.{Shape}
+use Rattle.melt_scion.proofs.Geometry.{one_header}
+use Rattle.melt_scion.specs.Changes.{WordChanges, FreeMoves, NameAppears}
+use Rattle.melt_scion.specs.Placed.{Maps, FormedWords}
+use Rattle.melt_scion.specs.Regions.{Region, no_region, Apart, Owns, HasStored}
+use Rattle.melt_scion.specs.State.{Base, State, IsFresh}
+use Rattle.melt_core.proofs.Evolving.{evolves_event}
+use Rattle.melt_core.proofs.Regions.{apart_sym, no_region_apart, claimed_owned, claimed_apart}
+use Rattle.melt_core.proofs.Staying.{fresh_stays, headers_were}
+use Rattle.melt_core.proofs.Storing.{none_stored, stored_more}
+use Rattle.melt_core.specs.Answering.{entry, with_entry}
+use Rattle.melt_core.specs.Events.{Event}
+use Rattle.melt_core.specs.Events.Event.{claims, stores, publishes}
+use Rattle.melt_core.specs.Known.{Evolves, region}
+use Rattle.melt_rule.proofs.Keeping.{IsStep, sees, adds}
+use Rattle.melt_rule.proofs.Loads.{snoc_old, snoc_new, snoc_here}
+use Rattle.melt_rule.proofs.Showing.{free_moves, word_changes, filled_same}
+use Rattle.melt_rule.proofs.Stores.{OnlyObjects}
+use Rattle.melt_rule.specs.Making.{Claims, Lacks, Makes}
+use Rattle.melt_rule.specs.Rule.{Has, SeatStands, Kept, has_cause}
+use Rattle.melt_rule.specs.Shown.{shows, Knows, owned, word_place}
+use Rattle.melt_rule.specs.Tells.{HasAll, Adds, behind, Reaches}
+use Rattle.melt_rule.specs.declared.began.Began.{Began}
+use Rattle.melt_rule.specs.declared.began.Pair.{Pair}
+use Rattle.melt_rule.specs.declared.began.Start.{Start}
+use Rattle.melt_rule.specs.declared.view.Doing.{Doing}
+use Rattle.melt_rule.specs.declared.view.Doing.TheVariants.{Claimed, Lacking}
+use Rattle.melt_rule.specs.declared.view.View.{View}
+
+-- some shape has the cost
+pub shape_of_cost : (cost : ℕ) → 2 ≤ cost → cost ≤ 126 → (z : Shape) × IsShape z × (cost_of z ≡ cost)
+shape_of_cost cost low high = elim (cases_lt cost 64) [
+  | inl small ↦
+      (record { refs = cost - 2; nums = 0 }, record { refs = omega arith; nums = omega arith }, omega arith)
+  | inr large ↦
+      (record { refs = 62; nums = cost - 64 }, record { refs = omega arith; nums = omega arith }, omega arith)
+]
+
+-- a sum of numbers is at most that of others, where each is at most the other
+sum_below : (f g : View → ℕ) (views : List View) → ((i : ℕ) (u : View) → get_elem? views i ≡ some u → f u ≤ g u)
+    → sum_by f views ≤ sum_by g views
+sum_below f g [] each = omega arith
+sum_below f g (u ∷ us) each =
+    let rest = sum_below f g us (λ i v is. each (suc i) v is) in
+    omega (arith, sum_by-cons f u us, sum_by-cons g u us, each 0 u refl, rest)
+
+-- a lack of words is a cause to stop
+spaced_causes : (asked spaced forwarded : Bool) → spaced ≡ true → asked || (spaced || forwarded) ≡ true
+spaced_causes true spaced forwarded is = refl
+spaced_causes false true forwarded is = refl
+spaced_causes false false forwarded is = absurd (cc)
+
+-- a region is apart from that of no words
+apart_none : (r : Region) → Apart r no_region
+apart_none r = apart_sym no_region r (no_region_apart r)
+
+-- words from the first free place on are apart from those that a call owns
+free_apart : (told : Bool) (maps : Maps) (s : State) (rest : List ℕ) (words : ℕ) (doing : Option Doing)
+    → Knows told maps s rest doing → Apart (record { at = s.free; words = words }) (owned doing)
+free_apart told maps s rest words None knows = apart_none (record { at = s.free; words = words })
+free_apart told maps s rest words (Some (Claimed address shape stored)) knows =
+    apart_sym (region address shape) (record { at = s.free; words = words })
+    (claimed_apart maps s words (region address shape) knows.1.owns)
+free_apart told maps s rest words (Some doing) knows = apart_none (record { at = s.free; words = words })
+
+-- the view behind the entry of a new object
+abbrev pub made_view : View → List Entry → ℕ → Shape → View
+made_view v h address z = behind v (with_entry v.thread h (Some (Make z.refs z.nums)))
+    (v.known ++ record { address = address; object = made h } ∷ []) None
+
+-- the object has the number that comes next
+told_makes : (v : View) (h : List Entry) (address : ℕ) (z : Shape)
+    → Adds v (made_view v h address z).seen (Make z.refs z.nums) → Makes v (made_view v h address z) address z
+told_makes v h address z told =
+    let front : h ≡ v.seen ++ told.between =
+    append_cancel_right h (v.seen ++ told.between) (entry v.thread (Make z.refs z.nums) ∷ []) told.seen in
+    let view : ℕ → View =
+    λ n. behind v (made_view v h address z).seen (v.known ++ record { address = address; object = n } ∷ []) None in
+    record { adds = told; is = ap view (ap made front) }
+
+-- a thread owns its words behind a change of another word
+owns_still : (maps : Maps) (s t : State) (r : Region) → FormedWords maps s → Evolves maps maps s t 0 → Owns maps s r
+    → Owns maps t r
+owns_still maps s t r formed evolves owns = record {
+  first = owns.first;
+  below =
+      let below : r.at + r.words ≤ s.free = owns.below in
+      let later : s.free ≤ t.free = evolves.free in
+      omega arith;
+  within = subst (λ (b : Base). r.at + r.words ≤ b.size + 1) (sym evolves.base) owns.within;
+  outside = λ b n header named starts.
+      let was = headers_were maps maps s t 0 formed evolves b n header named starts in
+      subst (λ (z : Shape). Apart (record { at = b; words = cost_of z }) r) was.2 (owns.outside b n was.0 named was.1);
+}
+
+module _ (start : Start) (words : List ℕ) (views : List View) (kept : Kept start words views) (id : ℕ) (v : View)
+    (at : get_elem? views id ≡ some v) (live : 0 < v.parts) where
+  abbrev old : State
+  old = shows start.began words
+
+  stood : SeatStands start.began kept.maps old kept.history v
+  stood = kept.seats id v at live
+
+  abbrev free : ℕ
+  free = get_or words 1 0
+
+  sizes : length words ≡ 2 + start.began.globals + start.began.forwards + start.began.size
+  sizes = kept.size
+
+  -- the first free place stays so small that no claim wraps
+  pub claim_small : (cost : ℕ) → cost ≤ 126 → free + cost < 2 ^ 64
+  claim_small cost small =
+      let size : start.began.size < 1073741824 = kept.holds.formed.small in
+      let bound : free ≤ start.began.size + 1 + 126 * sum_by (λ (u : View). u.over) views = kept.sums.bound in
+      let over : sum_by (λ (u : View). u.over) views ≤ sum_by (λ (u : View). u.parts) views =
+      sum_below (λ (u : View). u.over) (λ (u : View). u.parts) views kept.sums.over in
+      let parts : sum_by (λ (u : View). u.parts) views ≡ length start.threads = kept.sums.parts in
+      let few : length start.threads ≤ 8 = kept.few in
+      let wide : free + cost < 18446744073709551616 = omega arith in
+      wide
+
+  -- the words behind a claim of so many
+  abbrev pub claimed_words : ℕ → List ℕ
+  claimed_words cost = set words 1 (free + cost)
+
+  moves : (cost : ℕ) → FreeMoves old (shows start.began (claimed_words cost)) (free + cost)
+  moves cost = free_moves start.began words (free + cost) (let size = sizes in omega arith)
+
+  -- the view behind a claim of so many words
+  abbrev pub claimed : ℕ → ℕ → Bool → Doing → View
+  claimed cost over spaced doing = record (behind v kept.history v.known (Some doing)) {
+    claimed = v.claimed + cost;
+    over = over;
+    spaced = spaced;
+  }
+
+  -- What a claim shows of its call and its counts.
+  record Counts (cost over : ℕ) (lacked : Bool) (doing : Doing) : Type 0 where
+    pub knows : Knows start.began.told kept.maps (shows start.began (claimed_words cost)) v.rest (Some doing)
+    pub apart : (i : ℕ) (u : View) → i ≢ id → get_elem? views i ≡ some u → 0 < u.parts
+        → Apart (owned (Some doing)) (owned u.doing)
+    pub below : over ≤ v.parts
+    pub bound : (free + cost + 126 * v.over ≤ free + 126 * over) ⊎ (free + cost ≤ start.began.size + 1)
+    pub spaced : lacked ≡ true → start.began.size + 1 < free + cost
+    pub lacks : over ≢ 0 → lacked ≡ true
+
+  moved : (cost over : ℕ) (spaced : Bool) (doing : Doing) → has_cause v ≡ false → Counts cost over spaced doing
+      → IsStep start words (claimed_words cost) views kept id v at live (claimed cost over spaced doing)
+  moved cost over spaced doing no_cause counts =
+      let new : State = shows start.began (claimed_words cost) in
+      let moves : FreeMoves old new (free + cost) = moves cost in
+      let is : new.free ≡ free + cost = moves.is in
+      let event : Event start.began.told kept.history kept.maps kept.maps old new no_region 0 None =
+      claims cost refl moves in
+      let evolves : Evolves kept.maps kept.maps old new 0 =
+      evolves_event start.began.told kept.history kept.maps kept.maps old new no_region 0 None kept.holds.formed
+      event in
+      let stop : get_or (claimed_words cost) 0 0 ≡ get_or words 0 0 =
+      get_or-set_other words 1 0 (free + cost) 0 (λ same. omega arith) in
+      record {
+        maps = kept.maps;
+        mine = no_region;
+        cleared = 0;
+        act = None;
+        event = event;
+        mine_apart = λ i u other is alive. no_region_apart (owned u.doing);
+        size = length-set words 1 (free + cost);
+        names = λ a n named. inl named;
+        parts = refl;
+        thread = refl;
+        began = refl;
+        away = refl;
+        seen = refl;
+        own_seen = refl;
+        more = λ a n has. has;
+        known = stood.known;
+        fresh = λ a n has. fresh_stays kept.maps kept.maps old new 0 kept.holds.formed evolves a
+            (n, stood.known a n has)
+            (stood.fresh a n has);
+        doing = counts.knows;
+        apart = counts.apart;
+        sums = record {
+          free = omega arith;
+          bound = elim counts.bound [ inl few ↦ inl (omega arith) | inr fits ↦ inr (omega arith) ];
+          over = counts.below;
+          won = ap (λ (k : ℕ). k + v.won)
+              (filled_same old.forward new.forward start.began.forwards (λ p below. moves.forward p));
+        };
+        stops = record {
+          bit = inl stop;
+          causes = λ cause. let e : false ≡ true = sym no_cause ∙ cause in absurd (cc);
+          stopped = λ found. stop ∙ kept.stop.stopped id v at found;
+          spaced = λ lacks. let past = counts.spaced lacks in omega arith;
+          lacks = counts.lacks;
+          forwarded = λ found p below empty. kept.stop.forwarded id v at found p below (sym (moves.forward p) ∙ empty);
+        };
+      }
+
+  began_size : v.began.size ≡ start.began.size
+  began_size = ap (λ (b : Began). b.size) stood.began
+
+  -- words are claimed that lie within the space
+  pub claiming : (z : Shape) → IsShape z → has_cause v ≡ false → free + cost_of z ≤ start.began.size + 1
+      → let w : View = claimed (cost_of z) v.over v.spaced (Claimed free z 0) in
+      IsStep start words (claimed_words (cost_of z)) views kept id v at live w × Claims v w free (cost_of z)
+  unfolding moved
+  claiming z small no_cause fits =
+      let w : View = claimed (cost_of z) v.over v.spaced (Claimed free z 0) in
+      let new : State = shows start.began (claimed_words (cost_of z)) in
+      let moves : FreeMoves old new (free + cost_of z) = moves (cost_of z) in
+      let first : 1 ≤ free =
+      let begun = kept.first in
+      let sum = kept.sums.free in
+      omega arith in
+      let owns : Owns kept.maps new (region free z) =
+      claimed_owned kept.maps old new (cost_of z) kept.holds.formed first fits moves in
+      let step : IsStep start words (claimed_words (cost_of z)) views kept id v at live w =
+      moved (cost_of z) v.over v.spaced (Claimed free z 0) no_cause (record {
+        knows = (small, none_stored kept.maps new free z (λ k. 0) owns);
+        apart = λ i u other is alive. free_apart start.began.told kept.maps old u.rest (cost_of z) u.doing
+            (kept.seats i u is alive).doing;
+        below = kept.sums.over id v at;
+        bound = inr fits;
+        spaced = λ is. let past = kept.stop.spaced id v at is in omega arith;
+        lacks = kept.stop.lacks id v at;
+      }) in (
+        step,
+        record {
+          sees = sees start words (claimed_words (cost_of z)) views kept id v at live w step (refl {a = None});
+          fits = let size = began_size in omega arith;
+          shape = z;
+          small = small;
+          costs = refl;
+          is = refl;
+        },
+      )
+
+  -- and they end past its last word
+  pub lacking : (cost : ℕ) → cost ≤ 126 → has_cause v ≡ false → start.began.size + 1 < free + cost
+      → let w : View = claimed cost (v.over + 1) true (Lacking cost) in
+      IsStep start words (claimed_words cost) views kept id v at live w × Lacks v w cost
+  unfolding moved
+  lacking cost small no_cause past =
+      let w : View = claimed cost (v.over + 1) true (Lacking cost) in
+      let moves : FreeMoves old (shows start.began (claimed_words cost)) (free + cost) = moves cost in
+      let none : v.over ≡ 0 = elim (cases_eq v.over 0) [
+        | inl none ↦ none
+        | inr few ↦
+            let cause : has_cause v ≡ true =
+            spaced_causes v.asked v.spaced v.forwarded (kept.stop.lacks id v at few) in
+            let e : false ≡ true = sym no_cause ∙ cause in
+            absurd (cc)
+      ] in
+      let step : IsStep start words (claimed_words cost) views kept id v at live w =
+      moved cost (v.over + 1) true (Lacking cost) no_cause (record {
+        knows = let is = moves.is in omega arith;
+        apart = λ i u other is alive. no_region_apart (owned u.doing);
+        below = omega arith;
+        bound = inl (omega arith);
+        spaced = λ is. past;
+        lacks = λ some. refl;
+      }) in (
+        step,
+        record {
+          sees = sees start words (claimed_words cost) views kept id v at live w step (refl {a = None});
+          is = refl;
+        },
+      )
+
+  -- the words where one of the space is set
+  abbrev pub with_word : ℕ → ℕ → List ℕ
+  with_word address word = set words (word_place start.began address) word
+
+  only_word : (address word : ℕ) → 1 ≤ address → address ≤ start.began.size
+      → OnlyObjects start words (with_word address word)
+  only_word address word first last =
+      let changes = word_changes start.began words address word first (let size = sizes in omega arith) in
+      record {
+        size = length-set words (word_place start.began address) word;
+        stop = get_or-set_other words (word_place start.began address) 0 word 0 (λ same. omega arith);
+        free = changes.free;
+        forward = changes.forward;
+      }
+
+  -- What a store into the own region shows of the view behind it.
+  record Stores (after : List ℕ) (maps : Maps) (mine : Region) (act : Option Act) (known : List Pair)
+      (doing : Option Doing) : Type 0 where
+    pub event : Event start.began.told kept.history kept.maps maps old (shows start.began after) mine 0 act
+    pub only : OnlyObjects start words after
+    pub apart : (i : ℕ) (u : View) → i ≢ id → get_elem? views i ≡ some u → 0 < u.parts → Apart mine (owned u.doing)
+    pub owns : (owned doing ≡ mine) ⊎ (owned doing ≡ no_region)
+    pub names : (a n : ℕ) → maps.address a ≡ Some n → (kept.maps.address a ≡ Some n) ⊎ Has known a n
+    pub more : HasAll v.known known
+    pub named : (a n : ℕ) → Has known a n → maps.address a ≡ Some n
+    pub fresh : (a n : ℕ) → Has known a n → IsFresh (shows start.began after) a
+    pub knows : Knows start.began.told maps (shows start.began after) v.rest doing
+
+  stored : (after : List ℕ) (maps : Maps) (mine : Region) (act : Option Act) (known : List Pair) (doing : Option Doing)
+      → Stores after maps mine act known doing
+      → IsStep start words after views kept id v at live
+      (behind v (with_entry v.thread kept.history act) known doing)
+  stored after maps mine act known doing is =
+      let new : State = shows start.began after in
+      record {
+        maps = maps;
+        mine = mine;
+        cleared = 0;
+        act = act;
+        event = is.event;
+        mine_apart = is.apart;
+        size = is.only.size;
+        names = is.names;
+        parts = refl;
+        thread = refl;
+        began = refl;
+        away = refl;
+        seen = refl;
+        own_seen = refl;
+        more = is.more;
+        known = is.named;
+        fresh = is.fresh;
+        doing = is.knows;
+        apart = λ i u other there alive. elim is.owns [
+          | inl same ↦ subst (λ (r : Region). Apart r (owned u.doing)) (sym same) (is.apart i u other there alive)
+          | inr none ↦ subst (λ (r : Region). Apart r (owned u.doing)) (sym none) (no_region_apart (owned u.doing))
+        ];
+        sums = record {
+          free = ap (λ (k : ℕ). k + v.claimed) is.only.free;
+          bound = inl (let e = is.only.free in omega arith);
+          over = kept.sums.over id v at;
+          won = ap (λ (k : ℕ). k + v.won)
+              (filled_same old.forward new.forward start.began.forwards (λ p below. is.only.forward p));
+        };
+        stops = record {
+          bit = inl is.only.stop;
+          causes = λ has. has;
+          stopped = λ found. is.only.stop ∙ kept.stop.stopped id v at found;
+          spaced = λ found. let e = is.only.free in let past = kept.stop.spaced id v at found in omega arith;
+          lacks = kept.stop.lacks id v at;
+          forwarded = λ found p below empty. kept.stop.forwarded id v at found p below
+              (sym (is.only.forward p) ∙ empty);
+        };
+      }
+
+  -- the region of the call
+  mine_is : (address k : ℕ) (z : Shape) → v.doing ≡ Some (Claimed address z k)
+      → IsShape z × HasStored kept.maps old (region address z) (λ i. 0) k
+  mine_is address k z is = subst (Knows start.began.told kept.maps old v.rest) is stood.doing
+
+  mine_apart : (address k : ℕ) (z : Shape) → v.doing ≡ Some (Claimed address z k) → (i : ℕ) (u : View) → i ≢ id
+      → get_elem? views i ≡ some u → 0 < u.parts → Apart (region address z) (owned u.doing)
+  mine_apart address k z is i u other there alive =
+      subst (λ (d : Option Doing). Apart (owned d) (owned u.doing)) is
+      (kept.apart id i v u (λ same. other (sym same)) at there live alive)
+
+  -- the next word of the own region is 0
+  pub filling : (address k : ℕ) (z : Shape) → v.doing ≡ Some (Claimed address z k) → k + 1 < cost_of z
+      → let doing : Option Doing = Some (Claimed address z (k + 1)) in
+      let w : View = behind v kept.history v.known doing in
+      IsStep start words (with_word (address + 1 + k) 0) views kept id v at live w × Reaches v w doing
+  unfolding stored
+  filling address k z is few =
+      let doing : Option Doing = Some (Claimed address z (k + 1)) in
+      let w : View = behind v kept.history v.known doing in
+      let mine = mine_is address k z is in
+      let place : ℕ = address + 1 + k in
+      let after : List ℕ = with_word place 0 in
+      let new : State = shows start.began after in
+      let first : 1 ≤ address = mine.1.owns.first in
+      let last : address + cost_of z ≤ start.began.size + 1 = mine.1.owns.within in
+      let changes : WordChanges old new place 0 =
+      word_changes start.began words place 0 (omega arith) (let size = sizes in omega arith) in
+      let event : Event start.began.told kept.history kept.maps kept.maps old new (region address z) 0 None =
+      stores (region address z) place 0 refl mine.1.owns (omega arith) (omega arith) changes in
+      let evolves : Evolves kept.maps kept.maps old new 0 =
+      evolves_event start.began.told kept.history kept.maps kept.maps old new (region address z) 0 None
+      kept.holds.formed event in
+      let step : IsStep start words after views kept id v at live w =
+      stored after kept.maps (region address z) None v.known doing (record {
+        event = event;
+        only = only_word place 0 (omega arith) (omega arith);
+        apart = mine_apart address k z is;
+        owns = inl refl;
+        names = λ a n named. inl named;
+        more = λ a n has. has;
+        named = stood.known;
+        fresh = λ a n has. fresh_stays kept.maps kept.maps old new 0 kept.holds.formed evolves a
+            (n, stood.known a n has)
+            (stood.fresh a n has);
+        knows = (
+          mine.0,
+          stored_more kept.maps old new (region address z) (λ i. 0) k place 0 mine.1
+              (owns_still kept.maps old new (region address z) kept.holds.formed evolves mine.1.owns)
+              (omega arith)
+              refl few changes,
+        );
+      }) in
+      (step, record { sees = sees start words after views kept id v at live w step (refl {a = None}); is = refl })
+
+  -- the maps with one address more
+  abbrev with_name : ℕ → ℕ → Maps
+  with_name address n = record {
+    address = λ a. if a == address then Some n else kept.maps.address a;
+    home = kept.maps.home;
+  }
+
+  appears : (address n : ℕ) → NameAppears kept.maps (with_name address n) address n
+  appears address n = record {
+    here = rw (eq-eqb address address refl) refl;
+    others = λ a other. rw (ne_eqb a address other) refl;
+    home = λ home. refl;
+  }
+
+  -- a region is one for any shape of its cost
+  region_by : (address : ℕ) (y z : Shape) → cost_of y ≡ cost_of z → region address y ≡ region address z
+  region_by address y z cost = ap (λ (n : ℕ). let r : Region = record { at = address; words = n } in r) cost
+
+  -- the own region becomes an object
+  pub publishing : (address k : ℕ) (y z : Shape) → v.doing ≡ Some (Claimed address y k) → k + 1 ≡ cost_of y
+      → cost_of y ≡ cost_of z → IsShape z
+      → let word : ℕ = header_word (record { shape = z; stale = false }) in
+      let w : View = made_view v kept.history address z in
+      IsStep start words (with_word address word) views kept id v at live w × Makes v w address z
+  unfolding stored
+  publishing address k y z is all cost small =
+      let header : Header = record { shape = z; stale = false } in
+      let word : ℕ = header_word header in
+      let n : ℕ = made kept.history in
+      let pair : Pair = record { address = address; object = n } in
+      let known : List Pair = v.known ++ pair ∷ [] in
+      let act : Act = Make z.refs z.nums in
+      let w : View = made_view v kept.history address z in
+      let mine : HasStored kept.maps old (region address z) (λ i. 0) k =
+      subst (λ (r : Region). HasStored kept.maps old r (λ i. 0) k) (region_by address y z cost)
+      (mine_is address k y is).1 in
+      let after : List ℕ = with_word address word in
+      let new : State = shows start.began after in
+      let maps : Maps = with_name address n in
+      let first : 1 ≤ address = mine.owns.first in
+      let last : address + cost_of z ≤ start.began.size + 1 = mine.owns.within in
+      let changes : WordChanges old new address word =
+      word_changes start.began words address word first (let size = sizes in omega arith) in
+      let event : Event start.began.told kept.history kept.maps maps old new (region address z) 0 (Some act) =
+      publishes address k z small mine (omega arith) changes (appears address n) in
+      let evolves : Evolves kept.maps maps old new 0 =
+      evolves_event start.began.told kept.history kept.maps maps old new (region address z) 0 (Some act)
+      kept.holds.formed event in
+      let fresh_here : IsFresh new address =
+      λ other starts. ap (λ (h : Header). h.stale)
+      (one_header new address other header starts (record { in_range = small; word = changes.here })) in
+      let step : IsStep start words after views kept id v at live w =
+      stored after maps (region address z) (Some act) known None (record {
+        event = event;
+        only = only_word address word first (omega arith);
+        apart = λ i u other there alive. subst (λ (r : Region). Apart r (owned u.doing)) (region_by address y z cost)
+            (mine_apart address k y is i u other there alive);
+        owns = inr refl;
+        names = λ a m named. elim (cases_eq a address) [
+          | inl same ↦
+              let number : n ≡ m =
+              let e : Some n ≡ Some m = sym (appears address n).here ∙ (ap maps.address (sym same) ∙ named) in cc in
+              inr (subst (λ (b : ℕ). Has known b m) (sym same)
+              (subst (λ (j : ℕ). Has known address j) number (snoc_here v.known pair)))
+          | inr other ↦ inl (sym ((appears address n).others a other) ∙ named)
+        ];
+        more = snoc_old v.known pair;
+        named = λ a m has. elim (snoc_new v.known pair a m has) [
+          | inl before ↦ evolves.names a m (stood.known a m before)
+          | inr this ↦ subst (λ (p : Pair). maps.address p.address ≡ Some p.object) this (appears address n).here
+        ];
+        fresh = λ a m has. elim (snoc_new v.known pair a m has) [
+          | inl before ↦ fresh_stays kept.maps maps old new 0 kept.holds.formed evolves a
+              (m, stood.known a m before)
+              (stood.fresh a m before)
+          | inr this ↦ subst (λ (p : Pair). IsFresh new p.address) this fresh_here
+        ];
+        knows = tt;
+      }) in (
+        step,
+        told_makes v kept.history address z
+            (adds start words after views kept id v at live w step act (refl {a = Some act})),
+      )

@@ -1,0 +1,34 @@
+-- What has to hold where an epoch begins.
+use Rattle.std.specs.Prelude.{◌≡◌, ℕ, ◌+◌, ◌^◌, ◌<◌, ◌≤◌, true, List, length, Some, slice_index}
+use Rattle.melt_model.specs.History.{Legal}
+use Rattle.melt_scion.specs.GhostMaps.{named}
+use Rattle.melt_scion.specs.Placed.{Maps, Holds}
+use Rattle.melt_scion.specs.Scions.{EachOnce}
+use Rattle.melt_scion.specs.State.{IsFresh}
+use Rattle.melt_rule.specs.Rule.{Has}
+use Rattle.melt_rule.specs.Shown.{shows}
+use Rattle.melt_rule.specs.declared.began.Began.{Began}
+use Rattle.melt_rule.specs.declared.began.Start.{Start}
+
+-- the maps with which an epoch begins
+abbrev pub maps_of : Began → Maps
+maps_of b = record { address = named b.maps.addresses; home = named b.maps.homes }
+
+-- The words stand for the history, which is legal, by the maps. Nothing was claimed past the last word, no forwarding
+-- word is filled, and the stop word is not set. What registers hold are objects without the stale bit. One thread takes
+-- part, or several up to 8, each once.
+pub record MayBegin (start : Start) (words : List ℕ) : Type 0 where
+  pub size : length words ≡ 2 + start.began.globals + start.began.forwards + start.began.size
+  pub few_words : length words ≤ 2 ^ 32
+  pub legal : start.began.told ≡ true → Legal start.history start.began.globals
+  pub holds : Holds start.began.told start.history (maps_of start.began) (shows start.began words)
+  pub first : 1 ≤ start.began.free
+  pub free : slice_index words 1 ≡ start.began.free
+  pub room : start.began.free ≤ start.began.size + 1
+  pub unfilled : (p : ℕ) → p < start.began.forwards → (shows start.began words).forward p ≡ 0
+  pub goes_on : slice_index words 0 ≡ 0
+  pub held : (address n : ℕ) → Has start.held address n → named start.began.maps.addresses address ≡ Some n
+  pub fresh : (address n : ℕ) → Has start.held address n → IsFresh (shows start.began words) address
+  pub some_thread : 1 ≤ length start.threads
+  pub few : length start.threads ≤ 8
+  pub each_once : EachOnce start.threads

@@ -1,0 +1,10 @@
+pub mod Shown
+pub mod Rule
+pub mod Tells
+pub mod Plays
+pub mod Seats
+pub mod Making
+pub mod Giving
+pub mod Beginning
+pub mod Ending
+pub mod Barriers

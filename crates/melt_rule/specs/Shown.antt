@@ -1,0 +1,80 @@
+-- The state of a core that the words of an epoch show, and what is known of a call over it.
+use Rattle.std.specs.Prelude.{ℕ, ◌+◌, Bool, List, map, take, drop, slice_index, Option, None, Some}
+use Rattle.melt_word.specs.declared.header.Shape.{Shape}
+use Rattle.melt_space.specs.Space.{SpaceWords, word_at}
+use Rattle.melt_scion.specs.Heaps.{scion_in}
+use Rattle.melt_scion.specs.Placed.{Maps}
+use Rattle.melt_scion.specs.Regions.{Region, no_region}
+use Rattle.melt_scion.specs.State.{Base, Home, State}
+use Rattle.melt_core.specs.Known.{Known, region_of}
+use Rattle.melt_core.specs.declared.call.Access.TheVariants.{Get}
+use Rattle.melt_core.specs.declared.call.Stage.{Stage}
+use Rattle.melt_core.specs.declared.call.Stage.TheVariants as stage
+use Rattle.melt_core.specs.declared.call.Task.TheVariants.{LoadGlobal}
+use Rattle.melt_rule.specs.declared.began.Began.{Began}
+use Rattle.melt_rule.specs.declared.view.Doing.{Doing}
+use Rattle.melt_rule.specs.declared.view.Doing.TheVariants.{Polled, Headed, Looked, Cleared, Claimed, Lacking, Searching}
+
+abbrev pub home_of : ℕ × Shape → Home
+home_of home = record { at = home.0; shape = home.1 }
+
+-- what no step changes
+abbrev pub base_of : Began → Base
+base_of b = record {
+  size = b.size;
+  globals = b.globals;
+  forwards = b.forwards;
+  scion = scion_in b.scions;
+  end = b.end;
+  homes = map home_of b.homes;
+  free_homes = b.free_homes;
+  image = slice_index b.image;
+}
+
+-- The words of an epoch are, in this order: the stop word, the first free place, the globals, the forwarding words, and
+-- the words of the space.
+abbrev pub globals_in : Began → List ℕ → List ℕ
+globals_in b words = take b.globals (drop 2 words)
+
+abbrev pub forwards_in : Began → List ℕ → List ℕ
+forwards_in b words = take b.forwards (drop (2 + b.globals) words)
+
+abbrev pub space_in : Began → List ℕ → SpaceWords
+space_in b words = record { list = drop (2 + b.globals + b.forwards) words; used = 0 }
+
+-- where the word of a global stands, and that of an address, which begin at 1
+abbrev pub global_place : ℕ → ℕ
+global_place g = 2 + g
+
+abbrev pub word_place : Began → ℕ → ℕ
+word_place b address = 1 + b.globals + b.forwards + address
+
+-- the state of the words, registers aside
+abbrev pub shows : Began → List ℕ → State
+shows b words = record {
+  base = base_of b;
+  free = slice_index words 1;
+  word = word_at (space_in b words);
+  global = slice_index (globals_in b words);
+  forward = slice_index (forwards_in b words);
+  register = λ t r. 0;
+}
+
+-- the stage of the core at which the call is, whatever it is to do
+abbrev pub stage_of : Doing → Stage
+stage_of Polled = stage.Polled (LoadGlobal 0 0)
+stage_of (Headed address shape) = stage.Headed address shape (Get 0)
+stage_of (Looked place found target) = stage.Looked place found target 0
+stage_of (Cleared place found target) = stage.Cleared place found target 0
+stage_of (Claimed address shape stored) = stage.Claimed address shape stored 0
+stage_of (Lacking need) = stage.Lacking need
+stage_of (Searching place home tried) = stage.Searching (record { place = place; home = home; tried = tried; dst = 0 })
+
+-- what is known of a call, and the words that it owns
+abbrev pub Knows : Bool → Maps → State → List ℕ → Option Doing → Type 0
+Knows told maps s rest None = Unit {0}
+Knows told maps s rest (Some doing) = Known told maps s rest (stage_of doing)
+
+abbrev pub owned : Option Doing → Region
+owned None = no_region
+owned (Some doing) = region_of (stage_of doing)
