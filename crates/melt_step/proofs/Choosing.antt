@@ -278,8 +278,8 @@ collection_stands : (threads globals end end_after : ℕ) (image image_after : O
     → IsQuiet (view (core_of heap rest)) → CollectsRest end end_after image image_after heap rest new after
     → IsSome image_after → StandTold threads globals end_after image_after (view (core_of new after)) all
 collection_stands threads globals end end_after image image_after all heap new rest after s quiet c told =
-    let carried : RestCarried end_after image_after heap new rest after =
-    planned_rest s.disk heap new rest after c.phase end end_after image image_after c.journal
+    let carried : RestCarried true end_after image_after heap new rest after =
+    planned_rest true s.disk heap new rest after c.phase end end_after image image_after c.journal
     (record { stands = s.all_stand.stands; quiet = quiet }) s.ends s.tells.1 c.collects c.only in
     let log : after.log ≡ rest.log = c.only.log in
     let same : after.log.items ≡ rest.log.items = cc in

@@ -1,16 +1,21 @@
--- The collections that a run makes, and those that its threads wait for.
-use Rattle.std.proofs.Common.{◌≡◌, ℕ, ◌+◌, ◌<◌, ◌≤◌, suc, true, false, List, [], ◌∷◌, length, get_or, length-append}
-use Rattle.std.proofs.Common.{replicate, refl, sym, ◌∙◌, ap, subst, arith, ◌⊎◌, inl, inr}
+-- The collections for which threads wait: each goes on behind its own.
+use Rattle.std.proofs.Common.{◌≡◌, ℕ, ◌+◌, ◌<◌, ◌≤◌, suc, true, false, ◌⊎◌, List, [], ◌∷◌, ◌++◌, length, get_or}
+use Rattle.std.proofs.Common.{length-append, replicate, refl, sym, ◌∙◌, ap, subst, arith, inl, inr}
 use Rattle.std.proofs.Math.ListN.{set}
-use Rattle.std.specs.Prelude.{Option, None, Some, IsSome, slice_get, vec_capacity}
+use Rattle.std.proofs.lemmas.List.{append-nil}
+use Rattle.std.proofs.lemmas.Option.{get_or_from_slice_get}
+use Rattle.std.specs.Prelude.{Bool, Option, None, Some, IsSome, slice_get, vec_capacity}
 use Rattle.melt_model.specs.declared.config.Config.{Config}
+use Rattle.melt_model.specs.declared.history.Entry.{Entry}
 use Rattle.melt_model.specs.declared.history.Value.TheVariants.{Nil}
 use Rattle.melt_model.specs.declared.operations.Op.{Op}
 use Rattle.melt_model.specs.declared.operations.Op.TheVariants.{Collect}
+use Rattle.melt_model.specs.declared.operations.Reply.{Reply}
 use Rattle.melt_model.specs.declared.operations.Reply.TheVariants as reply
+use Rattle.melt_model.specs.declared.reports.Journal.{Journal}
 use Rattle.melt_model.specs.declared.reports.ThreadEnd.TheVariants as end
 use Rattle.melt_trace.specs.Script.{Script}
-use Rattle.melt_scion.specs.Heaps.{no_homes_on}
+use Rattle.melt_scion.specs.Heaps.{OnDisk}
 use Rattle.melt_core.specs.Views.{View, view, values_of, call_of, IsQuiet, Standing}
 use Rattle.melt_core.specs.Epochs.{HasDropped}
 use Rattle.melt_step.specs.declared.collector.Collector.{Collector}
@@ -19,64 +24,18 @@ use Rattle.melt_step.specs.declared.thread.ThreadState.{ThreadState}
 use Rattle.melt_step.specs.declared.thread.Mode.{Mode}
 use Rattle.melt_step.specs.declared.thread.Mode.TheVariants.{Running, Due, Silent, Collecting, Asked, Lacking, Ended}
 use Rattle.melt_step.specs.Run.{collections}
-use Rattle.std.proofs.lemmas.Option.{get_or_from_slice_get}
-use Rattle.melt_step.specs.Threads.{MakesFor, Planned, collections_for, DueBy, IsPaused, owes_silent, with_first, left}
-use Rattle.melt_step.specs.Threads.{MayGo, IsEnded, FitsMode, replies_of, TableStands, TakesReply, DropsIfEnded}
-use Rattle.melt_step.specs.Threads.{ThreadTold, ThreadStep, owes, owing, CollectorStands, JustCollected, MakesPlanned}
-use Rattle.melt_step.specs.Threads.{RunStands, ForCollection, jobs, jobs_of, CollectedFor}
-use Rattle.melt_step.proofs.Journals.{collector_planned, planned_one, plans_count}
-use Rattle.melt_step.proofs.Tables.{Table_collected, Table_step, table_ready}
-use Rattle.melt_step.proofs.Counting.{Adds, adds_silent, collections_grow}
-use Rattle.melt_step.proofs.Modes.{nothing_keeps, dropped_keeps, Table_runs, ends_done, Table_gone}
-
--- behind a planned collection all threads stand, and there is one entry to spare
-made_table : (script : Script) (config : Config) (old mid : Run) → RunStands script config old → MakesPlanned old mid
-    → TableStands script config (view mid.core) mid.states.items
-made_table script config old mid stands made =
-    subst (TableStands script config (view mid.core)) (sym made.states)
-    (Table_collected script config (view old.core) (view mid.core) old.states.items stands.table made.collected)
-
-made_collector : (script : Script) (config : Config) (old mid : Run) → RunStands script config old
-    → MakesPlanned old mid → CollectorStands config mid.collector
-made_collector script config old mid stands made =
-    collector_planned config old.collector mid.collector (view mid.core) stands.collector made.plans
-    (made.collected.stays.words ∙ stands.table.words)
-
-made_spare : (script : Script) (config : Config) (old mid : Run) → RunStands script config old → MakesPlanned old mid
-    → collections script config (replies_of mid.states.items)
-    (length script.programs) + 1 ≤ length mid.collector.journal.items + owing mid.states.items
-made_spare script config old mid stands made =
-    let C : List ThreadState → ℕ = λ (xs : List ThreadState).
-    collections script config (replies_of xs) (length script.programs) in
-    let same : mid.states.items ≡ old.states.items = made.states in
-    omega (
-      arith,
-      stands.collected,
-      plans_count old.collector mid.collector (view mid.core) old.collector.planned made.plans,
-      ap C same,
-      ap owing same,
-    )
-
--- the planned collection was made
-pub Run_collected : (script : Script) (config : Config) (old new : Run) → RunStands script config old
-    → MakesPlanned old new → RunStands script config new
-Run_collected script config old new stands made = record {
-  table = made_table script config old new stands made;
-  every = made.every ∙ stands.every;
-  collector = made_collector script config old new stands made;
-  collected = omega (arith, made_spare script config old new stands made);
-}
-
--- it was just made, also behind a thread that dropped its registers
-pub just_made : (old mid new : Run) → MakesPlanned old mid → new.collector ≡ mid.collector
-    → (view new.core).free ≡ (view mid.core).free → (view new.core).stop ≡ (view mid.core).stop → JustCollected new
-just_made old mid new made collector free stop = record {
-  stop = stop ∙ made.collected.stop;
-  prefix = old.collector.journal.items;
-  last = made.plans.entry;
-  journal = ap (λ (c : Collector). c.journal.items) collector ∙ made.plans.journal;
-  free = free ∙ made.plans.live;
-}
+use Rattle.melt_step.specs.Journals.{IsTight}
+use Rattle.melt_step.specs.Safepoints.{CollectorStands, KeepsRun, MakesCollection, MakesFor, RunStands, last_of}
+use Rattle.melt_step.specs.Shown.{Shown}
+use Rattle.melt_step.specs.Threads.{CollectedFor, DropsIfEnded, DueBy, FitsMode, ForCollection, GoesOn}
+use Rattle.melt_step.specs.Threads.{HaveCuts, IsEnded, IsPaused, MayGo, TableStands, TakesReply, ThreadStep, ThreadTold}
+use Rattle.melt_step.specs.Threads.{jobs, jobs_of, left, lost, losses, owes, owes_silent, owing, replies_of, with_first}
+use Rattle.melt_step.proofs.Counting.{Adds, adds_silent, collections_grow, losses_same, told_lost}
+use Rattle.melt_step.proofs.Cuts.{HaveCuts_later}
+use Rattle.melt_step.proofs.Journals.{just_behind, spare_collected, stands_collected}
+use Rattle.melt_step.proofs.Modes.{Table_gone, Table_runs, cuts_mode, dropped_keeps, ends_done, nothing_keeps}
+use Rattle.melt_step.proofs.Tables.{Table_step, Table_untold, table_ready}
+use Rattle.melt_step.proofs.Telling.{later_set}
 
 -- a thread that has ended has dropped its registers, and else nothing has changed
 drops_cases : (v w : View) (t : ℕ) (mode : Mode) → DropsIfEnded v w t mode → (IsEnded mode × HasDropped v w t)
@@ -89,195 +48,250 @@ drops_cases v w t Asked drops = inr (λ is. is, drops)
 drops_cases v w t Lacking drops = inr (λ is. is, drops)
 drops_cases v w t (Ended e) drops = inl (tt, drops)
 
--- a thread that drops its registers leaves the words as they are
-pub drops_words : (v w : View) (t : ℕ) (mode : Mode) → DropsIfEnded v w t mode → (w.free ≡ v.free) × (w.stop ≡ v.stop)
-drops_words v w t mode drops = elim (drops_cases v w t mode drops) [
-  | inl gone ↦ (ap (λ (x : View). x.free) gone.1.only, ap (λ (x : View). x.stop) gone.1.only)
-  | inr goes ↦ (ap (λ (x : View). x.free) goes.1, ap (λ (x : View). x.stop) goes.1)
+-- An epoch is as before but for what registers hold.
+pub record SameEpoch (v w : View) : Type 0 where
+  pub free : w.free ≡ v.free
+  pub stop : w.stop ≡ v.stop
+  pub forward : w.forward ≡ v.forward
+  pub log : w.log ≡ v.log
+  pub calls : w.calls ≡ v.calls
+
+-- so it is where a thread drops its registers
+pub drops_same : (v w : View) (t : ℕ) (mode : Mode) → DropsIfEnded v w t mode → SameEpoch v w
+drops_same v w t mode drops = elim (drops_cases v w t mode drops) [
+  | inl gone ↦ record {
+    free = ap (λ (x : View). x.free) gone.1.only;
+    stop = ap (λ (x : View). x.stop) gone.1.only;
+    forward = ap (λ (x : View). x.forward) gone.1.only;
+    log = ap (λ (x : View). x.log) gone.1.only;
+    calls = ap (λ (x : View). x.calls) gone.1.only;
+  }
+  | inr goes ↦ subst (SameEpoch v) (sym goes.1)
+      (record { free = refl; stop = refl; forward = refl; log = refl; calls = refl })
 ]
 
--- no call is in flight behind it
-pub drops_quiet : (v w : View) (t : ℕ) (mode : Mode) → DropsIfEnded v w t mode → IsQuiet v → IsQuiet w
-drops_quiet v w t mode drops quiet = λ u. elim (drops_cases v w t mode drops) [
-  | inl gone ↦ ap (λ (x : View). call_of x u) gone.1.only ∙ quiet u
-  | inr goes ↦ ap (λ (x : View). call_of x u) goes.1 ∙ quiet u
-]
+-- no call is in flight in it
+pub same_quiet : (v w : View) → SameEpoch v w → IsQuiet v → IsQuiet w
+same_quiet v w same quiet = λ u. ap (λ xs. get_or xs u None) same.calls ∙ quiet u
 
 -- the next operation of a thread that waits for its own collection is that
-pub collecting_op : (script : Script) (config : Config) (run : Run) (t : ℕ) (s : ThreadState)
-    → RunStands script config run → slice_get run.states.items t ≡ Some s → s.mode ≡ Collecting → s.op ≡ Some Collect
-collecting_op script config run t s stands at is =
+pub collecting_op : (told : Bool) (script : Script) (config : Config) (shown : Shown) (run : Run) (t : ℕ)
+    (s : ThreadState) → RunStands told script config shown run → slice_get run.states.items t ≡ Some s
+    → s.mode ≡ Collecting → s.op ≡ Some Collect
+collecting_op told script config shown run t s stands at is =
     subst (λ (m : Mode). FitsMode m s.op) is (stands.table.each t s at).fits
 
 -- it has room for the reply
-pub collecting_room : (script : Script) (config : Config) (run : Run) (t : ℕ) (s : ThreadState)
-    → RunStands script config run → slice_get run.states.items t ≡ Some s → s.mode ≡ Collecting
-    → length s.replies.items < vec_capacity s.replies
-collecting_room script config run t s stands at is =
-    (table_ready script config (view run.core) run.states.items t s stands.table at).room
-    (subst IsSome (sym (collecting_op script config run t s stands at is)) refl)
+pub collecting_room : (told : Bool) (script : Script) (config : Config) (shown : Shown) (run : Run) (t : ℕ)
+    (s : ThreadState) → RunStands told script config shown run → slice_get run.states.items t ≡ Some s
+    → s.mode ≡ Collecting → length s.replies.items < vec_capacity s.replies
+collecting_room told script config shown run t s stands at is =
+    (table_ready script config stands.disk (view run.core) run.states.items t s stands.disk.end
+    (Table_untold told script config stands.disk (view run.core) run.states.items stands.table) refl at).room
+    (subst IsSome (sym (collecting_op told script config shown run t s stands at is)) refl)
 
 -- the reply to a collection, where the thread has ended with it or has not
-collect_told : (v w : View) (t : ℕ) (s after : ThreadState) → s.mode ≡ Collecting → s.op ≡ Some Collect
+collect_told : (told : Bool) (v w : View) (t : ℕ) (s after : ThreadState) → s.mode ≡ Collecting → s.op ≡ Some Collect
     → TakesReply s after reply.Done → w.log ≡ v.log → IsEnded after.mode ⊎ (values_of v t ≡ values_of w t)
-    → (IsEnded after.mode → values_of w t ≡ replicate 16 Nil) → call_of w t ≡ None → ThreadTold v w t s after
-collect_told v w t s after mode next takes history held dropped call = record {
+    → (IsEnded after.mode → values_of w t ≡ replicate 16 Nil) → call_of w t ≡ None → ThreadTold told v w t s after
+collect_told told v w t s after mode next takes history held dropped call = record {
   op = Collect;
   reply = reply.Done;
   next = next;
   takes = takes;
-  registers = values_of v t;
-  answers = record { value = Nil; given = refl; told = refl; registers = refl; history = history };
-  in_registers = held;
+  history = (None, history);
+  answers = λ is. (
+    values_of v t,
+    record { value = Nil; given = refl; told = refl; registers = refl; history = history },
+    held,
+  );
   dropped = dropped;
   call = call;
-  room = tt;
   not_due = ap owes_silent mode;
   no_collect = λ goes. absurd (subst MayGo mode goes);
 }
 
 -- the same as an event of the thread
-collect_step : (v w : View) (t : ℕ) (s after : ThreadState) → Standing true no_homes_on v → call_of v t ≡ None
-    → s.mode ≡ Collecting
-    → s.op ≡ Some Collect → TakesReply s after reply.Done → DropsIfEnded v w t after.mode → ThreadStep v w t s after
-collect_step v w t s after stands no_call mode next takes drops = elim (drops_cases v w t after.mode drops) [
+collect_step : (told : Bool) (disk : OnDisk) (v w : View) (t : ℕ) (s after : ThreadState) → Standing told disk v
+    → call_of v t ≡ None → s.mode ≡ Collecting → s.op ≡ Some Collect → TakesReply s after reply.Done
+    → DropsIfEnded v w t after.mode → ThreadStep told disk v w t s after
+collect_step told disk v w t s after stands no_call mode next takes drops = elim (drops_cases v w t after.mode drops) [
   | inl gone ↦ record {
-    stands = gone.1.keeps true no_homes_on stands;
+    stands = gone.1.keeps told disk stands;
     others = dropped_keeps v w t gone.1;
     what =
-        inr (inr (inr (collect_told v w t s after mode next takes (ap (λ (x : View). x.log) gone.1.only) (inl gone.0)
-        (λ over. gone.1.here) (ap (λ (x : View). call_of x t) gone.1.only ∙ no_call))));
+        inr (inr (inr (inr (collect_told told v w t s after mode next takes (ap (λ (x : View). x.log) gone.1.only)
+        (inl gone.0) (λ over. gone.1.here) (ap (λ (x : View). call_of x t) gone.1.only ∙ no_call)))));
   }
-  | inr goes ↦ subst (λ (x : View). ThreadStep v x t s after) (sym goes.1) (record {
+  | inr goes ↦ subst (λ (x : View). ThreadStep told disk v x t s after) (sym goes.1) (record {
     stands = stands;
     others = nothing_keeps v t;
     what =
-        inr (inr (inr (collect_told v v t s after mode next takes refl (inr refl)
-        (λ over. absurd (goes.0 over)) no_call)));
+        inr (inr (inr (inr (collect_told told v v t s after mode next takes refl (inr refl)
+        (λ over. absurd (goes.0 over)) no_call))));
   })
 ]
 
--- the collection that is the next operation of a thread was made, and the thread got its reply
-pub Run_answered : (script : Script) (config : Config) (old mid new : Run) (t : ℕ) (s after : ThreadState)
-    → RunStands script config old → MakesPlanned old mid → slice_get old.states.items t ≡ Some s → s.mode ≡ Collecting
-    → TakesReply s after reply.Done → DropsIfEnded (view mid.core) (view new.core) t after.mode
-    → DueBy mid.every s after → new.every ≡ mid.every → new.collector ≡ mid.collector
-    → new.states.items ≡ set mid.states.items t after → RunStands script config new
-Run_answered script config old mid new t s after stands made at mode takes drops due every collector same =
-    let states : List ThreadState = mid.states.items in
-    let here : slice_get states t ≡ Some s = ap (λ (xs : List ThreadState). slice_get xs t) made.states ∙ at in
-    let table : TableStands script config (view mid.core) states = made_table script config old mid stands made in
-    let by : DueBy config.every s after = subst (λ (n : ℕ). DueBy n s after) (made.every ∙ stands.every) due in
-    let step : ThreadStep (view mid.core) (view new.core) t s after =
-    collect_step (view mid.core) (view new.core) t s after made.collected.stays.stands
-    (made.collected.stays.quiet t) mode (collecting_op script config old t s stands at mode) takes drops in
-    let grown = collections_grow script config (view mid.core) (view new.core) states t s after table here step by in
-    let adds : Adds script config states new.states.items grown.0 =
-    subst (λ (xs : List ThreadState). Adds script config states xs grown.0) (sym same) grown.2 in
+-- Of a run one thread changed, and a core in which all else is as before.
+pub record SetsState (mid new : Run) (t : ℕ) (after : ThreadState) : Type 0 where
+  pub states : new.states.items ≡ set mid.states.items t after
+  pub collector : new.collector ≡ mid.collector
+  pub words : new.words ≡ mid.words
+  pub every : new.every ≡ mid.every
+  pub epoch : SameEpoch (view mid.core) (view new.core)
+
+-- so many collections were made that no reply was told of
+abbrev pub Spare : Script → Config → Run → Type 0
+Spare script config run =
+    collections script config (replies_of run.states.items) (length script.programs) + 1
+    ≤ length run.collector.journal.items + owing run.states.items
+
+-- What is left to show of a run of which one thread changed: that all threads stand, and where the moments and the
+-- number of collections are.
+set_stands : (told : Bool) (script : Script) (config : Config) (shown : Shown) (mid new : Run) (t c : ℕ)
+    (after : ThreadState) → (stands : RunStands told script config shown mid) → SetsState mid new t after
+    → TableStands told script config stands.disk (view new.core) (set mid.states.items t after)
+    → (told ≡ true → HaveCuts script (view mid.core).log (set mid.states.items t after) config
+    mid.collector.journal.items)
+    → Spare script config mid → c ≤ 1 → Adds script config mid.states.items (set mid.states.items t after) c
+    → RunStands told script config shown new
+set_stands told script config shown mid new t c after stands sets table cuts spare one adds =
+    let states : List ThreadState = set mid.states.items t after in
+    let all : Adds script config mid.states.items new.states.items c =
+    subst (λ (xs : List ThreadState). Adds script config mid.states.items xs c) (sym sets.states) adds in
+    let journal : List Journal = new.collector.journal.items in
+    let same : mid.collector.journal.items ≡ journal = ap (λ (x : Collector). x.journal.items) (sym sets.collector) in
     record {
-      table = subst (TableStands script config (view new.core)) (sym same)
-          (Table_step script config (view mid.core) (view new.core) states t s after table here
-          (λ over. subst IsEnded mode over) step by);
-      every = every ∙ (made.every ∙ stands.every);
-      collector = subst (CollectorStands config) (sym collector) (made_collector script config old mid stands made);
-      collected =
-          omega (
-            arith,
-            adds,
-            grown.1,
-            made_spare script config old mid stands made,
-            ap (λ (c : Collector). length c.journal.items) collector,
-          );
+      disk = stands.disk;
+      under = stands.under;
+      table = subst (TableStands told script config stands.disk (view new.core)) (sym sets.states) table;
+      words = sets.words ∙ stands.words;
+      every = sets.every ∙ stands.every;
+      collector = subst (CollectorStands config shown) (sym sets.collector) stands.collector;
+      cuts = λ is.
+          subst (λ (xs : List ThreadState). HaveCuts script (view new.core).log xs config journal) (sym sets.states)
+          (subst (λ (h : List Entry). HaveCuts script h states config journal) (sym sets.epoch.log)
+          (subst (HaveCuts script (view mid.core).log states config) same (cuts is)));
+      collected = omega (arith, all, one, spare, ap length same);
     }
 
--- A thread goes on with its next operation, or has ended without one.
-abbrev pub GoesOn : ThreadState → ThreadState → Type 0
-GoesOn s after = (IsSome s.op × (after ≡ record s { mode = Running }))
-    ⊎ ((s.op ≡ None) × (after ≡ record s { mode = Ended end.Done }))
+-- the moments of the collections stay those of a run in which a thread got a reply
+cuts_reply : (script : Script) (config : Config) (log : List Entry) (states : List ThreadState) (t : ℕ)
+    (s after : ThreadState) (extra : List Reply) (journal : List Journal) → slice_get states t ≡ Some s
+    → (IsEnded s.mode → ⊥) → after.replies.items ≡ s.replies.items ++ extra → HaveCuts script log states config journal
+    → HaveCuts script log (set states t after) config journal
+cuts_reply script config log states t s after extra journal at goes grown cuts =
+    subst (λ (h : List Entry). HaveCuts script h (set states t after) config journal) (append-nil log)
+    (HaveCuts_later script log [] states (set states t after) config journal
+    (later_set states t s after extra at goes grown) cuts)
 
--- a value is there or not
-some_or_none : {A : Type 0} (o : Option A) → IsSome o ⊎ (o ≡ None)
-some_or_none None = inr refl
-some_or_none (Some x) = inl refl
-
--- of this kind is a thread that runs where it has an operation, and else has ended
-pub goes_on_by : (s after : ThreadState) → after ≡ record s { mode = after.mode } → (IsSome s.op → after.mode ≡ Running)
-    → (s.op ≡ None → after.mode ≡ Ended end.Done) → GoesOn s after
-goes_on_by s after only runs ended =
-    let other : (m : Mode) → after.mode ≡ m → after ≡ record s { mode = m } =
-    λ m is. only ∙ ap {B = ThreadState} (λ (x : Mode). record s { mode = x }) is in
-    elim (some_or_none s.op) [
-      | inl some ↦ inl (some, other Running (runs some))
-      | inr none ↦ inr (none, other (Ended end.Done) (ended none))
-    ]
-
--- where a thread has not ended, nothing changes
-pub drops_nothing : (v : View) (t : ℕ) (mode : Mode) → (IsEnded mode → ⊥) → DropsIfEnded v v t mode
-drops_nothing v t Running goes = refl
-drops_nothing v t Due goes = refl
-drops_nothing v t Silent goes = refl
-drops_nothing v t Collecting goes = refl
-drops_nothing v t Asked goes = refl
-drops_nothing v t Lacking goes = refl
-drops_nothing v t (Ended e) goes = absurd (goes tt)
+-- the collection that is the next operation of a thread was made, and the thread got its reply
+Run_answered : (told : Bool) (script : Script) (config : Config) (shown : Shown) (mid new : Run) (t : ℕ)
+    (s after : ThreadState) → RunStands told script config shown mid → Spare script config mid
+    → IsQuiet (view mid.core) → slice_get mid.states.items t ≡ Some s → s.mode ≡ Collecting
+    → TakesReply s after reply.Done → DueBy mid.every s after
+    → DropsIfEnded (view mid.core) (view new.core) t after.mode → SetsState mid new t after
+    → RunStands told script config shown new
+Run_answered told script config shown mid new t s after stands spare quiet at mode takes due drops sets =
+    let v : View = view mid.core in
+    let w : View = view new.core in
+    let states : List ThreadState = mid.states.items in
+    let by : DueBy config.every s after = subst (λ (n : ℕ). DueBy n s after) stands.every due in
+    let goes : IsEnded s.mode → ⊥ = λ over. subst IsEnded mode over in
+    let step : ThreadStep told stands.disk v w t s after =
+    collect_step told stands.disk v w t s after stands.table.stands (quiet t) mode
+    (collecting_op told script config shown mid t s stands at mode) takes drops in
+    let grown = collections_grow told script config stands.disk v w states t s after stands.table at step by in
+    let within : stands.disk.end ≤ config.disk =
+    subst (λ (n : ℕ). n ≤ config.disk) (sym stands.under.ends) stands.collector.within in
+    set_stands told script config shown mid new t grown.0 after stands sets
+    (Table_step told script config stands.disk v w states t s after within stands.table at goes step by)
+    (λ is. cuts_reply script config v.log states t s after (reply.Done ∷ []) mid.collector.journal.items at goes
+    takes.replies (stands.cuts is)) spare grown.1 grown.2
 
 -- all threads stand where one goes on
-Table_goes_on : (script : Script) (config : Config) (v w : View) (states : List ThreadState) (t : ℕ)
-    (s after : ThreadState) → TableStands script config v states → slice_get states t ≡ Some s → (IsEnded s.mode → ⊥)
-    → call_of v t ≡ None → GoesOn s after → DropsIfEnded v w t after.mode
-    → TableStands script config w (set states t after)
-Table_goes_on script config v w states t s after table at goes no_call on drops = elim on [
+Table_goes_on : (told : Bool) (script : Script) (config : Config) (disk : OnDisk) (v w : View)
+    (states : List ThreadState) (t : ℕ) (s after : ThreadState) → TableStands told script config disk v states
+    → slice_get states t ≡ Some s → (IsEnded s.mode → ⊥) → call_of v t ≡ None → GoesOn s after
+    → DropsIfEnded v w t after.mode → TableStands told script config disk w (set states t after)
+Table_goes_on told script config disk v w states t s after table at goes no_call on drops = elim on [
   | inl runs ↦
       let same : w ≡ v = subst (λ (x : ThreadState). DropsIfEnded v w t x.mode) runs.1 drops in
-      subst (λ (x : ThreadState). TableStands script config w (set states t x)) (sym runs.1)
-      (subst (λ (x : View). TableStands script config x (set states t (record s { mode = Running }))) (sym same)
-      (Table_runs script config v states t s table at goes runs.0 no_call))
+      subst (λ (x : ThreadState). TableStands told script config disk w (set states t x)) (sym runs.1)
+      (subst (λ (x : View). TableStands told script config disk x (set states t (record s { mode = Running })))
+      (sym same) (Table_runs told script config disk v states t s table at goes runs.0 no_call))
   | inr ended ↦
       let dropped : HasDropped v w t = subst (λ (x : ThreadState). DropsIfEnded v w t x.mode) ended.1 drops in
-      subst (λ (x : ThreadState). TableStands script config w (set states t x)) (sym ended.1)
-      (Table_gone script config v w states t s end.Done table at goes dropped no_call
-      (ends_done script config v states t s table at ended.0))
+      subst (λ (x : ThreadState). TableStands told script config disk w (set states t x)) (sym ended.1)
+      (Table_gone told script config disk v w states t s end.Done table at goes dropped no_call
+      (ends_done told script config disk v states t s table at ended.0))
+]
+
+-- it only has another mode
+goes_on_mode : (s after : ThreadState) → GoesOn s after → (mode : Mode) × (after ≡ record s { mode = mode })
+    × (owes mode ≡ 0) × (lost mode ≡ 0)
+goes_on_mode s after on = elim on [
+  | inl runs ↦ (Running, runs.1, refl, refl)
+  | inr ended ↦ (Ended end.Done, ended.1, refl, refl)
 ]
 
 -- the silent collection for which a thread waits was made, and the thread goes on
-pub Run_goes_on : (script : Script) (config : Config) (old mid new : Run) (t : ℕ) (s after : ThreadState)
-    → RunStands script config old → MakesPlanned old mid → slice_get old.states.items t ≡ Some s → s.mode ≡ Silent
-    → GoesOn s after → DropsIfEnded (view mid.core) (view new.core) t after.mode → new.every ≡ mid.every
-    → new.collector ≡ mid.collector → new.states.items ≡ set mid.states.items t after → RunStands script config new
-Run_goes_on script config old mid new t s after stands made at mode on drops every collector same =
+Run_goes_on : (told : Bool) (script : Script) (config : Config) (shown : Shown) (mid new : Run) (t : ℕ)
+    (s after : ThreadState) → RunStands told script config shown mid → Spare script config mid
+    → IsQuiet (view mid.core) → slice_get mid.states.items t ≡ Some s → s.mode ≡ Silent → GoesOn s after
+    → DropsIfEnded (view mid.core) (view new.core) t after.mode → SetsState mid new t after
+    → RunStands told script config shown new
+Run_goes_on told script config shown mid new t s after stands spare quiet at mode on drops sets =
+    let v : View = view mid.core in
     let states : List ThreadState = mid.states.items in
-    let here : slice_get states t ≡ Some s = ap (λ (xs : List ThreadState). slice_get xs t) made.states ∙ at in
-    let table : TableStands script config (view mid.core) states = made_table script config old mid stands made in
-    let one : owes s.mode ≡ 1 = ap owes mode in
-    let adds : Adds script config states (set states t after) 1 = elim on [
-      | inl runs ↦ subst (λ (x : ThreadState). Adds script config states (set states t x) 1) (sym runs.1)
-          (adds_silent script config states t s Running here table.count one)
-      | inr ended ↦ subst (λ (x : ThreadState). Adds script config states (set states t x) 1) (sym ended.1)
-          (adds_silent script config states t s (Ended end.Done) here table.count one)
-    ] in
-    let all : Adds script config states new.states.items 1 =
-    subst (λ (xs : List ThreadState). Adds script config states xs 1) (sym same) adds in
-    record {
-      table = subst (TableStands script config (view new.core)) (sym same)
-          (Table_goes_on script config (view mid.core) (view new.core) states t s after table here
-          (λ over. subst IsEnded mode over) (made.collected.stays.quiet t) on drops);
-      every = every ∙ (made.every ∙ stands.every);
-      collector = subst (CollectorStands config) (sym collector) (made_collector script config old mid stands made);
-      collected =
-          omega (
-            arith,
-            all,
-            made_spare script config old mid stands made,
-            ap (λ (c : Collector). length c.journal.items) collector,
-          );
-    }
+    let goes : IsEnded s.mode → ⊥ = λ over. subst IsEnded mode over in
+    let by = goes_on_mode s after on in
+    let one : owes s.mode ≡ owes by.0 + 1 = let had : owes s.mode ≡ 1 = ap owes mode in omega (arith, had, by.2) in
+    set_stands told script config shown mid new t 1 after stands sets
+    (Table_goes_on told script config stands.disk v (view new.core) states t s after stands.table at goes (quiet t) on
+    drops)
+    (λ is. subst (λ (x : ThreadState). HaveCuts script v.log (set states t x) config mid.collector.journal.items)
+    (sym by.1) (cuts_mode script config v.log states t s by.0 mid.collector.journal.items at goes (stands.cuts is)))
+    spare (omega arith)
+    (subst (λ (x : ThreadState). Adds script config states (set states t x) 1) (sym by.1)
+    (adds_silent script config states t s by.0 at stands.table.count one))
+
+-- How a thread goes on behind the collection for which it waited.
+pub record TakesCollection (every : ℕ) (s after : ThreadState) : Type 0 where
+  pub takes : s.mode ≡ Collecting → TakesReply s after reply.Done
+  pub due : s.mode ≡ Collecting → DueBy every s after
+  pub silent : s.mode ≡ Silent → GoesOn s after
+
+-- a thread that waits for a collection waits for a silent one or for its own
+pub waits_cases : (mode : Mode) → ForCollection mode → (mode ≡ Silent) ⊎ (mode ≡ Collecting)
+waits_cases Running waits = absurd waits
+waits_cases Due waits = absurd waits
+waits_cases Silent waits = inl refl
+waits_cases Collecting waits = inr refl
+waits_cases Asked waits = absurd waits
+waits_cases Lacking waits = absurd waits
+waits_cases (Ended e) waits = absurd waits
+
+-- a run stands where the thread goes on
+pub Run_taken : (told : Bool) (script : Script) (config : Config) (shown : Shown) (mid new : Run) (t : ℕ)
+    (s after : ThreadState) → RunStands told script config shown mid → Spare script config mid
+    → IsQuiet (view mid.core) → slice_get mid.states.items t ≡ Some s → ForCollection s.mode
+    → TakesCollection mid.every s after → DropsIfEnded (view mid.core) (view new.core) t after.mode
+    → SetsState mid new t after → RunStands told script config shown new
+Run_taken told script config shown mid new t s after stands spare quiet at waits takes drops sets =
+    elim (waits_cases s.mode waits) [
+      | inl silent ↦ Run_goes_on told script config shown mid new t s after stands spare quiet at silent
+          (takes.silent silent) drops sets
+      | inr own ↦ Run_answered told script config shown mid new t s after stands spare quiet at own (takes.takes own)
+          (takes.due own) drops sets
+    ]
 
 -- what a thread has to do, told by its mode and its operations
 jobs_by : (s : ThreadState) (mode : Mode) (n : ℕ) → s.mode ≡ mode → length (left s) ≡ n → jobs_of s ≡ jobs mode n
 jobs_by s mode n is to_come = rw (is, to_come) refl
 
 -- a thread that got the reply to its collection has less to do
-pub answered_fewer : (s after : ThreadState) → s.mode ≡ Collecting → s.op ≡ Some Collect → TakesReply s after reply.Done
+answered_fewer : (s after : ThreadState) → s.mode ≡ Collecting → s.op ≡ Some Collect → TakesReply s after reply.Done
     → CollectedFor s after
 answered_fewer s after mode next takes =
     let n : ℕ = length s.cursor.operations in
@@ -303,7 +317,7 @@ answered_fewer s after mode next takes =
     }
 
 -- and so has one that goes on
-pub goes_on_fewer : (s after : ThreadState) → s.mode ≡ Silent → GoesOn s after → CollectedFor s after
+goes_on_fewer : (s after : ThreadState) → s.mode ≡ Silent → GoesOn s after → CollectedFor s after
 goes_on_fewer s after mode on =
     let n : ℕ = length (left s) in
     let had : jobs_of s ≡ jobs Silent n = jobs_by s Silent n mode refl in
@@ -324,37 +338,45 @@ goes_on_fewer s after mode on =
       same = λ never. absurd (never (subst ForCollection (sym mode) tt));
     }
 
--- a thread that waits for a collection waits for its own or for a silent one
-waits_for : (mode : Mode) → (mode ≡ Silent → ⊥) → (mode ≡ Collecting → ⊥) → ForCollection mode → ⊥
-waits_for Running silent own waits = waits
-waits_for Due silent own waits = waits
-waits_for Silent silent own waits = silent refl
-waits_for Collecting silent own waits = own refl
-waits_for Asked silent own waits = waits
-waits_for Lacking silent own waits = waits
-waits_for (Ended e) silent own waits = waits
+-- a thread whose collection was made has less to do
+pub taken_fewer : (every : ℕ) (s after : ThreadState) → ForCollection s.mode → TakesCollection every s after
+    → (s.mode ≡ Collecting → s.op ≡ Some Collect) → CollectedFor s after
+taken_fewer every s after waits takes next = elim (waits_cases s.mode waits) [
+  | inl silent ↦ goes_on_fewer s after silent (takes.silent silent)
+  | inr own ↦ answered_fewer s after own (next own) (takes.takes own)
+]
 
--- it waits for none
-none_for : (mode : Mode) → (mode ≡ Silent → ⊥) → (mode ≡ Collecting → ⊥) → collections_for mode ≡ 0
-none_for Running silent own = refl
-none_for Due silent own = refl
-none_for Silent silent own = absurd (silent refl)
-none_for Collecting silent own = absurd (own refl)
-none_for Asked silent own = refl
-none_for Lacking silent own = refl
-none_for (Ended e) silent own = refl
+-- it is not lost
+taken_lost : (every : ℕ) (s after : ThreadState) → ForCollection s.mode → TakesCollection every s after
+    → lost after.mode ≡ lost s.mode
+taken_lost every s after waits takes = elim (waits_cases s.mode waits) [
+  | inl silent ↦
+      let by = goes_on_mode s after (takes.silent silent) in
+      ap (λ (x : ThreadState). lost x.mode) by.1 ∙ (by.3 ∙ sym (ap lost silent))
+  | inr own ↦ told_lost s after reply.Done (takes.takes own) ∙ sym (ap lost own)
+]
+
+-- so as many are lost as before
+pub taken_losses : (every : ℕ) (states mid : List ThreadState) (t : ℕ) (s after : ThreadState) → mid ≡ states
+    → slice_get states t ≡ Some s → ForCollection s.mode → TakesCollection every s after
+    → losses (set mid t after) ≡ losses states
+taken_losses every states mid t s after same at waits takes =
+    ap (λ (xs : List ThreadState). losses (set xs t after)) same
+    ∙ losses_same states t s after at (taken_lost every s after waits takes)
 
 -- a thread that waits for no collection stays as it is
-pub other_stays : (s : ThreadState) (mode : Mode) → s.mode ≡ mode → (mode ≡ Silent → ⊥) → (mode ≡ Collecting → ⊥)
-    → CollectedFor s s
-other_stays s mode is silent own =
-    let never : ForCollection s.mode → ⊥ = λ waits. waits_for mode silent own (subst ForCollection is waits) in
-    record {
-      fewer = λ waits. absurd (never waits);
-      goes = λ waits. absurd (never waits);
-      owes = λ waits. absurd (never waits);
-      same = λ stays. refl;
-    }
+pub other_stays : (s : ThreadState) → (ForCollection s.mode → ⊥) → CollectedFor s s
+other_stays s never = record {
+  fewer = λ waits. absurd (never waits);
+  goes = λ waits. absurd (never waits);
+  owes = λ waits. absurd (never waits);
+  same = λ stays. refl;
+}
+
+-- of other modes none waits for a collection
+pub waits_none : (mode : Mode) → (mode ≡ Silent → ⊥) → (mode ≡ Collecting → ⊥) → ForCollection mode → ⊥
+waits_none mode silent own waits =
+    elim (waits_cases mode waits) [ inl is ↦ silent is | inr is ↦ own is ]
 
 -- the state that was read is that of the thread
 pub state_read : (states items : List ThreadState) (t : ℕ) (s x d : ThreadState) → slice_get states t ≡ Some s
@@ -362,24 +384,61 @@ pub state_read : (states items : List ThreadState) (t : ℕ) (s x d : ThreadStat
 state_read states items t s x d at same is =
     is ∙ (ap (λ (xs : List ThreadState). get_or xs t d) same ∙ get_or_from_slice_get states t s d at)
 
+-- A thread waited for a collection, and goes on behind one.
+pub record WasCollected (old mid : Run) (t : ℕ) (s after : ThreadState) : Type 0 where
+  pub at : slice_get old.states.items t ≡ Some s
+  pub waits : ForCollection s.mode
+  pub takes : TakesCollection mid.every s after
+
+-- it is told so by the state that was read
+pub was_collected : (old mid : Run) (t : ℕ) (s x after d : ThreadState) → slice_get old.states.items t ≡ Some s
+    → mid.states.items ≡ old.states.items → x ≡ get_or mid.states.items t d
+    → (s.mode ≡ Collecting) ⊎ (s.mode ≡ Silent) → TakesCollection mid.every x after → WasCollected old mid t s after
+was_collected old mid t s x after d at same read mode takes = record {
+  at = at;
+  waits = elim mode [
+    | inl own ↦ subst ForCollection (sym own) tt
+    | inr silent ↦ subst ForCollection (sym silent) tt
+  ];
+  takes = subst (λ (y : ThreadState). TakesCollection mid.every y after)
+      (state_read old.states.items mid.states.items t s x d at same read) takes;
+}
+
+-- a planned collection is not forced
+never_forced : (config : Config) (c : Collector) → false ≡ true → IsTight config (last_of c)
+never_forced config c is = absurd (cc)
+
+-- what stands before a planned collection stands where the thread goes on behind it
+pub keeps_taken : (shown later : Shown) (old mid new : Run) (t : ℕ) (s after : ThreadState)
+    → MakesCollection false shown later old mid → WasCollected old mid t s after
+    → DropsIfEnded (view mid.core) (view new.core) t after.mode → SetsState mid new t after
+    → KeepsRun shown later old new
+keeps_taken shown later old mid new t s after made was drops sets = λ told script config stands.
+    let here : slice_get mid.states.items t ≡ Some s =
+    ap (λ (xs : List ThreadState). slice_get xs t) made.states ∙ was.at in
+    Run_taken told script config later mid new t s after
+    (stands_collected told script config false shown later old mid stands made (never_forced config old.collector))
+    (spare_collected told script config false shown later old mid stands made) made.collects.quiet here was.waits
+    was.takes drops sets
+
+-- the threads of a run have registers behind a collection
+pub collected_thread : (script : Script) (config : Config) (shown later : Shown) (old mid : Run) (t : ℕ)
+    → RunStands false script config shown old → MakesCollection false shown later old mid
+    → t < length old.states.items → t < length (view mid.core).held
+collected_thread script config shown later old mid t stands made below =
+    let behind : RunStands false script config later mid =
+    stands_collected false script config false shown later old mid stands made (never_forced config old.collector) in
+    omega (arith, below, behind.table.threads, stands.table.count)
+
 -- a collection was made for a thread that waits for one
-pub made_for : (old mid new : Run) (s : ThreadState) → MakesPlanned old mid → collections_for s.mode ≡ 1
-    → ForCollection s.mode → new.collector ≡ mid.collector → (view new.core).free ≡ (view mid.core).free
-    → (view new.core).stop ≡ (view mid.core).stop → MakesFor s old new
-made_for old mid new s made one for collector free stop = record {
-  planned = subst (λ (c : Collector). Planned (collections_for s.mode) old.collector c) (sym collector)
-      (subst (λ (n : ℕ). Planned n old.collector mid.collector) (sym one)
-      (planned_one old.collector mid.collector (view mid.core) made.plans));
-  made = λ waits. just_made old mid new made collector free stop;
-  none = λ never. absurd (never for);
+pub made_for : (shown later : Shown) (old mid new : Run) (s : ThreadState) → MakesCollection false shown later old mid
+    → ForCollection s.mode → new.collector ≡ mid.collector → SameEpoch (view mid.core) (view new.core)
+    → MakesFor s old new
+made_for shown later old mid new s made waits collector same = record {
+  made = λ for. just_behind false shown later old mid new made collector same.free same.stop same.forward;
+  none = λ never. absurd (never waits);
 }
 
 -- and none for another
-pub made_none : (old : Run) (s : ThreadState) (mode : Mode) → s.mode ≡ mode → (mode ≡ Silent → ⊥)
-    → (mode ≡ Collecting → ⊥) → MakesFor s old old
-made_none old s mode is silent own = record {
-  planned = subst (λ (n : ℕ). Planned n old.collector old.collector)
-      (sym (ap collections_for is ∙ none_for mode silent own)) (Planned.none old.collector);
-  made = λ waits. absurd (waits_for mode silent own (subst ForCollection is waits));
-  none = λ never. refl;
-}
+pub made_none : (old : Run) (s : ThreadState) → (ForCollection s.mode → ⊥) → MakesFor s old old
+made_none old s never = record { made = λ waits. absurd (never waits); none = λ no. refl }

@@ -1,52 +1,95 @@
--- The call of the first thread that lacked room, after a collection.
-use Rattle.std.proofs.Common.{◌≡◌, ◌≢◌, ℕ, ◌+◌, ◌*◌, ◌<◌, ◌≤◌, List, ◌∷◌, length, get_or, refl, sym, ◌∙◌, ap, subst}
-use Rattle.std.proofs.Common.{arith, inl, inr}
-use Rattle.std.specs.Prelude.{Option, None, Some, IsSome, IfSome, slice_get, vec_capacity}
+-- The call that a thread that lacked room makes alone, behind a collection.
+use Rattle.std.proofs.Common.{◌≡◌, ◌≢◌, ℕ, ◌+◌, ◌*◌, ◌<◌, ◌≤◌, zero, suc, true, false, List, ◌∷◌, length}
+use Rattle.std.proofs.Common.{get_or, refl, sym, ◌∙◌, ap, subst, arith, inl, inr}
 use Rattle.std.proofs.Math.ListN.{set}
+use Rattle.std.proofs.lemmas.Bool.{cases_eq}
 use Rattle.std.proofs.lemmas.Option.{get_or_from_slice_get, same_Some}
+use Rattle.std.specs.Prelude.{Bool, Option, None, Some, IsSome, IfSome, IfNone, slice_get, ◌⊎◌}
+use Rattle.melt_model.specs.Alive.{Held, words_of, CostsSum}
+use Rattle.melt_model.specs.Thread.{value_in}
 use Rattle.melt_model.specs.declared.config.Config.{Config}
 use Rattle.melt_model.specs.declared.history.Entry.{Entry}
+use Rattle.melt_model.specs.declared.history.Value.{Value}
 use Rattle.melt_model.specs.declared.operations.Op.{Op}
 use Rattle.melt_model.specs.declared.operations.Op.TheVariants as op
-use Rattle.melt_model.specs.declared.operations.Reply.{Reply}
 use Rattle.melt_model.specs.declared.operations.Op.TheVariants.{Collect}
-use Rattle.melt_model.specs.declared.reports.ThreadEnd.TheVariants as end
+use Rattle.melt_model.specs.declared.operations.Reply.{Reply}
+use Rattle.melt_model.specs.declared.reports.Journal.{Journal}
+use Rattle.melt_model.proofs.Sums.{CostsSum-one}
 use Rattle.melt_trace.specs.Grammar.{InRange}
 use Rattle.melt_trace.specs.Script.{Script}
-use Rattle.melt_core.specs.Advances.{InBounds}
-use Rattle.melt_core.specs.Views.{View, view}
-use Rattle.melt_core.specs.Changed.{HasRoomForEntry}
-use Rattle.melt_core.specs.Epochs.{HasDropped}
-use Rattle.melt_step.specs.declared.thread.ThreadState.{ThreadState}
-use Rattle.melt_step.specs.declared.thread.Mode.{Mode}
-use Rattle.melt_step.specs.declared.thread.Mode.TheVariants.{Lacking, Ended}
-use Rattle.melt_step.specs.Journals.{forced}
+use Rattle.melt_scion.specs.Heaps.{OnDisk}
+use Rattle.melt_core.specs.Advances.{InBounds, KeepsOthers, TellsDisk}
+use Rattle.melt_core.specs.Views.{View, view, call_of, value, values_of, IsQuiet}
+use Rattle.melt_step.specs.Journals.{IsTight, before}
+use Rattle.melt_step.specs.Lone.{IsAloneReady, IsMarked, CalledAlone, CalledOver, LacksAlone}
+use Rattle.melt_step.specs.Needs.{NeedsWords}
+use Rattle.melt_step.specs.Run.{collections}
+use Rattle.melt_step.specs.Safepoints.{Awaited, AwaitsCall, CalledAt, CollectorStands, JustCollected, LackedWords}
+use Rattle.melt_step.specs.Safepoints.{LacksBy, LacksWords, LeftBy, MadeCall, OnlyHeld, RunStands, SomeAwaits}
+use Rattle.melt_step.specs.Safepoints.{WaitsForRoom, last_of}
+use Rattle.melt_step.specs.Shown.{Shown}
+use Rattle.melt_step.specs.Threads.{DueBy, FitsMode, HaveCuts, IsEnded, IsPaused, IsReady, TableStands, TakesReply}
+use Rattle.melt_step.specs.Threads.{OweBehindCollects, ThreadLost, ThreadStep, ThreadTold, jobs, jobs_of, left}
+use Rattle.melt_step.specs.Threads.{mode_for}
+use Rattle.melt_step.specs.Threads.{owing, replies_of, with_first}
 use Rattle.melt_step.specs.declared.collector.Collector.{Collector}
 use Rattle.melt_step.specs.declared.run.Run.{Run}
-use Rattle.melt_step.specs.Threads.{CalledAt, CollectorStands, DueBy, IsPaused, OweBehindCollects, PlansBy}
-use Rattle.melt_step.specs.Threads.{StandsCollected, most_forwards}
-use Rattle.melt_step.specs.Threads.{TakesReply, owes, with_first, left, jobs, jobs_of, FitsMode, IsReady, TableStands}
-use Rattle.melt_step.specs.Threads.{RunStands, LacksNow, LacksAlone, CalledAlone, CoreCollected, IsEnded, ThreadTold}
-use Rattle.melt_step.specs.Threads.{ThreadStep}
-use Rattle.melt_step.proofs.Cuts.{lacks_room}
-use Rattle.melt_step.proofs.Journals.{collector_more, tight}
-use Rattle.melt_step.proofs.Tables.{Table_lacks, Table_step, Table_collected, table_ready}
-use Rattle.melt_step.proofs.Counting.{Adds, adds_mode, collections_step}
-use Rattle.melt_step.proofs.Modes.{Table_gone}
+use Rattle.melt_step.specs.declared.thread.Mode.{Mode}
+use Rattle.melt_step.specs.declared.thread.Mode.TheVariants.{Running, Due, Silent, Collecting, Asked, Lacking, Ended}
+use Rattle.melt_step.specs.declared.thread.ThreadState.{ThreadState}
+use Rattle.melt_step.proofs.Counting.{Adds, collections_step}
+use Rattle.melt_step.proofs.Cuts.{held_words_same, needs_same}
+use Rattle.melt_step.proofs.Journals.{before_end}
+use Rattle.melt_step.proofs.Tables.{Table_lacks, Table_step, cuts_step, lost_ends, table_ready}
+use Rattle.melt_step.proofs.Telling.{set_got}
 
--- an option that holds a number
-some_number : (o : Option ℕ) → IsSome o → (n : ℕ) × (o ≡ Some n)
-some_number None is = absurd (cc)
-some_number (Some n) is = (n, refl)
+-- what holds where an option is nothing
+pub if_none : {A : Type 0} (o : Option A) (P : Type 0) → (o ≡ None → P) → IfNone o P
+if_none None P holds = holds refl
+if_none (Some x) P holds = tt
 
--- What a call that is made alone needs of its thread.
-pub record MayCall (v : View) (t : ℕ) (s : ThreadState) (o : Op) : Type 0 where
-  pub thread : t < length v.held
-  pub no_collect : o ≢ Collect
-  pub bounds : InBounds (length v.globals) o
-  pub entries : HasRoomForEntry v
-  pub forwards : length v.forward ≤ most_forwards
-  pub room : length s.replies.items < vec_capacity s.replies
+-- what holds of what an option is
+pub if_some : {A : Type 0} (o : Option A) (P : A → Type 0) → ((x : A) → o ≡ Some x → P x) → IfSome o P
+if_some None P holds = tt
+if_some (Some x) P holds = holds x refl
+
+-- The state of the thread that waits for room.
+pub record IsLacking (states : List ThreadState) (t : ℕ) (s : ThreadState) : Type 0 where
+  pub at : slice_get states t ≡ Some s
+  pub lacking : s.mode ≡ Lacking
+
+-- the state that was read is that of the thread
+pub lacking_here : (states : List ThreadState) (t : ℕ) (x d : ThreadState) → x ≡ get_or states t d
+    → WaitsForRoom states t → IsLacking states t x
+lacking_here states t x d is waits =
+    let same : x ≡ waits.0 = is ∙ get_or_from_slice_get states t waits.0 d waits.1 in
+    record {
+      at = waits.1 ∙ ap Some (sym same);
+      lacking = ap (λ (y : ThreadState). y.mode) same ∙ waits.2;
+    }
+
+-- it has not ended
+pub lacking_open : {states : List ThreadState} {t : ℕ} {s : ThreadState} → IsLacking states t s → IsEnded s.mode → ⊥
+lacking_open {states} {t} {s} was ended = subst IsEnded was.lacking ended
+
+-- what it has next
+pub lacking_next : {told : Bool} {script : Script} {config : Config} {disk : OnDisk} {v : View}
+    {states : List ThreadState} {t : ℕ} {s : ThreadState} → TableStands told script config disk v states
+    → IsLacking states t s → IsSome s.op × (s.op ≢ Some Collect)
+lacking_next {told} {script} {config} {disk} {v} {states} {t} {s} table was =
+    subst (λ (m : Mode). FitsMode m s.op) was.lacking (table.each t s was.at).fits
+
+-- what there is, if there is something
+what_is : (next : Option Op) → IsSome next → (o : Op) × (next ≡ Some o)
+what_is None is = absurd (cc)
+what_is (Some o) is = (o, refl)
+
+-- so it has a next operation
+pub has_next : {told : Bool} {script : Script} {config : Config} {disk : OnDisk} {v : View}
+    {states : List ThreadState} {t : ℕ} {s : ThreadState} → TableStands told script config disk v states
+    → IsLacking states t s → (o : Op) × (s.op ≡ Some o)
+has_next {told} {script} {config} {disk} {v} {states} {t} {s} table was = what_is s.op (lacking_next table was).0
 
 -- what an operation of a script names is there
 in_bounds : (globals : ℕ) (o : Op) → InRange globals o → InBounds globals o
@@ -62,130 +105,217 @@ in_bounds globals (op.Copy dst src) is = is
 in_bounds globals (op.Drop r) is = is
 in_bounds globals op.Collect is = tt
 
--- A thread of these waits for room.
-pub record AwaitsRoom (script : Script) (config : Config) (v : View) (states : List ThreadState) (t : ℕ)
-    (s : ThreadState) : Type 0 where
-  pub table : TableStands script config v states
-  pub at : slice_get states t ≡ Some s
-  pub lacking : s.mode ≡ Lacking
-
--- the state that was read is that of the thread
-pub awaits_room : (script : Script) (config : Config) (v : View) (states : List ThreadState) (t : ℕ) (x d : ThreadState)
-    → TableStands script config v states → x ≡ get_or states t d → (s : ThreadState) × (slice_get states t ≡ Some s)
-    × (s.mode ≡ Lacking) → AwaitsRoom script config v states t x
-awaits_room script config v states t x d table is waits =
-    let same : x ≡ waits.0 = is ∙ get_or_from_slice_get states t waits.0 d waits.1 in
+-- the thread may make its call alone
+pub alone_ready : {script : Script} {config : Config} {shown : Shown} {forced : ℕ} {run : Run} {t : ℕ}
+    {s : ThreadState} (o : Op) → AwaitsCall false script config shown forced run t → IsLacking run.states.items t s
+    → s.op ≡ Some o → IsAloneReady shown.end (view run.core) t s o
+alone_ready {script} {config} {shown} {forced} {run} {t} {s} o awaits was next =
+    let v : View = view run.core in
+    let table = awaits.stands.table in
+    let ready : IsReady shown.end v t s =
+    table_ready script config awaits.stands.disk v run.states.items t s shown.end table awaits.stands.under.ends
+    was.at in
+    let fits = lacking_next table was in
     record {
-      table = table;
-      at = waits.1 ∙ ap Some (sym same);
-      lacking = ap (λ (y : ThreadState). y.mode) same ∙ waits.2;
-    }
-
--- what a thread that lacked room has next
-lacking_next : {script : Script} {config : Config} {v : View} {states : List ThreadState} {t : ℕ} {s : ThreadState}
-    → AwaitsRoom script config v states t s → IsSome s.op × (s.op ≢ Some Collect)
-lacking_next {script} {config} {v} {states} {t} {s} waits =
-    subst (λ (m : Mode). FitsMode m s.op) waits.lacking (waits.table.each t s waits.at).fits
-
--- what there is, if there is something
-what_is : (next : Option Op) → IsSome next → (o : Op) × (next ≡ Some o)
-what_is None is = absurd (cc)
-what_is (Some o) is = (o, refl)
-
--- so it has a next operation
-pub has_next : {script : Script} {config : Config} {v : View} {states : List ThreadState} {t : ℕ} {s : ThreadState}
-    → AwaitsRoom script config v states t s → (o : Op) × (s.op ≡ Some o)
-has_next {script} {config} {v} {states} {t} {s} waits = what_is s.op (lacking_next waits).0
-
--- a thread that lacked room may make its call
-pub may_call : {script : Script} {config : Config} {v : View} {states : List ThreadState} {t : ℕ} {s : ThreadState}
-    (o : Op) → AwaitsRoom script config v states t s → s.op ≡ Some o → MayCall v t s o
-may_call {script} {config} {v} {states} {t} {s} o waits next =
-    let ready : IsReady v t s = table_ready script config v states t s waits.table waits.at in
-    let fits = lacking_next waits in
-    record {
+      disk = awaits.stands.disk;
+      ends = awaits.stands.under.ends;
+      stands = table.stands;
       thread = ready.thread;
+      waits = was.lacking;
+      next = next;
       no_collect = λ is. fits.1 (next ∙ ap Some is);
       bounds = in_bounds (length v.globals) o
           (subst (λ (x : Option Op). IfSome x (InRange (length v.globals))) next ready.in_range);
+      no_call = awaits.quiet t;
+      no_stop = awaits.collected.stop;
+      none_forwarded = awaits.collected.none_forwarded;
+      forwards = table.forwards;
+      some_forward = table.some_forward;
       entries = ready.entries fits.0;
-      forwards = ready.forwards;
+      few = ready.few;
       room = ready.room fits.0;
     }
 
--- a call that lacked so many words
-alone_lacks : (v w : View) (t need : ℕ) (s after : ThreadState) (lacks : Option ℕ) → lacks ≡ Some need
-    → CalledAlone v w t s after lacks → LacksAlone v w t s after need
-alone_lacks v w t need s after lacks is called = elim called.what [
-  | inl told ↦ absurd (let none : lacks ≡ None = told.0 in cc)
-  | inr other ↦ subst (LacksAlone v w t s after) (same_Some other.0 need (sym other.2 ∙ is)) other.1
-]
+-- A call that was made alone for the thread: its core and the state of the thread are new.
+pub record MakesCall (shown : Shown) (old new : Run) (t : ℕ) (lacks : Option ℕ) : Type 0 where
+  pub s : ThreadState
+  pub after : ThreadState
+  pub op : Op
+  pub was : IsLacking old.states.items t s
+  pub next : s.op ≡ Some op
+  pub called : CalledAlone shown.end shown.image (view old.core) (view new.core) t s after op lacks
+  pub due : DueBy old.every s after
+  pub states : new.states.items ≡ set old.states.items t after
+  pub collector : new.collector ≡ old.collector
+  pub words : new.words ≡ old.words
+  pub every : new.every ≡ old.every
 
--- a call that was answered
-alone_told : (v w : View) (t : ℕ) (s after : ThreadState) (lacks : Option ℕ) → lacks ≡ None
-    → CalledAlone v w t s after lacks → ThreadTold v w t s after
-alone_told v w t s after lacks is called = elim called.what [
-  | inl told ↦ told.1
-  | inr other ↦ absurd (let some : lacks ≡ Some other.0 = other.2 in cc)
-]
-
--- a thread that lacked room has not ended
-lacking_open : (mode : Mode) → mode ≡ Lacking → IsEnded mode → ⊥
-lacking_open mode is ended = subst IsEnded is ended
-
--- a call that was refused leaves all threads as they were
-refused : {script : Script} {config : Config} {v w : View} {states : List ThreadState} {t : ℕ} {s after : ThreadState}
-    {lacks : Option ℕ} (need : ℕ) → AwaitsRoom script config v states t s → lacks ≡ Some need
-    → CalledAlone v w t s after lacks → AwaitsRoom script config w states t after
-refused {script} {config} {v} {w} {states} {t} {s} {after} {lacks} need waits is called =
-    let alone : LacksAlone v w t s after need = alone_lacks v w t need s after lacks is called in
-    subst (AwaitsRoom script config w states t) (sym alone.same) (record {
-      table = Table_lacks script config v w states t s waits.table waits.at waits.lacking called.stands called.others
-          (alone.call, alone.history, alone.values);
-      at = waits.at;
-      lacking = waits.lacking;
+-- what a call did over each disk that is seen so, seen by other names
+pub called_by : (shown : Shown) (finish : ℕ) (image : Option (List ℕ)) (v w : View) (t : ℕ) (s after : ThreadState)
+    (o : Op) (lacks : Option ℕ) → shown.end ≡ finish → shown.image ≡ image
+    → CalledAlone finish image v w t s after o lacks → CalledAlone shown.end shown.image v w t s after o lacks
+called_by shown finish image v w t s after o lacks ends shows called = λ told disk under.
+    called told disk (record {
+      ends = under.ends ∙ ends;
+      tells = λ is. subst (λ (x : Option (List ℕ)). TellsDisk x disk) shows (under.tells is);
     })
 
--- and so does a collection behind it, so the call may be made once more
-pub waits_again : {script : Script} {config : Config} {v u w : View} {states : List ThreadState} {t : ℕ}
-    {s after : ThreadState} {lacks : Option ℕ} → AwaitsRoom script config v states t s → IsSome lacks
-    → CalledAlone v u t s after lacks → CoreCollected u w → AwaitsRoom script config w states t after
-waits_again {script} {config} {v} {u} {w} {states} {t} {s} {after} {lacks} waits some called collected =
-    let need = some_number lacks some in
-    let behind = refused need.0 waits need.1 called in
+-- what a call did over the disk under the run
+call_over : {told : Bool} {script : Script} {config : Config} {shown : Shown} {forced : ℕ} {old new : Run} {t : ℕ}
+    {lacks : Option ℕ} (awaits : AwaitsCall told script config shown forced old t)
+    (m : MakesCall shown old new t lacks)
+    → CalledOver told awaits.stands.disk (view old.core) (view new.core) t m.s m.after m.op lacks
+call_over {told} {script} {config} {shown} {forced} {old} {new} {t} {lacks} awaits m =
+    m.called told awaits.stands.disk awaits.stands.under awaits.stands.table.stands
+
+-- what came of a call that lacked nothing
+came : {told : Bool} {disk : OnDisk} {v w : View} {t : ℕ} {s after : ThreadState} {o : Op} {lacks : Option ℕ}
+    → lacks ≡ None → CalledOver told disk v w t s after o lacks
+    → (w.stop ≡ false) × (ThreadLost told disk.end v w t s after ⊎ ThreadTold told v w t s after)
+came {told} {disk} {v} {w} {t} {s} {after} {o} {lacks} is over = elim over.what [
+  | inl made ↦ (made.1, made.2)
+  | inr other ↦ absurd (let some : lacks ≡ Some other.0 = other.1 in cc)
+]
+
+-- what a call lacked
+lacked : {told : Bool} {disk : OnDisk} {v w : View} {t : ℕ} {s after : ThreadState} {o : Op} {lacks : Option ℕ}
+    (need : ℕ) → lacks ≡ Some need → CalledOver told disk v w t s after o lacks
+    → LacksAlone told v w t s after o need
+lacked {told} {disk} {v} {w} {t} {s} {after} {o} {lacks} need is over = elim over.what [
+  | inl made ↦ absurd (let none : lacks ≡ None = made.0 in cc)
+  | inr other ↦ subst (LacksAlone told v w t s after o) (same_Some other.0 need (sym other.1 ∙ is)) other.2
+]
+
+-- a call that lacked nothing is an event of its thread
+call_step : {told : Bool} {script : Script} {config : Config} {shown : Shown} {forced : ℕ} {old new : Run} {t : ℕ}
+    {lacks : Option ℕ} (awaits : AwaitsCall told script config shown forced old t)
+    (m : MakesCall shown old new t lacks) → lacks ≡ None
+    → ThreadStep told awaits.stands.disk (view old.core) (view new.core) t m.s m.after
+call_step {told} {script} {config} {shown} {forced} {old} {new} {t} {lacks} awaits m none =
+    let over = call_over awaits m in
+    record { stands = over.stands; others = over.others; what = inr (inr (inr (came none over).1)) }
+
+-- so the run stands behind it
+pub made_stands : {told : Bool} {script : Script} {config : Config} {shown : Shown} {forced : ℕ} {old new : Run} {t : ℕ}
+    {lacks : Option ℕ} → AwaitsCall told script config shown forced old t → MakesCall shown old new t lacks
+    → lacks ≡ None → RunStands told script config shown new
+made_stands {told} {script} {config} {shown} {forced} {old} {new} {t} {lacks} awaits m none =
+    let v : View = view old.core in
+    let w : View = view new.core in
+    let states : List ThreadState = old.states.items in
+    let stands : RunStands told script config shown old = awaits.stands in
+    let disk : OnDisk = stands.disk in
+    let open_ : IsEnded m.s.mode → ⊥ = lacking_open m.was in
+    let within : disk.end ≤ config.disk =
+    subst (λ (n : ℕ). n ≤ config.disk) (sym stands.under.ends) stands.collector.within in
+    let step : ThreadStep told disk v w t m.s m.after = call_step awaits m none in
+    let due : DueBy config.every m.s m.after = subst (λ (n : ℕ). DueBy n m.s m.after) stands.every m.due in
+    let fits = lacking_next stands.table m.was in
+    let table : TableStands told script config disk w (set states t m.after) =
+    Table_step told script config disk v w states t m.s m.after within stands.table m.was.at open_ step due in
+    let cuts : told ≡ true → HaveCuts script w.log (set states t m.after) config old.collector.journal.items = λ tells.
+    cuts_step told script config disk v w states t m.s m.after old.collector.journal.items within stands.table m.was.at
+    open_ step due (stands.cuts tells) in
+    let adds : Adds script config states (set states t m.after) 0 =
+    collections_step told script config disk v w states t m.s m.after stands.table m.was.at step due
+    (λ got same. fits.1 (got.next ∙ ap Some same)) in
+    let added : Adds script config states new.states.items 0 =
+    subst (λ (xs : List ThreadState). Adds script config states xs 0) (sym m.states) adds in
     record {
-      table = Table_collected script config u w states behind.table collected;
-      at = behind.at;
-      lacking = behind.lacking;
+      disk = disk;
+      under = stands.under;
+      table = subst (TableStands told script config disk w) (sym m.states) table;
+      words = m.words ∙ stands.words;
+      every = m.every ∙ stands.every;
+      collector = subst (CollectorStands config shown) (sym m.collector) stands.collector;
+      cuts = λ tells.
+          subst (λ (c : Collector). HaveCuts script w.log new.states.items config c.journal.items) (sym m.collector)
+          (subst (λ (xs : List ThreadState). HaveCuts script w.log xs config old.collector.journal.items)
+          (sym m.states) (cuts tells));
+      collected = omega (
+        arith,
+        added,
+        stands.collected,
+        ap (λ (c : Collector). length c.journal.items) m.collector,
+      );
     }
 
--- what such a call needs
-pub may_call_again : {script : Script} {config : Config} {v u w : View} {states : List ThreadState} {t : ℕ}
-    {s after : ThreadState} {lacks : Option ℕ} (o : Op) → AwaitsRoom script config v states t s → s.op ≡ Some o
-    → IsSome lacks → CalledAlone v u t s after lacks → CoreCollected u w → MayCall w t after o
-may_call_again {script} {config} {v} {u} {w} {states} {t} {s} {after} {lacks} o waits next some called collected =
-    let need = some_number lacks some in
-    let same : after ≡ s = (alone_lacks v u t need.0 s after lacks need.1 called).same in
-    may_call o (waits_again waits some called collected) (ap (λ (y : ThreadState). y.op) same ∙ next)
+-- no call is in flight behind an event that leaves none of its thread
+quiet_behind : (v w : View) (t : ℕ) → KeepsOthers v w t → call_of w t ≡ None → IsQuiet v → IsQuiet w
+quiet_behind v w t others here quiet u = elim (cases_eq u t) [
+  | inl same ↦ ap (call_of w) same ∙ here
+  | inr differ ↦ others.calls u differ ∙ quiet u
+]
 
--- What the call of a thread that lacked room, or its end, makes of the run: it has less to do.
-pub record Called (script : Script) (config : Config) (w : View) (states : List ThreadState) (t : ℕ)
-    (s after : ThreadState) : Type 0 where
-  pub table : TableStands script config w (set states t after)
-  pub adds : Adds script config states (set states t after) 0
+-- a call that was answered, or ended its thread, is not in flight
+ended_call : {told : Bool} {finish : ℕ} {v w : View} {t : ℕ} {s after : ThreadState}
+    → ThreadLost told finish v w t s after ⊎ ThreadTold told v w t s after → call_of w t ≡ None
+ended_call {told} {finish} {v} {w} {t} {s} {after} what = elim what [ inl lost ↦ lost.call | inr got ↦ got.call ]
+
+-- so none is in flight
+pub made_quiet : {told : Bool} {script : Script} {config : Config} {shown : Shown} {forced : ℕ} {old new : Run} {t : ℕ}
+    {lacks : Option ℕ} → AwaitsCall told script config shown forced old t → MakesCall shown old new t lacks
+    → lacks ≡ None → IsQuiet (view new.core)
+made_quiet {told} {script} {config} {shown} {forced} {old} {new} {t} {lacks} awaits m none =
+    let over = call_over awaits m in
+    quiet_behind (view old.core) (view new.core) t over.others (ended_call (came none over).1) awaits.quiet
+
+-- and the stop word is not set
+pub made_stop : {told : Bool} {script : Script} {config : Config} {shown : Shown} {forced : ℕ} {old new : Run} {t : ℕ}
+    {lacks : Option ℕ} → AwaitsCall told script config shown forced old t → MakesCall shown old new t lacks
+    → lacks ≡ None → (view new.core).stop ≡ false
+made_stop {told} {script} {config} {shown} {forced} {old} {new} {t} {lacks} awaits m none =
+    (came none (call_over awaits m)).0
+
+-- a thread that has ended has nothing to do
+ended_jobs : (mode : Mode) (n : ℕ) → IsEnded mode → jobs mode n ≡ 0
+ended_jobs Running n over = absurd over
+ended_jobs Due n over = absurd over
+ended_jobs Silent n over = absurd over
+ended_jobs Collecting n over = absurd over
+ended_jobs Asked n over = absurd over
+ended_jobs Lacking n over = absurd over
+ended_jobs (Ended e) n over = refl
+
+-- and does not wait
+ended_goes : (mode : Mode) → IsEnded mode → IsPaused mode → ⊥
+ended_goes Running over paused = over
+ended_goes Due over paused = over
+ended_goes Silent over paused = over
+ended_goes Collecting over paused = over
+ended_goes Asked over paused = over
+ended_goes Lacking over paused = over
+ended_goes (Ended e) over paused = paused
+
+-- one that waits for room has something to do
+lacking_jobs : (s : ThreadState) → s.mode ≡ Lacking → jobs_of s ≡ 1 + 2 * length (left s)
+lacking_jobs s is = ap (λ (m : Mode). jobs m (length (left s))) is
+
+-- Of a thread that waited for room: it has less to do, and does not wait.
+pub record Frees (s after : ThreadState) : Type 0 where
   pub fewer : jobs_of after < jobs_of s
   pub goes : IsPaused after.mode → ⊥
 
+-- so it is where it has ended
+pub frees_ended : (s : ThreadState) (mode : Mode) → s.mode ≡ Lacking → IsEnded mode → Frees s (record s { mode = mode })
+frees_ended s mode lacking over = record {
+  fewer =
+      let none : jobs mode (length (left s)) ≡ 0 = ended_jobs mode (length (left s)) over in
+      let less : jobs mode (length (left s)) < jobs_of s = omega (arith, none, lacking_jobs s lacking) in
+      less;
+  goes = ended_goes mode over;
+}
+
 -- a thread that got its reply has less to do
-told_jobs : (v w : View) (t : ℕ) (s after : ThreadState) → s.mode ≡ Lacking → ThreadTold v w t s after
-    → jobs_of after < jobs_of s
-told_jobs v w t s after lacking told =
-    let first : left s ≡ told.op ∷ s.cursor.operations =
-    ap (λ (o : Option Op). with_first o s.cursor.operations) told.next in
+told_jobs : (told : Bool) (v w : View) (t : ℕ) (s after : ThreadState) → s.mode ≡ Lacking
+    → ThreadTold told v w t s after → jobs_of after < jobs_of s
+told_jobs told v w t s after lacking got =
+    let first : left s ≡ got.op ∷ s.cursor.operations =
+    ap (λ (o : Option Op). with_first o s.cursor.operations) got.next in
     let a : ℕ = length (left after) in
     let b : ℕ = length (left s) in
-    let count : b ≡ a + 1 = omega (arith, ap length first, ap length told.takes.to_come) in
-    subst (λ (m : Mode). jobs after.mode a < jobs m b) (sym lacking) (elim told.takes.fits [
+    let count : b ≡ a + 1 = omega (arith, ap length first, ap length got.takes.to_come) in
+    subst (λ (m : Mode). jobs after.mode a < jobs m b) (sym lacking) (elim got.takes.fits [
       | inl runs ↦ subst (λ (m : Mode). jobs m a < jobs Lacking b) (sym runs.0)
           (let less : 1 + 2 * a < 1 + 2 * b = omega (arith, count) in less)
       | inr rest ↦ elim rest [
@@ -203,110 +333,184 @@ told_goes s after reply takes paused = elim takes.fits [
   | inr rest ↦ elim rest [ inl due ↦ subst IsPaused due paused | inr ended ↦ subst IsPaused ended.0 paused ]
 ]
 
--- the call was answered
-pub first_told : {script : Script} {config : Config} {v w : View} {states : List ThreadState} {t : ℕ}
-    {s after : ThreadState} {lacks : Option ℕ} → AwaitsRoom script config v states t s → lacks ≡ None
-    → CalledAlone v w t s after lacks → DueBy config.every s after → Called script config w states t s after
-first_told {script} {config} {v} {w} {states} {t} {s} {after} {lacks} waits is called due =
-    let told : ThreadTold v w t s after = alone_told v w t s after lacks is called in
-    let fits = lacking_next waits in
-    let step : ThreadStep v w t s after =
-    record { stands = called.stands; others = called.others; what = inr (inr (inr told)) } in
-    record {
-      table = Table_step script config v w states t s after waits.table waits.at
-          (lacking_open s.mode waits.lacking) step due;
-      adds = collections_step script config v w states t s after waits.table waits.at step due
-          (λ other same. fits.1 (other.next ∙ ap Some same));
-      fewer = told_jobs v w t s after waits.lacking told;
-      goes = told_goes s after told.reply told.takes;
-    }
+-- so it is behind a call that was answered, or ended its thread
+frees_call : {told : Bool} {finish : ℕ} {v w : View} {t : ℕ} {s after : ThreadState} → s.mode ≡ Lacking
+    → ThreadLost told finish v w t s after ⊎ ThreadTold told v w t s after → Frees s after
+frees_call {told} {finish} {v} {w} {t} {s} {after} lacking what = elim what [
+  | inl lost ↦ subst (Frees s) (sym lost.only)
+      (frees_ended s (mode_for lost.refusal) lacking (lost_ends told finish lost.refusal lost.cause))
+  | inr got ↦ record {
+    fewer = told_jobs told v w t s after lacking got;
+    goes = told_goes s after got.reply got.takes;
+  }
+]
 
--- the call lacked room even behind a forced collection, and the thread ended
-pub first_gone : {script : Script} {config : Config} {u v w x : View} {states : List ThreadState} {t : ℕ}
-    {s after : ThreadState} {lacks : Option ℕ} (held_words need : ℕ) → OweBehindCollects script states
-    → AwaitsRoom script config v states t s → CoreCollected u v → v.free ≡ held_words + 1 → lacks ≡ Some need
-    → CalledAlone v w t s after lacks → HasDropped w x t
-    → Called script config x states t s (record after { mode = Ended (end.OutOfHeap held_words need) })
-first_gone {script} {config} {u} {v} {w} {x} {states} {t} {s} {after} {lacks} held_words need owe waits collected free
-    is called dropped =
-    let alone : LacksAlone v w t s after need = alone_lacks v w t need s after lacks is called in
-    let open_ : IsEnded s.mode → ⊥ = lacking_open s.mode waits.lacking in
-    let behind : TableStands script config w states = (refused need waits is called).table in
-    let above : config.heap < held_words + (2 + alone.refs + alone.nums) =
-    omega (arith, alone.above, alone.needed, free, waits.table.words) in
-    let now : LacksNow script v.log states config t held_words (2 + alone.refs + alone.nums) =
-    lacks_room script config v states t alone.dst alone.refs alone.nums held_words s waits.table waits.at open_ owe
-    alone.next (collected.alive held_words free) above in
-    let ends : LacksNow script w.log states config t held_words need =
-    subst (λ (h : List Entry). LacksNow script h states config t held_words need) (sym alone.history)
-    (subst (LacksNow script v.log states config t held_words) (sym alone.needed) now) in
-    let called : Called script config x states t s (record s { mode = Ended (end.OutOfHeap held_words need) }) =
-    record {
-      table = Table_gone script config w x states t s
-          (end.OutOfHeap held_words need) behind waits.at open_ dropped alone.call ends;
-      adds = adds_mode script config states t s (Ended (end.OutOfHeap held_words need)) waits.at waits.table.count
-          (ap owes waits.lacking);
-      fewer = subst (λ (m : Mode). 0 < jobs m (length (left s))) (sym waits.lacking)
-          (let some : 0 < 1 + 2 * length (left s) = omega arith in some);
-      goes = λ paused. paused;
-    } in
-    subst (λ (y : ThreadState). Called script config x states t s
-    (record y { mode = Ended (end.OutOfHeap held_words need) })) (sym alone.same) called
-
--- what the run keeps behind the call: its threads and its collector stand
-pub record Behind (script : Script) (config : Config) (old run : Run) (t : ℕ) : Type 0 where
-  pub s : ThreadState
-  pub after : ThreadState
-  pub at : slice_get old.states.items t ≡ Some s
-  pub items : run.states.items ≡ set old.states.items t after
-  pub every : run.every ≡ old.every
-  pub called : Called script config (view run.core) old.states.items t s after
-  pub collector : CollectorStands config run.collector
-  pub more : length old.collector.journal.items ≤ length run.collector.journal.items
-
--- what the run claims of the thread's state
-pub called_at : (script : Script) (config : Config) (old run : Run) (t : ℕ) → Behind script config old run t
-    → CalledAt old.states.items run.states.items t
-called_at script config old run t behind = λ x here. (
-  behind.after,
-  behind.items,
-  subst (λ (z : ThreadState). jobs_of behind.after < jobs_of z)
-      (same_Some behind.s x (sym behind.at ∙ here)) behind.called.fewer,
-  behind.called.goes,
+-- a thread that waited for room, and was set to a state that has less to do
+pub called_at : {states behind : List ThreadState} {t : ℕ} {s after : ThreadState} → IsLacking states t s
+    → behind ≡ set states t after → Frees s after → CalledAt states behind t
+called_at {states} {behind} {t} {s} {after} was is frees = λ x here. (
+  after,
+  is,
+  subst (λ (z : ThreadState). jobs_of after < jobs_of z) (same_Some s x (sym was.at ∙ here)) frees.fewer,
+  frees.goes,
 )
 
--- so it stands
-pub run_stands : (script : Script) (config : Config) (old run : Run) (t : ℕ) → RunStands script config old
-    → Behind script config old run t → RunStands script config run
-run_stands script config old run t stands behind =
-    let states : List ThreadState = old.states.items in
-    let adds : Adds script config states run.states.items 0 =
-    subst (λ (xs : List ThreadState). Adds script config states xs 0) (sym behind.items) behind.called.adds in
+-- so it is of the thread whose call was made
+pub made_called : {told : Bool} {script : Script} {config : Config} {shown : Shown} {forced : ℕ} {old new : Run} {t : ℕ}
+    {lacks : Option ℕ} → AwaitsCall told script config shown forced old t → MakesCall shown old new t lacks
+    → lacks ≡ None → CalledAt old.states.items new.states.items t
+made_called {told} {script} {config} {shown} {forced} {old} {new} {t} {lacks} awaits m none =
+    called_at m.was m.states (frees_call m.was.lacking (came none (call_over awaits m)).1)
+
+-- A run whose core alone is new, with the same history.
+pub record SameRun (old new : Run) : Type 0 where
+  pub history : (view new.core).log ≡ (view old.core).log
+  pub states : new.states.items ≡ old.states.items
+  pub collector : new.collector ≡ old.collector
+  pub words : new.words ≡ old.words
+  pub every : new.every ≡ old.every
+
+-- it stands, where its threads do
+stands_same : {told : Bool} {script : Script} {config : Config} {shown : Shown} {old new : Run}
+    (stands : RunStands told script config shown old) → SameRun old new
+    → TableStands told script config stands.disk (view new.core) old.states.items
+    → RunStands told script config shown new
+stands_same {told} {script} {config} {shown} {old} {new} stands same table =
+    let w : View = view new.core in
+    let C : List ThreadState → ℕ = λ (xs : List ThreadState).
+    collections script config (replies_of xs) (length script.programs) in
     record {
-      table = subst (TableStands script config (view run.core)) (sym behind.items) behind.called.table;
-      every = behind.every ∙ stands.every;
-      collector = behind.collector;
-      collected = omega (arith, adds, stands.collected, behind.more);
+      disk = stands.disk;
+      under = stands.under;
+      table = subst (TableStands told script config stands.disk w) (sym same.states) table;
+      words = same.words ∙ stands.words;
+      every = same.every ∙ stands.every;
+      collector = subst (CollectorStands config shown) (sym same.collector) stands.collector;
+      cuts = λ tells.
+          subst (λ (c : Collector). HaveCuts script w.log new.states.items config c.journal.items) (sym same.collector)
+          (subst (λ (xs : List ThreadState). HaveCuts script w.log xs config old.collector.journal.items)
+          (sym same.states)
+          (subst (λ (h : List Entry). HaveCuts script h old.states.items config old.collector.journal.items)
+          (sym same.history) (stands.cuts tells)));
+      collected = omega (
+        arith,
+        stands.collected,
+        ap C same.states,
+        ap owing same.states,
+        ap (λ (c : Collector). length c.journal.items) same.collector,
+      );
     }
 
--- an object of a script has 126 words at most
-small_need : (globals dst refs nums : ℕ) → InRange globals (op.New dst refs nums) → 2 + refs + nums ≤ 126
-small_need globals dst refs nums is = omega (arith, is.1, is.2)
+-- the values in all registers, where those of one thread and of the others stay
+values_stay : (v w : View) (t : ℕ) → KeepsOthers v w t → values_of w t ≡ values_of v t → (u r : ℕ)
+    → value w u r ≡ value v u r
+values_stay v w t others here u r =
+    let all : values_of w u ≡ values_of v u = elim (cases_eq u t) [
+      | inl same ↦ subst (λ (k : ℕ). values_of w k ≡ values_of v k) (sym same) here
+      | inr differ ↦ others.values u differ
+    ] in
+    ap (λ (xs : List Value). value_in xs r) all
 
--- what a collector knows behind a collection that was forced
-pub forced_stands : {script : Script} {config : Config} {u w : View} {t : ℕ} {s after : ThreadState} {lacks : Option ℕ}
-    (old : Run) (new : Collector) → StandsCollected script config old → slice_get old.states.items t ≡ Some s
-    → IsSome lacks → CalledAlone (view old.core) u t s after lacks → CoreCollected u w
-    → PlansBy old.collector new w forced → CollectorStands config new
-forced_stands {script} {config} {u} {w} {t} {s} {after} {lacks} old new alone at some called collected plans =
-    let need = some_number lacks some in
-    let lack : LacksAlone (view old.core) u t s after need.0 =
-    alone_lacks (view old.core) u t need.0 s after lacks need.1 called in
-    let table : TableStands script config (view old.core) old.states.items = alone.stands.table in
-    let range : InRange script.globals (op.New lack.dst lack.refs lack.nums) =
-    subst (λ (x : Option Op). IfSome x (InRange script.globals)) lack.next (table.each t s at).in_range in
-    let small : need.0 ≤ 126 =
-    omega (arith, lack.needed, small_need script.globals lack.dst lack.refs lack.nums range) in
-    collector_more config old.collector new w forced alone.stands.collector plans
-    (collected.stays.words ∙ (called.others.words ∙ table.words))
-    (inr (refl, tight config old need.0 alone.collected table.words small lack.above))
+-- behind a collection that left a claim of a call no room, an object of the largest size may have none
+tight_behind : (config : Config) (run : Run) (words need : ℕ) → JustCollected run → words ≡ config.heap
+    → words + 1 < (view run.core).free + need → need ≤ 126 → IsTight config (last_of run.collector)
+tight_behind config run words need collected is above small =
+    let last : last_of run.collector ≡ Some collected.last =
+    ap (λ (js : List Journal). before js (length js)) collected.journal
+    ∙ before_end collected.prefix collected.last in
+    let tight : config.heap < collected.last.live + 126 = omega (arith, above, small, is, collected.free) in
+    subst (IsTight config) (sym last) tight
+
+-- what the Moves that were forced tell of a call that lacked words behind them
+left_by : (config : Config) (forced : ℕ) (v w : View) (need : ℕ) → LeftBy forced v → (IsMarked v → IsMarked w)
+    → w.log ≡ v.log → ((u r : ℕ) → value w u r ≡ value v u r) → config.heap + 1 < v.free + need
+    → LacksBy config forced w need
+left_by config zero v w need by marked history values above = tt
+left_by config (suc zero) v w need by marked history values above = marked by
+left_by config (suc (suc k)) v w need by marked history values above = λ held holds.
+    let only : OnlyHeld v = by in
+    let here : CostsSum (words_of v.log) (Held (value w)) held =
+    subst (λ (h : List Entry). CostsSum (words_of h) (Held (value w)) held) history holds in
+    let there : CostsSum (words_of v.log) (Held (value v)) held =
+    held_words_same v.log (value w) (value v) held values here in
+    let one : held ≡ only.words = CostsSum-one (words_of v.log) (Held (value v)) held only.words there only.holds in
+    omega (arith, one, above, only.free)
+
+-- the threads are as they were behind a call that lacked words
+pub lacked_states : {told : Bool} {script : Script} {config : Config} {shown : Shown} {forced : ℕ} {old new : Run}
+    {t : ℕ} {lacks : Option ℕ} (need : ℕ) → AwaitsCall told script config shown forced old t
+    → MakesCall shown old new t lacks → lacks ≡ Some need → new.states.items ≡ old.states.items
+lacked_states {told} {script} {config} {shown} {forced} {old} {new} {t} {lacks} need awaits m is =
+    let alone = lacked need is (call_over awaits m) in
+    m.states ∙ (ap (λ (x : ThreadState). set old.states.items t x) alone.same ∙ set_got old.states.items t m.s m.was.at)
+
+-- the run stands behind a call that lacked words
+lacked_stands : {told : Bool} {script : Script} {config : Config} {shown : Shown} {forced : ℕ} {old new : Run}
+    {t : ℕ} {lacks : Option ℕ} (need : ℕ) → AwaitsCall told script config shown forced old t
+    → MakesCall shown old new t lacks → lacks ≡ Some need → RunStands told script config shown new
+lacked_stands {told} {script} {config} {shown} {forced} {old} {new} {t} {lacks} need awaits m is =
+    let over = call_over awaits m in
+    let alone = lacked need is over in
+    let same : SameRun old new = record {
+      history = alone.history;
+      states = lacked_states need awaits m is;
+      collector = m.collector;
+      words = m.words;
+      every = m.every;
+    } in
+    stands_same awaits.stands same
+    (Table_lacks told script config awaits.stands.disk (view old.core) (view new.core) old.states.items t m.s
+    awaits.stands.table m.was.at m.was.lacking over.stands over.others (alone.call, alone.history, alone.values))
+
+-- and the thread lacks them
+pub lacked_words : {told : Bool} {script : Script} {config : Config} {shown : Shown} {forced : ℕ} {old new : Run}
+    {t : ℕ} {lacks : Option ℕ} (need : ℕ) → AwaitsCall told script config shown forced old t
+    → MakesCall shown old new t lacks → lacks ≡ Some need → LacksWords told script config shown forced new t need
+lacked_words {told} {script} {config} {shown} {forced} {old} {new} {t} {lacks} need awaits m is =
+    let v : View = view old.core in
+    let w : View = view new.core in
+    let over = call_over awaits m in
+    let alone = lacked need is over in
+    let states : new.states.items ≡ old.states.items = lacked_states need awaits m is in
+    let values : (u r : ℕ) → value w u r ≡ value v u r = values_stay v w t over.others alone.values in
+    let words : length v.space.list ≡ config.heap = awaits.stands.table.words in
+    let above : length v.space.list + 1 < v.free + need = alone.above in
+    record {
+      stands = lacked_stands need awaits m is;
+      owed = subst (OweBehindCollects script) (sym states) awaits.owed;
+      quiet = quiet_behind v w t over.others alone.call awaits.quiet;
+      none_forwarded = alone.none_forwarded;
+      waits = subst (λ (xs : List ThreadState). WaitsForRoom xs t) (sym states) awaits.waits;
+      tight = subst (λ (c : Collector). IsTight config (last_of c)) (sym m.collector)
+          (tight_behind config old (length v.space.list) need awaits.collected words above alone.small);
+      op = m.op;
+      next = λ x at.
+          let here : slice_get old.states.items t ≡ Some x =
+          ap (λ (xs : List ThreadState). slice_get xs t) (sym states) ∙ at in
+          ap (λ (y : ThreadState). y.op) (sym (same_Some m.s x (sym m.was.at ∙ here))) ∙ m.next;
+      needs = λ tells. subst (λ (h : List Entry). NeedsWords h (value w) t m.op need) (sym alone.history)
+          (needs_same v.log (value v) (value w) t m.op need (λ u r. sym (values u r)) (alone.needs tells));
+      left = λ tells. left_by config forced v w need (awaits.left tells) alone.marked alone.history values
+          (omega (arith, above, words));
+    }
+
+-- so the call was made
+pub call_made : {seen shown : Shown} {forced : ℕ} {old new : Run} {t : ℕ} {lacks : Option ℕ}
+    → SomeAwaits seen forced old t → MakesCall seen old new t lacks → MakesCall shown old new t lacks → lacks ≡ None
+    → MadeCall (Awaited shown old t) shown old new t
+call_made {seen} {shown} {forced} {old} {new} {t} {lacks} some here m none = record {
+  keeps = λ told script config awaits. made_stands awaits.1 m none;
+  quiet = made_quiet some.2 here none;
+  stop = made_stop some.2 here none;
+  called = made_called some.2 here none;
+}
+
+-- or it lacked words
+pub call_lacked : {seen shown : Shown} {forced : ℕ} {old new : Run} {t : ℕ} {lacks : Option ℕ} (need : ℕ)
+    → SomeAwaits seen forced old t → MakesCall seen old new t lacks → MakesCall shown old new t lacks
+    → lacks ≡ Some need
+    → LackedWords (λ more told script config. AwaitsCall told script config shown more old t) shown old new t need
+call_lacked {seen} {shown} {forced} {old} {new} {t} {lacks} need some here m is = record {
+  keeps = λ told script config more awaits. lacked_words need awaits m is;
+  states = lacked_states need some.2 here is;
+}

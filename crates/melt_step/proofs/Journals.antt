@@ -1,17 +1,47 @@
--- A journal grows by collections that were planned or forced.
-use Rattle.std.proofs.Common.{◌≡◌, ℕ, ◌+◌, ◌<◌, ◌≤◌, zero, suc, ◌⊎◌, List, [], ◌∷◌, ◌++◌, length, refl, sym, ◌∙◌, ap}
-use Rattle.std.proofs.Common.{subst, arith, length-append, inl, inr}
+-- A journal grows by collections that were planned or forced, and a run stands behind each of them.
+use Rattle.std.proofs.Common.{◌≡◌, ◌≢◌, ℕ, ◌+◌, ◌<◌, ◌≤◌, zero, suc, true, false, ◌⊎◌, List, [], ◌∷◌, ◌++◌, length}
+use Rattle.std.proofs.Common.{refl, sym, ◌∙◌, ap, subst, arith, length-append, inl, inr}
 use Rattle.std.proofs.lemmas.List.Elements.{All-push}
-use Rattle.std.specs.Prelude.{Option, Some, slice_get}
+use Rattle.std.specs.Prelude.{Bool, Option, None, Some, slice_get}
 use Rattle.melt_model.specs.declared.config.Config.{Config}
+use Rattle.melt_model.specs.declared.history.Entry.{Entry}
+use Rattle.melt_model.specs.declared.reports.Halt.{Halt}
+use Rattle.melt_model.specs.declared.reports.Halt.TheVariants as halt
 use Rattle.melt_model.specs.declared.reports.Journal.{Journal}
 use Rattle.melt_model.specs.declared.reports.Phase.{Phase}
+use Rattle.melt_model.specs.declared.reports.Phase.TheVariants.{Inactive, Mark, Move}
 use Rattle.melt_model.proofs.Histories.{last_place, slice_get-append_seam}
-use Rattle.melt_core.specs.Views.{View, view}
-use Rattle.melt_step.specs.Journals.{forced, next_of, before, IsTight, OnNoDisk, IsJournalOf}
-use Rattle.melt_step.specs.Threads.{PlansBy, Planned, CollectorStands, JustCollected}
+use Rattle.melt_policy.specs.Policy.{planned}
+use Rattle.melt_trace.specs.Script.{Script}
+use Rattle.melt_disk.specs.declared.space.DiskFull.{DiskFull}
+use Rattle.melt_scion.specs.Collected.{CountsWords}
+use Rattle.melt_scion.specs.Heaps.{OnDisk, state_of}
+use Rattle.melt_scion.specs.declared.heap.Heap.{Heap}
+use Rattle.melt_move.specs.Planned.{phase_done, plan_after}
+use Rattle.melt_move.specs.Plans.{WantsHome}
+use Rattle.melt_move.specs.declared.planned.Plan.{Plan}
+use Rattle.melt_core.specs.Epochs.{core_of}
+use Rattle.melt_core.specs.Views.{View, view, IsQuiet}
+use Rattle.melt_core.specs.declared.machine.Rest.{Rest}
+use Rattle.melt_core.proofs.Disks.{stands_untold}
+use Rattle.melt_step.specs.Collections.{CollectsCore, CollectedOver, FullOver, Gathers, IsFullCore, IsRefusedCore}
+use Rattle.melt_step.specs.Collections.{MayCollect}
+use Rattle.melt_step.specs.Endings.{AreHalted, EndsBy, EndsFull, EndedStands}
+use Rattle.melt_step.specs.Journals.{next_of, before, end_of, IsTight, MayMove, IsJournalOf}
+use Rattle.melt_step.specs.Lone.{NoneForwarded}
+use Rattle.melt_step.specs.Run.{collections}
+use Rattle.melt_step.specs.Safepoints.{CollectorStands, JustCollected, MakesCollection, RunStands, last_of}
+use Rattle.melt_step.specs.Shown.{Shown}
+use Rattle.melt_step.specs.Threads.{CountsLosses, HasCut, HaveCuts, TableStands, losses, owing, replies_of}
 use Rattle.melt_step.specs.declared.collector.Collector.{Collector}
+use Rattle.melt_step.specs.declared.collector.CollectRefusal.{CollectRefusal}
+use Rattle.melt_step.specs.declared.collector.CollectRefusal.TheVariants as refused
+use Rattle.melt_step.specs.declared.ending.Ended.{Ended}
 use Rattle.melt_step.specs.declared.run.Run.{Run}
+use Rattle.melt_step.specs.declared.thread.ThreadState.{ThreadState}
+use Rattle.melt_step.proofs.Counting.{counts_same, losses_halted}
+use Rattle.melt_step.proofs.Cuts.{cut_now}
+use Rattle.melt_step.proofs.Tables.{Table_renewed}
 
 -- one more at the end leaves those before
 get_before : (js : List Journal) (e : Journal) (k : ℕ) → k < length js → slice_get (js ++ e ∷ []) k ≡ slice_get js k
@@ -29,83 +59,345 @@ before_end js e =
     let count : length (js ++ e ∷ []) ≡ suc (length js) = omega (arith, length-append js (e ∷ [])) in
     ap (before (js ++ e ∷ [])) count ∙ slice_get-append_seam js e []
 
--- how a collection may follow those before it
-abbrev pub MayBe : Config → List Journal → Phase → Type 0
-MayBe config js phase = (phase ≡ next_of config (before js (length js)))
-    ⊎ ((phase ≡ forced) × IsTight config (before js (length js)))
+-- What holds of each collection and the one before it, of these collections.
+abbrev FollowEach : (Journal → Option Journal → Type 0) → List Journal → Type 0
+FollowEach P js = (k : ℕ) (j : Journal) → slice_get js k ≡ Some j → P j (before js k)
+
+-- and so of one more
+follow_push : (P : Journal → Option Journal → Type 0) (js : List Journal) (e : Journal) → FollowEach P js
+    → P e (before js (length js)) → FollowEach P (js ++ e ∷ [])
+follow_push P js e each last = λ k j at. elim (last_place js e k j at) [
+  | inl old ↦ subst (P j) (sym (before_push js e k (omega (arith, old.0)))) (each k j old.1)
+  | inr new ↦
+      let place : length js ≡ k = omega (arith, new.0) in
+      let here : P e (before js k) = subst (λ (n : ℕ). P e (before js n)) place last in
+      subst (P j) (sym (before_push js e k (omega (arith, place))))
+      (subst (λ (x : Journal). P x (before js k)) new.1 here)
+]
+
+-- how a collection may follow the one before it
+abbrev pub MayBe : Config → Option Journal → Phase → Type 0
+MayBe config last phase = (phase ≡ next_of config last) ⊎ ((phase ≡ Move) × IsTight config last)
 
 -- one collection more
-journal_push : (config : Config) (js : List Journal) (e : Journal) → IsJournalOf config js → MayBe config js e.phase
-    → e.held ≤ e.live → e.live ≤ config.heap → OnNoDisk e → IsJournalOf config (js ++ e ∷ [])
-journal_push config js e is may held live disk =
-    let P : Journal → Option Journal → Type 0 =
-    λ j last. (j.phase ≡ next_of config last) ⊎ ((j.phase ≡ forced) × IsTight config last) in
-    record {
-      phases = λ k j at. elim (last_place js e k j at) [
-        | inl old ↦ subst (P j) (sym (before_push js e k (omega (arith, old.0)))) (is.phases k j old.1)
-        | inr new ↦
-            let place : length js ≡ k = omega (arith, new.0) in
-            let here : P j (before js k) = subst (λ (n : ℕ). P j (before js n)) place
-            (subst (λ (x : Journal). P x (before js (length js))) new.1 may) in
-            subst (P j) (sym (before_push js e k (omega (arith, place)))) here
-      ];
-      words = All-push (λ (j : Journal). (j.held ≤ j.live) × (j.live ≤ config.heap)) js e is.words (held, live);
-      disk = All-push OnNoDisk js e is.disk disk;
-    }
+journal_push : (config : Config) (js : List Journal) (e : Journal) → IsJournalOf config js
+    → MayBe config (before js (length js)) e.phase → (e.held ≤ e.live) × (e.live ≤ config.heap)
+    → end_of (before js (length js)) ≤ e.end → e.end ≤ config.disk → IsJournalOf config (js ++ e ∷ [])
+journal_push config js e is may words grows within = record {
+  phases = follow_push (λ j last. MayBe config last j.phase) js e is.phases may;
+  words = All-push (λ (j : Journal). (j.held ≤ j.live) × (j.live ≤ config.heap)) js e is.words words;
+  ends = follow_push (λ j last. end_of last ≤ j.end) js e is.ends grows;
+  limit = All-push (λ (j : Journal). j.end ≤ config.disk) js e is.limit within;
+}
+
+-- a collection is the one that was planned, or a Move that was forced
+may_be : (config : Config) (last : Option Journal) (force : Bool) (next : Phase) → (force ≡ true → IsTight config last)
+    → next ≡ next_of config last → MayBe config last (phase_done force next)
+may_be config last true next tight plan = inr (refl, tight refl)
+may_be config last false next tight plan = inl plan
+
+-- a Move may be made so
+may_move : (config : Config) (last : Option Journal) (force : Bool) (next : Phase)
+    → (force ≡ true → IsTight config last) → next ≡ next_of config last → phase_done force next ≡ Move
+    → MayMove config last
+may_move config last true next tight plan is = inr (tight refl)
+may_move config last false next tight plan is = inl (sym plan ∙ is)
+
+-- a phase is Move or another
+phase_cases : (phase : Phase) → (phase ≡ Move) ⊎ (phase ≢ Move)
+phase_cases Inactive = inr (λ is. cc)
+phase_cases Mark = inr (λ is. cc)
+phase_cases Move = inl refl
+
+-- the disk ends within its limit behind a collection
+ends_within : (phase : Phase) (shown later : Shown) (v w : View) (old new : Collector)
+    → CollectsCore phase shown later v w old new → shown.end ≤ shown.limit → later.end ≤ shown.limit
+ends_within phase shown later v w old new collects within = elim (phase_cases phase) [
+  | inl move ↦ collects.fits move
+  | inr other ↦ subst (λ (n : ℕ). n ≤ shown.limit) (sym (collects.stays other)) within
+]
+
+-- the plan by the numbers of a configuration
+abbrev plan_for : Config → Phase → Plan
+plan_for config next = record { next = next; mark = config.mark; move_ = config.move_ }
+
+-- behind a collection the next one is planned by it
+plan_more : (config : Config) (phase : Phase) (shown later : Shown) (v w : View) (old new : Collector) (was : Phase)
+    → old.plan ≡ plan_for config was → CollectsCore phase shown later v w old new
+    → length v.space.list ≡ config.heap → (last : Option Journal) → (entry : Journal) → last ≡ Some entry
+    → entry.phase ≡ phase → new.plan ≡ plan_after old.plan phase entry.live (length v.space.list)
+    → new.plan ≡ plan_for config (next_of config last)
+plan_more config phase shown later v w old new was plan collects words last entry is of_phase after =
+    let by : ℕ → Phase → Phase = λ n p. planned entry.live n p config.mark config.move_ in
+    after ∙ (ap (λ (p : Plan). plan_after p phase entry.live (length v.space.list)) plan
+    ∙ (ap (λ (n : ℕ). plan_for config (by n phase)) words
+    ∙ (ap (λ (p : Phase). plan_for config (by config.heap p)) (sym of_phase)
+    ∙ ap (λ (o : Option Journal). plan_for config (next_of config o)) (sym is))))
 
 -- what a collector knows behind one collection more
-pub collector_more : (config : Config) (old new : Collector) (w : View) (phase : Phase) → CollectorStands config old
-    → PlansBy old new w phase → length w.space.list ≡ config.heap → MayBe config old.journal.items phase
-    → CollectorStands config new
-collector_more config old new w phase stands plans words may =
+pub collector_more : (config : Config) (force : Bool) (shown later : Shown) (v w : View) (old new : Collector)
+    → CollectorStands config shown old → CollectsCore (phase_done force old.plan.next) shown later v w old new
+    → length v.space.list ≡ config.heap → (force ≡ true → IsTight config (last_of old))
+    → CollectorStands config later new
+collector_more config force shown later v w old new stands collects words tight =
     let js : List Journal = old.journal.items in
-    let entry : Journal = plans.entry in
-    let pushed : IsJournalOf config (js ++ entry ∷ []) =
-    journal_push config js entry stands.journal (subst (MayBe config js) (sym plans.of_phase) may) plans.held_within
-    (omega (arith, plans.within, words)) plans.disk in
+    let entry : Journal = collects.entry in
+    let phase : Phase = phase_done force old.plan.next in
+    let next : old.plan.next ≡ next_of config (last_of old) = ap (λ (p : Plan). p.next) stands.plan in
+    let may : MayBe config (last_of old) entry.phase =
+    subst (MayBe config (last_of old)) (sym collects.of_phase) (may_be config (last_of old) force old.plan.next tight
+    next) in
+    let limit : shown.limit ≡ config.disk = stands.limit in
+    let within : later.end ≤ shown.limit =
+    ends_within phase shown later v w old new collects
+    (subst (λ (n : ℕ). shown.end ≤ n) (sym limit) stands.within) in
+    let grows : end_of (last_of old) ≤ entry.end =
+    subst (λ (n : ℕ). end_of (last_of old) ≤ n) (sym collects.end)
+    (subst (λ (n : ℕ). n ≤ later.end) stands.end collects.grows) in
+    let last : last_of new ≡ Some entry =
+    ap (λ (xs : List Journal). before xs (length xs)) collects.journal ∙ before_end js entry in
     record {
-      planning = plans.planning;
-      numbers = plans.config ∙ stands.numbers;
-      journal = subst (IsJournalOf config) (sym plans.journal) pushed;
-      next =
-          let last : before new.journal.items (length new.journal.items) ≡ Some entry =
-          ap (λ (xs : List Journal). before xs (length xs)) plans.journal ∙ before_end js entry in
-          plans.next ∙ (ap (λ (x : Config). next_of x (Some entry)) stands.numbers ∙ ap (next_of config) (sym last));
+      plan = plan_more config phase shown later v w old new (next_of config (last_of old)) stands.plan collects words
+          (last_of new) entry last collects.of_phase collects.plan;
+      journal = subst (IsJournalOf config) (sym collects.journal)
+          (journal_push config js entry stands.journal may
+          (collects.held_within, subst (λ (n : ℕ). entry.live ≤ n) words collects.within) grows
+          (subst (λ (n : ℕ). n ≤ config.disk) (sym collects.end)
+          (subst (λ (n : ℕ). later.end ≤ n) limit within)));
+      end = sym collects.end ∙ ap end_of (sym last);
+      within = subst (λ (n : ℕ). later.end ≤ n) limit within;
+      limit = collects.limit ∙ limit;
     }
 
--- behind one that was planned
-pub collector_planned : (config : Config) (old new : Collector) (w : View) → CollectorStands config old
-    → PlansBy old new w old.planned → length w.space.list ≡ config.heap → CollectorStands config new
-collector_planned config old new w stands plans words =
-    collector_more config old new w old.planned stands plans words (inl stands.next)
-
 -- there is one entry more
-pub plans_count : (old new : Collector) (w : View) (phase : Phase) → PlansBy old new w phase
-    → length new.journal.items ≡ length old.journal.items + 1
-plans_count old new w phase plans = ap length plans.journal ∙ length-append old.journal.items (plans.entry ∷ [])
+journal_count : (phase : Phase) (shown later : Shown) (v w : View) (old new : Collector)
+    → CollectsCore phase shown later v w old new → length new.journal.items ≡ length old.journal.items + 1
+journal_count phase shown later v w old new collects =
+    ap length collects.journal ∙ length-append old.journal.items (collects.entry ∷ [])
 
--- one collection that was planned
-pub planned_one : (old new : Collector) (w : View) → PlansBy old new w old.planned → Planned 1 old new
-planned_one old new w plans = Planned.more 0 old old new w (Planned.none old) plans
+-- each collection has its moment, and now is that of one more
+cuts_more : (script : Script) (config : Config) (disk : OnDisk) (v w : View) (states : List ThreadState)
+    (js : List Journal) (entry : Journal) → TableStands true script config disk v states → Gathers v entry
+    → w.log ≡ v.log → HaveCuts script v.log states config js → HaveCuts script w.log states config (js ++ entry ∷ [])
+cuts_more script config disk v w states js entry table gathers history cuts =
+    subst (λ (h : List Entry). HaveCuts script h states config (js ++ entry ∷ [])) (sym history)
+    (All-push (HasCut script v.log states config) js entry cuts
+    (cut_now script config disk v states entry table gathers))
 
--- collections that were planned, and more of them
-pub planned_then : (m n : ℕ) (a b c : Collector) → Planned m a b → Planned n b c → Planned (m + n) a c
-planned_then m n a b c first (Planned.none _) = subst (λ (k : ℕ). Planned k a b) (omega arith) first
-planned_then m (suc n) a b c first (Planned.more _ _ d _ w then last) =
-    subst (λ (k : ℕ). Planned k a c) (omega arith)
-    (Planned.more (m + n) a d c w (planned_then m n a b d first then) last)
+-- what a collection left, over the disk under a run
+abbrev pub Over : Bool → Script → Config → Bool → (shown later : Shown) → (old new : Run) → Type 0
+Over told script config force shown later old new =
+    (stands : RunStands told script config shown old) × (made : MakesCollection force shown later old new)
+    × CollectedOver told (phase_done force old.collector.plan.next) later (view old.core)
+    (view new.core) made.collects.entry
 
--- none at all leaves the collector
-pub planned_none : (a b : Collector) → Planned 0 a b → b ≡ a
-planned_none a b (Planned.none _) = refl
+-- it is left over some disk
+pub collected_over : (told : Bool) (script : Script) (config : Config) (force : Bool) (shown later : Shown)
+    (old new : Run) → RunStands told script config shown old → MakesCollection force shown later old new
+    → Over told script config force shown later old new
+collected_over told script config force shown later old new stands made =
+    (stands, made, made.collects.each told stands.disk stands.under stands.table.stands)
 
--- where a claim ends past the last word behind a collection, the largest object may have no room there
-pub tight : (config : Config) (run : Run) (need : ℕ) → JustCollected run
-    → length (view run.core).space.list ≡ config.heap → need ≤ 126
-    → length (view run.core).space.list + 1 < (view run.core).free + need
-    → IsTight config (before run.collector.journal.items (length run.collector.journal.items))
-tight config run need just words small above =
-    let last : before run.collector.journal.items (length run.collector.journal.items) ≡ Some just.last =
-    ap (λ (xs : List Journal). before xs (length xs)) just.journal ∙ before_end just.prefix just.last in
-    let room : config.heap < just.last.live + 126 = omega (arith, words, small, above, just.free) in
-    subst (IsTight config) (sym last) room
+-- all threads stand behind a collection
+pub collected_table : (told : Bool) (script : Script) (config : Config) (force : Bool) (shown later : Shown)
+    (old new : Run) → (over : Over told script config force shown later old new)
+    → TableStands told script config over.2.disk (view new.core) new.states.items
+collected_table told script config force shown later old new over =
+    subst (TableStands told script config over.2.disk (view new.core)) (sym over.1.states)
+    (Table_renewed told script config over.0.disk over.2.disk (view old.core) (view new.core) old.states.items
+    over.0.table over.2.renewed)
+
+-- and so do the moments of the collections, told as the view before it tells
+collected_cuts : (told : Bool) (script : Script) (config : Config) (force : Bool) (shown later : Shown)
+    (old new : Run) → told ≡ true → Over told script config force shown later old new
+    → HaveCuts script (view new.core).log new.states.items config new.collector.journal.items
+collected_cuts true script config force shown later old new is over =
+    let w : View = view new.core in
+    let entry : Journal = over.1.collects.entry in
+    let more : HaveCuts script w.log old.states.items config (old.collector.journal.items ++ entry ∷ []) =
+    cuts_more script config over.0.disk (view old.core) w old.states.items old.collector.journal.items entry
+    over.0.table (over.2.gathers refl) over.2.renewed.history (over.0.cuts refl) in
+    subst (λ (xs : List ThreadState). HaveCuts script w.log xs config new.collector.journal.items) (sym over.1.states)
+    (subst (HaveCuts script w.log old.states.items config) (sym over.1.collects.journal) more)
+collected_cuts false script config force shown later old new is over =
+    absurd (let wrong : false ≡ true = is in cc)
+
+-- a collection was made that no reply was told of yet
+pub spare_collected : (told : Bool) (script : Script) (config : Config) (force : Bool) (shown later : Shown)
+    (old new : Run) → RunStands told script config shown old → MakesCollection force shown later old new
+    → collections script config (replies_of new.states.items)
+    (length script.programs) + 1 ≤ length new.collector.journal.items + owing new.states.items
+spare_collected told script config force shown later old new stands made =
+    let C : List ThreadState → ℕ = λ (xs : List ThreadState).
+    collections script config (replies_of xs) (length script.programs) in
+    let same : new.states.items ≡ old.states.items = made.states in
+    omega (
+      arith,
+      stands.collected,
+      journal_count (phase_done force old.collector.plan.next) shown later (view old.core) (view new.core) old.collector
+          new.collector made.collects,
+      ap C same,
+      ap owing same,
+    )
+
+-- a run stands behind a collection
+pub stands_collected : (told : Bool) (script : Script) (config : Config) (force : Bool) (shown later : Shown)
+    (old new : Run) → RunStands told script config shown old → MakesCollection force shown later old new
+    → (force ≡ true → IsTight config (last_of old.collector)) → RunStands told script config later new
+stands_collected told script config force shown later old new stands made tight =
+    let over : Over told script config force shown later old new =
+    collected_over told script config force shown later old new stands made in
+    record {
+      disk = over.2.disk;
+      under = over.2.under;
+      table = collected_table told script config force shown later old new over;
+      words = made.words ∙ stands.words;
+      every = made.every ∙ stands.every;
+      collector = collector_more config force shown later (view old.core) (view new.core) old.collector new.collector
+          stands.collector made.collects stands.table.words tight;
+      cuts = λ is. collected_cuts told script config force shown later old new is over;
+      collected = omega (arith, spare_collected told script config force shown later old new stands made);
+    }
+
+-- it was just made, also behind a thread that dropped its registers
+pub just_behind : (force : Bool) (shown later : Shown) (old mid new : Run) → MakesCollection force shown later old mid
+    → new.collector ≡ mid.collector → (view new.core).free ≡ (view mid.core).free
+    → (view new.core).stop ≡ (view mid.core).stop → (view new.core).forward ≡ (view mid.core).forward
+    → JustCollected new
+just_behind force shown later old mid new made collector free stop forward = record {
+  stop = stop ∙ made.collects.stop;
+  none_forwarded = subst (λ (xs : List ℕ). NoneForwarded (record (view new.core) { forward = xs })) (sym forward)
+      made.collects.none_forwarded;
+  prefix = old.collector.journal.items;
+  last = made.collects.entry;
+  journal = ap (λ (c : Collector). c.journal.items) collector ∙ made.collects.journal;
+  free = free ∙ made.collects.live;
+}
+
+-- it was just made
+pub just_collected : (force : Bool) (shown later : Shown) (old new : Run) → MakesCollection force shown later old new
+    → JustCollected new
+just_collected force shown later old new made =
+    just_behind force shown later old new new made refl refl refl refl
+
+-- a run whose threads have no call in flight may be collected
+pub may_collect : (told : Bool) (script : Script) (config : Config) (shown : Shown) (run : Run)
+    → RunStands told script config shown run → IsQuiet (view run.core) → MayCollect shown.end (view run.core)
+may_collect told script config shown run stands quiet = record {
+  disk = stands.disk;
+  ends = stands.under.ends;
+  stands = stands_untold told stands.disk (view run.core) stands.table.stands;
+  quiet = quiet;
+}
+
+-- what is said of a refusal is said of a full disk
+pub refused_full : (phase : Phase) (shown later : Shown) (v : View) (r : CollectRefusal) (heap : Heap) (rest : Rest)
+    (full : DiskFull) → r ≡ refused.DiskFull heap rest full → IsRefusedCore phase shown later v r
+    → IsFullCore phase shown later v heap rest full
+refused_full phase shown later v r heap rest full is said = subst (IsRefusedCore phase shown later v) is said
+
+-- and of one that failed
+pub refused_failed : (phase : Phase) (shown later : Shown) (v : View) (r : CollectRefusal) (rest : Rest)
+    → r ≡ refused.DiskFault rest → IsRefusedCore phase shown later v r → rest.log.items ≡ v.log
+refused_failed phase shown later v r rest is said = subst (IsRefusedCore phase shown later v) is said
+
+-- What is left of a run that was halted for this cause, with this heap and this rest.
+pub record Halts (run : Run) (heap : Option Heap) (rest : Rest) (cause : Halt) (ended : Ended) : Type 0 where
+  pub heap_is : ended.heap ≡ heap
+  pub rest_is : ended.rest ≡ rest
+  pub states : AreHalted run.states.items ended.states.items
+  pub journal : ended.journal.items ≡ run.collector.journal.items
+  pub halt_is : ended.halt ≡ Some cause
+
+-- why it has ended, told by its parts
+ends_by : (told : Bool) (config : Config) (shown : Shown) (disk : OnDisk) (v : View) (run : Run) (heap : Option Heap)
+    (rest : Rest) (cause : Halt) (ended : Ended) → Halts run heap rest cause ended
+    → EndsBy told config shown disk v run.states.items ended (Some cause) heap
+    → EndsBy told config shown disk v run.states.items ended ended.halt ended.heap
+ends_by told config shown disk v run heap rest cause ended halts by =
+    let By : Option Halt → Option Heap → Type 0 = λ h x. EndsBy told config shown disk v run.states.items ended h x in
+    subst (λ (h : Option Halt). By h ended.heap) (sym halts.halt_is)
+    (subst (λ (x : Option Heap). By (Some cause) x) (sym halts.heap_is) by)
+
+-- the disk was full for a Move of what is left
+full_ends : (told : Bool) (config : Config) (force : Bool) (shown later : Shown) (run : Run) (heap : Heap) (rest : Rest)
+    (full : DiskFull) (ended : Ended) → CollectorStands config shown run.collector
+    → (force ≡ true → IsTight config (last_of run.collector))
+    → IsFullCore (phase_done force run.collector.plan.next) shown later (view run.core) heap rest full
+    → (over : FullOver told later (view run.core) heap rest full.need) → ended.rest ≡ rest
+    → ended.journal.items ≡ run.collector.journal.items
+    → EndsFull told config later over.disk ended heap full.end full.need full.limit
+full_ends told config force shown later run heap rest full ended stands tight is over rest_is journal =
+    let last : (js : List Journal) → Option Journal = λ js. before js (length js) in
+    let next : run.collector.plan.next ≡ next_of config (last_of run.collector) =
+    ap (λ (p : Plan). p.next) stands.plan in
+    let needs : Rest → Type 0 = λ r.
+    CountsWords (state_of heap r.held.items over.disk) (WantsHome (state_of heap r.held.items over.disk)) full.need in
+    record {
+      end_is = is.end_is ∙ sym is.end_stays;
+      end_last = is.end_is ∙ (stands.end ∙ ap (λ (js : List Journal). end_of (last js)) (sym journal));
+      limit_is = is.limit_is ∙ stands.limit;
+      above = let above : shown.limit < shown.end + full.need = is.above in
+          omega (arith, above, is.limit_is, is.end_is);
+      may_move = subst (λ (js : List Journal). MayMove config (last js)) (sym journal)
+          (may_move config (last_of run.collector) force run.collector.plan.next tight next is.of_phase);
+      needs = λ tells. subst needs (sym rest_is) over.needs;
+    }
+
+-- what is left where the disk was full for a collection
+pub stands_full : (told : Bool) (script : Script) (config : Config) (force : Bool) (shown later : Shown) (run : Run)
+    (heap : Heap) (rest : Rest) (full : DiskFull) (ended : Ended) → RunStands told script config shown run
+    → (force ≡ true → IsTight config (last_of run.collector))
+    → IsFullCore (phase_done force run.collector.plan.next) shown later (view run.core) heap rest full
+    → Halts run (Some heap) rest (halt.DiskFull full.end full.need full.limit) ended
+    → EndedStands told script config later ended
+stands_full told script config force shown later run heap rest full ended stands tight is halts =
+    let v : View = view run.core in
+    let w : View = view (core_of heap rest) in
+    let states : List ThreadState = run.states.items in
+    let over : FullOver told later v heap rest full.need = is.each told stands.disk stands.under stands.table.stands in
+    let ends : EndsFull told config later over.disk ended heap full.end full.need full.limit =
+    full_ends told config force shown later run heap rest full ended stands.collector tight is over halts.rest_is
+    halts.journal in
+    record {
+      disk = over.disk;
+      v = w;
+      states = states;
+      table = Table_renewed told script config stands.disk over.disk v w states stands.table over.renewed;
+      cuts = λ tells. subst (λ (h : List Entry). HaveCuts script h states config ended.journal.items)
+          (sym over.renewed.history)
+          (subst (HaveCuts script v.log states config) (sym halts.journal) (stands.cuts tells));
+      journal = subst (IsJournalOf config) (sym halts.journal) stands.collector.journal;
+      collected = subst (λ (js : List Journal). collections script config (replies_of states) (length script.programs)
+          ≤ length js + owing states) (sym halts.journal) stands.collected;
+      log = ap (λ (r : Rest). r.log.items) halts.rest_is;
+      cause = ends_by told config later over.disk w run (Some heap) rest
+          (halt.DiskFull full.end full.need full.limit) ended halts
+          (halts.states, ap (λ (r : Rest). view (core_of heap r)) (sym halts.rest_is), over.under, ends);
+    }
+
+-- what is left where the disk failed
+pub stands_failed : (told : Bool) (script : Script) (config : Config) (shown later : Shown) (run : Run) (rest : Rest)
+    (ended : Ended) → RunStands told script config shown run → rest.log.items ≡ (view run.core).log
+    → Halts run None rest halt.DiskFault ended → EndedStands told script config later ended
+stands_failed told script config shown later run rest ended stands history halts =
+    let v : View = view run.core in
+    let states : List ThreadState = run.states.items in
+    record {
+      disk = stands.disk;
+      v = v;
+      states = states;
+      table = stands.table;
+      cuts = λ tells. subst (HaveCuts script v.log states config) (sym halts.journal) (stands.cuts tells);
+      journal = subst (IsJournalOf config) (sym halts.journal) stands.collector.journal;
+      collected = subst (λ (js : List Journal). collections script config (replies_of states) (length script.programs)
+          ≤ length js + owing states) (sym halts.journal) stands.collected;
+      log = ap (λ (r : Rest). r.log.items) halts.rest_is ∙ history;
+      cause = ends_by told config later stands.disk v run None rest halt.DiskFault ended halts halts.states;
+    }
+
+-- no more are lost where all are halted and no read failed
+pub halted_counts : (states after : List ThreadState) (a b : ℕ) → AreHalted states after → b ≡ a
+    → CountsLosses states after a b
+halted_counts states after a b halts same =
+    counts_same states after a b (ap losses halts ∙ losses_halted states) (omega (arith, same))

@@ -1,19 +1,19 @@
 -- What a run keeps where the mode of a thread changes, and what it knows of the stop word.
-use Rattle.std.proofs.Common.{◌≡◌, ◌≢◌, ℕ, true, false, List, [], length, take, refl, sym, ◌∙◌, ap, subst, arith, inl}
+use Rattle.std.proofs.Common.{◌≡◌, ◌≢◌, ℕ, true, false, List, [], length, refl, sym, ◌∙◌, ap, subst, arith, inl}
 use Rattle.std.proofs.Common.{inr}
 use Rattle.std.proofs.Math.ListN.{set, length-set}
 use Rattle.std.proofs.lemmas.Bool.{cases_eq}
 use Rattle.std.proofs.lemmas.List.{append-nil}
 use Rattle.std.proofs.lemmas.Option.{same_Some}
 use Rattle.std.specs.Prelude.{Bool, replicate, Option, None, Some, IsSome, slice_get}
-use Rattle.melt_model.specs.Standing.{Stands}
 use Rattle.melt_model.specs.declared.config.Config.{Config}
 use Rattle.melt_model.specs.declared.history.Entry.{Entry}
 use Rattle.melt_model.specs.declared.operations.Op.{Op}
+use Rattle.melt_model.specs.declared.reports.Journal.{Journal}
 use Rattle.melt_model.specs.declared.reports.ThreadEnd.{ThreadEnd}
 use Rattle.melt_model.specs.declared.reports.ThreadEnd.TheVariants as end
-use Rattle.melt_trace.specs.Script.{Script, operations}
-use Rattle.melt_scion.specs.Heaps.{no_homes_on}
+use Rattle.melt_trace.specs.Script.{Script}
+use Rattle.melt_scion.specs.Heaps.{OnDisk}
 use Rattle.melt_core.specs.Views.{View, call_of, rest_of, registers_in}
 use Rattle.melt_core.proofs.Registers.{registers_other}
 use Rattle.melt_core.specs.Advances.{KeepsOthers}
@@ -21,11 +21,12 @@ use Rattle.melt_core.specs.Epochs.{HasDropped, no_registers}
 use Rattle.melt_step.specs.declared.thread.ThreadState.{ThreadState}
 use Rattle.melt_step.specs.declared.thread.Mode.{Mode}
 use Rattle.melt_step.specs.declared.thread.Mode.TheVariants.{Running, Due, Silent, Collecting, Asked, Lacking, Ended}
-use Rattle.melt_step.specs.Threads.{with_first, left, MayGo, IsEnded, ThreadStands, EndsSo, LacksNow, Later}
+use Rattle.melt_step.specs.Run.{LoadsNext}
+use Rattle.melt_step.specs.Threads.{with_first, left, MayGo, IsEnded, ThreadStands, EndsSo, LacksNow, HaveCuts, Later}
 use Rattle.melt_step.specs.Threads.{TableStands, AllWait, Waits, KnowsStop, SetsStop, SomeGoesOn}
-use Rattle.melt_step.proofs.Cuts.{replies_here, LacksNow_same}
+use Rattle.melt_step.proofs.Cuts.{replies_here, LacksNow_same, HaveCuts_later}
 use Rattle.melt_step.proofs.Telling.{get_set_same, get_set_other, replies_same, later_set}
-use Rattle.melt_step.proofs.Tables.{Moves, Table_moves, mode_stands, same_moves, stands_so}
+use Rattle.melt_step.proofs.Tables.{Moves, Table_moves, mode_stands, same_moves, stands_so, told_so}
 
 -- the stop word is of no thread
 pub stop_keeps : (v : View) (stop : Bool) (t : ℕ) → KeepsOthers v (record v { stop = stop }) t
@@ -46,22 +47,24 @@ pub nothing_keeps : (v : View) (t : ℕ) → KeepsOthers v v t
 nothing_keeps v t = stop_keeps v v.stop t
 
 -- a thread without a call in flight runs on with its next operation
-pub Table_runs : (script : Script) (config : Config) (v : View) (states : List ThreadState) (t : ℕ) (s : ThreadState)
-    → TableStands script config v states → slice_get states t ≡ Some s → (IsEnded s.mode → ⊥) → IsSome s.op
-    → call_of v t ≡ None → TableStands script config v (set states t (record s { mode = Running }))
-Table_runs script config v states t s table at goes op no_call =
-    let runs : ThreadStands script v t (record s { mode = Running }) =
-    mode_stands script v v t s Running (table.each t s at) goes (λ over. over) refl refl op (λ c is. absurd (cc)) in
-    Table_moves script config v v states t s (record s { mode = Running }) table at goes table.stands
-    (nothing_keeps v t) (same_moves script config v v states t s Running
+pub Table_runs : (told : Bool) (script : Script) (config : Config) (disk : OnDisk) (v : View)
+    (states : List ThreadState) (t : ℕ) (s : ThreadState) → TableStands told script config disk v states
+    → slice_get states t ≡ Some s → (IsEnded s.mode → ⊥) → IsSome s.op → call_of v t ≡ None
+    → TableStands told script config disk v (set states t (record s { mode = Running }))
+Table_runs told script config disk v states t s table at goes op no_call =
+    let runs : ThreadStands told script v t (record s { mode = Running }) =
+    mode_stands told script v v t s Running (table.each t s at) goes (λ over. over) refl refl op
+    (λ c is. absurd (cc)) in
+    Table_moves told script config disk v v states t s (record s { mode = Running }) table at goes table.stands
+    (nothing_keeps v t) (same_moves told script config v v states t s Running
     (λ owes. absurd (let wrong : false ≡ true = owes in cc)) (λ over. over) refl runs)
 
 -- a thread that has no operation left has its replies
-pub ends_done : (script : Script) (config : Config) (v : View) (states : List ThreadState) (t : ℕ) (s : ThreadState)
-    → TableStands script config v states → slice_get states t ≡ Some s → s.op ≡ None
-    → EndsSo script v.log states config t (Ended end.Done)
-ends_done script config v states t s table at none =
-    let st : ThreadStands script v t s = table.each t s at in
+pub ends_done : (told : Bool) (script : Script) (config : Config) (disk : OnDisk) (v : View)
+    (states : List ThreadState) (t : ℕ) (s : ThreadState) → TableStands told script config disk v states
+    → slice_get states t ≡ Some s → s.op ≡ None → EndsSo told script v.log states config t (Ended end.Done)
+ends_done told script config disk v states t s table at none =
+    let st : ThreadStands told script v t s = table.each t s at in
     let nothing : left s ≡ [] = ap (λ (o : Option Op). with_first o s.cursor.operations) none ∙ st.none_left none in
     omega (arith, ap length (replies_here states t s at), st.within, ap length nothing)
 
@@ -80,51 +83,80 @@ dropped_keeps v w t dropped = record {
   values = dropped.others;
 }
 
+-- a mode that was set leaves each thread its replies
+pub later_mode : (states : List ThreadState) (t : ℕ) (s : ThreadState) (mode : Mode) → slice_get states t ≡ Some s
+    → (IsEnded s.mode → ⊥) → Later states (set states t (record s { mode = mode }))
+later_mode states t s mode at goes =
+    later_set states t s (record s { mode = mode }) [] at goes (sym (append-nil s.replies.items))
+
+-- and the moments of collections are those that they were
+pub cuts_mode : (script : Script) (config : Config) (log : List Entry) (states : List ThreadState) (t : ℕ)
+    (s : ThreadState) (mode : Mode) (journal : List Journal) → slice_get states t ≡ Some s → (IsEnded s.mode → ⊥)
+    → HaveCuts script log states config journal
+    → HaveCuts script log (set states t (record s { mode = mode })) config journal
+cuts_mode script config log states t s mode journal at goes have =
+    let after : List ThreadState = set states t (record s { mode = mode }) in
+    subst (λ (h : List Entry). HaveCuts script h after config journal) (append-nil log)
+    (HaveCuts_later script log [] states after config journal (later_mode states t s mode at goes) have)
+
 -- why a thread ends is so when it has ended
-ends_gone : (script : Script) (log : List Entry) (states : List ThreadState) (config : Config) (t : ℕ) (s : ThreadState)
-    (e : ThreadEnd) → slice_get states t ≡ Some s → (IsEnded s.mode → ⊥) → EndsSo script log states config t (Ended e)
-    → EndsSo script log (set states t (record s { mode = Ended e })) config t (Ended e)
-ends_gone script log states config t s end.Done at goes ends =
+pub ends_gone : (told : Bool) (script : Script) (log : List Entry) (states : List ThreadState) (config : Config) (t : ℕ)
+    (s : ThreadState) (e : ThreadEnd) → slice_get states t ≡ Some s → (IsEnded s.mode → ⊥)
+    → EndsSo told script log states config t (Ended e)
+    → EndsSo told script log (set states t (record s { mode = Ended e })) config t (Ended e)
+ends_gone told script log states config t s end.Done at goes ends =
     let after : ThreadState = record s { mode = Ended end.Done } in
     ap length (replies_same states t s after at ∙ sym (replies_here states t s at)) ∙ ends
-ends_gone script log states config t s (end.OutOfHeap held_words need) at goes ends =
+ends_gone told script log states config t s (end.OutOfHeap held_words need) at goes ends = λ tells.
     let after : ThreadState = record s { mode = Ended (end.OutOfHeap held_words need) } in
     let later : Later states (set states t after) =
-    later_set states t s after [] at goes (sym (append-nil s.replies.items)) in
+    later_mode states t s (Ended (end.OutOfHeap held_words need)) at goes in
     subst (λ (h : List Entry). LacksNow script h (set states t after) config t held_words need) (append-nil log)
     (LacksNow_same script log [] states (set states t after) config t held_words need later
-    (replies_same states t s after at ∙ sym (replies_here states t s at)) ends)
-ends_gone script log states config t s end.DiskFault at goes ends = absurd ends
-ends_gone script log states config t s (end.Damaged home place word) at goes ends = absurd ends
-ends_gone script log states config t s end.Halted at goes ends = absurd ends
+    (replies_same states t s after at ∙ sym (replies_here states t s at)) (ends tells))
+ends_gone told script log states config t s end.DiskFault at goes ends =
+    let after : ThreadState = record s { mode = Ended end.DiskFault } in
+    subst (LoadsNext script t) (ap length (replies_here states t s at ∙ sym (replies_same states t s after at))) ends
+ends_gone told script log states config t s (end.Damaged home place word) at goes ends =
+    let after : ThreadState = record s { mode = Ended (end.Damaged home place word) } in (
+      ends.0,
+      subst (LoadsNext script t) (ap length (replies_here states t s at ∙ sym (replies_same states t s after at)))
+          ends.1,
+      ends.2,
+    )
+ends_gone told script log states config t s end.Halted at goes ends = absurd ends
+
+-- a thread that has ended stands, with registers that were dropped
+gone_stands : (told : Bool) (script : Script) (v w : View) (t : ℕ) (s : ThreadState) (e : ThreadEnd)
+    → ThreadStands told script v t s → HasDropped v w t → call_of v t ≡ None
+    → ThreadStands told script w t (record s { mode = Ended e })
+gone_stands told script v w t s e st dropped no_call =
+    stands_so told script v w t s (Ended e) st
+    (λ tells. told_so script v w t s (Ended e) (st.is_told tells) (ap (λ (x : View). x.log) dropped.only) (inl tt))
+    (λ over. dropped.here)
+    (λ c is. absurd (let none : call_of w t ≡ None = ap (λ (x : View). call_of x t) dropped.only ∙ no_call in cc)) tt
 
 -- a thread ends, and its registers are dropped
-pub Table_gone : (script : Script) (config : Config) (v w : View) (states : List ThreadState) (t : ℕ) (s : ThreadState)
-    (e : ThreadEnd) → TableStands script config v states → slice_get states t ≡ Some s → (IsEnded s.mode → ⊥)
-    → HasDropped v w t → call_of v t ≡ None → EndsSo script v.log states config t (Ended e)
-    → TableStands script config w (set states t (record s { mode = Ended e }))
-Table_gone script config v w states t s e table at goes dropped no_call ends =
-    let st : ThreadStands script v t s = table.each t s at in
+pub Table_gone : (told : Bool) (script : Script) (config : Config) (disk : OnDisk) (v w : View)
+    (states : List ThreadState) (t : ℕ) (s : ThreadState) (e : ThreadEnd)
+    → TableStands told script config disk v states → slice_get states t ≡ Some s → (IsEnded s.mode → ⊥)
+    → HasDropped v w t → call_of v t ≡ None → EndsSo told script v.log states config t (Ended e)
+    → TableStands told script config disk w (set states t (record s { mode = Ended e }))
+Table_gone told script config disk v w states t s e table at goes dropped no_call ends =
     let after : ThreadState = record s { mode = Ended e } in
     let history : w.log ≡ v.log = ap (λ (x : View). x.log) dropped.only in
-    let gone : ThreadStands script w t after =
-    stands_so script v w t s (Ended e) st
-    (subst (λ (h : List Entry). Stands h t (take (length s.replies.items) (operations script t)) s.replies.items
-    st.registers) (sym history) st.told) (inl tt) (λ over. dropped.here)
-    (λ c is. absurd (let none : call_of w t ≡ None = ap (λ (x : View). call_of x t) dropped.only ∙ no_call in cc)) tt in
-    let moves : Moves script config v w states t s after = record {
+    let moves : Moves told script config v w states t s after = record {
       act = None;
       extra = [];
       grown = history;
       replies = sym (append-nil s.replies.items);
-      stands = gone;
+      stands = gone_stands told script v w t s e (table.each t s at) dropped no_call;
       due = λ owes. absurd (let wrong : false ≡ true = owes in cc);
-      ends = subst (λ (h : List Entry). EndsSo script h (set states t after) config t (Ended e)) (sym history)
-          (ends_gone script v.log states config t s e at goes ends);
-      made_last = λ k below last. absurd (omega arith);
+      ends = subst (λ (h : List Entry). EndsSo told script h (set states t after) config t (Ended e)) (sym history)
+          (ends_gone told script v.log states config t s e at goes ends);
       entries = let same : length w.log ≡ length v.log = ap length history in omega arith;
     } in
-    Table_moves script config v w states t s after table at goes (dropped.keeps true no_homes_on table.stands)
+    Table_moves told script config disk v w states t s after table at goes (dropped.keeps told disk table.stands)
     (dropped_keeps v w t dropped) moves
 
 -- a thread that can go on does not wait

@@ -1,6 +1,6 @@
 -- What a safepoint does to all threads.
-use Rattle.std.proofs.Common.{◌≡◌, ℕ, ◌+◌, ◌<◌, ◌≤◌, true, false, List, ◌∷◌, Vec, Global, length, drop, refl, sym, ◌∙◌}
-use Rattle.std.proofs.Common.{ap, subst, arith, inl, inr}
+use Rattle.std.proofs.Common.{◌≡◌, ℕ, ◌+◌, ◌<◌, ◌≤◌, Bool, true, false, List, ◌∷◌, Vec, Global, length, drop}
+use Rattle.std.proofs.Common.{refl, sym, ◌∙◌, ap, subst, arith, inl, inr}
 use Rattle.std.proofs.Math.ListN.{set, length-set}
 use Rattle.std.proofs.lemmas.Bool.{cases_eq}
 use Rattle.std.proofs.lemmas.List.{with_items_is}
@@ -14,7 +14,12 @@ use Rattle.melt_trace.specs.Script.{Script, operations}
 use Rattle.melt_scion.specs.declared.heap.Heap.{Heap}
 use Rattle.melt_scion.specs.declared.heap.Names as names_of
 use Rattle.melt_scion.specs.declared.registers.Registers.{Registers}
-use Rattle.melt_scion.specs.Heaps.{no_homes_on}
+use Rattle.melt_scion.specs.Heaps.{OnDisk}
+use Rattle.melt_model.specs.declared.history.Entry.{Entry}
+use Rattle.melt_model.specs.declared.reports.Journal.{Journal}
+use Rattle.melt_core.specs.declared.machine.Core.{Core}
+use Rattle.melt_step.specs.Shown.{Shown}
+use Rattle.melt_step.specs.Safepoints.{CalledAt, CollectorStands, KeepsRun}
 use Rattle.melt_core.specs.declared.machine.Rest.{Rest}
 use Rattle.melt_core.specs.Views.{View, view, IsQuiet, registers_in, held_values}
 use Rattle.melt_core.specs.Epochs.{AtRest, HasFinished, core_of}
@@ -23,14 +28,13 @@ use Rattle.melt_step.specs.declared.run.Run.{Run}
 use Rattle.melt_step.specs.declared.thread.ThreadState.{ThreadState}
 use Rattle.melt_step.specs.declared.thread.Mode.{Mode}
 use Rattle.melt_step.specs.declared.thread.Mode.TheVariants.{Running, Due, Silent, Collecting, Asked, Lacking, Ended}
-use Rattle.melt_step.specs.Threads.{CollectorStands, KeepsRun, owes, IsPaused, NoneWaits, AllWait, MayGo}
+use Rattle.melt_step.specs.Threads.{owes, IsPaused, NoneWaits, AllWait, MayGo, HaveCuts, lost, losses}
 use Rattle.melt_step.specs.Threads.{OweBehindCollects, ThreadStands, owes_silent, with_first, IsEnded, FitsMode}
 use Rattle.melt_step.specs.Threads.{TableStands, CallsAgain, ForCollection, Waits, KnowsStop, jobs, jobs_of, left}
-use Rattle.melt_step.specs.Threads.{CollectedFor, CollectedAt, CollectedAll, CalledAt, Resumed, Passed, Renewed}
+use Rattle.melt_step.specs.Threads.{CollectedFor, CollectedAt, CollectedAll, Resumed, Passed, Renewed}
 use Rattle.melt_step.proofs.Cuts.{first_left}
-use Rattle.melt_step.proofs.Modes.{Table_runs}
-use Rattle.melt_step.proofs.Telling.{set_got}
-use Rattle.melt_step.proofs.Tables.{Table_renewed}
+use Rattle.melt_step.proofs.Modes.{Table_runs, cuts_mode}
+use Rattle.melt_step.proofs.Telling.{set_got, sum_set}
 use Rattle.melt_step.proofs.Counting.{Adds, adds_mode}
 use Rattle.melt_step.proofs.Telling.{get_set_same, get_set_other}
 
@@ -84,6 +88,16 @@ again_owes Asked again = refl
 again_owes Lacking again = refl
 again_owes (Ended e) again = absurd again
 
+-- and was not lost
+again_lost : (mode : Mode) → CallsAgain mode → lost mode ≡ lost Running
+again_lost Running again = refl
+again_lost Due again = absurd again
+again_lost Silent again = absurd again
+again_lost Collecting again = absurd again
+again_lost Asked again = refl
+again_lost Lacking again = refl
+again_lost (Ended e) again = absurd again
+
 -- the call of a thread is made again, if it was refused
 pub record MadeAgain (s after : ThreadState) : Type 0 where
   pub again : CallsAgain s.mode → after ≡ record s { mode = Running }
@@ -95,10 +109,13 @@ pub record AgainBelow (states after : List ThreadState) (n : ℕ) : Type 0 where
   pub done : (t : ℕ) (s : ThreadState) → t < n → slice_get states t ≡ Some s
       → (x : ThreadState) × (slice_get after t ≡ Some x) × MadeAgain s x
   pub rest : (t : ℕ) → n ≤ t → slice_get after t ≡ slice_get states t
-  pub table : (script : Script) (config : Config) (v : View) → TableStands script config v states → IsQuiet v
-      → TableStands script config v after
-  pub collected : (script : Script) (config : Config) (v : View) → TableStands script config v states → IsQuiet v
+  pub table : (told : Bool) (script : Script) (config : Config) (disk : OnDisk) (v : View)
+      → TableStands told script config disk v states → IsQuiet v → TableStands told script config disk v after
+  pub cuts : (script : Script) (log : List Entry) (config : Config) (journal : List Journal)
+      → HaveCuts script log states config journal → HaveCuts script log after config journal
+  pub collected : (script : Script) (config : Config) → length states ≡ length script.programs
       → Adds script config states after 0
+  pub lost : losses after ≡ losses states
 
 -- one thread more makes its call again
 pub again_more : (states after : List ThreadState) (n : ℕ) (s x : ThreadState) → AgainBelow states after n
@@ -120,26 +137,42 @@ again_more states after n s x so_far at made = record {
   ];
   rest = λ t above. get_set_other after n t x (λ same. omega (arith, same, above))
       ∙ so_far.rest t (omega (arith, above));
-  table = λ script config v table quiet.
-      let before : TableStands script config v after = so_far.table script config v table quiet in
+  table = λ told script config disk v table quiet.
+      let before : TableStands told script config disk v after = so_far.table told script config disk v table quiet in
       elim (calls_again s.mode) [
         | inl again ↦
-            subst (λ (z : ThreadState). TableStands script config v (set after n z)) (sym (made.again again))
-            (Table_runs script config v after n s before at (again_open s.mode again)
+            subst (λ (z : ThreadState). TableStands told script config disk v (set after n z)) (sym (made.again again))
+            (Table_runs told script config disk v after n s before at (again_open s.mode again)
             (again_some s.mode s.op again (before.each n s at).fits) (quiet n))
-        | inr not ↦ subst (TableStands script config v)
+        | inr not ↦ subst (TableStands told script config disk v)
             (sym (ap (set after n) (made.same not) ∙ set_got after n s at)) before
       ];
-  collected = λ script config v table quiet.
-      let before : Adds script config states after 0 = so_far.collected script config v table quiet in
-      let stands : TableStands script config v after = so_far.table script config v table quiet in
+  cuts = λ script log config journal have.
+      let before : HaveCuts script log after config journal = so_far.cuts script log config journal have in
+      elim (calls_again s.mode) [
+        | inl again ↦
+            subst (λ (z : ThreadState). HaveCuts script log (set after n z) config journal) (sym (made.again again))
+            (cuts_mode script config log after n s Running journal at (again_open s.mode again) before)
+        | inr not ↦ subst (λ (xs : List ThreadState). HaveCuts script log xs config journal)
+            (sym (ap (set after n) (made.same not) ∙ set_got after n s at)) before
+      ];
+  collected = λ script config count.
+      let before : Adds script config states after 0 = so_far.collected script config count in
       let one : Adds script config after (set after n x) 0 = elim (calls_again s.mode) [
         | inl again ↦ subst (λ (z : ThreadState). Adds script config after (set after n z) 0) (sym (made.again again))
-            (adds_mode script config after n s Running at stands.count (again_owes s.mode again))
+            (adds_mode script config after n s Running at (so_far.count ∙ count) (again_owes s.mode again))
         | inr not ↦ subst (λ (xs : List ThreadState). Adds script config after xs 0)
             (sym (ap (set after n) (made.same not) ∙ set_got after n s at)) (omega arith)
       ] in
       omega (arith, before, one);
+  lost =
+      let sum_is : losses (set after n x) + lost s.mode ≡ losses after + lost x.mode =
+      sum_set (λ (y : ThreadState). lost y.mode) after n s x at in
+      let same : lost x.mode ≡ lost s.mode = elim (calls_again s.mode) [
+        | inl again ↦ ap (λ (y : ThreadState). lost y.mode) (made.again again) ∙ sym (again_lost s.mode again)
+        | inr not ↦ ap (λ (y : ThreadState). lost y.mode) (made.same not)
+      ] in
+      omega (arith, sum_is, same, so_far.lost);
 }
 
 -- all of them do so, once none is left, in the list that a loop over them wrote
@@ -240,9 +273,10 @@ again_knows states after n v again all own none = record {
 }
 
 -- what an epoch left begins a new one, in which all stands as before
-pub finished_renewed : (v : View) (heap : Heap) (rest : Rest) → AtRest true no_homes_on heap rest
-    → HasFinished v (view (core_of heap rest)) → Renewed v (view (core_of heap rest))
-finished_renewed v heap rest at_rest finished = record {
+pub finished_renewed : (told : Bool) (disk : OnDisk) (v : View) (heap : Heap) (rest : Rest)
+    → AtRest told disk heap rest → HasFinished v (view (core_of heap rest))
+    → Renewed told disk v (view (core_of heap rest))
+finished_renewed told disk v heap rest at_rest finished = record {
   stands = at_rest.stands;
   quiet = at_rest.quiet;
   globals = ap length finished.globals;
@@ -349,12 +383,13 @@ collected_jobs s x collected = elim (for_collection s.mode) [
 ]
 
 -- behind the collections, silent ones are still to come only where a `collect` was answered just now
-pub owe_behind : (script : Script) (config : Config) (v : View) (states mid : List ThreadState)
-    → TableStands script config v states → AllWait states → CollectedAll states mid → OweBehindCollects script mid
-owe_behind script config v states mid table waits all = λ t x at owes. elim (slice_get_cases states t).1 [
+pub owe_behind : (told : Bool) (script : Script) (config : Config) (disk : OnDisk) (v : View)
+    (states mid : List ThreadState) → TableStands told script config disk v states → AllWait states
+    → CollectedAll states mid → OweBehindCollects script mid
+owe_behind told script config disk v states mid table waits all = λ t x at owes. elim (slice_get_cases states t).1 [
   | inl w ↦
       let s : ThreadState = w.0 in
-      let st : ThreadStands script v t s = table.each t s w.2 in
+      let st : ThreadStands told script v t s = table.each t s w.2 in
       let y : (y : ThreadState) × (slice_get mid t ≡ Some y) × CollectedFor s y = all.each t s w.2 in
       let is : y.0 ≡ x = same_Some y.0 x (sym y.1 ∙ at) in
       let made : CollectedFor s x = subst (CollectedFor s) is y.2 in
@@ -433,36 +468,26 @@ passed_called states mid called after t s all at calls resumed =
       ];
     }
 
--- The run goes on with the stop word not set, in the same epoch or in a new one, and all threads stand there as before.
-pub record Begun (v w : View) : Type 0 where
-  pub no_stop : w.stop ≡ false
-  pub table : (script : Script) (config : Config) (states : List ThreadState) → TableStands script config v states
-      → TableStands script config w states
-
--- in the same epoch
-pub begun_same : (v : View) → v.stop ≡ false → Begun v v
-begun_same v none = record { no_stop = none; table = λ script config states table. table }
-
--- in a new epoch
-pub begun_new : (v : View) (heap : Heap) (rest : Rest) → AtRest true no_homes_on heap rest
-    → HasFinished v (view (core_of heap rest)) → Begun v (view (core_of heap rest))
-begun_new v heap rest at_rest finished = record {
-  no_stop = refl;
-  table = λ script words states table. Table_renewed script words v (view (core_of heap rest)) states table
-      (finished_renewed v heap rest at_rest finished);
-}
-
--- a run whose threads made their calls again, and that goes on so
-pub resumed_keeps : (old new : Run) (v : View) (n : ℕ) → AgainBelow old.states.items new.states.items n
-    → IsQuiet (view old.core) → Begun (view old.core) v → view new.core ≡ v → new.collector ≡ old.collector
-    → new.every ≡ old.every → KeepsRun old new
-resumed_keeps old new v n again quiet begun core collector every = λ script config stands.
+-- a run whose threads made their calls again, and that goes on in the same epoch
+pub resumed_keeps : (shown : Shown) (old new : Run) (n : ℕ) → AgainBelow old.states.items new.states.items n
+    → IsQuiet (view old.core) → new.core ≡ old.core → new.collector ≡ old.collector
+    → new.every ≡ old.every → new.words ≡ old.words → KeepsRun shown shown old new
+resumed_keeps shown old new n again quiet core collector every words told script config stands =
+    let table : TableStands told script config stands.disk (view old.core) old.states.items = stands.table in
     let adds : Adds script config old.states.items new.states.items 0 =
-    again.collected script config (view old.core) stands.table quiet in
+    again.collected script config table.count in
     record {
-      table = subst (λ (w : View). TableStands script config w new.states.items) (sym core)
-          (begun.table script config new.states.items (again.table script config (view old.core) stands.table quiet));
+      disk = stands.disk;
+      under = stands.under;
+      table = subst (λ (c : Core). TableStands told script config stands.disk (view c) new.states.items) (sym core)
+          (again.table told script config stands.disk (view old.core) table quiet);
+      words = words ∙ stands.words;
       every = every ∙ stands.every;
-      collector = subst (CollectorStands config) (sym collector) stands.collector;
+      collector = subst (CollectorStands config shown) (sym collector) stands.collector;
+      cuts = λ is.
+          subst (λ (c : Core). HaveCuts script (view c).log new.states.items config new.collector.journal.items)
+          (sym core)
+          (subst (λ (c : Collector). HaveCuts script (view old.core).log new.states.items config c.journal.items)
+          (sym collector) (again.cuts script (view old.core).log config old.collector.journal.items (stands.cuts is)));
       collected = omega (arith, adds, stands.collected, ap (λ (c : Collector). length c.journal.items) collector);
     }

@@ -1,6 +1,6 @@
 -- A run gets nearer to its end with each event and with each safepoint.
 use Rattle.std.proofs.Common.{◌≡◌, ◌≢◌, ℕ, zero, suc, ◌+◌, ◌*◌, ◌<◌, ◌≤◌, ◌⊎◌, inl, inr, List, [], ◌∷◌, length, drop}
-use Rattle.std.proofs.Common.{get_or, refl, sym, ◌∙◌, ap, subst, arith}
+use Rattle.std.proofs.Common.{Bool, true, false, get_or, refl, sym, ◌∙◌, ap, subst, arith}
 use Rattle.std.proofs.Math.ListN.{set}
 use Rattle.std.proofs.lemmas.Option.{same_Some}
 use Rattle.std.specs.Prelude.{Option, None, Some, IsSome, slice_get}
@@ -8,14 +8,16 @@ use Rattle.melt_model.specs.declared.config.Config.{Config}
 use Rattle.melt_model.specs.declared.operations.Op.{Op}
 use Rattle.melt_model.specs.declared.reports.ThreadEnd.TheVariants as end
 use Rattle.melt_trace.specs.Script.{Script}
+use Rattle.melt_core.specs.declared.answer.Refusal.TheVariants as refusal
+use Rattle.melt_scion.specs.Heaps.{OnDisk}
 use Rattle.melt_core.specs.declared.call.Call.{Call}
 use Rattle.melt_core.specs.Views.{View, call_of}
 use Rattle.melt_step.specs.declared.thread.Mode.{Mode}
 use Rattle.melt_step.specs.declared.thread.Mode.TheVariants.{Running, Due, Silent, Collecting, Asked, Lacking, Ended}
 use Rattle.melt_step.specs.declared.thread.ThreadState.{ThreadState}
-use Rattle.melt_step.specs.Threads.{paused_as, Passed, jobs_of, MayGo, ThreadWaits, ThreadGoes, ThreadRefused}
-use Rattle.melt_step.specs.Threads.{ThreadTold, ThreadStep, TableStands, left, with_first, jobs, turn_left, potential}
-use Rattle.melt_step.proofs.Tables.{paused_cases}
+use Rattle.melt_step.specs.Threads.{mode_for, Passed, jobs_of, MayGo, ThreadWaits, ThreadGoes, ThreadRefused}
+use Rattle.melt_step.specs.Threads.{ThreadLost, ThreadTold, ThreadStep, IsEnded, owes_silent, TableStands, left, with_first, jobs, turn_left, potential}
+use Rattle.melt_step.proofs.Tables.{lost_ends, paused_cases}
 
 -- what a thread in this mode with so many operations to come has still to do
 abbrev amount : Mode → ℕ → Option Call → ℕ
@@ -110,7 +112,7 @@ refused_less : (v w : View) (t : ℕ) (s after : ThreadState) → ThreadRefused 
     → part after (call_of w t) < part s (call_of v t)
 refused_less v w t s after x =
     let to_come : length (left after) ≡ length (left s) = ap (λ (y : ThreadState). length (left y)) x.only in
-    let now : after.mode ≡ paused_as x.cause = ap (λ (y : ThreadState). y.mode) x.only in
+    let now : after.mode ≡ mode_for (refusal.Pause x.cause) = ap (λ (y : ThreadState). y.mode) x.only in
     let n : ℕ = length (left s) in
     elim (paused_cases x.cause) [
       | inl asked ↦ part_less s after (call_of v t) (call_of w t) Running Asked n n x.running refl (now ∙ asked) to_come
@@ -133,9 +135,9 @@ reply_less s after c d m n is had to_come least over fits = elim fits [
 ]
 
 -- a reply
-told_less : (v w : View) (t : ℕ) (s after : ThreadState) → MayGo s.mode → ThreadTold v w t s after
+told_less : (told : Bool) (v w : View) (t : ℕ) (s after : ThreadState) → MayGo s.mode → ThreadTold told v w t s after
     → part after (call_of w t) < part s (call_of v t)
-told_less v w t s after goes x =
+told_less told v w t s after goes x =
     let had : length (left s) ≡ suc (length s.cursor.operations) =
     ap (λ (o : Option Op). length (with_first o s.cursor.operations)) x.next in
     let to_come : length (left after) ≡ length s.cursor.operations =
@@ -147,19 +149,48 @@ told_less v w t s after goes x =
           (omega arith) x.call x.takes.fits
     ]
 
+-- a thread that has ended has nothing to do
+ended_nothing : (mode : Mode) (count : ℕ) (call : Option Call) → IsEnded mode → amount mode count call ≡ 0
+ended_nothing Running count call over = absurd over
+ended_nothing Due count call over = absurd over
+ended_nothing Silent count call over = absurd over
+ended_nothing Collecting count call over = absurd over
+ended_nothing Asked count call over = absurd over
+ended_nothing Lacking count call over = absurd over
+ended_nothing (Ended e) count call over = refl
+
+-- one whose record could not be read, or is none
+lost_less : (told : Bool) (finish : ℕ) (v w : View) (t : ℕ) (s after : ThreadState) → MayGo s.mode
+    → ThreadLost told finish v w t s after → part after (call_of w t) < part s (call_of v t)
+lost_less told finish v w t s after goes x =
+    let over : IsEnded after.mode =
+    subst IsEnded (sym (ap (λ (y : ThreadState). y.mode) x.only)) (lost_ends told finish x.refusal x.cause) in
+    let none : part after (call_of w t) ≡ 0 = ended_nothing after.mode (length (left after)) (call_of w t) over in
+    let runs : s.mode ≡ Running = elim (running_or_due s.mode goes) [
+      | inl running ↦ running
+      | inr due ↦ absurd (let wrong : true ≡ false = sym (ap owes_silent due) ∙ x.not_due in cc)
+    ] in
+    let some : 0 < amount Running (length (left s)) (call_of v t) = omega arith in
+    let here : part s (call_of v t) ≡ amount Running (length (left s)) (call_of v t) =
+    ap (λ (m : Mode). amount m (length (left s)) (call_of v t)) runs in
+    omega (arith, none, some, here)
+
 -- an event of a thread that can go on
-pub step_nearer : (script : Script) (config : Config) (v w : View) (states : List ThreadState) (t : ℕ)
-    (s after : ThreadState) → TableStands script config v states → slice_get states t ≡ Some s → MayGo s.mode
-    → ThreadStep v w t s after → length w.calls ≡ length v.calls
+pub step_nearer : (told : Bool) (script : Script) (config : Config) (disk : OnDisk) (v w : View)
+    (states : List ThreadState) (t : ℕ) (s after : ThreadState) → TableStands told script config disk v states
+    → slice_get states t ≡ Some s → MayGo s.mode → ThreadStep told disk v w t s after → length w.calls ≡ length v.calls
     → potential (set states t after) w.calls < potential states v.calls
-step_nearer script config v w states t s after table at goes step same =
+step_nearer told script config disk v w states t s after table at goes step same =
     potential-less states v.calls w.calls t s after at step.others.calls (elim step.what [
       | inl waits ↦ waits_less v w t s after waits.0 waits.1
       | inr a ↦ elim a [
         | inl going ↦ goes_less v w t s after going
         | inr b ↦ elim b [
           | inl refused ↦ refused_less v w t s after refused
-          | inr told ↦ told_less v w t s after goes told
+          | inr c ↦ elim c [
+            | inl lost ↦ lost_less told disk.end v w t s after goes lost
+            | inr got ↦ told_less told v w t s after goes got
+          ]
         ]
       ]
     ])

@@ -1,12 +1,15 @@
--- A run begins.
-use Rattle.std.proofs.Common.{◌≡◌, ℕ, ◌+◌, ◌*◌, ◌/◌, ◌%◌, ◌^◌, ◌<◌, ◌≤◌, zero, suc, true, false, List, [], length, take}
+-- A run begins, over what is shown of a disk without homes.
+use Rattle.std.proofs.Common.{◌≡◌, ℕ, ◌+◌, ◌*◌, ◌/◌, ◌%◌, ◌^◌, ◌<◌, ◌≤◌, zero, suc, true, false, List, [], ◌∷◌, length, take}
 use Rattle.std.proofs.Common.{drop, refl, sym, ◌∙◌, ap, subst, arith, inl, inr}
 use Rattle.std.proofs.Math.Nat.{div-add-mod, mul-le-mul_left}
 use Rattle.std.proofs.lemmas.Bool.{cases_lt}
 use Rattle.std.proofs.lemmas.List.{length-replicate}
 use Rattle.std.proofs.lemmas.List.Elements.{All-nil}
+use Rattle.std.proofs.lemmas.List.Sums.{sum-map, sum_by-cons}
 use Rattle.std.proofs.lemmas.Option.{slice_get_cases, slice_get_within}
-use Rattle.std.specs.Prelude.{true, None, Some, All, slice_get, replicate}
+use Rattle.std.specs.FinMap.{get-empty}
+use Rattle.std.specs.Ordering.{nat_cmp}
+use Rattle.std.specs.Prelude.{Bool, Option, None, Some, IsSome, All, slice_get, slice_index, replicate}
 use Rattle.std.specs.List.{count_by}
 use Rattle.melt_model.specs.History.{IsReference}
 use Rattle.melt_model.specs.Standing.{Stands}
@@ -17,21 +20,109 @@ use Rattle.melt_model.specs.declared.operations.Op.{Op}
 use Rattle.melt_model.specs.declared.operations.Reply.{Reply}
 use Rattle.melt_model.specs.declared.reports.ThreadEnd.TheVariants as end
 use Rattle.melt_trace.specs.Script.{Script, operations}
-use Rattle.melt_scion.specs.Heaps.{no_homes_on, IsNewHeap}
+use Rattle.melt_scion.specs.Heaps.{OnDisk, no_homes_on, no_names, state_of, IsNewHeap}
+use Rattle.melt_scion.specs.Names.{name_at}
+use Rattle.melt_scion.specs.Placed.{Tells}
 use Rattle.melt_scion.specs.declared.heap.Heap.{Heap}
+use Rattle.melt_scion.specs.declared.heap.Names as name_table
 use Rattle.melt_scion.specs.declared.registers.Registers.{Registers}
+use Rattle.melt_scion.proofs.Starting.{NoObjects, IsEmpty, new_heap_empty, Tells_start}
+use Rattle.melt_core.specs.declared.call.Call.{Call}
 use Rattle.melt_core.specs.declared.machine.Rest.{Rest}
-use Rattle.melt_core.specs.Views.{View, view, values_of, registers_in, held_values, call_of}
+use Rattle.melt_core.specs.Views.{View, view, maps, maps_of, state, values_of, registers_in, held_values, call_of}
+use Rattle.melt_core.specs.Views.{Standing}
 use Rattle.melt_core.specs.Epochs.{no_registers, IsNewRest, AtRest, core_of}
+use Rattle.melt_core.proofs.Disks.{stands_over, stands_untold}
 use Rattle.melt_core.proofs.Resting.{start_at_rest}
 use Rattle.melt_core.proofs.Values.{get_or_replicate}
 use Rattle.melt_step.specs.declared.thread.ThreadState.{ThreadState}
 use Rattle.melt_step.specs.declared.thread.Mode.{Mode}
 use Rattle.melt_step.specs.declared.thread.Mode.TheVariants.{Running, Asked, Ended}
 use Rattle.melt_step.specs.Run.{is_collect, silent_in, collections}
-use Rattle.melt_step.specs.Threads.{most_forwards, owes_silent, Waits, AreNewThreads, IsNewThread, FitsMode, KnowsStop, ThreadStands}
-use Rattle.melt_step.specs.Threads.{EndsSo, TableStands, replies_of}
+use Rattle.melt_step.specs.Shown.{Underlies}
+use Rattle.melt_step.specs.Threads.{most_forwards, owes_silent, Waits, AreNewThreads, IsNewThread, FitsMode, KnowsStop}
+use Rattle.melt_step.specs.Threads.{ThreadStands, EndsSo, TableStands, replies_of, lost, losses}
 use Rattle.melt_step.proofs.Cuts.{replies_here, replies_past}
+
+-- the words of an image that tells them; else they may be any
+abbrev image_in : Option (List ℕ) → ℕ → ℕ
+image_in None k = 0
+image_in (Some words) k = slice_index words k
+
+-- a disk without homes that has these words
+abbrev pub bare : Option (List ℕ) → OnDisk
+bare image = record { end = 1; homes = []; free_homes = []; image = image_in image }
+
+-- it is seen so
+pub bare_shown : (told : Bool) (image : Option (List ℕ)) (finish : ℕ) → finish ≡ 1 → (told ≡ true → IsSome image)
+    → Underlies told finish image (bare image)
+bare_shown told None finish is some =
+    let none : Option (List ℕ) = None in
+    record { ends = sym is; tells = λ t. absurd (let wrong : IsSome none = some t in cc) }
+bare_shown told (Some words) finish is some = record { ends = sym is; tells = λ t. (refl, λ k. refl) }
+
+-- no address has a name
+no_name : (words k : ℕ) → name_at (replicate words None) k ≡ None
+no_name words zero = refl
+no_name words (suc k) = get_or_replicate words k None
+
+-- a new heap tells the empty history over each disk without homes
+tells_new : (image : Option (List ℕ)) (words globals forward : ℕ) (heap : Heap) (rest : Rest) → words < 2 ^ 30
+    → IsNewHeap words globals forward true heap → Tells [] (maps_of heap.names) (state_of heap rest.held.items (bare image))
+tells_new image words globals forward heap rest small new_heap =
+    let clear : IsEmpty (state_of heap rest.held.items no_homes_on) =
+    new_heap_empty heap rest.held.items words globals forward true small new_heap in
+    let none : NoObjects (maps_of (Some (no_names words))) =
+    record { address = no_name words; home = get-empty {X = ℕ} nat_cmp } in
+    Tells_start (maps_of heap.names) (state_of heap rest.held.items (bare image))
+    (subst (λ (names : Option name_table.Names). NoObjects (maps_of names)) (sym new_heap.names) none)
+    (record {
+      small = clear.small;
+      forwards = clear.forwards;
+      scions = clear.scions;
+      end = refl;
+      homes = refl;
+      free_homes = refl;
+      globals = clear.globals;
+    })
+
+-- and so a new core stands over each
+pub bare_stands : (told : Bool) (image : Option (List ℕ)) (config : Config) (globals threads entries : ℕ) (heap : Heap)
+    (rest : Rest) → config.heap < 2 ^ 30 → threads ≤ 8 → IsNewHeap config.heap globals config.forward true heap
+    → IsNewRest threads entries rest → Standing told (bare image) (view (core_of heap rest))
+bare_stands told image config globals threads entries heap rest small few new_heap new_rest =
+    let v : View = view (core_of heap rest) in
+    let new : AtRest true no_homes_on heap rest =
+    start_at_rest true config.heap globals config.forward threads entries heap rest small few new_heap new_rest in
+    let s : Standing true no_homes_on v = new.stands in
+    let over : Standing false (bare image) v =
+    stands_over no_homes_on (bare image) v refl (stands_untold true no_homes_on v s) in
+    let gone : (t : ℕ) (c : Call) → call_of v t ≡ Some c → ⊥ =
+    λ t c is. (let e : None ≡ Some c = sym (new.quiet t) ∙ is in cc) in
+    record {
+      named = s.named;
+      room = s.room;
+      scions_made = s.scions_made;
+      few = s.few;
+      each = s.each;
+      buffers = s.buffers;
+      rests = s.rests;
+      counted = s.counted;
+      first = s.first;
+      bounded = s.bounded;
+      holds = record {
+        formed = over.holds.formed;
+        no_gaps = over.holds.no_gaps;
+        tells = λ is. subst (λ (h : List Entry). Tells h (maps v) (state (bare image) v)) (sym new_rest.history)
+            (tells_new image config.heap globals config.forward heap rest small new_heap);
+      };
+      legal = λ is. s.legal refl;
+      registers = over.registers;
+      known = λ t c is. absurd (gone t c is);
+      fits = s.fits;
+      apart = s.apart;
+      counts = λ is. s.counts refl;
+    }
 
 -- no thread has a reply
 no_replies : (script : Script) (entries t : ℕ) (states : List ThreadState) → AreNewThreads script states entries
@@ -64,11 +155,11 @@ Stands_new t ops = record {
 }
 
 -- a thread stands before its first event
-Thread_new : (script : Script) (entries t : ℕ) (heap : Heap) (rest : Rest) (s : ThreadState)
+Thread_new : (told : Bool) (script : Script) (entries t : ℕ) (heap : Heap) (rest : Rest) (s : ThreadState)
     → AtRest true no_homes_on heap rest
     → IsNewRest (length script.programs) entries rest → t < length script.programs
-    → IsNewThread (operations script t) script.globals s → ThreadStands script (view (core_of heap rest)) t s
-Thread_new script entries t heap rest s at_rest new_rest below new =
+    → IsNewThread (operations script t) script.globals s → ThreadStands told script (view (core_of heap rest)) t s
+Thread_new told script entries t heap rest s at_rest new_rest below new =
     let v : View = view (core_of heap rest) in
     let ops : List Op = operations script t in
     let none : values_of v t ≡ replicate 16 Nil = values_new script entries t heap rest new_rest below in
@@ -79,10 +170,12 @@ Thread_new script entries t heap rest s at_rest new_rest below new =
       to_come = new.to_come ∙ ap (λ (rs : List Reply). drop (length rs) ops) (sym new.replies);
       within = omega (arith, ap length new.replies, ap length new.to_come);
       none_left = new.none_left;
-      registers = replicate 16 Nil;
-      told = subst (λ (rs : List Reply). Stands v.log t (take (length rs) ops) rs (replicate 16 Nil))
-          (sym new.replies) nothing;
-      in_registers = inr (sym none);
+      is_told = λ is. record {
+        registers = replicate 16 Nil;
+        told = subst (λ (rs : List Reply). Stands v.log t (take (length rs) ops) rs (replicate 16 Nil))
+            (sym new.replies) nothing;
+        in_registers = inr (sym none);
+      };
       dropped = λ over. none;
       call = λ c is. absurd (let quiet : call_of v t ≡ None = at_rest.quiet t in cc);
       fits = elim new.mode [
@@ -95,44 +188,47 @@ Thread_new script entries t heap rest s at_rest new_rest below new =
     }
 
 -- a thread that has ended at once has no operations
-ends_new : (script : Script) (log : List Entry) (config : Config) (entries t : ℕ) (states : List ThreadState)
-    (s : ThreadState) → AreNewThreads script states entries → slice_get states t ≡ Some s
-    → EndsSo script log states config t s.mode
-ends_new script log config entries t states s new_states at =
+ends_new : (told : Bool) (script : Script) (log : List Entry) (config : Config) (entries t : ℕ)
+    (states : List ThreadState) (s : ThreadState) → AreNewThreads script states entries → slice_get states t ≡ Some s
+    → EndsSo told script log states config t s.mode
+ends_new told script log config entries t states s new_states at =
     let new : IsNewThread (operations script t) script.globals s = new_states.each t s at in
     elim new.mode [
-      | inl runs ↦ subst (EndsSo script log states config t) (sym runs.0) tt
-      | inr over ↦ subst (EndsSo script log states config t) (sym over.0)
+      | inl runs ↦ subst (EndsSo told script log states config t) (sym runs.0) tt
+      | inr over ↦ subst (EndsSo told script log states config t) (sym over.0)
           (ap length (no_replies script entries t states new_states) ∙ ap length (sym over.1 ∙ new.to_come))
     ]
 
 -- all threads stand before their first events
-pub Table_new : (script : Script) (config : Config) (entries : ℕ) (heap : Heap) (rest : Rest)
-    (states : List ThreadState) → config.heap < 2 ^ 30 → config.forward ≤ most_forwards → length script.programs ≤ 8
+pub Table_new : (told : Bool) (script : Script) (config : Config) (entries : ℕ) (image : Option (List ℕ)) (heap : Heap)
+    (rest : Rest) (states : List ThreadState) → config.heap < 2 ^ 30 → 1 ≤ config.forward
+    → config.forward ≤ most_forwards → length script.programs ≤ 8
     → IsNewHeap config.heap script.globals config.forward true heap → IsNewRest (length script.programs) entries rest
-    → AreNewThreads script states entries → TableStands script config (view (core_of heap rest)) states
-Table_new script config entries heap rest states small most few new_heap new_rest new_states =
+    → AreNewThreads script states entries
+    → TableStands told script config (bare image) (view (core_of heap rest)) states
+Table_new told script config entries image heap rest states small least most few new_heap new_rest new_states =
     let n : ℕ = length script.programs in
     let at_rest : AtRest true no_homes_on heap rest =
     start_at_rest true config.heap script.globals config.forward n entries heap rest small few new_heap new_rest in
+    let forwards : length heap.forward ≡ config.forward =
+    ap length new_heap.nothing_forwarded ∙ length-replicate config.forward 0 in
     record {
-      stands = at_rest.stands;
+      stands = bare_stands told image config script.globals n entries heap rest small few new_heap new_rest;
       count = new_states.count;
       threads = ap length new_rest.held ∙ length-replicate n no_registers;
       globals = ap length new_heap.globals_hold_nothing ∙ length-replicate script.globals 0;
       words = new_heap.space.size;
-      forwards = subst (λ (n : ℕ). n ≤ most_forwards)
-          (sym (ap length new_heap.nothing_forwarded ∙ length-replicate config.forward 0)) most;
-      each = λ t s at. Thread_new script entries t heap rest s at_rest new_rest
+      forwards = subst (λ (n : ℕ). n ≤ most_forwards) (sym forwards) most;
+      some_forward = subst (λ (n : ℕ). 1 ≤ n) (sym forwards) least;
+      each = λ t s at. Thread_new told script entries t heap rest s at_rest new_rest
           (let below : t < length states = slice_get_within states t s at in omega (arith, new_states.count))
           (new_states.each t s at);
       own = subst (All (λ (e : Entry). e.thread < n)) (sym new_rest.history) (All-nil (λ (e : Entry). e.thread < n));
-      ends = λ t s at. ends_new script rest.log.items config entries t states s new_states at;
+      ends = λ t s at. ends_new told script rest.log.items config entries t states s new_states at;
       due = λ t s at owes. absurd (elim (new_states.each t s at).mode [
         | inl runs ↦ let wrong : false ≡ true = ap owes_silent (sym runs.0) ∙ owes in cc
         | inr over ↦ let wrong : false ≡ true = ap owes_silent (sym over.0) ∙ owes in cc
       ]);
-      made = λ t k below. absurd (omega (arith, ap length (no_replies script entries t states new_states)));
       entries = omega (arith, ap length new_rest.history, new_states.entries, new_rest.room);
       few = omega (arith, ap length new_rest.history, new_states.few);
     }
@@ -179,3 +275,22 @@ collections_new script config entries (suc n) states new_states =
       ap (silent_in config.every) none,
       silent_none config.every,
     )
+
+-- where no thread is lost, none is counted
+none_lost : (states : List ThreadState) → ((t : ℕ) (s : ThreadState) → slice_get states t ≡ Some s → lost s.mode ≡ 0)
+    → losses states ≡ 0
+none_lost [] each = refl
+none_lost (s ∷ states) each =
+    let f : ThreadState → ℕ = λ (x : ThreadState). lost x.mode in
+    let here : lost s.mode ≡ 0 = each 0 s refl in
+    let others : losses states ≡ 0 = none_lost states (λ t x at. each (suc t) x at) in
+    omega (arith, here, others, sum-map f states, sum-map f (s ∷ states), sum_by-cons f s states)
+
+-- no new thread is
+pub losses_new : (script : Script) (entries : ℕ) (states : List ThreadState) → AreNewThreads script states entries
+    → losses states ≡ 0
+losses_new script entries states new_states =
+    none_lost states (λ t s at. elim (new_states.each t s at).mode [
+      | inl runs ↦ ap lost runs.0
+      | inr over ↦ ap lost over.0
+    ])

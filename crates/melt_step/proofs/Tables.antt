@@ -2,58 +2,60 @@
 use Rattle.std.proofs.Common.{[], ◌≡◌, ◌≢◌, ℕ, ◌+◌, ◌<◌, ◌≤◌, suc, true, false, List, ◌∷◌, ◌++◌, length, take, refl}
 use Rattle.std.proofs.Common.{sym, ◌∙◌, ap, subst, arith, length-append, inl, inr}
 use Rattle.std.proofs.Math.ListN.{set, length-set}
-use Rattle.std.proofs.lemmas.Bool.{cases_eq, cases_lt}
+use Rattle.std.proofs.lemmas.Bool.{cases_eq}
 use Rattle.std.proofs.lemmas.List.{append-nil, get_or_past}
 use Rattle.std.proofs.lemmas.Option.{none-some, same_Some, slice_get_within, slice_get_cases}
-use Rattle.std.specs.Prelude.{Option, None, Some, IfSome, IsSome, All, slice_get, drop, replicate, vec_capacity, ◌⊎◌}
+use Rattle.std.specs.Prelude.{Bool, Option, None, Some, IfSome, IsSome, All, slice_get, drop, replicate, vec_capacity}
+use Rattle.std.specs.Prelude.{◌⊎◌}
 use Rattle.melt_model.specs.History.{last, Legal}
 use Rattle.melt_model.specs.Standing.{Stands}
-use Rattle.melt_model.specs.Thread.{does}
 use Rattle.melt_model.specs.declared.config.Config.{Config}
 use Rattle.melt_model.specs.declared.history.Act.{Act}
 use Rattle.melt_model.specs.declared.history.Entry.{Entry}
 use Rattle.melt_model.specs.declared.history.Value.{Value}
 use Rattle.melt_model.specs.declared.history.Value.TheVariants.{Nil}
 use Rattle.melt_model.specs.declared.operations.Op.{Op}
-use Rattle.melt_model.specs.declared.operations.Op.TheVariants.{New, Collect}
+use Rattle.melt_model.specs.declared.operations.Op.TheVariants.{Collect}
 use Rattle.melt_model.specs.declared.operations.Reply.{Reply}
+use Rattle.melt_model.specs.declared.reports.Journal.{Journal}
 use Rattle.melt_model.specs.declared.reports.ThreadEnd.TheVariants as end
 use Rattle.melt_trace.specs.Grammar.{InRange}
 use Rattle.melt_trace.specs.Script.{Script, operations}
-use Rattle.melt_scion.specs.Heaps.{no_homes_on}
+use Rattle.melt_scion.specs.Heaps.{OnDisk}
 use Rattle.melt_core.specs.declared.call.Call.{Call}
 use Rattle.melt_core.specs.Answering.{with_entry}
 use Rattle.melt_core.specs.Changed.{stopped}
 use Rattle.melt_core.specs.Views.{View, values_of, call_of, IsQuiet, Standing}
+use Rattle.melt_core.proofs.Disks.{stands_untold}
 use Rattle.melt_core.specs.declared.answer.Pause.{Pause}
 use Rattle.melt_core.specs.declared.answer.Pause.TheVariants as pause
-use Rattle.melt_core.specs.Advances.{KeepsOthers, HasRoom, HasRoomFor, Pauses}
+use Rattle.melt_core.specs.declared.answer.Refusal.{Refusal}
+use Rattle.melt_core.specs.declared.answer.Refusal.TheVariants as refusal
+use Rattle.melt_core.specs.Advances.{KeepsOthers, Pauses}
 use Rattle.melt_step.specs.declared.thread.ThreadState.{ThreadState}
 use Rattle.melt_step.specs.declared.thread.Mode.{Mode}
 use Rattle.melt_step.specs.declared.thread.Mode.TheVariants.{Running, Due, Silent, Collecting, Asked, Lacking, Ended}
-use Rattle.melt_step.specs.Run.{IsDue}
-use Rattle.melt_step.specs.Threads.{DueBy, owes_silent, owes, paused_as, with_first, left, MayGo, IsEnded, FitsMode}
-use Rattle.melt_step.specs.Threads.{ThreadStands, replies_of, HadNow, MadeSo, EndsSo, to_reply, Later, TableStands}
-use Rattle.melt_step.specs.Threads.{ThreadWaits, ThreadGoes, ThreadRefused, TakesReply, ThreadTold, IsReady, ThreadStep}
-use Rattle.melt_step.specs.Threads.{Renewed, CoreCollected, AllWait, most_forwards}
-use Rattle.melt_step.proofs.Cuts.{replies_here, LacksNow_later, HadNow_later, had_room}
-use Rattle.melt_step.proofs.Telling.{get_set_same, get_set_other, set_got, drop_next, take_next, get_next}
+use Rattle.melt_step.specs.Run.{IsDue, LoadsNext}
+use Rattle.melt_step.specs.Threads.{DueBy, owes_silent, owes, mode_for, with_first, left, MayGo, IsEnded, FitsMode}
+use Rattle.melt_step.specs.Threads.{IsTold, ThreadStands, replies_of, EndsSo, HaveCuts, to_reply, Later, TableStands}
+use Rattle.melt_step.specs.Threads.{ThreadWaits, ThreadGoes, ThreadRefused, IsLostBy, ThreadLost, TakesReply}
+use Rattle.melt_step.specs.Threads.{ThreadTold, IsReady, ThreadStep, Renewed, AllWait, most_forwards}
+use Rattle.melt_step.proofs.Cuts.{replies_here, LacksNow_later, HaveCuts_later, first_left}
+use Rattle.melt_step.proofs.Telling.{get_set_same, get_set_other, set_got, drop_next, take_next}
 use Rattle.melt_step.proofs.Telling.{replies_other, replies_same, later_set, to_reply_set, to_reply_one, with_more}
 use Rattle.melt_step.proofs.Telling.{with_length, with_own, told_with, Stands_answers}
 
--- A thread stands so too in another history that tells it the same, with another mode.
-pub stands_so : (script : Script) (v w : View) (t : ℕ) (s : ThreadState) (mode : Mode) (st : ThreadStands script v t s)
-    → Stands w.log t (take (length s.replies.items) (operations script t)) s.replies.items st.registers
-    → IsEnded mode ⊎ (st.registers ≡ values_of w t) → (IsEnded mode → values_of w t ≡ replicate 16 Nil)
+-- A thread stands so too with another mode, where it is told so.
+pub stands_so : (told : Bool) (script : Script) (v w : View) (t : ℕ) (s : ThreadState) (mode : Mode)
+    → ThreadStands told script v t s → (told ≡ true → IsTold script w t (record s { mode = mode }))
+    → (IsEnded mode → values_of w t ≡ replicate 16 Nil)
     → ((c : Call) → call_of w t ≡ Some c → (mode ≡ Running) × (s.op ≡ Some c.op) × (c.op ≢ Collect))
-    → FitsMode mode s.op → ThreadStands script w t (record s { mode = mode })
-stands_so script v w t s mode st told in_registers dropped call fits = record {
+    → FitsMode mode s.op → ThreadStands told script w t (record s { mode = mode })
+stands_so told script v w t s mode st is_told dropped call fits = record {
   to_come = st.to_come;
   within = st.within;
   none_left = st.none_left;
-  registers = st.registers;
-  told = told;
-  in_registers = in_registers;
+  is_told = is_told;
   dropped = dropped;
   call = call;
   fits = fits;
@@ -62,87 +64,107 @@ stands_so script v w t s mode st told in_registers dropped call fits = record {
   room = st.room;
 }
 
+-- what a thread is told by a history that is the same
+pub told_so : (script : Script) (v w : View) (t : ℕ) (s : ThreadState) (mode : Mode) (is : IsTold script v t s)
+    → w.log ≡ v.log → IsEnded mode ⊎ (is.registers ≡ values_of w t) → IsTold script w t (record s { mode = mode })
+told_so script v w t s mode is history in_registers = record {
+  registers = is.registers;
+  told = subst (λ (h : List Entry). Stands h t (take (length s.replies.items) (operations script t)) s.replies.items
+      is.registers) (sym history) is.told;
+  in_registers = in_registers;
+}
+
 -- another thread than that of the event
-other_stands : (script : Script) (v w : View) (t u : ℕ) (s : ThreadState) (act : Option Act) → u ≢ t → KeepsOthers v w t
-    → w.log ≡ with_entry t v.log act → ThreadStands script v u s → ThreadStands script w u s
-other_stands script v w t u s act differ others grown st =
-    let told = told_with v.log t u (take (length s.replies.items) (operations script u)) s.replies.items
-    st.registers act differ st.told in
-    stands_so script v w u s s.mode st
-    (subst (λ (h : List Entry). Stands h u (take (length s.replies.items) (operations script u)) s.replies.items
-    st.registers) (sym grown) told)
-    (elim st.in_registers [ inl over ↦ inl over | inr same ↦ inr (same ∙ sym (others.values u differ)) ])
+other_told : (script : Script) (v w : View) (t u : ℕ) (s : ThreadState) (act : Option Act) → u ≢ t → KeepsOthers v w t
+    → w.log ≡ with_entry t v.log act → IsTold script v u s → IsTold script w u s
+other_told script v w t u s act differ others grown is = record {
+  registers = is.registers;
+  told = subst (λ (h : List Entry). Stands h u (take (length s.replies.items) (operations script u)) s.replies.items
+      is.registers) (sym grown)
+      (told_with v.log t u (take (length s.replies.items) (operations script u)) s.replies.items is.registers act differ
+      is.told);
+  in_registers = elim is.in_registers [
+    | inl over ↦ inl over
+    | inr same ↦ inr (same ∙ sym (others.values u differ))
+  ];
+}
+
+other_stands : (told : Bool) (script : Script) (v w : View) (t u : ℕ) (s : ThreadState) (act : Option Act) → u ≢ t
+    → KeepsOthers v w t → w.log ≡ with_entry t v.log act → ThreadStands told script v u s
+    → ThreadStands told script w u s
+other_stands told script v w t u s act differ others grown st =
+    stands_so told script v w u s s.mode st
+    (λ tells. other_told script v w t u s act differ others grown (st.is_told tells))
     (λ over. others.values u differ ∙ st.dropped over) (λ c is. st.call c (sym (others.calls u differ) ∙ is)) st.fits
 
 -- the registers of a thread that has not ended hold what it was told
-held_now : (script : Script) (v : View) (t : ℕ) (s : ThreadState) (st : ThreadStands script v t s)
-    → (IsEnded s.mode → ⊥) → st.registers ≡ values_of v t
-held_now script v t s st runs = elim st.in_registers [ inl over ↦ absurd (runs over) | inr same ↦ same ]
+held_now : (script : Script) (v : View) (t : ℕ) (s : ThreadState) (is : IsTold script v t s) → (IsEnded s.mode → ⊥)
+    → is.registers ≡ values_of v t
+held_now script v t s is runs = elim is.in_registers [ inl over ↦ absurd (runs over) | inr same ↦ same ]
 
 -- a thread of which at most the mode changes
-pub mode_stands : (script : Script) (v w : View) (t : ℕ) (s : ThreadState) (mode : Mode) → ThreadStands script v t s
-    → (IsEnded s.mode → ⊥) → (IsEnded mode → ⊥) → w.log ≡ v.log → values_of w t ≡ values_of v t → FitsMode mode s.op
+pub mode_stands : (told : Bool) (script : Script) (v w : View) (t : ℕ) (s : ThreadState) (mode : Mode)
+    → ThreadStands told script v t s → (IsEnded s.mode → ⊥) → (IsEnded mode → ⊥) → w.log ≡ v.log
+    → values_of w t ≡ values_of v t → FitsMode mode s.op
     → ((c : Call) → call_of w t ≡ Some c → (mode ≡ Running) × (s.op ≡ Some c.op) × (c.op ≢ Collect))
-    → ThreadStands script w t (record s { mode = mode })
-mode_stands script v w t s mode st runs waits history values fits call =
-    stands_so script v w t s mode st
-    (subst (λ (h : List Entry). Stands h t (take (length s.replies.items) (operations script t)) s.replies.items
-    st.registers) (sym history) st.told)
-    (elim st.in_registers [ inl over ↦ absurd (runs over) | inr same ↦ inr (same ∙ sym values) ])
+    → ThreadStands told script w t (record s { mode = mode })
+mode_stands told script v w t s mode st runs waits history values fits call =
+    stands_so told script v w t s mode st
+    (λ tells. told_so script v w t s mode (st.is_told tells) history
+    (inr (held_now script v t s (st.is_told tells) runs ∙ sym values)))
     (λ over. absurd (waits over)) call fits
 
 -- why a thread has ended stays so
-ends_later : (script : Script) (log more : List Entry) (states after : List ThreadState) (config : Config) (u : ℕ)
-    (s : ThreadState) (mode : Mode) → Later states after → slice_get states u ≡ Some s
-    → replies_of after u ≡ replies_of states u → s.mode ≡ mode → EndsSo script log states config u mode
-    → EndsSo script (log ++ more) after config u mode
-ends_later script log more states after config u s Running later at same is ends = tt
-ends_later script log more states after config u s Due later at same is ends = tt
-ends_later script log more states after config u s Silent later at same is ends = tt
-ends_later script log more states after config u s Collecting later at same is ends = tt
-ends_later script log more states after config u s Asked later at same is ends = tt
-ends_later script log more states after config u s Lacking later at same is ends = tt
-ends_later script log more states after config u s (Ended end.Done) later at same is ends = ap length same ∙ ends
-ends_later script log more states after config u s (Ended (end.OutOfHeap held_words need)) later at same is ends =
-    LacksNow_later script log more states after config u held_words need s later at
-    (let over : IsEnded (Ended (end.OutOfHeap held_words need)) = tt in subst IsEnded (sym is) over) ends
-ends_later script log more states after config u s (Ended end.DiskFault) later at same is ends = absurd ends
-ends_later script log more states after config u s (Ended (end.Damaged home place word)) later at same is ends =
-    absurd ends
-ends_later script log more states after config u s (Ended end.Halted) later at same is ends = absurd ends
+pub ends_later : (told : Bool) (script : Script) (log more : List Entry) (states after : List ThreadState)
+    (config : Config) (u : ℕ) (s : ThreadState) (mode : Mode) → Later states after → slice_get states u ≡ Some s
+    → replies_of after u ≡ replies_of states u → s.mode ≡ mode → EndsSo told script log states config u mode
+    → EndsSo told script (log ++ more) after config u mode
+ends_later told script log more states after config u s Running later at same is ends = tt
+ends_later told script log more states after config u s Due later at same is ends = tt
+ends_later told script log more states after config u s Silent later at same is ends = tt
+ends_later told script log more states after config u s Collecting later at same is ends = tt
+ends_later told script log more states after config u s Asked later at same is ends = tt
+ends_later told script log more states after config u s Lacking later at same is ends = tt
+ends_later told script log more states after config u s (Ended end.Done) later at same is ends = ap length same ∙ ends
+ends_later told script log more states after config u s (Ended (end.OutOfHeap held_words need)) later at same is ends =
+    λ tells. LacksNow_later script log more states after config u held_words need s later at
+    (let over : IsEnded (Ended (end.OutOfHeap held_words need)) = tt in subst IsEnded (sym is) over) (ends tells)
+ends_later told script log more states after config u s (Ended end.DiskFault) later at same is ends =
+    subst (LoadsNext script u) (ap length (sym same)) ends
+ends_later told script log more states after config u s (Ended (end.Damaged home place word)) later at same is ends =
+    (ends.0, subst (LoadsNext script u) (ap length (sym same)) ends.1, ends.2)
+ends_later told script log more states after config u s (Ended end.Halted) later at same is ends = absurd ends
 
 -- a thread that has not ended need not say why
-pub ends_open : (script : Script) (log : List Entry) (states : List ThreadState) (config : Config) (t : ℕ) (mode : Mode)
-    → (IsEnded mode → ⊥) → EndsSo script log states config t mode
-ends_open script log states config t Running free = tt
-ends_open script log states config t Due free = tt
-ends_open script log states config t Silent free = tt
-ends_open script log states config t Collecting free = tt
-ends_open script log states config t Asked free = tt
-ends_open script log states config t Lacking free = tt
-ends_open script log states config t (Ended e) free = absurd (free tt)
+pub ends_open : (told : Bool) (script : Script) (log : List Entry) (states : List ThreadState) (config : Config) (t : ℕ)
+    (mode : Mode) → (IsEnded mode → ⊥) → EndsSo told script log states config t mode
+ends_open told script log states config t Running free = tt
+ends_open told script log states config t Due free = tt
+ends_open told script log states config t Silent free = tt
+ends_open told script log states config t Collecting free = tt
+ends_open told script log states config t Asked free = tt
+ends_open told script log states config t Lacking free = tt
+ends_open told script log states config t (Ended e) free = absurd (free tt)
 
 -- What an event of a thread shows of it, so that all threads stand behind the event: its entry, if it has one, and the
 -- replies that it got.
-pub record Moves (script : Script) (config : Config) (v w : View) (states : List ThreadState) (t : ℕ)
+pub record Moves (told : Bool) (script : Script) (config : Config) (v w : View) (states : List ThreadState) (t : ℕ)
     (s after : ThreadState) : Type 0 where
   pub act : Option Act
   pub extra : List Reply
   pub grown : w.log ≡ with_entry t v.log act
   pub replies : after.replies.items ≡ s.replies.items ++ extra
-  pub stands : ThreadStands script w t after
+  pub stands : ThreadStands told script w t after
   pub due : owes_silent after.mode ≡ true → IsDue config (length after.replies.items)
-  pub ends : EndsSo script w.log (set states t after) config t after.mode
-  pub made_last : (k : ℕ) → k < length after.replies.items → length s.replies.items ≤ k
-      → MadeSo script v.log states config t k
+  pub ends : EndsSo told script w.log (set states t after) config t after.mode
   pub entries : length w.log + length (left after) ≤ length v.log + length (left s)
 
 -- all threads stand behind such an event
-pub Table_moves : (script : Script) (config : Config) (v w : View) (states : List ThreadState) (t : ℕ)
-    (s after : ThreadState) → TableStands script config v states → slice_get states t ≡ Some s → (IsEnded s.mode → ⊥)
-    → Standing true no_homes_on w → KeepsOthers v w t → Moves script config v w states t s after
-    → TableStands script config w (set states t after)
-Table_moves script config v w states t s after table at runs stands others m =
+pub Table_moves : (told : Bool) (script : Script) (config : Config) (disk : OnDisk) (v w : View)
+    (states : List ThreadState) (t : ℕ) (s after : ThreadState) → TableStands told script config disk v states
+    → slice_get states t ≡ Some s → (IsEnded s.mode → ⊥) → Standing told disk w → KeepsOthers v w t
+    → Moves told script config v w states t s after → TableStands told script config disk w (set states t after)
+Table_moves told script config disk v w states t s after table at runs stands others m =
     let later : Later states (set states t after) = later_set states t s after m.extra at runs m.replies in
     let more = with_more v.log t m.act in
     let longer : w.log ≡ v.log ++ more.0 = m.grown ∙ more.1 in
@@ -166,10 +188,11 @@ Table_moves script config v w states t s after table at runs stands others m =
       globals = others.globals ∙ table.globals;
       words = others.words ∙ table.words;
       forwards = subst (λ (n : ℕ). n ≤ most_forwards) (sym others.forwards) table.forwards;
+      some_forward = subst (λ (n : ℕ). 1 ≤ n) (sym others.forwards) table.some_forward;
       each = λ u x is. elim (cases_eq u t) [
-        | inl same ↦ subst (λ (k : ℕ). ThreadStands script w k x) (sym same)
-            (subst (λ (y : ThreadState). ThreadStands script w t y) (at_t u x same is) m.stands)
-        | inr differ ↦ other_stands script v w t u x m.act differ others m.grown
+        | inl same ↦ subst (λ (k : ℕ). ThreadStands told script w k x) (sym same)
+            (subst (λ (y : ThreadState). ThreadStands told script w t y) (at_t u x same is) m.stands)
+        | inr differ ↦ other_stands told script v w t u x m.act differ others m.grown
             (table.each u x (elsewhere u x differ is))
       ];
       own = subst (All (λ (e : Entry). e.thread < length script.programs)) (sym m.grown)
@@ -182,32 +205,15 @@ Table_moves script config v w states t s after table at runs stands others m =
         | inr differ ↦ table.due u x (elsewhere u x differ is)
       ];
       ends = λ u x is. elim (cases_eq u t) [
-        | inl same ↦ subst (λ (k : ℕ). EndsSo script w.log (set states t after) config k x.mode) (sym same)
-            (subst (λ (y : ThreadState). EndsSo script w.log (set states t after) config t y.mode)
+        | inl same ↦ subst (λ (k : ℕ). EndsSo told script w.log (set states t after) config k x.mode) (sym same)
+            (subst (λ (y : ThreadState). EndsSo told script w.log (set states t after) config t y.mode)
             (at_t u x same is) m.ends)
-        | inr differ ↦ subst (λ (h : List Entry). EndsSo script h (set states t after) config u x.mode) (sym longer)
-            (ends_later script v.log more.0 states (set states t after) config u x x.mode later
+        | inr differ ↦ subst (λ (h : List Entry). EndsSo told script h (set states t after) config u x.mode)
+            (sym longer)
+            (ends_later told script v.log more.0 states (set states t after) config u x x.mode later
             (elsewhere u x differ is) (replies_other states t u after differ) refl
             (table.ends u x (elsewhere u x differ is)))
       ];
-      made = λ u k below dst refs nums next.
-          let before : HadNow script v.log states config u k (2 + refs + nums) =
-          elim (cases_lt k (length (replies_of states u))) [
-            | inl earlier ↦ table.made u k earlier dst refs nums next
-            | inr last ↦ elim (cases_eq u t) [
-              | inl same ↦ subst (λ (j : ℕ). slice_get (operations script j) k ≡ Some (New dst refs nums)
-                  → HadNow script v.log states config j k (2 + refs + nums)) (sym same)
-                  (m.made_last k
-                  (subst (λ (n : ℕ). k < n) (ap (λ (j : ℕ). length (replies_of (set states t after) j)) same
-                  ∙ ap length now) below)
-                  (subst (λ (n : ℕ). n ≤ k) (ap (λ (j : ℕ). length (replies_of states j)) same ∙ ap length was) last)
-                  dst refs nums) next
-              | inr differ ↦ absurd (let same : length (replies_of (set states t after) u) ≡ length
-                  (replies_of states u) = ap length (replies_other states t u after differ) in omega arith)
-            ]
-          ] in
-          subst (λ (h : List Entry). HadNow script h (set states t after) config u k (2 + refs + nums)) (sym longer)
-          (HadNow_later script v.log more.0 states (set states t after) config u k (2 + refs + nums) later before);
       entries =
           let e : length v.log + to_reply states ≤ v.capacity = table.entries in
           let c : w.capacity ≡ v.capacity = others.capacity in
@@ -215,12 +221,23 @@ Table_moves script config v w states t s after table at runs stands others m =
       few = let e : length v.log + to_reply states ≤ 8388608 = table.few in omega (arith, e, to_come, fits, one);
     }
 
+-- and the moments of collections stay so
+pub cuts_moves : (told : Bool) (script : Script) (config : Config) (v w : View) (states : List ThreadState) (t : ℕ)
+    (s after : ThreadState) (journal : List Journal) → slice_get states t ≡ Some s → (IsEnded s.mode → ⊥)
+    → Moves told script config v w states t s after → HaveCuts script v.log states config journal
+    → HaveCuts script w.log (set states t after) config journal
+cuts_moves told script config v w states t s after journal at runs m have =
+    let more = with_more v.log t m.act in
+    subst (λ (h : List Entry). HaveCuts script h (set states t after) config journal) (sym (m.grown ∙ more.1))
+    (HaveCuts_later script v.log more.0 states (set states t after) config journal
+    (later_set states t s after m.extra at runs m.replies) have)
+
 -- a thread that got no reply
-pub same_moves : (script : Script) (config : Config) (v w : View) (states : List ThreadState) (t : ℕ) (s : ThreadState)
-    (mode : Mode) → (owes_silent mode ≡ true → IsDue config (length s.replies.items)) → (IsEnded mode → ⊥)
-    → w.log ≡ v.log → ThreadStands script w t (record s { mode = mode })
-    → Moves script config v w states t s (record s { mode = mode })
-same_moves script config v w states t s mode due free history stands =
+pub same_moves : (told : Bool) (script : Script) (config : Config) (v w : View) (states : List ThreadState) (t : ℕ)
+    (s : ThreadState) (mode : Mode) → (owes_silent mode ≡ true → IsDue config (length s.replies.items))
+    → (IsEnded mode → ⊥) → w.log ≡ v.log → ThreadStands told script w t (record s { mode = mode })
+    → Moves told script config v w states t s (record s { mode = mode })
+same_moves told script config v w states t s mode due free history stands =
     let after : ThreadState = record s { mode = mode } in
     record {
       act = None;
@@ -229,8 +246,7 @@ same_moves script config v w states t s mode due free history stands =
       replies = sym (append-nil s.replies.items);
       stands = stands;
       due = due;
-      ends = ends_open script w.log (set states t after) config t mode free;
-      made_last = λ k below last. absurd (omega arith);
+      ends = ends_open told script w.log (set states t after) config t mode free;
       entries = let same : length w.log ≡ length v.log = ap length history in omega arith;
     }
 
@@ -243,11 +259,11 @@ waits_open v w t s after mode waits over = elim waits.before [
 ]
 
 -- a thread that waits for a collection
-waits_moves : (script : Script) (config : Config) (v w : View) (states : List ThreadState) (t : ℕ)
+waits_moves : (told : Bool) (script : Script) (config : Config) (v w : View) (states : List ThreadState) (t : ℕ)
     (s after : ThreadState) (mode : Mode) → (owes_silent s.mode ≡ true → IsDue config (length s.replies.items))
-    → ThreadStands script v t s → (IsEnded s.mode → ⊥) → ThreadWaits v w t s after mode
-    → Moves script config v w states t s after
-waits_moves script config v w states t s after mode due st runs waits =
+    → ThreadStands told script v t s → (IsEnded s.mode → ⊥) → ThreadWaits v w t s after mode
+    → Moves told script config v w states t s after
+waits_moves told script config v w states t s after mode due st runs waits =
     let waiting : IsEnded mode → ⊥ = waits_open v w t s after mode waits in
     let fits : FitsMode mode s.op = elim waits.before [
       | inl own ↦ subst (λ (m : Mode). FitsMode m s.op) (sym own.2) own.1
@@ -261,27 +277,27 @@ waits_moves script config v w states t s after mode due st runs waits =
       | inl own ↦ let known = st.call c is in known.2 (same_Some c.op Collect (sym known.1 ∙ own.1))
       | inr due ↦ let known : s.mode ≡ Running = (st.call c is).0 in let is_due : s.mode ≡ Due = due.0 in absurd (cc)
     ] in
-    let stands : ThreadStands script (stopped v) t (record s { mode = mode }) =
-    mode_stands script v (stopped v) t s mode st runs waiting refl refl fits (λ c is. absurd (call c is)) in
-    subst (λ (y : ThreadState). Moves script config v w states t s y) (sym waits.only)
-    (same_moves script config v w states t s mode owes waiting (ap (λ (x : View). x.log) waits.stop)
-    (subst (λ (x : View). ThreadStands script x t (record s { mode = mode })) (sym waits.stop) stands))
+    let stands : ThreadStands told script (stopped v) t (record s { mode = mode }) =
+    mode_stands told script v (stopped v) t s mode st runs waiting refl refl fits (λ c is. absurd (call c is)) in
+    subst (λ (y : ThreadState). Moves told script config v w states t s y) (sym waits.only)
+    (same_moves told script config v w states t s mode owes waiting (ap (λ (x : View). x.log) waits.stop)
+    (subst (λ (x : View). ThreadStands told script x t (record s { mode = mode })) (sym waits.stop) stands))
 
 -- a thread whose call goes on
-goes_moves : (script : Script) (config : Config) (v w : View) (states : List ThreadState) (t : ℕ)
+goes_moves : (told : Bool) (script : Script) (config : Config) (v w : View) (states : List ThreadState) (t : ℕ)
     (s after : ThreadState) → (owes_silent s.mode ≡ true → IsDue config (length s.replies.items))
-    → ThreadStands script v t s → (IsEnded s.mode → ⊥) → ThreadGoes v w t s after
-    → Moves script config v w states t s after
-goes_moves script config v w states t s after due st runs goes =
-    let stands : ThreadStands script w t (record s { mode = s.mode }) =
-    mode_stands script v w t s s.mode st runs runs goes.history goes.values st.fits
+    → ThreadStands told script v t s → (IsEnded s.mode → ⊥) → ThreadGoes v w t s after
+    → Moves told script config v w states t s after
+goes_moves told script config v w states t s after due st runs goes =
+    let stands : ThreadStands told script w t (record s { mode = s.mode }) =
+    mode_stands told script v w t s s.mode st runs runs goes.history goes.values st.fits
     (λ c is. let same : goes.call ≡ c = same_Some goes.call c (sym goes.flight ∙ is) in (
       goes.running,
       goes.op ∙ ap (λ (x : Call). Some x.op) same,
       subst (λ (x : Call). x.op ≢ Collect) same goes.no_collect,
     )) in
-    subst (λ (y : ThreadState). Moves script config v w states t s y) (sym goes.same)
-    (same_moves script config v w states t s s.mode due runs goes.history stands)
+    subst (λ (y : ThreadState). Moves told script config v w states t s y) (sym goes.same)
+    (same_moves told script config v w states t s s.mode due runs goes.history stands)
 
 -- what a call that paused leaves of the view
 pub paused_view : (v w : View) (t : ℕ) (o : Op) (cause : Pause) → Pauses v w t o cause
@@ -295,17 +311,19 @@ paused_view v w t o (pause.Space need) pauses = (pauses.call, pauses.own.history
 paused_view v w t o pause.Forward pauses = (pauses.call, pauses.own.history, pauses.own.values)
 
 -- how a thread whose call paused waits
-pub paused_cases : (cause : Pause) → (paused_as cause ≡ Asked) ⊎ (paused_as cause ≡ Lacking)
+pub paused_cases : (cause : Pause)
+    → (mode_for (refusal.Pause cause) ≡ Asked) ⊎ (mode_for (refusal.Pause cause) ≡ Lacking)
 paused_cases pause.Asked = inl refl
 paused_cases (pause.Space need) = inr refl
 paused_cases pause.Forward = inr refl
 
 -- a thread that waits for its call to be made again
-again_moves : (script : Script) (config : Config) (v w : View) (states : List ThreadState) (t : ℕ) (s : ThreadState)
-    (mode : Mode) → ThreadStands script v t s → (IsEnded s.mode → ⊥) → (mode ≡ Asked) ⊎ (mode ≡ Lacking) → IsSome s.op
-    → s.op ≢ Some Collect → (call_of w t ≡ None) × (w.log ≡ v.log) × (values_of w t ≡ values_of v t)
-    → Moves script config v w states t s (record s { mode = mode })
-again_moves script config v w states t s mode st runs waits some no_collect behind =
+again_moves : (told : Bool) (script : Script) (config : Config) (v w : View) (states : List ThreadState) (t : ℕ)
+    (s : ThreadState) (mode : Mode) → ThreadStands told script v t s → (IsEnded s.mode → ⊥)
+    → (mode ≡ Asked) ⊎ (mode ≡ Lacking) → IsSome s.op → s.op ≢ Some Collect
+    → (call_of w t ≡ None) × (w.log ≡ v.log) × (values_of w t ≡ values_of v t)
+    → Moves told script config v w states t s (record s { mode = mode })
+again_moves told script config v w states t s mode st runs waits some no_collect behind =
     let waiting : IsEnded mode → ⊥ = λ over. elim waits [
       | inl asked ↦ subst IsEnded asked over
       | inr lacking ↦ subst IsEnded lacking over
@@ -318,43 +336,115 @@ again_moves script config v w states t s mode st runs waits some no_collect behi
       | inl asked ↦ subst (λ (m : Mode). FitsMode m s.op) (sym asked) (some, no_collect)
       | inr lacking ↦ subst (λ (m : Mode). FitsMode m s.op) (sym lacking) (some, no_collect)
     ] in
-    let stands : ThreadStands script w t (record s { mode = mode }) =
-    mode_stands script v w t s mode st runs waiting behind.1 behind.2 fits
+    let stands : ThreadStands told script w t (record s { mode = mode }) =
+    mode_stands told script v w t s mode st runs waiting behind.1 behind.2 fits
     (λ c is. absurd (let none : call_of w t ≡ None = behind.0 in cc)) in
-    same_moves script config v w states t s mode owes waiting behind.1 stands
+    same_moves told script config v w states t s mode owes waiting behind.1 stands
 
 -- a thread whose call was refused
-refused_moves : (script : Script) (config : Config) (v w : View) (states : List ThreadState) (t : ℕ)
-    (s after : ThreadState) → ThreadStands script v t s → (IsEnded s.mode → ⊥) → ThreadRefused v w t s after
-    → Moves script config v w states t s after
-refused_moves script config v w states t s after st runs refused =
-    subst (λ (y : ThreadState). Moves script config v w states t s y) (sym refused.only)
-    (again_moves script config v w states t s (paused_as refused.cause) st runs (paused_cases refused.cause)
+refused_moves : (told : Bool) (script : Script) (config : Config) (v w : View) (states : List ThreadState) (t : ℕ)
+    (s after : ThreadState) → ThreadStands told script v t s → (IsEnded s.mode → ⊥) → ThreadRefused v w t s after
+    → Moves told script config v w states t s after
+refused_moves told script config v w states t s after st runs refused =
+    subst (λ (y : ThreadState). Moves told script config v w states t s y) (sym refused.only)
+    (again_moves told script config v w states t s (mode_for (refusal.Pause refused.cause)) st runs
+    (paused_cases refused.cause)
     (rw refused.next refl)
     (λ is. refused.no_collect (same_Some refused.op Collect (sym refused.next ∙ is)))
     (paused_view v w t refused.op refused.cause refused.pauses))
 
 -- a thread that still lacks room stands as before
-pub Table_lacks : (script : Script) (config : Config) (v w : View) (states : List ThreadState) (t : ℕ) (s : ThreadState)
-    → TableStands script config v states → slice_get states t ≡ Some s → s.mode ≡ Lacking → Standing true no_homes_on w
-    → KeepsOthers v w t → (call_of w t ≡ None) × (w.log ≡ v.log) × (values_of w t ≡ values_of v t)
-    → TableStands script config w states
-Table_lacks script config v w states t s table at lacking stands others behind =
-    let st : ThreadStands script v t s = table.each t s at in
+pub Table_lacks : (told : Bool) (script : Script) (config : Config) (disk : OnDisk) (v w : View)
+    (states : List ThreadState) (t : ℕ) (s : ThreadState) → TableStands told script config disk v states
+    → slice_get states t ≡ Some s → s.mode ≡ Lacking → Standing told disk w → KeepsOthers v w t
+    → (call_of w t ≡ None) × (w.log ≡ v.log) × (values_of w t ≡ values_of v t)
+    → TableStands told script config disk w states
+Table_lacks told script config disk v w states t s table at lacking stands others behind =
+    let st : ThreadStands told script v t s = table.each t s at in
     let runs : IsEnded s.mode → ⊥ = λ over. subst IsEnded lacking over in
     let fits : FitsMode Lacking s.op = subst (λ (m : Mode). FitsMode m s.op) lacking st.fits in
     let same : record s { mode = Lacking } ≡ s =
     ap {B = ThreadState} (λ (m : Mode). record s { mode = m }) (sym lacking) in
-    let moves : Moves script config v w states t s (record s { mode = Lacking }) =
-    again_moves script config v w states t s Lacking st runs (inr refl) fits.0 fits.1 behind in
-    subst (TableStands script config w) (set_got states t s at)
-    (subst (λ (y : ThreadState). TableStands script config w (set states t y)) same
-    (Table_moves script config v w states t s (record s { mode = Lacking }) table at runs stands others moves))
+    let moves : Moves told script config v w states t s (record s { mode = Lacking }) =
+    again_moves told script config v w states t s Lacking st runs (inr refl) fits.0 fits.1 behind in
+    subst (TableStands told script config disk w) (set_got states t s at)
+    (subst (λ (y : ThreadState). TableStands told script config disk w (set states t y)) same
+    (Table_moves told script config disk v w states t s (record s { mode = Lacking }) table at runs stands others
+    moves))
+
+-- a thread that could not read the disk has ended
+pub lost_ends : (told : Bool) (finish : ℕ) (r : Refusal) → IsLostBy told finish r → IsEnded (mode_for r)
+lost_ends told finish (refusal.Pause cause) cause_is = absurd cause_is
+lost_ends told finish refusal.DiskFault cause_is = tt
+lost_ends told finish (refusal.Damaged damaged) cause_is = tt
+
+-- whatever the operation is, a thread that has ended fits it
+pub ended_fits : (mode : Mode) (o : Option Op) → IsEnded mode → FitsMode mode o
+ended_fits Running o over = absurd over
+ended_fits Due o over = tt
+ended_fits Silent o over = tt
+ended_fits Collecting o over = absurd over
+ended_fits Asked o over = absurd over
+ended_fits Lacking o over = absurd over
+ended_fits (Ended e) o over = tt
+
+-- no refusal leaves a silent collection to come
+pub refused_owes : (r : Refusal) → owes_silent (mode_for r) ≡ false
+refused_owes (refusal.Pause pause.Asked) = refl
+refused_owes (refusal.Pause (pause.Space need)) = refl
+refused_owes (refusal.Pause pause.Forward) = refl
+refused_owes refusal.DiskFault = refl
+refused_owes (refusal.Damaged damaged) = refl
+
+-- why a thread has ended that could not read the disk
+lost_so : (told : Bool) (script : Script) (log : List Entry) (states : List ThreadState) (config : Config)
+    (t finish : ℕ) (r : Refusal) → finish ≤ config.disk → LoadsNext script t (length (replies_of states t))
+    → IsLostBy told finish r → EndsSo told script log states config t (mode_for r)
+lost_so told script log states config t finish (refusal.Pause cause) within loads is = absurd is
+lost_so told script log states config t finish refusal.DiskFault within loads is = loads
+lost_so told script log states config t finish (refusal.Damaged damaged) within loads is =
+    (is.untold, loads, is.read config within)
+
+-- it stands, with registers that hold nothing
+lost_stands : (told : Bool) (script : Script) (finish : ℕ) (v w : View) (t : ℕ) (s after : ThreadState)
+    → ThreadStands told script v t s → (lost : ThreadLost told finish v w t s after)
+    → ThreadStands told script w t (record s { mode = mode_for lost.refusal })
+lost_stands told script finish v w t s after st lost =
+    let over : IsEnded (mode_for lost.refusal) = lost_ends told finish lost.refusal lost.cause in
+    stands_so told script v w t s (mode_for lost.refusal) st
+    (λ tells. told_so script v w t s (mode_for lost.refusal) (st.is_told tells) lost.history (inl over))
+    (λ ended. lost.dropped) (λ c is. absurd (let none : call_of w t ≡ None = lost.call in cc))
+    (ended_fits (mode_for lost.refusal) s.op over)
+
+-- all threads stand behind the end of one that could not read the disk
+pub lost_moves : (told : Bool) (script : Script) (config : Config) (finish : ℕ) (v w : View) (states : List ThreadState)
+    (t : ℕ) (s after : ThreadState) → finish ≤ config.disk → ThreadStands told script v t s
+    → slice_get states t ≡ Some s → ThreadLost told finish v w t s after
+    → Moves told script config v w states t s after
+lost_moves told script config finish v w states t s after within st at lost =
+    let gone : ThreadState = record s { mode = mode_for lost.refusal } in
+    let next : slice_get (operations script t) (length s.replies.items) ≡ Some lost.op =
+    first_left (operations script t) (length s.replies.items) lost.op s.cursor.operations
+    (ap (λ (o : Option Op). with_first o s.cursor.operations) (sym lost.next) ∙ st.to_come) in
+    let loads : LoadsNext script t (length (replies_of (set states t gone) t)) =
+    subst (LoadsNext script t) (ap length (sym (replies_same states t s gone at)))
+    (record { op = lost.op; next = next; loads = lost.loads }) in
+    subst (λ (y : ThreadState). Moves told script config v w states t s y) (sym lost.only)
+    (record {
+      act = None;
+      extra = [];
+      grown = lost.history;
+      replies = sym (append-nil s.replies.items);
+      stands = lost_stands told script finish v w t s after st lost;
+      due = λ owes. absurd (let wrong : false ≡ true = sym (refused_owes lost.refusal) ∙ owes in cc);
+      ends = lost_so told script w.log (set states t gone) config t finish lost.refusal within loads lost.cause;
+      entries = let same : length w.log ≡ length v.log = ap length lost.history in omega arith;
+    })
 
 -- A thread that got the reply to its next operation: what was left began with it.
-pub told_left : (v w : View) (t : ℕ) (s after : ThreadState) (told : ThreadTold v w t s after)
-    → left s ≡ told.op ∷ s.cursor.operations
-told_left v w t s after told = ap (λ (o : Option Op). with_first o s.cursor.operations) told.next
+pub told_left : (told : Bool) (v w : View) (t : ℕ) (s after : ThreadState) (got : ThreadTold told v w t s after)
+    → left s ≡ got.op ∷ s.cursor.operations
+told_left told v w t s after got = ap (λ (o : Option Op). with_first o s.cursor.operations) got.next
 
 -- its mode fits its next operation
 told_fits : (s after : ThreadState) (reply : Reply) → TakesReply s after reply → FitsMode after.mode after.op
@@ -367,29 +457,65 @@ told_fits s after reply takes =
       ]
     ]
 
--- it stands one operation further in the history
-told_stands : (script : Script) (v w : View) (t : ℕ) (s after : ThreadState) → ThreadStands script v t s
-    → (IsEnded s.mode → ⊥) → Standing true no_homes_on v → Standing true no_homes_on w
-    → length w.globals ≡ length v.globals
-    → ThreadTold v w t s after → ThreadStands script w t after
-told_stands script v w t s after st runs before behind globals told =
+-- the operations to which it has replies
+told_taken : (told : Bool) (script : Script) (v w : View) (t : ℕ) (s after : ThreadState)
+    → ThreadStands told script v t s → (got : ThreadTold told v w t s after)
+    → take (length after.replies.items) (operations script t) ≡ take (length s.replies.items) (operations script t)
+    ++ got.op ∷ []
+told_taken told script v w t s after st got =
     let ops : List Op = operations script t in
     let k : ℕ = length s.replies.items in
-    let takes : TakesReply s after told.reply = told.takes in
-    let first : left s ≡ told.op ∷ s.cursor.operations = told_left v w t s after told in
-    let dropped : drop k ops ≡ told.op ∷ s.cursor.operations = sym st.to_come ∙ first in
-    let count : length after.replies.items ≡ k + 1 =
-    ap length takes.replies ∙ length-append s.replies.items (told.reply ∷ []) in
-    let more : length after.replies.items ≡ suc k = omega (arith, count) in
+    let more : length after.replies.items ≡ suc k =
+    omega (arith, ap length got.takes.replies, length-append s.replies.items (got.reply ∷ [])) in
+    ap (λ (n : ℕ). take n ops) more
+    ∙ take_next ops s.cursor.operations k got.op (sym st.to_come ∙ told_left told v w t s after got)
+
+-- it is told one operation further by the history
+told_further : (script : Script) (disk : OnDisk) (v w : View) (t : ℕ) (s after : ThreadState)
+    → ThreadStands true script v t s → (IsEnded s.mode → ⊥) → Standing true disk v → Standing true disk w
+    → length w.globals ≡ length v.globals → ThreadTold true v w t s after → IsTold script w t after
+told_further script disk v w t s after st runs before behind globals got =
+    let ops : List Op = operations script t in
+    let k : ℕ = length s.replies.items in
+    let is : IsTold script v t s = st.is_told refl in
+    let answers = got.answers refl in
     let legal : Legal w.log (length v.globals) = subst (λ (n : ℕ). Legal w.log n) globals (behind.legal refl) in
     let now : Stands v.log t (take k ops) s.replies.items (values_of v t) =
     subst (λ (rs : List Value). Stands v.log t (take k ops) s.replies.items rs)
-    (held_now script v t s st runs) st.told in
-    let next : Stands w.log t (take k ops ++ told.op ∷ []) (s.replies.items ++ told.reply ∷ []) told.registers =
+    (held_now script v t s is runs) is.told in
+    let next : Stands w.log t (take k ops ++ got.op ∷ []) (s.replies.items ++ got.reply ∷ []) answers.0 =
     Stands_answers v.log w.log t (length v.globals) (take k ops) s.replies.items
-    (values_of v t) told.registers told.op told.reply (before.legal refl) legal now told.answers in
-    let taken : take (length after.replies.items) ops ≡ take k ops ++ told.op ∷ [] =
-    ap (λ (n : ℕ). take n ops) more ∙ take_next ops s.cursor.operations k told.op dropped in
+    (values_of v t) answers.0 got.op got.reply (before.legal refl) legal now answers.1 in
+    record {
+      registers = answers.0;
+      told = subst (λ (os : List Op). Stands w.log t os after.replies.items answers.0)
+          (sym (told_taken true script v w t s after st got))
+          (subst (λ (rs : List Reply). Stands w.log t (take k ops ++ got.op ∷ []) rs answers.0) (sym got.takes.replies)
+          next);
+      in_registers = answers.2;
+    }
+
+-- so far as the thread is told
+told_by : (told : Bool) (script : Script) (disk : OnDisk) (v w : View) (t : ℕ) (s after : ThreadState)
+    → ThreadStands told script v t s → (IsEnded s.mode → ⊥) → Standing told disk v → Standing told disk w
+    → length w.globals ≡ length v.globals → ThreadTold told v w t s after → told ≡ true → IsTold script w t after
+told_by true script disk v w t s after st runs before behind globals got tells =
+    told_further script disk v w t s after st runs before behind globals got
+told_by false script disk v w t s after st runs before behind globals got tells = absurd (cc)
+
+-- it stands one operation further
+told_stands : (told : Bool) (script : Script) (disk : OnDisk) (v w : View) (t : ℕ) (s after : ThreadState)
+    → ThreadStands told script v t s → (IsEnded s.mode → ⊥) → Standing told disk v → Standing told disk w
+    → length w.globals ≡ length v.globals → ThreadTold told v w t s after → ThreadStands told script w t after
+told_stands told script disk v w t s after st runs before behind globals got =
+    let ops : List Op = operations script t in
+    let k : ℕ = length s.replies.items in
+    let takes : TakesReply s after got.reply = got.takes in
+    let first : left s ≡ got.op ∷ s.cursor.operations = told_left told v w t s after got in
+    let dropped : drop k ops ≡ got.op ∷ s.cursor.operations = sym st.to_come ∙ first in
+    let count : length after.replies.items ≡ k + 1 =
+    ap length takes.replies ∙ length-append s.replies.items (got.reply ∷ []) in
+    let more : length after.replies.items ≡ suc k = omega (arith, count) in
     let sizes : length (left s) ≡ length s.cursor.operations + 1 = omega (arith, ap length first) in
     let fewer : length (left after) ≡ length s.cursor.operations = ap length takes.to_come in
     let within : k + length (left s) ≡ length ops = st.within in
@@ -397,60 +523,34 @@ told_stands script v w t s after st runs before behind globals told =
     let capacity : vec_capacity after.replies ≡ vec_capacity s.replies = takes.capacity in
     record {
       to_come =
-          takes.to_come ∙ (sym (drop_next ops s.cursor.operations k told.op dropped)
+          takes.to_come ∙ (sym (drop_next ops s.cursor.operations k got.op dropped)
           ∙ ap (λ (n : ℕ). drop n ops) (sym more));
       within = omega (arith, count, sizes, fewer, within);
       none_left = takes.none_left;
-      registers = told.registers;
-      told = subst (λ (os : List Op). Stands w.log t os after.replies.items told.registers) (sym taken)
-          (subst (λ (rs : List Reply). Stands w.log t (take k ops ++ told.op ∷ []) rs told.registers)
-          (sym takes.replies) next);
-      in_registers = told.in_registers;
-      dropped = told.dropped;
-      call = λ c is. absurd (let none : call_of w t ≡ None = told.call in cc);
-      fits = told_fits s after told.reply takes;
+      is_told = told_by told script disk v w t s after st runs before behind globals got;
+      dropped = got.dropped;
+      call = λ c is. absurd (let none : call_of w t ≡ None = got.call in cc);
+      fits = told_fits s after got.reply takes;
       in_range = subst (λ (n : ℕ). IfSome after.op (InRange n)) st.globals takes.in_range;
       globals = takes.globals ∙ st.globals;
       room = omega (arith, count, sizes, fewer, room, capacity);
     }
 
 -- if it has ended, all its operations were answered
-told_ends : (script : Script) (config : Config) (w : View) (states : List ThreadState) (t : ℕ) (s after : ThreadState)
-    (reply : Reply) → slice_get states t ≡ Some s → ThreadStands script w t after → TakesReply s after reply
-    → EndsSo script w.log (set states t after) config t after.mode
-told_ends script config w states t s after reply at st takes =
+told_ends : (told : Bool) (script : Script) (config : Config) (w : View) (states : List ThreadState) (t : ℕ)
+    (s after : ThreadState) (reply : Reply) → slice_get states t ≡ Some s → ThreadStands told script w t after
+    → TakesReply s after reply → EndsSo told script w.log (set states t after) config t after.mode
+told_ends told script config w states t s after reply at st takes =
     elim takes.fits [
-      | inl runs ↦ subst (λ (m : Mode). EndsSo script w.log (set states t after) config t m) (sym runs.0) tt
+      | inl runs ↦ subst (λ (m : Mode). EndsSo told script w.log (set states t after) config t m) (sym runs.0) tt
       | inr rest ↦ elim rest [
-        | inl due ↦ subst (λ (m : Mode). EndsSo script w.log (set states t after) config t m) (sym due) tt
+        | inl due ↦ subst (λ (m : Mode). EndsSo told script w.log (set states t after) config t m) (sym due) tt
         | inr ended ↦
             let all : length (replies_of (set states t after) t) ≡ length (operations script t) =
             omega (arith, ap length (replies_same states t s after at), st.within, ap length ended.1) in
-            subst (λ (m : Mode). EndsSo script w.log (set states t after) config t m) (sym ended.0) all
+            subst (λ (m : Mode). EndsSo told script w.log (set states t after) config t m) (sym ended.0) all
       ]
     ]
-
--- an object that it made had room
-told_made : (script : Script) (config : Config) (v w : View) (states : List ThreadState) (t k : ℕ)
-    (s after : ThreadState) → TableStands script config v states → slice_get states t ≡ Some s → (IsEnded s.mode → ⊥)
-    → ThreadTold v w t s after → k < length after.replies.items → length s.replies.items ≤ k
-    → MadeSo script v.log states config t k
-told_made script config v w states t k s after table at runs told below last dst refs nums next =
-    let st : ThreadStands script v t s = table.each t s at in
-    let n : ℕ = length s.replies.items in
-    let count : length after.replies.items ≡ n + 1 =
-    ap length told.takes.replies ∙ length-append s.replies.items (told.reply ∷ []) in
-    let is_last : k ≡ n = omega (arith, count, below, last) in
-    let here : slice_get (operations script t) n ≡ Some told.op =
-    get_next (operations script t) s.cursor.operations n told.op (sym st.to_come ∙ told_left v w t s after told) in
-    let op_is : told.op ≡ New dst refs nums =
-    same_Some told.op (New dst refs nums)
-    (sym here ∙ (ap (λ (j : ℕ). slice_get (operations script t) j) (sym is_last) ∙ next)) in
-    let room : HasRoom no_homes_on.end v (2 + refs + nums) =
-    subst (HasRoomFor no_homes_on.end v) op_is told.room in
-    subst (λ (j : ℕ). HadNow script v.log states config t j (2 + refs + nums))
-    (ap length (replies_here states t s at) ∙ sym is_last)
-    (had_room script config v states t (2 + refs + nums) s table at runs room)
 
 -- if a silent collection is due behind the reply, it is by the number of replies
 told_due : (config : Config) (s after : ThreadState) (reply : Reply) → DueBy config.every s after
@@ -470,28 +570,31 @@ told_due config s after reply due takes owes =
     record { asked = by.0; some = λ none. omega (arith, none, count); divides = by.1 }
 
 -- so all threads stand behind its reply
-told_moves : (script : Script) (config : Config) (v w : View) (states : List ThreadState) (t : ℕ)
-    (s after : ThreadState) → DueBy config.every s after → TableStands script config v states
-    → slice_get states t ≡ Some s → (IsEnded s.mode → ⊥) → Standing true no_homes_on w
-    → length w.globals ≡ length v.globals
-    → ThreadTold v w t s after → Moves script config v w states t s after
-told_moves script config v w states t s after due table at runs behind globals told =
-    let st : ThreadStands script w t after =
-    told_stands script v w t s after (table.each t s at) runs table.stands behind globals told in
-    let act : Option Act = (does v.log (values_of v t) told.op told.answers.value).act in
-    let grown : w.log ≡ with_entry t v.log act = told.answers.history in
+pub told_moves : (told : Bool) (script : Script) (config : Config) (disk : OnDisk) (v w : View)
+    (states : List ThreadState) (t : ℕ) (s after : ThreadState) → DueBy config.every s after
+    → TableStands told script config disk v states → slice_get states t ≡ Some s → (IsEnded s.mode → ⊥)
+    → Standing told disk w → length w.globals ≡ length v.globals → ThreadTold told v w t s after
+    → Moves told script config v w states t s after
+told_moves told script config disk v w states t s after due table at runs behind globals got =
+    let st : ThreadStands told script w t after =
+    told_stands told script disk v w t s after (table.each t s at) runs table.stands behind globals got in
     record {
-      act = act;
-      extra = told.reply ∷ [];
-      grown = grown;
-      replies = told.takes.replies;
+      act = got.history.0;
+      extra = got.reply ∷ [];
+      grown = got.history.1;
+      replies = got.takes.replies;
       stands = st;
-      due = told_due config s after told.reply due told.takes;
-      ends = told_ends script config w states t s after told.reply at st told.takes;
-      made_last = λ k below last. told_made script config v w states t k s after table at runs told below last;
+      due = told_due config s after got.reply due got.takes;
+      ends = told_ends told script config w states t s after got.reply at st got.takes;
       entries =
-          let first : left s ≡ told.op ∷ s.cursor.operations = told_left v w t s after told in
-          omega (arith, ap length grown, with_length v.log t act, ap length first, ap length told.takes.to_come);
+          let first : left s ≡ got.op ∷ s.cursor.operations = told_left told v w t s after got in
+          omega (
+            arith,
+            ap length got.history.1,
+            with_length v.log t got.history.0,
+            ap length first,
+            ap length got.takes.to_come,
+          );
     }
 
 -- a thread that can go on has not ended
@@ -504,24 +607,47 @@ goes_on Asked goes over = over
 goes_on Lacking goes over = over
 goes_on (Ended e) goes over = goes
 
--- an event of one thread that has not ended
-pub Table_step : (script : Script) (config : Config) (v w : View) (states : List ThreadState) (t : ℕ)
-    (s after : ThreadState) → TableStands script config v states → slice_get states t ≡ Some s → (IsEnded s.mode → ⊥)
-    → ThreadStep v w t s after → DueBy config.every s after → TableStands script config w (set states t after)
-Table_step script config v w states t s after table at runs step due =
-    let st : ThreadStands script v t s = table.each t s at in
-    let moves : Moves script config v w states t s after = elim step.what [
-      | inl waits ↦ waits_moves script config v w states t s after waits.0 (table.due t s at) st runs waits.1
+-- what an event of one thread that has not ended shows of it
+pub step_moves : (told : Bool) (script : Script) (config : Config) (disk : OnDisk) (v w : View)
+    (states : List ThreadState) (t : ℕ) (s after : ThreadState) → disk.end ≤ config.disk
+    → TableStands told script config disk v states → slice_get states t ≡ Some s → (IsEnded s.mode → ⊥)
+    → ThreadStep told disk v w t s after → DueBy config.every s after → Moves told script config v w states t s after
+step_moves told script config disk v w states t s after within table at runs step due =
+    let st : ThreadStands told script v t s = table.each t s at in
+    elim step.what [
+      | inl waits ↦ waits_moves told script config v w states t s after waits.0 (table.due t s at) st runs waits.1
       | inr rest ↦ elim rest [
-        | inl goes ↦ goes_moves script config v w states t s after (table.due t s at) st runs goes
+        | inl goes ↦ goes_moves told script config v w states t s after (table.due t s at) st runs goes
         | inr further ↦ elim further [
-          | inl refused ↦ refused_moves script config v w states t s after st runs refused
-          | inr told ↦ told_moves script config v w states t s after due table at runs step.stands step.others.globals
-              told
+          | inl refused ↦ refused_moves told script config v w states t s after st runs refused
+          | inr last ↦ elim last [
+            | inl lost ↦ lost_moves told script config disk.end v w states t s after within st at lost
+            | inr got ↦ told_moves told script config disk v w states t s after due table at runs step.stands
+                step.others.globals got
+          ]
         ]
       ]
-    ] in
-    Table_moves script config v w states t s after table at runs step.stands step.others moves
+    ]
+
+-- all threads stand behind the event
+pub Table_step : (told : Bool) (script : Script) (config : Config) (disk : OnDisk) (v w : View)
+    (states : List ThreadState) (t : ℕ) (s after : ThreadState) → disk.end ≤ config.disk
+    → TableStands told script config disk v states → slice_get states t ≡ Some s → (IsEnded s.mode → ⊥)
+    → ThreadStep told disk v w t s after → DueBy config.every s after
+    → TableStands told script config disk w (set states t after)
+Table_step told script config disk v w states t s after within table at runs step due =
+    Table_moves told script config disk v w states t s after table at runs step.stands step.others
+    (step_moves told script config disk v w states t s after within table at runs step due)
+
+-- and the moments of collections stay so
+pub cuts_step : (told : Bool) (script : Script) (config : Config) (disk : OnDisk) (v w : View)
+    (states : List ThreadState) (t : ℕ) (s after : ThreadState) (journal : List Journal) → disk.end ≤ config.disk
+    → TableStands told script config disk v states → slice_get states t ≡ Some s → (IsEnded s.mode → ⊥)
+    → ThreadStep told disk v w t s after → DueBy config.every s after → HaveCuts script v.log states config journal
+    → HaveCuts script w.log (set states t after) config journal
+cuts_step told script config disk v w states t s after journal within table at runs step due have =
+    cuts_moves told script config v w states t s after journal at runs
+    (step_moves told script config disk v w states t s after within table at runs step due) have
 
 -- a next operation is one of those that are left
 first_counts : (o : Option Op) (ops : List Op) → IsSome o → 0 < length (with_first o ops)
@@ -529,10 +655,11 @@ first_counts None ops is = absurd (cc)
 first_counts (Some o) ops is = omega arith
 
 -- what an event needs
-pub table_ready : (script : Script) (config : Config) (v : View) (states : List ThreadState) (t : ℕ) (s : ThreadState)
-    → TableStands script config v states → slice_get states t ≡ Some s → IsReady v t s
-table_ready script config v states t s table at =
-    let st : ThreadStands script v t s = table.each t s at in
+pub table_ready : (script : Script) (config : Config) (disk : OnDisk) (v : View) (states : List ThreadState) (t : ℕ)
+    (s : ThreadState) (finish : ℕ) → TableStands false script config disk v states → disk.end ≡ finish
+    → slice_get states t ≡ Some s → IsReady finish v t s
+table_ready script config disk v states t s finish table ends at =
+    let st : ThreadStands false script v t s = table.each t s at in
     let within : t < length states = slice_get_within states t s at in
     let count : length states ≡ length script.programs = table.count in
     let threads : length v.held ≡ length script.programs = table.threads in
@@ -541,6 +668,8 @@ table_ready script config v states t s table at =
     let one : length (left s) ≤ to_reply states = to_reply_one states t s at in
     let room : length s.replies.items + length (left s) ≤ vec_capacity s.replies = st.room in
     record {
+      disk = disk;
+      ends = ends;
       stands = table.stands;
       thread = omega (arith, within, count, threads);
       forwards = table.forwards;
@@ -557,9 +686,9 @@ table_ready script config v states t s table at =
     }
 
 -- a call that is in flight is that of a thread that can go on
-call_goes : (script : Script) (config : Config) (v : View) (states : List ThreadState) (t : ℕ) (c : Call)
-    → TableStands script config v states → AllWait states → call_of v t ≡ Some c → ⊥
-call_goes script config v states t c table waits is =
+call_goes : (told : Bool) (script : Script) (config : Config) (disk : OnDisk) (v : View) (states : List ThreadState)
+    (t : ℕ) (c : Call) → TableStands told script config disk v states → AllWait states → call_of v t ≡ Some c → ⊥
+call_goes told script config disk v states t c table waits is =
     let count : length states ≡ length script.programs = table.count in
     let threads : length v.held ≡ length script.programs = table.threads in
     let each : length v.calls ≡ length v.held = table.stands.each in
@@ -575,35 +704,37 @@ none_of None never = refl
 none_of (Some x) never = absurd (never x refl)
 
 -- no call is in flight where no thread can go on
-pub waiting_quiet : (script : Script) (config : Config) (v : View) (states : List ThreadState)
-    → TableStands script config v states → AllWait states → IsQuiet v
-waiting_quiet script config v states table waits t =
-    none_of (call_of v t) (λ c is. call_goes script config v states t c table waits is)
+pub waiting_quiet : (told : Bool) (script : Script) (config : Config) (disk : OnDisk) (v : View)
+    (states : List ThreadState) → TableStands told script config disk v states → AllWait states → IsQuiet v
+waiting_quiet told script config disk v states table waits t =
+    none_of (call_of v t) (λ c is. call_goes told script config disk v states t c table waits is)
 
--- all threads stand in it
-pub Table_renewed : (script : Script) (config : Config) (v w : View) (states : List ThreadState)
-    → TableStands script config v states → Renewed v w → TableStands script config w states
-Table_renewed script config v w states table renewed = record {
+-- all threads stand in a new epoch
+pub Table_renewed : (told : Bool) (script : Script) (config : Config) (disk later : OnDisk) (v w : View)
+    (states : List ThreadState) → TableStands told script config disk v states → Renewed told later v w
+    → TableStands told script config later w states
+Table_renewed told script config disk later v w states table renewed = record {
   stands = renewed.stands;
   count = table.count;
   threads = renewed.threads ∙ table.threads;
   globals = renewed.globals ∙ table.globals;
   words = renewed.words ∙ table.words;
   forwards = subst (λ (n : ℕ). n ≤ most_forwards) (sym renewed.forwards) table.forwards;
+  some_forward = subst (λ (n : ℕ). 1 ≤ n) (sym renewed.forwards) table.some_forward;
   each = λ t s at.
-      let st : ThreadStands script v t s = table.each t s at in
-      stands_so script v w t s s.mode st
-      (subst (λ (h : List Entry). Stands h t (take (length s.replies.items) (operations script t)) s.replies.items
-      st.registers) (sym renewed.history) st.told)
-      (elim st.in_registers [ inl over ↦ inl over | inr same ↦ inr (same ∙ sym (renewed.values t)) ])
+      let st : ThreadStands told script v t s = table.each t s at in
+      stands_so told script v w t s s.mode st
+      (λ tells. told_so script v w t s s.mode (st.is_told tells) renewed.history
+      (elim (st.is_told tells).in_registers [
+        | inl over ↦ inl over
+        | inr same ↦ inr (same ∙ sym (renewed.values t))
+      ]))
       (λ over. renewed.values t ∙ st.dropped over)
       (λ c is. absurd (let none : call_of w t ≡ None = renewed.quiet t in cc)) st.fits;
   own = subst (All (λ (e : Entry). e.thread < length script.programs)) (sym renewed.history) table.own;
   due = table.due;
-  ends = λ t s at. subst (λ (h : List Entry). EndsSo script h states config t s.mode) (sym renewed.history)
+  ends = λ t s at. subst (λ (h : List Entry). EndsSo told script h states config t s.mode) (sym renewed.history)
       (table.ends t s at);
-  made = λ t k below dst refs nums next. subst (λ (h : List Entry). HadNow script h states config t k (2 + refs + nums))
-      (sym renewed.history) (table.made t k below dst refs nums next);
   entries =
       let e : length v.log + to_reply states ≤ v.capacity = table.entries in
       let c : w.capacity ≡ v.capacity = renewed.capacity in
@@ -611,7 +742,52 @@ Table_renewed script config v w states table renewed = record {
   few = let e : length v.log + to_reply states ≤ 8388608 = table.few in omega (arith, e, ap length renewed.history);
 }
 
--- a collection
-pub Table_collected : (script : Script) (config : Config) (v w : View) (states : List ThreadState)
-    → TableStands script config v states → CoreCollected v w → TableStands script config w states
-Table_collected script config v w states table collected = Table_renewed script config v w states table collected.stays
+-- why a thread may have ended, untold
+ends_untold : (told : Bool) (script : Script) (log : List Entry) (states : List ThreadState) (config : Config) (t : ℕ)
+    (mode : Mode) → EndsSo told script log states config t mode → EndsSo false script log states config t mode
+ends_untold told script log states config t Running ends = tt
+ends_untold told script log states config t Due ends = tt
+ends_untold told script log states config t Silent ends = tt
+ends_untold told script log states config t Collecting ends = tt
+ends_untold told script log states config t Asked ends = tt
+ends_untold told script log states config t Lacking ends = tt
+ends_untold told script log states config t (Ended end.Done) ends = ends
+ends_untold told script log states config t (Ended (end.OutOfHeap held_words need)) ends =
+    λ (tells : false ≡ true). absurd (cc)
+ends_untold told script log states config t (Ended end.DiskFault) ends = ends
+ends_untold told script log states config t (Ended (end.Damaged home at word)) ends =
+    (λ (tells : false ≡ true). absurd (cc), ends.1, ends.2)
+ends_untold told script log states config t (Ended end.Halted) ends = absurd ends
+
+-- all threads stand untold where they stand told or not
+pub Table_untold : (told : Bool) (script : Script) (config : Config) (disk : OnDisk) (v : View)
+    (states : List ThreadState) → TableStands told script config disk v states
+    → TableStands false script config disk v states
+Table_untold told script config disk v states table = record {
+  stands = stands_untold told disk v table.stands;
+  count = table.count;
+  threads = table.threads;
+  globals = table.globals;
+  words = table.words;
+  forwards = table.forwards;
+  some_forward = table.some_forward;
+  each = λ t s at.
+      let st : ThreadStands told script v t s = table.each t s at in
+      record {
+        to_come = st.to_come;
+        within = st.within;
+        none_left = st.none_left;
+        is_told = λ (tells : false ≡ true). absurd (cc);
+        dropped = st.dropped;
+        call = st.call;
+        fits = st.fits;
+        in_range = st.in_range;
+        globals = st.globals;
+        room = st.room;
+      };
+  own = table.own;
+  due = table.due;
+  ends = λ t s at. ends_untold told script v.log states config t s.mode (table.ends t s at);
+  entries = table.entries;
+  few = table.few;
+}

@@ -1,5 +1,11 @@
+pub mod Shown
 pub mod Journals
+pub mod Needs
 pub mod Run
 pub mod Threads
+pub mod Lone
+pub mod Collections
+pub mod Endings
+pub mod Safepoints
 pub mod Turns
 pub mod Choices

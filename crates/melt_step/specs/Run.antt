@@ -1,9 +1,10 @@
 -- What a report of a run by the written order says of a trace.
-use Rattle.std.specs.Prelude.{◌≡◌, ◌≢◌, ℕ, zero, suc, ◌+◌, ◌/◌, ◌%◌, ◌<◌, ◌≤◌, ◌⊎◌, Bool, true, false, if◌then◌else◌}
-use Rattle.std.specs.Prelude.{List, [], length, All, take, slice_get, Option, None, Some, IfSome, IsSome}
+use Rattle.std.specs.Prelude.{◌≡◌, ◌≢◌, ℕ, zero, suc, ◌+◌, ◌-◌, ◌/◌, ◌%◌, ◌^◌, ◌<◌, ◌≤◌, ◌⊎◌, Bool, true, false}
+use Rattle.std.specs.Prelude.{if◌then◌else◌}
+use Rattle.std.specs.Prelude.{List, [], length, All, take, slice_get, Option, None, Some, IsSome}
 use Rattle.std.specs.List.{count_by}
 use Rattle.std.specs.Option.{option_map_or}
-use Rattle.melt_model.specs.Alive.{Alive, words_of, CostsSum}
+use Rattle.melt_model.specs.Alive.{Alive, Held, words_of, CostsSum}
 use Rattle.melt_model.specs.History.{Legal}
 use Rattle.melt_model.specs.Thread.{Transcript, registers_after, value_in}
 use Rattle.melt_model.specs.declared.config.Config.{Config}
@@ -11,18 +12,29 @@ use Rattle.melt_model.specs.declared.history.Entry.{Entry}
 use Rattle.melt_model.specs.declared.history.Value.{Value}
 use Rattle.melt_model.specs.declared.history.Value.TheVariants.{Nil}
 use Rattle.melt_model.specs.declared.operations.Op.{Op}
-use Rattle.melt_model.specs.declared.operations.Op.TheVariants.{New, Collect}
+use Rattle.melt_model.specs.declared.operations.Op.TheVariants.{Collect}
 use Rattle.melt_model.specs.declared.operations.Reply.{Reply}
-use Rattle.melt_model.specs.declared.reports.Phase.TheVariants.{Move}
+use Rattle.melt_model.specs.declared.reports.Halt.{Halt}
+use Rattle.melt_model.specs.declared.reports.Halt.TheVariants as halt
+use Rattle.melt_model.specs.declared.reports.Journal.{Journal}
 use Rattle.melt_model.specs.declared.reports.ThreadEnd.{ThreadEnd}
 use Rattle.melt_model.specs.declared.reports.ThreadEnd.TheVariants as end
 use Rattle.melt_model.specs.declared.reports.ThreadReport.{ThreadReport}
 use Rattle.melt_model.specs.declared.reports.Report.{Report}
 use Rattle.melt_trace.specs.Script.{Script, operations}
+use Rattle.melt_io.specs.Outside.{Rose}
+use Rattle.melt_scion.specs.Collected.{CountsWords}
 use Rattle.melt_scion.specs.Placed.{Maps, Placed}
-use Rattle.melt_scion.specs.Heaps.{no_homes_on, state_of, HasMaps}
+use Rattle.melt_scion.specs.Heaps.{OnDisk, state_of, HasMaps}
+use Rattle.melt_scion.specs.Scions.{Scions}
 use Rattle.melt_scion.specs.declared.heap.Heap.{Heap}
-use Rattle.melt_step.specs.Journals.{IsJournalOf}
+use Rattle.melt_scion.specs.declared.registers.Registers.{Registers}
+use Rattle.melt_move.specs.Plans.{WantsHome}
+use Rattle.melt_core.specs.Advances.{Breaks}
+use Rattle.melt_core.specs.declared.call.Stage.{Stage}
+use Rattle.melt_step.specs.Journals.{IsJournalOf, MayMove, before, end_of}
+use Rattle.melt_step.specs.Needs.{IsLoad, NeedsWords}
+use Rattle.melt_step.specs.Shown.{Shown, Underlies}
 
 -- whether an operation asks for a collection
 abbrev pub is_collect : Op → Bool
@@ -90,56 +102,69 @@ pub record IsCutAt (script : Script) (log : List Entry) (replies : ℕ → List 
   pub count : cut.replies t ≡ k
   pub alive : cut.ended t ≡ false
 
+-- the words of the objects that registers hold at the moment
+abbrev pub HoldsWords : Script → List Entry → Cut → ℕ → Type 0
+HoldsWords script log cut words =
+    CostsSum (words_of (history_at log cut)) (Held (registers_at script log cut)) words
+
 -- the words of the objects that registers and globals reach at the moment
 abbrev pub ReachesWords : Script → List Entry → Cut → ℕ → Type 0
 ReachesWords script log cut words =
     CostsSum (words_of (history_at log cut)) (Alive (history_at log cut) (registers_at script log cut)) words
 
+-- The moment of a collection. Its journal has the words that registers held then; and what registers and globals reached
+-- had room in the words in use behind it and in those of all homes on disk, of which the first is word 1.
+pub record IsCollectedAt (script : Script) (log : List Entry) (entry : Journal) (cut : Cut) : Type 0 where
+  pub holds : HoldsWords script log cut entry.held
+  pub alive : ℕ
+  pub reach : ReachesWords script log cut alive
+  pub fits : alive + 1 ≤ entry.live + entry.end
+
 -- the last operation of a thread is a collection
 abbrev pub EndsWithCollect : List Op → Type 0
 EndsWithCollect ops = (k : ℕ) × (length ops ≡ suc k) × (slice_get ops k ≡ Some Collect)
 
--- At some moment the next operation of the thread makes an object that needs more words than the heap has beside those
--- of the objects that registers and globals reach. All silent collections were made by then, but for those behind a
--- `collect` that was answered at the same safepoint.
+-- At some moment the next operation of the thread needs more words than the heap has beside those of the objects that
+-- registers hold. All silent collections were made by then, but for those behind a `collect` that was answered at the
+-- same safepoint.
 pub record LacksRoom (script : Script) (log : List Entry) (replies : ℕ → List Reply) (config : Config)
     (t held_words need : ℕ) : Type 0 where
   pub cut : Cut
   pub is_cut : IsCutAt script log replies config t (length (replies t)) cut
   pub over : (u : ℕ) → cut.replies u ≡ length (operations script u)
       → (cut.ended u ≡ true) ⊎ (IsDue config (length (operations script u)) × EndsWithCollect (operations script u))
-  pub dst : ℕ
-  pub refs : ℕ
-  pub nums : ℕ
-  pub next : slice_get (operations script t) (length (replies t)) ≡ Some (New dst refs nums)
-  pub needed : need ≡ 2 + refs + nums
-  pub reach : ReachesWords script log cut held_words
+  pub op : Op
+  pub next : slice_get (operations script t) (length (replies t)) ≡ Some op
+  pub needed : NeedsWords (history_at log cut) (registers_at script log cut) t op need
+  pub holds : HoldsWords script log cut held_words
   pub above : config.heap < held_words + need
 
--- At some moment at which the thread had got k replies, the heap had so many words beside those of the objects that
--- registers and globals reached.
-pub record HadRoom (script : Script) (log : List Entry) (replies : ℕ → List Reply) (config : Config)
-    (t k need : ℕ) : Type 0 where
-  pub cut : Cut
-  pub is_cut : IsCutAt script log replies config t k cut
-  pub held_words : ℕ
-  pub reach : ReachesWords script log cut held_words
-  pub fits : held_words + need ≤ config.heap
+-- the next operation of a thread that got so many replies loads a reference
+pub record LoadsNext (script : Script) (t count : ℕ) : Type 0 where
+  pub op : Op
+  pub next : slice_get (operations script t) count ≡ Some op
+  pub loads : IsLoad op
 
--- If operation k of the thread makes an object, there was room for it.
-abbrev pub HadRoomToMake : Script → List Entry → (ℕ → List Reply) → Config → ℕ → ℕ → Type 0
-HadRoomToMake script log replies config t k =
-    (dst refs nums : ℕ) → slice_get (operations script t) k ≡ Some (New dst refs nums)
-    → HadRoom script log replies config t k (2 + refs + nums)
+-- A record was read at a home before the end of a disk within its limit. It breaks the form of records at this word, or
+-- names a scion there that is not live or is of another home.
+pub record WasRead (config : Config) (home at word : ℕ) : Type 0 where
+  pub end : ℕ
+  pub within : end ≤ config.disk
+  pub below : home < end
+  pub scions : Scions
+  pub stage : Option Stage
+  pub words : List ℕ
+  pub breaks : Breaks scions end stage words (record { home = home; at = at; word = word })
 
--- why a thread may end so
-abbrev pub MayEnd : Script → Config → Report → ℕ → ThreadEnd → Type 0
-MayEnd script config report t end.Done = answered report t ≡ length (operations script t)
-MayEnd script config report t (end.OutOfHeap held_words need) =
-    LacksRoom script report.log (replies_in report) config t held_words need
-MayEnd script config report t end.DiskFault = ⊥
-MayEnd script config report t (end.Damaged home at word) = ⊥
-MayEnd script config report t end.Halted = ⊥
+-- Why a thread may end so. Where the disk tells its words, none is damaged; what is said of room is told there alone.
+abbrev pub MayEnd : Bool → Script → Config → Report → ℕ → ThreadEnd → Type 0
+MayEnd told script config report t end.Done = answered report t ≡ length (operations script t)
+MayEnd told script config report t (end.OutOfHeap held_words need) =
+    told ≡ true → LacksRoom script report.log (replies_in report) config t held_words need
+MayEnd told script config report t end.DiskFault = LoadsNext script t (answered report t)
+MayEnd told script config report t (end.Damaged home at word) =
+    (told ≡ true → ⊥) × LoadsNext script t (answered report t) × WasRead config home at word
+MayEnd told script config report t end.Halted = IsSome report.halt
 
 -- how many silent collections come with so many replies of a thread: one behind each that is a multiple of the number
 abbrev pub silent_in : (every count : ℕ) → ℕ
@@ -156,30 +181,105 @@ abbrev pub collections : Script → Config → (ℕ → List Reply) → ℕ → 
 collections script config replies zero = 0
 collections script config replies (suc n) = collections script config replies n + collections_of script config replies n
 
--- What a run reports of a trace. Its history is the one that it stored. An object was made only where there was room.
--- The journal has the collections, each of its phase: those that threads asked for, the silent ones, and those that
--- were made for room. Nothing is moved to disk yet.
-pub record IsStepReport (script : Script) (config : Config) (report : Report) : Type 0 where
-  pub history : HasHistory script report.log report
-  pub ends : (t : ℕ) (r : ThreadReport) → slice_get report.threads t ≡ Some r → MayEnd script config report t r.end
-  pub room : (t k : ℕ) → k < answered report t → HadRoomToMake script report.log (replies_in report) config t k
-  pub no_halt : report.halt ≡ None
-  pub no_moves : All (λ j. j.phase ≢ Move) report.journal
-  pub journal : IsJournalOf config report.journal
-  pub collected : collections script config (replies_in report) (length report.threads) ≤ length report.journal
+-- whether a thread was halted, and how many of a report were
+abbrev pub is_halted : ThreadEnd → Bool
+is_halted end.Halted = true
+is_halted e = false
 
--- The heap that is left has the globals of the script, the words of the configuration, and names of its objects. It
--- stands for the history when all threads have ended.
-pub record IsLeft (script : Script) (config : Config) (report : Report) (heap : Heap) : Type 0 where
+abbrev pub halted_in : Report → ℕ
+halted_in report = count_by (λ (r : ThreadReport). is_halted r.end) report.threads
+
+-- how many threads could not read the disk
+abbrev pub is_lost : ThreadEnd → Bool
+is_lost end.DiskFault = true
+is_lost e = false
+
+abbrev pub lost_in : Report → ℕ
+lost_in report = count_by (λ (r : ThreadReport). is_lost r.end) report.threads
+
+-- Each collection was made at some moment.
+abbrev pub HasCuts : Script → Config → Report → Type 0
+HasCuts script config report = (k : ℕ) (entry : Journal) → slice_get report.journal k ≡ Some entry
+    → (cut : Cut) × IsCut script report.log (replies_in report) config cut × IsCollectedAt script report.log entry cut
+
+-- why a run may have been halted: by a disk that was full for a Move, which was planned or forced, or by one that failed
+abbrev pub MayHalt : Config → Report → Option Halt → Type 0
+MayHalt config report None = Unit {0}
+MayHalt config report (Some (halt.DiskFull end need limit)) = (limit ≡ config.disk) × (limit < end + need)
+    × (end ≡ end_of (before report.journal (length report.journal)))
+    × MayMove config (before report.journal (length report.journal))
+MayHalt config report (Some halt.DiskFault) = Unit {0}
+
+-- What a run reports of a trace, over a disk that tells its words or not. Its history is the one that it stored. The
+-- journal has the collections, each of its phase: those that threads asked for, the silent ones, but for one of each
+-- thread that was halted, and those that were made for room.
+pub record IsStepReport (told : Bool) (script : Script) (config : Config) (report : Report) : Type 0 where
+  pub history : told ≡ true → HasHistory script report.log report
+  pub threads : length report.threads ≡ length script.programs
+  pub ends : (t : ℕ) (r : ThreadReport) → slice_get report.threads t ≡ Some r
+      → MayEnd told script config report t r.end
+  pub halt : MayHalt config report report.halt
+  pub journal : IsJournalOf config report.journal
+  pub cuts : told ≡ true → HasCuts script config report
+  pub collected : collections script config (replies_in report) (length report.threads)
+      ≤ length report.journal + halted_in report
+
+-- the value of a register of a thread behind all its replies, if it was halted; else it holds nothing
+abbrev pub register_left : Script → Report → ℕ → ℕ → Value
+register_left script report t r =
+    if option_map_or (λ (x : ThreadReport). is_halted x.end) (slice_get report.threads t) false
+    then value_in (registers_after report.log t (operations script t) (answered report t)) r else Nil
+
+-- The heap that is left has the globals of the script, the words of the configuration, and names of its objects. Where
+-- the run is told, it stands for the history when all threads have ended, over the disk.
+pub record IsLeft (told : Bool) (script : Script) (config : Config) (shown : Shown) (report : Report) (heap : Heap)
+    : Type 0 where
   pub globals : length heap.globals ≡ script.globals
   pub words : length heap.space.list ≡ config.heap
   pub named : IsSome heap.names
-  pub maps : Maps
-  pub names : HasMaps heap maps
-  pub placed : Placed report.log (λ t r. Nil) maps (state_of heap [] no_homes_on)
+  pub placed : told ≡ true → (maps : Maps) × ((disk : OnDisk) × Underlies told shown.end shown.image disk × HasMaps heap maps
+      × Placed report.log (λ t r. Nil) maps (state_of heap [] disk))
 
--- a report, and the heap that is left
-pub record HasRun (script : Script) (config : Config) (report : Report) (heap : Option Heap) : Type 0 where
-  pub reported : IsStepReport script config report
-  pub is_there : IsSome heap
-  pub left : IfSome heap (IsLeft script config report)
+-- The disk had no room for the new homes of a Move collection of the heap that is left, with what the halted threads
+-- hold: they need so many words from the end on.
+pub record IsFull (script : Script) (shown : Shown) (report : Report) (heap : Heap) (end need : ℕ) : Type 0 where
+  pub end_is : end ≡ shown.end
+  pub maps : Maps
+  pub disk : OnDisk
+  pub under : Underlies true shown.end shown.image disk
+  pub registers : List Registers
+  pub placed : Placed report.log (register_left script report) maps (state_of heap registers disk)
+  pub needs : CountsWords (state_of heap registers disk) (WantsHome (state_of heap registers disk)) need
+
+-- the heap that is left: none where a fault of the disk halted the run, and else one, which is the one for which a full
+-- disk was refused
+abbrev pub Leaves : Bool → Script → Config → Shown → Report → Option Halt → Option Heap → Type 0
+Leaves told script config shown report None (Some heap) = IsLeft told script config shown report heap
+Leaves told script config shown report (Some (halt.DiskFull end need limit)) (Some heap) =
+    IsLeft told script config shown report heap × (told ≡ true → IsFull script shown report heap end need)
+Leaves told script config shown report (Some halt.DiskFault) None = Unit {0}
+Leaves told script config shown report None None = ⊥
+Leaves told script config shown report (Some (halt.DiskFull end need limit)) None = ⊥
+Leaves told script config shown report (Some halt.DiskFault) (Some heap) = ⊥
+
+-- a report, and the heap that is left over what the disk shows in the end
+pub record HasRun (told : Bool) (script : Script) (config : Config) (shown : Shown) (report : Report)
+    (heap : Option Heap) : Type 0 where
+  pub reported : IsStepReport told script config report
+  pub left : Leaves told script config shown report report.halt heap
+
+-- so many were lost of those that a count of faults counted, or the count stands at its end
+abbrev pub CountsLost : (lost before after : ℕ) → Type 0
+CountsLost lost before after = (before + lost ≤ after) ⊎ (2 ^ 64 - 1 ≤ after)
+
+-- a count is no less than before, or stands at its end
+abbrev pub HasRisen : (before after : ℕ) → Type 0
+HasRisen before after = (before ≤ after) ⊎ (2 ^ 64 - 1 ≤ after)
+
+-- What a run leaves of the counts of a disk: there are not more threads that could not read it than failed reads, and
+-- it was halted by a fault only where a write or a lend failed.
+pub record CountsFaults (report : Report) (faults faults_after read_faults read_faults_after : ℕ) : Type 0 where
+  pub lost : CountsLost (lost_in report) read_faults read_faults_after
+  pub halted : report.halt ≡ Some halt.DiskFault → Rose faults faults_after
+  pub faults_rise : faults ≤ faults_after
+  pub reads_rise : HasRisen read_faults read_faults_after

@@ -1,38 +1,37 @@
 -- The threads of a run between two events.
-use Rattle.std.specs.Prelude.{◌≡◌, ◌≢◌, ℕ, zero, suc, ◌+◌, ◌*◌, ◌^◌, ◌%◌, ◌<◌, ◌≤◌, Bool, true, false, if◌then◌else◌}
+use Rattle.std.specs.Prelude.{◌≡◌, ◌≢◌, ℕ, zero, suc, ◌+◌, ◌*◌, ◌-◌, ◌^◌, ◌%◌, ◌<◌, ◌≤◌, Bool, true, false}
+use Rattle.std.specs.Prelude.{if◌then◌else◌}
 use Rattle.std.specs.Prelude.{List, [], ◌∷◌, ◌++◌, length, map, sum, take, drop, replicate, slice_get, slice_set}
 use Rattle.std.specs.Prelude.{vec_capacity, All, Option, None, Some, IfSome, IsSome, ◌⊎◌, ◌↔◌}
 use Rattle.melt_model.specs.Standing.{Stands}
-use Rattle.melt_model.specs.Alive.{Alive, words_of, CostsSum}
 use Rattle.melt_model.specs.declared.config.Config.{Config}
 use Rattle.melt_model.specs.declared.history.Entry.{Entry}
 use Rattle.melt_model.specs.declared.history.Value.{Value}
 use Rattle.melt_model.specs.declared.history.Value.TheVariants.{Nil}
 use Rattle.melt_model.specs.declared.operations.Op.{Op}
-use Rattle.melt_model.specs.declared.operations.Op.TheVariants.{New, Collect}
+use Rattle.melt_model.specs.declared.operations.Op.TheVariants.{Collect}
 use Rattle.melt_model.specs.declared.operations.Reply.{Reply}
+use Rattle.melt_model.specs.declared.reports.Journal.{Journal}
 use Rattle.melt_model.specs.declared.reports.ThreadEnd.TheVariants as end
 use Rattle.melt_trace.specs.Grammar.{InRange}
 use Rattle.melt_trace.specs.Script.{Script, operations}
-use Rattle.melt_scion.specs.Heaps.{no_homes_on}
-use Rattle.melt_core.specs.declared.call.Call.{Call}
-use Rattle.melt_core.specs.Answering.{Answers}
-use Rattle.melt_core.specs.Views.{View, view, call_of, value, values_of, Standing, IsQuiet}
-use Rattle.melt_core.specs.Advances.{KeepsOthers, HasRoomFor, Pauses}
-use Rattle.melt_core.specs.Stages.{events_left}
-use Rattle.melt_core.specs.Views.{stage_in}
-use Rattle.melt_copy.specs.Copying.{IsCopying}
-use Rattle.melt_model.specs.declared.reports.Journal.{Journal}
-use Rattle.melt_model.specs.declared.reports.Phase.{Phase}
-use Rattle.melt_model.specs.declared.reports.Phase.TheVariants.{Move}
+use Rattle.melt_record.specs.declared.damage.Damaged.{Damaged}
+use Rattle.melt_scion.specs.Heaps.{OnDisk}
 use Rattle.melt_core.specs.declared.answer.Pause.{Pause}
 use Rattle.melt_core.specs.declared.answer.Pause.TheVariants as pause
-use Rattle.melt_step.specs.Journals.{forced, next_of, before, OnNoDisk, IsJournalOf}
-use Rattle.melt_step.specs.declared.collector.Collector.{Collector}
-use Rattle.melt_step.specs.declared.run.Run.{Run}
+use Rattle.melt_core.specs.declared.answer.Refusal.{Refusal}
+use Rattle.melt_core.specs.declared.answer.Refusal.TheVariants as refusal
+use Rattle.melt_core.specs.declared.call.Call.{Call}
+use Rattle.melt_core.specs.Advances.{KeepsOthers, Pauses}
+use Rattle.melt_core.specs.Answering.{Answers, with_entry}
 use Rattle.melt_core.specs.Changed.{stopped, HasRoomForEntry}
 use Rattle.melt_core.specs.Epochs.{HasDropped}
-use Rattle.melt_step.specs.Run.{Cut, IsDue, LacksRoom, HadRoom, collections}
+use Rattle.melt_core.specs.Stages.{events_left}
+use Rattle.melt_core.specs.Views.{View, call_of, stage_in, values_of, Standing, IsQuiet}
+use Rattle.melt_model.specs.declared.history.Act.{Act}
+use Rattle.melt_step.specs.Needs.{IsLoad}
+use Rattle.melt_step.specs.Run.{Cut, IsCut, IsDue, IsCollectedAt, LacksRoom, LoadsNext, WasRead, HasRisen, is_lost}
+use Rattle.melt_step.specs.Shown.{Underlies}
 use Rattle.melt_step.specs.declared.thread.Mode.{Mode}
 use Rattle.melt_step.specs.declared.thread.Mode.TheVariants.{Running, Due, Silent, Collecting, Asked, Lacking, Ended}
 use Rattle.melt_step.specs.declared.thread.ThreadState.{ThreadState}
@@ -67,15 +66,19 @@ FitsMode Asked op = IsSome op × (op ≢ Some Collect)
 FitsMode Lacking op = IsSome op × (op ≢ Some Collect)
 FitsMode (Ended e) op = Unit {0}
 
--- A thread of the script stands in the history: these replies to its first operations, and the others are to come. What
--- it was told is in its registers, until it ends.
-pub record ThreadStands (script : Script) (v : View) (t : ℕ) (s : ThreadState) : Type 0 where
-  pub to_come : left s ≡ drop (length s.replies.items) (operations script t)
-  pub within : length s.replies.items + length (left s) ≡ length (operations script t)
-  pub none_left : s.op ≡ None → s.cursor.operations ≡ []
+-- What a thread was told stands in the history: these replies to its first operations. What it holds by them is in its
+-- registers, until it ends.
+pub record IsTold (script : Script) (v : View) (t : ℕ) (s : ThreadState) : Type 0 where
   pub registers : List Value
   pub told : Stands v.log t (take (length s.replies.items) (operations script t)) s.replies.items registers
   pub in_registers : IsEnded s.mode ⊎ (registers ≡ values_of v t)
+
+-- A thread of the script has these replies to its first operations, and the others are to come.
+pub record ThreadStands (told : Bool) (script : Script) (v : View) (t : ℕ) (s : ThreadState) : Type 0 where
+  pub to_come : left s ≡ drop (length s.replies.items) (operations script t)
+  pub within : length s.replies.items + length (left s) ≡ length (operations script t)
+  pub none_left : s.op ≡ None → s.cursor.operations ≡ []
+  pub is_told : told ≡ true → IsTold script v t s
   pub dropped : IsEnded s.mode → values_of v t ≡ replicate 16 Nil
   pub call : (c : Call) → call_of v t ≡ Some c → (s.mode ≡ Running) × (s.op ≡ Some c.op) × (c.op ≢ Collect)
   pub fits : FitsMode s.mode s.op
@@ -98,24 +101,30 @@ abbrev pub LacksNow : Script → List Entry → List ThreadState → Config → 
 LacksNow script log states config t held_words need =
     (x : LacksRoom script log (replies_of states) config t held_words need) × GoneIn states x.cut
 
-abbrev pub HadNow : Script → List Entry → List ThreadState → Config → ℕ → ℕ → ℕ → Type 0
-HadNow script log states config t k need =
-    (x : HadRoom script log (replies_of states) config t k need) × GoneIn states x.cut
+-- the moment of a collection, while a run goes on
+pub record HasCut (script : Script) (log : List Entry) (states : List ThreadState) (config : Config)
+    (entry : Journal) : Type 0 where
+  pub cut : Cut
+  pub is_cut : IsCut script log (replies_of states) config cut
+  pub collected : IsCollectedAt script log entry cut
+  pub gone : GoneIn states cut
 
-abbrev pub MadeSo : Script → List Entry → List ThreadState → Config → ℕ → ℕ → Type 0
-MadeSo script log states config t k =
-    (dst refs nums : ℕ) → slice_get (operations script t) k ≡ Some (New dst refs nums)
-    → HadNow script log states config t k (2 + refs + nums)
+-- each collection so far was made at some moment
+abbrev pub HaveCuts : Script → List Entry → List ThreadState → Config → List Journal → Type 0
+HaveCuts script log states config journal = All (HasCut script log states config) journal
 
 -- why a thread may have ended
-abbrev pub EndsSo : Script → List Entry → List ThreadState → Config → ℕ → Mode → Type 0
-EndsSo script log states config t (Ended end.Done) = length (replies_of states t) ≡ length (operations script t)
-EndsSo script log states config t (Ended (end.OutOfHeap held_words need)) =
-    LacksNow script log states config t held_words need
-EndsSo script log states config t (Ended end.DiskFault) = ⊥
-EndsSo script log states config t (Ended (end.Damaged home at word)) = ⊥
-EndsSo script log states config t (Ended end.Halted) = ⊥
-EndsSo script log states config t mode = Unit {0}
+abbrev pub EndsSo : Bool → Script → List Entry → List ThreadState → Config → ℕ → Mode → Type 0
+EndsSo told script log states config t (Ended end.Done) =
+    length (replies_of states t) ≡ length (operations script t)
+EndsSo told script log states config t (Ended (end.OutOfHeap held_words need)) =
+    told ≡ true → LacksNow script log states config t held_words need
+EndsSo told script log states config t (Ended end.DiskFault) =
+    LoadsNext script t (length (replies_of states t))
+EndsSo told script log states config t (Ended (end.Damaged home at word)) =
+    (told ≡ true → ⊥) × LoadsNext script t (length (replies_of states t)) × WasRead config home at word
+EndsSo told script log states config t (Ended end.Halted) = ⊥
+EndsSo told script log states config t mode = Unit {0}
 
 -- a thread has a silent collection still to come
 abbrev pub owes_silent : Mode → Bool
@@ -153,20 +162,21 @@ pub record Later (states after : List ThreadState) : Type 0 where
 abbrev pub most_forwards : ℕ
 most_forwards = 65536
 
--- All threads stand in the history, for which the core stands; it has room for the entries to come.
-pub record TableStands (script : Script) (config : Config) (v : View) (states : List ThreadState) : Type 0 where
-  pub stands : Standing true no_homes_on v
+-- All threads stand over the disk, told or not, as the core does, which has room for the entries to come.
+pub record TableStands (told : Bool) (script : Script) (config : Config) (disk : OnDisk) (v : View)
+    (states : List ThreadState) : Type 0 where
+  pub stands : Standing told disk v
   pub count : length states ≡ length script.programs
   pub threads : length v.held ≡ length script.programs
   pub globals : length v.globals ≡ script.globals
   pub words : length v.space.list ≡ config.heap
   pub forwards : length v.forward ≤ most_forwards
-  pub each : (t : ℕ) (s : ThreadState) → slice_get states t ≡ Some s → ThreadStands script v t s
+  pub some_forward : 1 ≤ length v.forward
+  pub each : (t : ℕ) (s : ThreadState) → slice_get states t ≡ Some s → ThreadStands told script v t s
   pub own : All (λ (e : Entry). e.thread < length script.programs) v.log
   pub due : (t : ℕ) (s : ThreadState) → slice_get states t ≡ Some s → owes_silent s.mode ≡ true
       → IsDue config (length s.replies.items)
-  pub ends : (t : ℕ) (s : ThreadState) → slice_get states t ≡ Some s → EndsSo script v.log states config t s.mode
-  pub made : (t k : ℕ) → k < length (replies_of states t) → MadeSo script v.log states config t k
+  pub ends : (t : ℕ) (s : ThreadState) → slice_get states t ≡ Some s → EndsSo told script v.log states config t s.mode
   pub entries : length v.log + to_reply states ≤ v.capacity
   pub few : length v.log + to_reply states ≤ 8388608
 
@@ -188,11 +198,13 @@ pub record ThreadGoes (v w : View) (t : ℕ) (s after : ThreadState) : Type 0 wh
   pub history : w.log ≡ v.log
   pub values : values_of w t ≡ values_of v t
 
--- how a thread waits whose call paused for this cause
-abbrev pub paused_as : Pause → Mode
-paused_as pause.Asked = Asked
-paused_as (pause.Space need) = Lacking
-paused_as pause.Forward = Lacking
+-- how a thread goes on whose call paused for this cause, or whose record was not read, or is none
+abbrev pub mode_for : Refusal → Mode
+mode_for (refusal.Pause pause.Asked) = Asked
+mode_for (refusal.Pause (pause.Space need)) = Lacking
+mode_for (refusal.Pause pause.Forward) = Lacking
+mode_for refusal.DiskFault = Ended end.DiskFault
+mode_for (refusal.Damaged damaged) = Ended (end.Damaged damaged.home damaged.at damaged.word)
 
 -- the call of a thread paused
 pub record ThreadRefused (v w : View) (t : ℕ) (s after : ThreadState) : Type 0 where
@@ -202,7 +214,37 @@ pub record ThreadRefused (v w : View) (t : ℕ) (s after : ThreadState) : Type 0
   pub no_collect : op ≢ Collect
   pub cause : Pause
   pub pauses : Pauses v w t op cause
-  pub only : after ≡ record s { mode = paused_as cause }
+  pub only : after ≡ record s { mode = mode_for (refusal.Pause cause) }
+
+-- A record on disk is none, as was seen in the event of a thread over a disk that ends there.
+pub record SeesDamage (told : Bool) (finish : ℕ) (damaged : Damaged) : Type 0 where
+  pub untold : told ≡ true → ⊥
+  pub read : (config : Config) → finish ≤ config.disk → WasRead config damaged.home damaged.at damaged.word
+
+-- what is said of the refusal by which a thread has ended
+abbrev pub IsLostBy : Bool → ℕ → Refusal → Type 0
+IsLostBy told finish (refusal.Pause cause) = ⊥
+IsLostBy told finish refusal.DiskFault = Unit {0}
+IsLostBy told finish (refusal.Damaged damaged) = SeesDamage told finish damaged
+
+-- The thread has ended, as its call, a load, read a record that could not be read, or is none. Its registers hold nothing.
+pub record ThreadLost (told : Bool) (finish : ℕ) (v w : View) (t : ℕ) (s after : ThreadState) : Type 0 where
+  pub op : Op
+  pub next : s.op ≡ Some op
+  pub loads : IsLoad op
+  pub refusal : Refusal
+  pub cause : IsLostBy told finish refusal
+  pub only : after ≡ record s { mode = mode_for refusal }
+  pub not_due : owes_silent s.mode ≡ false
+  pub goes : IsEnded s.mode → ⊥
+  pub call : call_of w t ≡ None
+  pub history : w.log ≡ v.log
+  pub dropped : values_of w t ≡ replicate 16 Nil
+
+-- a thread goes on with its next operation, or has ended without one
+abbrev pub GoesOn : ThreadState → ThreadState → Type 0
+GoesOn s after = (IsSome s.op × (after ≡ record s { mode = Running }))
+    ⊎ ((s.op ≡ None) × (after ≡ record s { mode = Ended end.Done }))
 
 -- What a reply leaves of a thread. If it has ended with it, its registers hold nothing.
 pub record TakesReply (s after : ThreadState) (reply : Reply) : Type 0 where
@@ -227,24 +269,25 @@ DropsIfEnded v w t (Ended e) = HasDropped v w t
 DropsIfEnded v w t mode = w ≡ v
 
 -- a thread got the reply to its next operation
-pub record ThreadTold (v w : View) (t : ℕ) (s after : ThreadState) : Type 0 where
+pub record ThreadTold (told : Bool) (v w : View) (t : ℕ) (s after : ThreadState) : Type 0 where
   pub op : Op
   pub reply : Reply
   pub next : s.op ≡ Some op
   pub takes : TakesReply s after reply
-  pub registers : List Value
-  pub answers : Answers t v.log (values_of v t) op reply w.log registers
-  pub in_registers : IsEnded after.mode ⊎ (registers ≡ values_of w t)
+  pub history : (act : Option Act) × (w.log ≡ with_entry t v.log act)
+  pub answers : told ≡ true → (registers : List Value) × Answers t v.log (values_of v t) op reply w.log registers
+      × (IsEnded after.mode ⊎ (registers ≡ values_of w t))
   pub dropped : IsEnded after.mode → values_of w t ≡ replicate 16 Nil
   pub call : call_of w t ≡ None
-  pub room : HasRoomFor no_homes_on.end v op
   pub not_due : owes_silent s.mode ≡ false
   pub no_collect : MayGo s.mode → op ≢ Collect
 
 -- What an event needs of its thread: the call in flight is of its next operation, and there is room for its reply and
--- its entry.
-pub record IsReady (v : View) (t : ℕ) (s : ThreadState) : Type 0 where
-  pub stands : Standing true no_homes_on v
+-- its entry. Over some disk with this end the words are well formed.
+pub record IsReady (finish : ℕ) (v : View) (t : ℕ) (s : ThreadState) : Type 0 where
+  pub disk : OnDisk
+  pub ends : disk.end ≡ finish
+  pub stands : Standing false disk v
   pub thread : t < length v.held
   pub forwards : length v.forward ≤ most_forwards
   pub call : (c : Call) → call_of v t ≡ Some c → (s.mode ≡ Running) × (s.op ≡ Some c.op) × (c.op ≢ Collect)
@@ -256,16 +299,44 @@ pub record IsReady (v : View) (t : ℕ) (s : ThreadState) : Type 0 where
   pub entries : IsSome s.op → HasRoomForEntry v
   pub few : length v.log < 2 ^ 32
 
--- one event of a thread
-pub record ThreadStep (v w : View) (t : ℕ) (s after : ThreadState) : Type 0 where
-  pub stands : Standing true no_homes_on w
+-- one event of a thread, over a disk, told or not
+pub record ThreadStep (told : Bool) (disk : OnDisk) (v w : View) (t : ℕ) (s after : ThreadState) : Type 0 where
+  pub stands : Standing told disk w
   pub others : KeepsOthers v w t
   pub what : ((mode : Mode) × ThreadWaits v w t s after mode)
-      ⊎ (ThreadGoes v w t s after ⊎ (ThreadRefused v w t s after ⊎ ThreadTold v w t s after))
+      ⊎ (ThreadGoes v w t s after ⊎ (ThreadRefused v w t s after
+      ⊎ (ThreadLost told disk.end v w t s after ⊎ ThreadTold told v w t s after)))
 
--- a new epoch, in which all stands as before: history, values and registers, and no call is in flight
-pub record Renewed (v w : View) : Type 0 where
-  pub stands : Standing true no_homes_on w
+-- and so over each disk that is seen so
+abbrev pub TakesTurn : ℕ → Option (List ℕ) → View → View → ℕ → ThreadState → ThreadState → Type 0
+TakesTurn finish image v w t s after = (told : Bool) (disk : OnDisk)
+    → Underlies told finish image disk → Standing told disk v
+    → ThreadStep told disk v w t s after
+
+-- how many threads have ended as they could not read the disk
+abbrev pub lost_mode : Mode → Bool
+lost_mode (Ended e) = is_lost e
+lost_mode mode = false
+
+abbrev pub lost : Mode → ℕ
+lost mode = if lost_mode mode then 1 else 0
+
+abbrev pub losses : List ThreadState → ℕ
+losses states = sum (map (λ (s : ThreadState). lost s.mode) states)
+
+-- A thread that was lost in this event was counted: so many faults a reader had before and after.
+pub record CountsLoss (s after : ThreadState) (faults faults_after : ℕ) : Type 0 where
+  pub counted : (lost after.mode + faults ≤ lost s.mode + faults_after) ⊎ (2 ^ 64 - 1 ≤ faults_after)
+  pub rises : faults ≤ faults_after
+
+-- and so all threads that were lost meanwhile
+pub record CountsLosses (states after : List ThreadState) (faults faults_after : ℕ) : Type 0 where
+  pub counted : (losses after + faults ≤ losses states + faults_after) ⊎ (2 ^ 64 - 1 ≤ faults_after)
+  pub rises : HasRisen faults faults_after
+
+-- A new epoch, in which all stands as before: history, values and registers, and no call is in flight.
+pub record Renewed (told : Bool) (disk : OnDisk) (v w : View) : Type 0 where
+  pub stands : Standing told disk w
   pub quiet : IsQuiet w
   pub globals : length w.globals ≡ length v.globals
   pub words : length w.space.list ≡ length v.space.list
@@ -274,12 +345,6 @@ pub record Renewed (v w : View) : Type 0 where
   pub capacity : w.capacity ≡ v.capacity
   pub history : w.log ≡ v.log
   pub values : (t : ℕ) → values_of w t ≡ values_of v t
-
--- A collection: all stands as before, and the words in use are those of what registers and globals reach.
-pub record CoreCollected (v w : View) : Type 0 where
-  pub stays : Renewed v w
-  pub stop : w.stop ≡ false
-  pub alive : (used : ℕ) → w.free ≡ used + 1 → CostsSum (words_of w.log) (Alive w.log (value w)) used
 
 -- A thread before its first event.
 pub record IsNewThread (ops : List Op) (globals : ℕ) (s : ThreadState) : Type 0 where
@@ -298,85 +363,6 @@ pub record AreNewThreads (script : Script) (states : List ThreadState) (amount :
       → IsNewThread (operations script t) script.globals s
   pub entries : amount ≡ to_reply states
   pub few : to_reply states ≤ 8388608
-
--- the claim of a thread that made its call alone, for an object of so many words, ended past the last one
-pub record LacksAlone (v w : View) (t : ℕ) (s after : ThreadState) (need : ℕ) : Type 0 where
-  pub same : after ≡ s
-  pub dst : ℕ
-  pub refs : ℕ
-  pub nums : ℕ
-  pub next : s.op ≡ Some (New dst refs nums)
-  pub needed : need ≡ 2 + refs + nums
-  pub above : length v.space.list + 1 < v.free + need
-  pub call : call_of w t ≡ None
-  pub history : w.log ≡ v.log
-  pub values : values_of w t ≡ values_of v t
-
--- The call of a thread was made alone: it was answered, or its claim of so many words ended past the last one.
-pub record CalledAlone (v w : View) (t : ℕ) (s after : ThreadState) (lacks : Option ℕ) : Type 0 where
-  pub stands : Standing true no_homes_on w
-  pub others : KeepsOthers v w t
-  pub what : ((lacks ≡ None) × ThreadTold v w t s after)
-      ⊎ ((need : ℕ) × LacksAlone v w t s after need × (lacks ≡ Some need))
-
--- A collector: each collection was of a phase in which objects stay in the heap, and so is the one that is planned.
-pub record IsPlanning (c : Collector) : Type 0 where
-  pub moves : All (λ (j : Journal). j.phase ≢ Move) c.journal.items
-  pub planned : IsCopying c.planned
-
--- A collection of a phase was written down, by what it left, and the next one was planned by that.
-pub record PlansBy (old new : Collector) (w : View) (phase : Phase) : Type 0 where
-  pub planning : IsPlanning new
-  pub config : new.config ≡ old.config
-  pub entry : Journal
-  pub journal : new.journal.items ≡ old.journal.items ++ entry ∷ []
-  pub of_phase : entry.phase ≡ phase
-  pub held_within : entry.held ≤ entry.live
-  pub live : w.free ≡ entry.live + 1
-  pub within : entry.live ≤ length w.space.list
-  pub disk : OnNoDisk entry
-  pub next : new.planned ≡ next_of old.config (Some entry)
-
--- so many collections were made, each as it was planned
-pub data Planned : ℕ → Collector → Collector → Type 0 where
-  none : (c : Collector) → Planned zero c c
-  more : (n : ℕ) (a b c : Collector) (w : View) → Planned n a b → PlansBy b c w b.planned → Planned (suc n) a c
-
--- What a collector knows: the numbers of the run, the collections so far, and of which phase the next one is.
-pub record CollectorStands (config : Config) (c : Collector) : Type 0 where
-  pub planning : IsPlanning c
-  pub numbers : c.config ≡ config
-  pub journal : IsJournalOf config c.journal.items
-  pub next : c.planned ≡ next_of config (before c.journal.items (length c.journal.items))
-
--- A run between two events.
-pub record RunStands (script : Script) (config : Config) (run : Run) : Type 0 where
-  pub table : TableStands script config (view run.core) run.states.items
-  pub every : run.every ≡ config.every
-  pub collector : CollectorStands config run.collector
-  pub collected : collections script config (replies_of run.states.items)
-      (length script.programs) ≤ length run.collector.journal.items + owing run.states.items
-
--- the last event of a run was a collection, or a reply to it
-pub record JustCollected (run : Run) : Type 0 where
-  pub stop : (view run.core).stop ≡ false
-  pub prefix : List Journal
-  pub last : Journal
-  pub journal : run.collector.journal.items ≡ prefix ++ last ∷ []
-  pub free : (view run.core).free ≡ last.live + 1
-
--- the planned collection was made, and all else is as before
-pub record MakesPlanned (old new : Run) : Type 0 where
-  pub collected : CoreCollected (view old.core) (view new.core)
-  pub plans : PlansBy old.collector new.collector (view new.core) old.collector.planned
-  pub states : new.states.items ≡ old.states.items
-  pub every : new.every ≡ old.every
-
--- A run at a safepoint, behind the collections for which threads waited.
-pub record StandsCollected (script : Script) (config : Config) (run : Run) : Type 0 where
-  pub stands : RunStands script config run
-  pub owed : OweBehindCollects script run.states.items
-  pub collected : JustCollected run
 
 -- a thread waits for a collection of its own
 abbrev pub ForCollection : Mode → Type 0
@@ -426,10 +412,6 @@ pub record SetsStop (v w : View) (after : ThreadState) : Type 0 where
 abbrev pub SomeGoesOn : List ThreadState → Type 0
 SomeGoesOn states = (t : ℕ) × ((s : ThreadState) × (slice_get states t ≡ Some s) × (IsEnded s.mode → ⊥))
 
--- what a part of a safepoint keeps: for each script that the run stands for
-abbrev pub KeepsRun : Run → Run → Type 0
-KeepsRun old new = (script : Script) (config : Config) → RunStands script config old → RunStands script config new
-
 -- some thread waits for room
 abbrev pub SomeLacks : List ThreadState → Type 0
 SomeLacks states = (t : ℕ) × ((s : ThreadState) × (slice_get states t ≡ Some s) × (s.mode ≡ Lacking))
@@ -469,18 +451,6 @@ abbrev pub CollectedAt : List ThreadState → List ThreadState → ℕ → Type 
 CollectedAt states after t = (s : ThreadState) → slice_get states t ≡ Some s
     → (x : ThreadState) × (after ≡ slice_set states t x) × CollectedFor s x
 
--- What was collected for a thread: one collection as it was planned, if it waited for one. Else the core is as before.
-pub record MakesFor (s : ThreadState) (old new : Run) : Type 0 where
-  pub planned : Planned (collections_for s.mode) old.collector new.collector
-  pub made : ForCollection s.mode → JustCollected new
-  pub none : (ForCollection s.mode → ⊥) → new.core ≡ old.core
-
--- what was collected for all threads
-pub record MakesForAll (old new : Run) : Type 0 where
-  pub planned : Planned (collections_due old.states.items) old.collector new.collector
-  pub made : collections_due old.states.items ≢ 0 → JustCollected new
-  pub none : collections_due old.states.items ≡ 0 → new.core ≡ old.core
-
 -- no thread below this one waits for a collection of its own
 abbrev pub NoneBelow : (Mode → Type 0) → List ThreadState → ℕ → Type 0
 NoneBelow Is states t = (u : ℕ) (s : ThreadState) → u < t → slice_get states u ≡ Some s → Is s.mode → ⊥
@@ -490,30 +460,6 @@ pub record CollectedAll (states after : List ThreadState) : Type 0 where
   pub count : length after ≡ length states
   pub each : (t : ℕ) (s : ThreadState) → slice_get states t ≡ Some s → (x : ThreadState) × (slice_get after t ≡ Some x)
       × CollectedFor s x
-
--- only this thread changed, has less to do, and does not wait
-abbrev pub CalledAt : List ThreadState → List ThreadState → ℕ → Type 0
-CalledAt states after t = (s : ThreadState) → slice_get states t ≡ Some s
-    → (x : ThreadState) × (after ≡ slice_set states t x) × (jobs_of x < jobs_of s) × (IsPaused x.mode → ⊥)
-
--- The call of a thread was made alone. Where it was refused, and only there, a collection was forced.
-pub record CalledFirst (old new : Run) (t : ℕ) : Type 0 where
-  pub state : ThreadState
-  pub at : slice_get old.states.items t ≡ Some state
-  pub called : View
-  pub next : ThreadState
-  pub lacks : Option ℕ
-  pub call : CalledAlone (view old.core) called t state next lacks
-  pub answered : lacks ≡ None → new.collector ≡ old.collector
-  pub refused : IsSome lacks → (w : View) × PlansBy old.collector new.collector w forced
-
--- The collections of a safepoint: as they were planned, one for each thread that waited for its own, or one where none
--- did, as a thread lacked room then; and at most one that was forced, for a thread that lacked room.
-pub record MakesCollections (states : List ThreadState) (old new : Collector) : Type 0 where
-  pub between : Collector
-  pub own : collections_due states ≢ 0 → Planned (collections_due states) old between
-  pub room : collections_due states ≡ 0 → Planned 1 old between
-  pub last : (new ≡ between) ⊎ (SomeLacks states × ((w : View) × PlansBy between new w forced))
 
 -- no thread waits
 abbrev pub NoneWaits : List ThreadState → Type 0
@@ -540,7 +486,3 @@ abbrev pub potential : List ThreadState → List (Option Call) → ℕ
 potential [] calls = 0
 potential (s ∷ states) [] = 2000000 * jobs s.mode (length (left s)) + turn_left s.mode None + potential states []
 potential (s ∷ states) (c ∷ calls) = 2000000 * jobs s.mode (length (left s)) + turn_left s.mode c + potential states calls
-
--- a run has less to do than before
-abbrev pub IsNearer : Run → Run → Type 0
-IsNearer old new = potential new.states.items (view new.core).calls < potential old.states.items (view old.core).calls

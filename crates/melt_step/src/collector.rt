@@ -1,17 +1,24 @@
 //! The collections of a run.
-ghost use Rattle.std.specs.Prelude.{◌≡◌, ◌<◌, All, [], length, IfOk, OnOk, true};
-ghost use Rattle.melt_scion.specs.Heaps.{no_homes_on, IsFormed, IsSettled};
-ghost use Rattle.melt_copy.specs.Copying.{Collects, IsCopying};
-ghost use Rattle.melt_core.specs.Views.{IsQuiet, Standing, view};
-ghost use Rattle.melt_policy.specs.Policy.{planned};
+//!
+//! A collection is made between two epochs. It takes the heap and lends the registers, and so the core is taken apart
+//! for it and put together again. Where it is refused these parts are left, and the report of the run is made of them.
+ghost use Rattle.std.specs.Prelude.{◌≡◌, ◌<◌, ◌≤◌, All, [], length, IfOk, IfErr, IsErrOf, OnOk, OnErr, Err};
+ghost use Rattle.melt_core.specs.Views.{view};
+ghost use Rattle.melt_io.specs.Outside.{Rose};
 ghost use Rattle.melt_model.specs.declared.reports.Phase.{Phase};
-ghost use Rattle.melt_step.specs.Journals.{made_as};
-ghost use Rattle.melt_step.specs.Threads.{CoreCollected, IsPlanning, PlansBy};
+ghost use Rattle.melt_move.specs.Collecting.{IsFormedOn};
+ghost use Rattle.melt_move.specs.KeptDisk.{KeepsDisk};
+ghost use Rattle.melt_move.specs.Planned.{CollectsPlanned, IsRefusedPlanned, phase_done, plan_after};
+ghost use Rattle.melt_move.specs.declared.planned.Plan.{Plan};
+ghost use Rattle.melt_step.specs.Collections.{CollectsCore, IsRefusedCore, MayCollect};
+ghost use Rattle.melt_step.specs.Shown.{shown_by};
 
-use melt_copy::collect_copy;
-use melt_core::Core;
+use melt_core::{Core, Rest};
+use melt_disk::{DiskFull, StaleSpace};
+use melt_io::StaleDisk;
 use melt_model::{Config, Journal, NoMemory, Phase, Steps};
-use melt_policy::next_phase;
+use melt_move::collect::MoveRefusal;
+use melt_move::planned::{Plan, collect_planned};
 use melt_scion::{Heap, Registers};
 use std::alloc::Global;
 use std::marker::Brand;
@@ -31,97 +38,117 @@ fn count_all_registers(all: &[Registers])
     }
 }
 
+/// Why a collection was not made, and what is left then of the core.
+#[derive(Debug, Drop)]
+pub enum CollectRefusal {
+    /// There was no memory.
+    NoMemory,
+    /// The disk has no room for the new homes. Objects that had come back from it are settled, and else nothing is
+    /// changed.
+    DiskFull {
+        heap: Heap,
+        rest: Rest,
+        full: DiskFull,
+    },
+    /// A write to the disk failed, and the heap is lost.
+    DiskFault {
+        rest: Rest,
+    },
+}
+
 /// Collects a heap, and counts no steps. Whoever calls it picks a ledger for them, which is of a type that it names.
-fn collect_uncounted<L: Ledger>(
+fn collect_uncounted<D: StaleDisk, L: Ledger>(
     alloc: Global,
-    heap: &mut Heap,
+    heap: Heap,
     registers: &mut [Registers],
-    phase: Phase,
+    space: &mut StaleSpace<'_, D>,
+    plan: &mut Plan,
+    force: bool,
     blank: Blank,
-) -> Result<Journal, NoMemory>
+) -> Result<(Heap, Journal), MoveRefusal>
     requires name { blank.name ≡ L.name }
     requires parts { blank.parts ≡ L.parts }
     requires some { 0 < blank.parts }
-    requires formed { IsFormed heap.old registers.old }
-    requires settled { IsSettled heap.old }
-    requires phase { IsCopying phase }
-    ensures collected { IfOk result (Collects heap.old registers.old heap.new registers.new phase) }
+    requires formed { IsFormedOn heap registers.old space.old.end }
+    ensures collects { IfOk result (λ done. CollectsPlanned (phase_done force plan.old.next) heap done.0
+        registers.old registers.new space.old.end space.new.end (D.image space.old.disk.now)
+        (D.image space.new.disk.now) done.1) }
+    ensures formed { IfOk result (λ done. IsFormedOn done.0 registers.new space.new.end) }
+    ensures plans { IfOk result (λ done. plan.new
+        ≡ plan_after plan.old (phase_done force plan.old.next) done.1.live (length heap.space.list)) }
+    ensures fits { OnOk result (phase_done force plan.old.next ≡ Phase.Move → space.new.end ≤ space.old.limit) }
+    ensures refused { IfErr result (λ refusal. IsRefusedPlanned D.image D.writes (phase_done force plan.old.next) heap
+        registers.old registers.new space.old space.new refusal) }
+    ensures failed { IsErrOf result MoveRefusal.DiskFault
+        → Rose (D.faults space.old.disk.now) (D.faults space.new.disk.now) }
+    ensures keeps { KeepsDisk D.image D.faults D.read_faults D.lends space.old space.new }
     ensures before { All (λ each. length each.regs ≡ 16) registers.old }
     ensures after { OnOk result (All (λ each. length each.regs ≡ 16) registers.new) }
 {
     count_all_registers(registers);
     let mut steps = Steps::<L>::new(blank);
-    let journal = collect_copy(alloc, heap, registers, phase, &mut steps)?;
+    let done = collect_planned(alloc, heap, registers, space, plan, force, &mut steps)?;
     count_all_registers(registers);
-    Ok(journal)
+    Ok(done)
 }
 
 /// What collections there were, and of which phase the next one is to be.
 #[derive(Drop)]
 pub struct Collector {
     pub journal: Vec<Journal>,
-    planned: Phase,
-    config: Config,
+    pub plan: Plan,
 }
 
 impl Collector {
     /// Before the first collection, which is to be Inactive.
     pub fn new(alloc: Global, config: Config) -> Collector
-        ensures planning { IsPlanning result }
         ensures none { result.journal.items ≡ [] }
-        ensures planned { result.planned ≡ Phase.Inactive }
-        ensures config { result.config ≡ config }
+        ensures plan { result.plan ≡ record { next = Phase.Inactive; mark = config.mark; move_ = config.move_ } }
     {
         Collector {
             journal: Vec::new(alloc),
-            planned: Phase::Inactive,
-            config,
+            plan: Plan {
+                next: Phase::Inactive,
+                mark: config.mark,
+                move_: config.move_,
+            },
         }
     }
 
-    /// Makes a collection of this phase between two epochs.
-    pub fn collect(&mut self, alloc: Global, core: Core, phase: Phase) -> Result<Core, NoMemory>
-        requires planning { IsPlanning self.old }
-        requires phase { IsCopying phase }
-        requires stands { Standing true no_homes_on (view core) }
-        requires quiet { IsQuiet (view core) }
-        ensures collected { IfOk result (λ after. CoreCollected (view core) (view after)) }
-        ensures plans { IfOk result (λ after. PlansBy self.old self.new (view after) phase) }
+    /// Makes a collection between two epochs: the one that is planned, or a Move where `force` says so.
+    pub fn collect<D: StaleDisk>(
+        &mut self,
+        alloc: Global,
+        core: Core,
+        space: &mut StaleSpace<'_, D>,
+        force: bool,
+    ) -> Result<Core, CollectRefusal>
+        requires { MayCollect space.old.end (view core) }
+        ensures collected { IfOk result (λ after. CollectsCore (phase_done force self.old.plan.next)
+            (shown_by D.image space.old) (shown_by D.image space.new) (view core) (view after) self.old self.new) }
+        ensures refused { IfErr result (IsRefusedCore (phase_done force self.old.plan.next)
+            (shown_by D.image space.old) (shown_by D.image space.new) (view core)) }
+        ensures journal_stays { OnErr result (self.new.journal.items ≡ self.old.journal.items) }
+        ensures failed { (rest : Rest) → result ≡ Err (CollectRefusal.DiskFault rest)
+            → Rose (D.faults space.old.disk.now) (D.faults space.new.disk.now) }
+        ensures keeps { KeepsDisk D.image D.faults D.read_faults D.lends space.old space.new }
     {
-        let (mut heap, mut rest) = core.finish();
+        let (heap, mut rest) = core.finish();
         let blank = Blank::new(1);
-        let journal = collect_uncounted::<Brand>(alloc, &mut heap, rest.registers(), phase, blank)?;
-        self.plan(journal.live, phase);
-        // Nothing is on disk, so word 1 is the first past all homes.
-        self.journal.push(Journal { end: 1, ..journal })?;
-        Ok(Core::begin(heap, rest))
-    }
-
-    /// Plans the next collection. Nothing is moved to disk yet: where the rule says Move, the objects are only marked.
-    fn plan(&mut self, live: u32, phase: Phase)
-        requires { IsPlanning self.old }
-        ensures planning { IsPlanning self.new }
-        ensures journal { self.new.journal ≡ self.old.journal }
-        ensures config { self.new.config ≡ self.old.config }
-        ensures next { self.new.planned ≡ made_as
-            (planned live self.old.config.heap phase self.old.config.mark self.old.config.move_) }
-    {
-        let config = self.config;
-        let next = next_phase(live, config.heap, phase, config.mark, config.move_);
-        self.planned = match next {
-            Phase::Inactive => Phase::Inactive,
-            Phase::Mark | Phase::Move => Phase::Mark,
-        };
-    }
-
-    /// Makes the collection that is planned.
-    pub fn collect_planned(&mut self, alloc: Global, core: Core) -> Result<Core, NoMemory>
-        requires planning { IsPlanning self.old }
-        requires stands { Standing true no_homes_on (view core) }
-        requires quiet { IsQuiet (view core) }
-        ensures collected { IfOk result (λ after. CoreCollected (view core) (view after)) }
-        ensures plans { IfOk result (λ after. PlansBy self.old self.new (view after) self.old.planned) }
-    {
-        self.collect(alloc, core, self.planned)
+        let registers = rest.registers();
+        let plan = &mut self.plan;
+        match collect_uncounted::<D, Brand>(alloc, heap, registers, space, plan, force, blank) {
+            Ok((heap, journal)) => {
+                if self.journal.push(journal).is_err() {
+                    return Err(CollectRefusal::NoMemory);
+                }
+                Ok(Core::begin(heap, rest))
+            }
+            Err(MoveRefusal::NoMemory(_)) => Err(CollectRefusal::NoMemory),
+            Err(MoveRefusal::DiskFull { heap, full }) => {
+                Err(CollectRefusal::DiskFull { heap, rest, full })
+            }
+            Err(MoveRefusal::DiskFault) => Err(CollectRefusal::DiskFault { rest }),
+        }
     }
 }

@@ -1,71 +1,66 @@
 //! The events of a thread.
-ghost use Rattle.std.specs.Prelude.{◌≡◌, ◌≢◌, ◌^◌, ◌<◌, length, vec_capacity, ◌≤◌, false, Some, None, true};
-ghost use Rattle.melt_model.specs.declared.operations.Op.{Op};
-ghost use Rattle.melt_scion.specs.Heaps.{no_homes_on};
-ghost use Rattle.melt_core.specs.Advances.{AdvancesOver, Asks, InBounds};
-ghost use Rattle.melt_core.specs.Changed.{HasRoomForEntry};
-ghost use Rattle.melt_core.proofs.NoHomes.{NeedsHome};
+//!
+//! A thread knows no more of its call than its mode: what the call has reached stands in the core. So one event asks
+//! the core once, and its answer is the next mode. A collection is asked for by the stop word alone, which makes every
+//! call that begins pause, and is made when all of them have.
+ghost use Rattle.std.specs.Prelude.{◌≡◌, ◌<◌, ◌≤◌, length, vec_capacity, Some, None, Bool, true};
+ghost use Rattle.melt_scion.specs.Heaps.{OnDisk};
 ghost use Rattle.melt_core.specs.Views.{Standing, call_of, view};
-ghost use Rattle.melt_step.specs.Threads.{CalledAlone, DropsIfEnded, DueBy, IsReady, MayGo, ThreadStep, SetsStop};
-ghost use Rattle.melt_step.specs.Threads.{TakesReply, most_forwards};
+ghost use Rattle.melt_core.specs.declared.answer.Refusal.{Refusal};
+ghost use Rattle.melt_step.specs.Threads.{CountsLoss, DropsIfEnded, DueBy, IsReady, MayGo, SetsStop, TakesReply};
+ghost use Rattle.melt_step.specs.Threads.{TakesTurn, mode_for};
 
 use crate::thread::{Mode, ThreadState};
 use melt_core::{Core, Pause, Refusal, StepResult};
-use melt_io::{Failed, RecordReader};
-use melt_model::{Op, Reply};
+use melt_io::RecordReader;
+use melt_model::{Op, Reply, ThreadEnd};
 
-/// The reader of a disk to which nothing was ever written.
-#[derive(Drop)]
-struct NoDisk;
-
-impl RecordReader for NoDisk {
-    ghost use Rattle.std.specs.Prelude.{Some, []};
-
-    ghost image = { λ _. Some [] };
-
-    ghost faults = { λ _. 0 };
-
-    ghost reads = { λ _. 0 };
-
-    fn read_at(&mut self, _at: u32, words: &mut [u64]) -> Result<(), Failed> {
-        words.fill(0);
-        Ok(())
+/// What a thread does behind a call that was refused. One whose record could not be read, or is none, has ended.
+pub fn mode_after(refusal: Refusal) -> Mode
+    ensures { result ≡ mode_for refusal }
+{
+    match refusal {
+        Refusal::Pause(Pause::Asked) => Mode::Asked,
+        Refusal::Pause(Pause::Space { .. } | Pause::Forward) => Mode::Lacking,
+        Refusal::DiskFault => Mode::Ended(ThreadEnd::DiskFault),
+        Refusal::Damaged(damaged) => Mode::Ended(ThreadEnd::Damaged {
+            home: damaged.home,
+            at: damaged.at,
+            word: damaged.word,
+        }),
     }
 }
 
-/// Makes one event of a call over a disk without homes: word 1 is past all of them.
-pub fn advance(core: &mut Core, thread: u32, op: Op) -> StepResult
-    requires { Asks no_homes_on (view core.old) thread op }
-    ensures advances { AdvancesOver no_homes_on (view core.old) (view core.new) thread op result }
-    ensures no_home { NeedsHome result → ⊥ }
-{
-    core.advance(thread, op, 1, &mut NoDisk)
-}
-
-/// Makes the next event of a thread that can go on.
-pub fn make_event(core: &mut Core, state: &mut ThreadState<'_>, thread: u32, every: u32)
-    requires ready { IsReady (view core.old) thread state.old }
+/// Makes the next event of a thread that can go on, over a disk whose homes end before `end`.
+pub fn make_event<R: RecordReader>(
+    core: &mut Core,
+    state: &mut ThreadState<'_>,
+    thread: u32,
+    every: u32,
+    end: u32,
+    reader: &mut R,
+)
+    requires ready { IsReady end (view core.old) thread state.old }
     requires goes { MayGo state.old.mode }
-    ensures step { ThreadStep (view core.old) (view core.new) thread state.old state.new }
+    ensures step { TakesTurn end (R.image reader.old) (view core.old) (view core.new) thread state.old state.new }
     ensures stop { SetsStop (view core.old) (view core.new) state.new }
     ensures due { DueBy every state.old state.new }
+    ensures image { R.image reader.new ≡ R.image reader.old }
+    ensures lost { CountsLoss state.old state.new (R.faults reader.old) (R.faults reader.new) }
 {
     match (state.mode, state.op) {
         (Mode::Running, Some(Op::Collect)) => {
             core.ask();
             state.mode = Mode::Collecting;
         }
-        (Mode::Running, Some(op)) => {
-            match advance(core, thread, op) {
-                StepResult::Going => {}
-                StepResult::Answered(reply) => answered(core, state, thread, reply, every),
-                StepResult::Refused(Refusal::Pause(Pause::Asked)) => state.mode = Mode::Asked,
-                StepResult::Refused(Refusal::Pause(Pause::Space { .. } | Pause::Forward)) => {
-                    state.mode = Mode::Lacking;
-                }
-                StepResult::Refused(Refusal::DiskFault | Refusal::Damaged(_)) => unreachable!(),
+        (Mode::Running, Some(op)) => match core.advance(thread, op, end, reader) {
+            StepResult::Going => {}
+            StepResult::Answered(reply) => answered(core, state, thread, reply, every),
+            StepResult::Refused(refusal) => {
+                state.mode = mode_after(refusal);
+                drop_if_ended(core, state.mode, thread);
             }
-        }
+        },
         _ => {
             core.ask();
             state.mode = Mode::Silent;
@@ -75,7 +70,6 @@ pub fn make_event(core: &mut Core, state: &mut ThreadState<'_>, thread: u32, eve
 
 /// A thread that has ended drops its registers.
 pub fn drop_if_ended(core: &mut Core, mode: Mode, thread: u32)
-    requires stands { Standing true no_homes_on (view core.old) }
     requires thread { thread < length (view core.old).held }
     requires no_call { call_of (view core.old) thread ≡ None }
     ensures { DropsIfEnded (view core.old) (view core.new) thread mode }
@@ -87,7 +81,6 @@ pub fn drop_if_ended(core: &mut Core, mode: Mode, thread: u32)
 
 /// A thread got a reply.
 pub fn answered(core: &mut Core, state: &mut ThreadState<'_>, thread: u32, reply: Reply, every: u32)
-    requires stands { Standing true no_homes_on (view core.old) }
     requires thread { thread < length (view core.old).held }
     requires no_call { call_of (view core.old) thread ≡ None }
     requires room { length state.old.replies.items < vec_capacity state.old.replies }
@@ -97,44 +90,4 @@ pub fn answered(core: &mut Core, state: &mut ThreadState<'_>, thread: u32, reply
 {
     state.take_reply(reply, every);
     drop_if_ended(core, state.mode, thread);
-}
-
-/// Makes the call of a thread alone, while all others wait. Answers the words that it lacked, if it was refused.
-pub fn call_alone(
-    core: &mut Core,
-    state: &mut ThreadState<'_>,
-    thread: u32,
-    op: Op,
-    every: u32,
-) -> Option<u32>
-    requires stands { Standing true no_homes_on (view core.old) }
-    requires thread { thread < length (view core.old).held }
-    requires waits { state.old.mode ≡ Mode.Lacking }
-    requires op { state.old.op ≡ Some op }
-    requires no_collect { op ≢ Op.Collect }
-    requires bounds { InBounds (length (view core.old).globals) op }
-    requires no_call { call_of (view core.old) thread ≡ None }
-    requires no_stop { (view core.old).stop ≡ false }
-    requires entries { HasRoomForEntry (view core.old) }
-    requires few { length (view core.old).log < 2 ^ 32 }
-    requires forwards { length (view core.old).forward ≤ most_forwards }
-    requires room { length state.old.replies.items < vec_capacity state.old.replies }
-    ensures called { CalledAlone (view core.old) (view core.new) thread state.old state.new result }
-    ensures due { DueBy every state.old state.new }
-{
-    loop {
-        match advance(core, thread, op) {
-            StepResult::Going => {}
-            StepResult::Answered(reply) => {
-                answered(core, state, thread, reply, every);
-                return None;
-            }
-            StepResult::Refused(Refusal::Pause(Pause::Space { need })) => return Some(need),
-            StepResult::Refused(
-                Refusal::Pause(Pause::Asked | Pause::Forward)
-                | Refusal::DiskFault
-                | Refusal::Damaged(_),
-            ) => unreachable!(),
-        }
-    }
 }

@@ -1,8 +1,10 @@
-//! Runs a trace by its written order, over a heap of fixed size.
+//! Runs a trace by its written order, over a heap of fixed size and a file of stale objects.
 #![tactic(auto)]
 
+mod alone;
 mod choices;
 mod collector;
+mod ending;
 mod events;
 mod run;
 mod safepoint;

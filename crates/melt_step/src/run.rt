@@ -1,20 +1,33 @@
 //! Runs a trace by its written order.
-ghost use Rattle.std.specs.Prelude.{◌≡◌, ℕ, ◌<◌, length, slice_get, Some, None, IsSome, IfSome, true, false, IfOk};
+//!
+//! A run is a row of epochs. In an epoch the threads take their events, over the disk as it was when a reader was lent;
+//! it is over when no thread can go on. Between two epochs no call is in flight, so that heap and registers are all there
+//! is, and collections are made there.
+ghost use Rattle.std.specs.Prelude.{◌≡◌, ◌≢◌, ◌⊎◌, ℕ, ◌+◌, ◌<◌, ◌≤◌, length, slice_get, Some, None, Ok, Err, IsSome, IfSome};
+ghost use Rattle.std.specs.Prelude.{true, false, Bool, IfOk, IfErr, IsErrOf};
+ghost use Rattle.melt_io.specs.Outside.{Rose};
 ghost use Rattle.melt_model.specs.Config.{InRanges};
 ghost use Rattle.melt_model.specs.declared.config.Config.{Config};
 ghost use Rattle.melt_trace.specs.Script.{Script};
-ghost use Rattle.melt_core.specs.Views.{view};
-ghost use Rattle.melt_step.specs.Run.{HasRun};
+ghost use Rattle.melt_core.specs.Views.{IsQuiet, view};
 ghost use Rattle.melt_step.specs.declared.thread.ThreadState.{ThreadState};
-ghost use Rattle.melt_step.specs.Threads.{AllWait, AreNewThreads, IsEnded, IsNearer, KeepsRun, KnowsStop, RunStands};
-ghost use Rattle.melt_step.specs.Threads.{SomeGoesOn};
+ghost use Rattle.melt_step.specs.Endings.{AllEnded, EndedStands, StopsSo};
+ghost use Rattle.melt_step.specs.Run.{CountsFaults, HasRun};
+ghost use Rattle.melt_step.specs.Safepoints.{CountsOpen, IsNearer, KeepsRun, LentOf, RunStands, SomeStands, StopCounts};
+ghost use Rattle.melt_step.specs.Safepoints.{StopsRun, open_faults};
+ghost use Rattle.melt_step.specs.Shown.{Shown, shown_by};
+ghost use Rattle.melt_step.specs.Threads.{AllWait, AreNewThreads, CountsLosses, KnowsStop, SomeGoesOn};
+ghost use Rattle.melt_step.specs.Threads.{losses};
 
 use crate::collector::Collector;
+use crate::ending::{Ended, Stop, halt_all};
 use crate::events::make_event;
-use crate::thread::{Mode, ThreadState};
+use crate::thread::ThreadState;
 use crate::turns::Turns;
 use melt_core::{Core, Rest};
-use melt_model::{Config, Journals, NoMemory, Replies, Report, ThreadReport, ThreadReports};
+use melt_disk::StaleSpace;
+use melt_io::{LendRefusal, RecordReader, StaleDisk};
+use melt_model::{Config, Halt, NoMemory, Report};
 use melt_scion::Heap;
 use melt_trace::Trace;
 use std::alloc::Global;
@@ -25,32 +38,67 @@ pub struct Run<'a> {
     pub core: Core,
     pub states: Vec<ThreadState<'a>>,
     pub collector: Collector,
+    /// How many words the heap has.
+    pub words: u32,
     pub every: u32,
 }
 
 impl<'a> Run<'a> {
-    /// Makes the next event of the thread whose turn it is, and answers which one that is, if one can go on.
-    pub fn take_turn(&mut self, turns: &mut Turns, trace: &Trace) -> Option<u32>
-        requires stands { (config : Config) × RunStands trace.now config self.old }
+    /// Makes the next event of the thread whose turn it is, and answers which one that is, if one can go on. The homes
+    /// on disk end before `end`.
+    pub fn take_turn<R: RecordReader>(
+        &mut self,
+        turns: &mut Turns,
+        trace: &Trace,
+        end: u32,
+        reader: &mut R,
+    ) -> Option<u32>
+        requires stands { (shown : Shown) × (shown.end ≡ end) × (shown.image ≡ R.image reader.old)
+            × ((config : Config) × RunStands false trace.now config shown self.old) }
         requires stop { KnowsStop (view self.old.core) self.old.states.items }
-        ensures keeps { KeepsRun self.old self.new }
+        ensures keeps { (shown : Shown) → shown.end ≡ end → shown.image ≡ R.image reader.old
+            → KeepsRun shown shown self.old self.new }
         ensures stop { KnowsStop (view self.new.core) self.new.states.items }
         ensures there { IfSome result (λ t. t < length self.new.states.items) }
         ensures nearer { IsSome result → IsNearer self.old self.new }
         ensures waits { result ≡ None → (self.new ≡ self.old) × AllWait self.old.states.items }
+        ensures image { R.image reader.new ≡ R.image reader.old }
+        ensures lost { CountsLosses self.old.states.items self.new.states.items (R.faults reader.old)
+            (R.faults reader.new) }
     {
         let Some(thread) = turns.next(trace, &self.states) else {
             return None;
         };
         let state = &mut self.states[thread as usize];
-        make_event(&mut self.core, state, thread, self.every);
+        make_event(&mut self.core, state, thread, self.every, end, reader);
         Some(thread)
+    }
+
+    /// Gives out events until no thread can go on.
+    fn run_epoch<R: RecordReader>(
+        &mut self,
+        turns: &mut Turns,
+        trace: &Trace,
+        end: u32,
+        reader: &mut R,
+    )
+        requires stands { (shown : Shown) × (shown.end ≡ end) × (shown.image ≡ R.image reader.old)
+            × ((config : Config) × RunStands false trace.now config shown self.old) }
+        requires stop { KnowsStop (view self.old.core) self.old.states.items }
+        ensures keeps { (shown : Shown) → shown.end ≡ end → shown.image ≡ R.image reader.old
+            → KeepsRun shown shown self.old self.new }
+        ensures stop { KnowsStop (view self.new.core) self.new.states.items }
+        ensures waits { AllWait self.new.states.items }
+        ensures nearer { (self.new ≡ self.old) ⊎ IsNearer self.old self.new }
+        ensures lost { CountsLosses self.old.states.items self.new.states.items (R.faults reader.old)
+            (R.faults reader.new) }
+    {
+        while self.take_turn(turns, trace, end, reader).is_some() {}
     }
 
     /// Whether all threads have ended.
     pub fn has_ended(&self) -> bool
-        ensures ended { result ≡ true → (t : ℕ) (s : ThreadState) → slice_get self.now.states.items t ≡ Some s
-            → IsEnded s.mode }
+        ensures ended { result ≡ true → AllEnded self.now.states.items }
         ensures goes { result ≡ false → SomeGoesOn self.now.states.items }
     {
         for state in &self.states {
@@ -61,63 +109,162 @@ impl<'a> Run<'a> {
         true
     }
 
-    /// Gives out events until all threads have ended.
-    fn run_all(self, alloc: Global, trace: &Trace) -> Result<Run<'a>, NoMemory>
-        requires stands { (config : Config) × RunStands trace.now config self }
-        requires stop { KnowsStop (view self.core) self.states.items }
-        ensures keeps { IfOk result (KeepsRun self.entry) }
-        ensures ended { IfOk result (λ run. (t : ℕ) (s : ThreadState) → slice_get run.states.items t ≡ Some s
-            → IsEnded s.mode) }
+    /// What is left when all threads have ended.
+    pub fn end(self) -> Ended<'a>
+        requires quiet { IsQuiet (view self.core) }
+        requires ended { AllEnded self.states.items }
+        ensures stands { (told : Bool) (script : Script) (config : Config) (shown : Shown)
+            → RunStands told script config shown self.entry → EndedStands told script config shown result }
+        ensures states { result.states.items ≡ self.entry.states.items }
+        ensures halt { result.halt ≡ None }
     {
-        let mut run = self;
-        let mut turns = Turns::new();
-        loop {
-            if run.take_turn(&mut turns, trace).is_some() {
-                continue;
-            }
-            if run.has_ended() {
-                return Ok(run);
-            }
-            run = run.pass_safepoint(alloc)?;
+        let (heap, rest) = self.core.finish();
+        Ended {
+            heap: Some(heap),
+            rest,
+            states: self.states,
+            journal: self.collector.journal,
+            halt: None,
         }
     }
 
-    /// The report of a run in which all threads have ended, and the heap that is left.
-    pub fn report(self, alloc: Global) -> Result<(Report, Option<Heap>), NoMemory>
-        requires ended { (t : ℕ) (s : ThreadState) → slice_get self.states.items t ≡ Some s → IsEnded s.mode }
-        requires stands { (script : Script) × ((config : Config) × RunStands script config self) }
-        ensures { IfOk result (λ done. (script : Script) (config : Config) → RunStands script config self.entry
-            → HasRun script config done.0 done.1) }
+    /// What is left when the disk failed: each thread that has not ended is halted, and the heap is given up.
+    fn give_up(mut self) -> Ended<'a>
+        requires quiet { IsQuiet (view self.core) }
+        ensures stands { (told : Bool) (script : Script) (config : Config) (shown : Shown)
+            → RunStands told script config shown self.entry → EndedStands told script config shown result }
+        ensures lost { (faults : ℕ) → CountsLosses self.entry.states.items result.states.items faults faults }
+        ensures halt { result.halt ≡ Some Halt.DiskFault }
     {
-        let Run {
-            core,
-            states,
-            collector,
-            every: _,
-        } = self;
-        let (heap, rest) = core.finish();
-        let mut threads = Vec::with_capacity(alloc, states.len())?;
-        for state in states {
-            let end = match state.mode {
-                Mode::Ended(end) => end,
-                _ => unreachable!(),
-            };
-            threads.push(ThreadReport {
-                replies: Replies {
-                    items: state.replies,
-                },
-                end,
-            })?;
+        let (_, rest) = self.core.finish();
+        halt_all(&mut self.states);
+        Ended {
+            heap: None,
+            rest,
+            states: self.states,
+            journal: self.collector.journal,
+            halt: Some(Halt::DiskFault),
         }
-        let report = Report {
-            threads: ThreadReports { items: threads },
-            journal: Journals {
-                items: collector.journal,
-            },
-            halt: None,
-            log: rest.into_history(),
-        };
-        Ok((report, Some(heap)))
+    }
+
+    /// Begins an epoch over the disk: lends a reader of its words as they are now.
+    pub fn lend<D: StaleDisk>(
+        self,
+        alloc: Global,
+        space: &mut StaleSpace<'_, D>,
+    ) -> Result<(Run<'a>, D::Reader), Stop<'a>>
+        requires quiet { IsQuiet (view self.core) }
+        ensures same { IfOk result (λ done. done.0 ≡ self.entry) }
+        ensures image { IfOk result (λ done. D.Reader.image done.1 ≡ D.image space.old.disk.now) }
+        ensures no_fault_yet { IfOk result (λ done. D.Reader.faults done.1 ≡ 0) }
+        ensures shown { shown_by D.image space.new ≡ shown_by D.image space.old }
+        ensures stopped { IfErr result (StopsRun (shown_by D.image space.old) (shown_by D.image space.new) self.entry) }
+        ensures same_disk { space.new.disk.ghost_name ≡ space.old.disk.ghost_name }
+        ensures count { D.faults space.old.disk.now ≤ D.faults space.new.disk.now }
+        ensures read_faults { D.read_faults space.new.disk.now ≡ D.read_faults space.old.disk.now }
+        ensures stop_counts { IfErr result (λ stop. StopCounts stop self.entry.states.items (D.faults space.old.disk.now)
+            (D.faults space.new.disk.now) (D.read_faults space.old.disk.now) (D.read_faults space.new.disk.now)) }
+    {
+        match space.lend(alloc) {
+            Ok(reader) => Ok((self, reader)),
+            Err(LendRefusal::NoMemory) => Err(Stop::NoMemory),
+            Err(LendRefusal::Failed) => Err(Stop::Halted(self.give_up())),
+        }
+    }
+
+    /// Goes on in the epoch of a reader that is lent still, or begins one.
+    fn lend_on<D: StaleDisk>(
+        self,
+        alloc: Global,
+        space: &mut StaleSpace<'_, D>,
+        lent: Option<D::Reader>,
+    ) -> Result<(Run<'a>, D::Reader), Stop<'a>>
+        requires quiet { IsQuiet (view self.core) }
+        requires lent { LentOf D.Reader.image (shown_by D.image space.old) lent }
+        ensures same { IfOk result (λ done. done.0 ≡ self.entry) }
+        ensures image { IfOk result (λ done. D.Reader.image done.1 ≡ D.image space.old.disk.now) }
+        ensures faults { IfOk result (λ done. D.Reader.faults done.1 ≡ open_faults D.Reader.faults lent) }
+        ensures shown { shown_by D.image space.new ≡ shown_by D.image space.old }
+        ensures stopped { IfErr result (StopsRun (shown_by D.image space.old) (shown_by D.image space.new) self.entry) }
+        ensures same_disk { space.new.disk.ghost_name ≡ space.old.disk.ghost_name }
+        ensures count { D.faults space.old.disk.now ≤ D.faults space.new.disk.now }
+        ensures read_faults { D.read_faults space.new.disk.now ≡ D.read_faults space.old.disk.now }
+        ensures stop_counts { IfErr result (λ stop. (lent ≡ None) × StopCounts stop self.entry.states.items
+            (D.faults space.old.disk.now) (D.faults space.new.disk.now) (D.read_faults space.old.disk.now)
+            (D.read_faults space.new.disk.now)) }
+    {
+        match lent {
+            Some(reader) => Ok((self, reader)),
+            None => self.lend(alloc, space),
+        }
+    }
+
+    /// Passes the safepoint that is reached, unless all threads have ended.
+    fn pass<D: StaleDisk>(
+        self,
+        alloc: Global,
+        space: &mut StaleSpace<'_, D>,
+    ) -> Result<(Run<'a>, Option<D::Reader>), Stop<'a>>
+        requires stands { SomeStands (shown_by D.image space.old) self }
+        requires waits { AllWait self.states.items }
+        requires stop { KnowsStop (view self.core) self.states.items }
+        ensures keeps { IfOk result (λ done. KeepsRun (shown_by D.image space.old) (shown_by D.image space.new) self.entry
+            done.0) }
+        ensures quiet { IfOk result (λ done. IsQuiet (view done.0.core)) }
+        ensures stop { IfOk result (λ done. KnowsStop (view done.0.core) done.0.states.items) }
+        ensures lent { IfOk result (λ done. LentOf D.Reader.image (shown_by D.image space.new) done.1) }
+        ensures nearer { IfOk result (λ done. IsNearer self.entry done.0 ⊎ (AllEnded self.entry.states.items × (done.0 ≡ self.entry))) }
+        ensures lost { IfOk result (λ done. CountsOpen self.entry.states.items done.0.states.items
+            (D.read_faults space.old.disk.now) (D.read_faults space.new.disk.now)
+            (open_faults D.Reader.faults done.1)) }
+        ensures same_disk { space.new.disk.ghost_name ≡ space.old.disk.ghost_name }
+        ensures count { D.faults space.old.disk.now ≤ D.faults space.new.disk.now }
+        ensures stopped { IfErr result (StopsRun (shown_by D.image space.old) (shown_by D.image space.new) self.entry) }
+        ensures stop_counts { IfErr result (λ stop. StopCounts stop self.entry.states.items (D.faults space.old.disk.now)
+            (D.faults space.new.disk.now) (D.read_faults space.old.disk.now) (D.read_faults space.new.disk.now)) }
+    {
+        if self.has_ended() {
+            return Ok((self, None));
+        }
+        self.pass_safepoint(alloc, space)
+    }
+
+    /// Runs epoch after epoch until all threads have ended.
+    fn run_all<D: StaleDisk>(
+        self,
+        alloc: Global,
+        trace: &Trace,
+        space: &mut StaleSpace<'_, D>,
+    ) -> Result<Ended<'a>, Stop<'a>>
+        requires stands { (config : Config) × RunStands false trace.now config (shown_by D.image space.old) self }
+        requires stop { KnowsStop (view self.core) self.states.items }
+        requires quiet { IsQuiet (view self.core) }
+        ensures ended { IfOk result (λ ended. (told : Bool) (script : Script) (config : Config)
+            → RunStands told script config (shown_by D.image space.old) self.entry
+            → EndedStands told script config (shown_by D.image space.new) ended) }
+        ensures done { IfOk result (λ ended. ended.halt ≡ None) }
+        ensures stopped { IfErr result (StopsRun (shown_by D.image space.old) (shown_by D.image space.new) self.entry) }
+        ensures lost { IfOk result (λ ended. CountsLosses self.entry.states.items ended.states.items
+            (D.read_faults space.old.disk.now) (D.read_faults space.new.disk.now)) }
+        ensures same_disk { space.new.disk.ghost_name ≡ space.old.disk.ghost_name }
+        ensures count { D.faults space.old.disk.now ≤ D.faults space.new.disk.now }
+        ensures stop_counts { IfErr result (λ stop. StopCounts stop self.entry.states.items (D.faults space.old.disk.now)
+            (D.faults space.new.disk.now) (D.read_faults space.old.disk.now) (D.read_faults space.new.disk.now)) }
+    {
+        let mut run = self;
+        let mut turns = Turns::new();
+        let mut lent = None;
+        while !run.has_ended() {
+            let (next, mut reader) = run.lend_on(alloc, space, lent)?;
+            run = next;
+            run.run_epoch(&mut turns, trace, space.end(), &mut reader);
+            space.give_back(reader);
+            (run, lent) = run.pass(alloc, space)?;
+        }
+        if let Some(reader) = lent {
+            space.give_back(reader);
+        }
+        Ok(run.end())
     }
 }
 
@@ -134,11 +281,14 @@ fn new_states<'a>(alloc: Global, trace: &'a Trace) -> Result<(Vec<ThreadState<'a
     Ok((states, entries))
 }
 
-/// A run of a trace before its first event.
+/// A run of a trace before its first event, over a disk without homes.
 pub fn new_run<'a>(alloc: Global, trace: &'a Trace, config: Config) -> Result<Run<'a>, NoMemory>
     requires ranges { InRanges config }
-    ensures stands { IfOk result (RunStands trace.now config) }
+    ensures stands { IfOk result (λ run. (told : Bool) (shown : Shown) → shown.end ≡ 1 → shown.limit ≡ config.disk
+        → (told ≡ true → IsSome shown.image) → RunStands told trace.now config shown run) }
     ensures stop { IfOk result (λ run. KnowsStop (view run.core) run.states.items) }
+    ensures quiet { IfOk result (λ run. IsQuiet (view run.core)) }
+    ensures none_lost { IfOk result (λ run. losses run.states.items ≡ 0) }
 {
     let (states, entries) = new_states(alloc, trace)?;
     let heap = Heap::new(alloc, config.heap, trace.globals(), config.forward, true)?;
@@ -147,20 +297,37 @@ pub fn new_run<'a>(alloc: Global, trace: &'a Trace, config: Config) -> Result<Ru
         core: Core::begin(heap, rest),
         states,
         collector: Collector::new(alloc, config),
+        words: config.heap,
         every: config.every,
     })
 }
 
-/// Runs a trace. A thread ends out of heap where its next object needs more words than the heap has beside those that
-/// registers and globals reach.
-pub fn run_schedule(
+/// Runs a trace over a disk without homes, of which the space is to have the limit of the configuration. Objects that
+/// are not used for some collections move to the disk, and come back when they are used.
+///
+/// A thread ends out of heap where its next operation needs more words than the heap has beside those of the objects that
+/// registers hold; and it ends where the record that it needs cannot be read, or is none. A full disk, and one whose
+/// writes or lends fail, halt the run.
+pub fn run_schedule<D: StaleDisk>(
     alloc: Global,
     trace: &Trace,
     config: Config,
+    space: &mut StaleSpace<'_, D>,
 ) -> Result<(Report, Option<Heap>), NoMemory>
     requires ranges { InRanges config }
-    ensures { IfOk result (λ done. HasRun trace.now config done.0 done.1) }
+    requires limit { space.old.limit ≡ config.disk }
+    requires end { space.old.end ≡ 1 }
+    ensures has_run { IfOk result (λ done. (told : Bool) → (told ≡ true → IsSome (D.image space.old.disk.now))
+        → HasRun told trace.now config (shown_by D.image space.new) done.0 done.1) }
+    ensures same_disk { space.new.disk.ghost_name ≡ space.old.disk.ghost_name }
+    ensures counts { IfOk result (λ done. CountsFaults done.0 (D.faults space.old.disk.now)
+        (D.faults space.new.disk.now) (D.read_faults space.old.disk.now) (D.read_faults space.new.disk.now)) }
 {
     let run = new_run(alloc, trace, config)?;
-    run.run_all(alloc, trace)?.report(alloc)
+    let ended = match run.run_all(alloc, trace, space) {
+        Ok(ended) => ended,
+        Err(Stop::Halted(ended)) => ended,
+        Err(Stop::NoMemory) => return Err(NoMemory),
+    };
+    ended.report(alloc)
 }

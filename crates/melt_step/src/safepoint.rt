@@ -1,88 +1,200 @@
 //! What is done when no thread can go on.
-ghost use Rattle.std.specs.Prelude.{◌≡◌, ℕ, ◌<◌, length, slice_get, false, Some, IfOk, IfSome, IfNone, true};
+//!
+//! First the collections are made for which threads wait. Then the first thread that lacked room makes its call alone,
+//! and where it lacks room still, a Move is forced: what no register holds is stale after one and on disk after two.
+//! Whatever the thread needs has room then, or has none beside what registers hold.
+ghost use Rattle.std.specs.Prelude.{◌≡◌, ◌≢◌, ℕ, ◌+◌, ◌<◌, ◌≤◌, ◌↔◌, length, slice_get, Some, None, Bool, true, false};
+ghost use Rattle.std.specs.Prelude.{IsTrue, IfOk, IfErr, IfSome, IfNone};
+ghost use Rattle.melt_model.specs.Alive.{Held, words_of, CostsSum};
 ghost use Rattle.melt_model.specs.declared.config.Config.{Config};
 ghost use Rattle.melt_trace.specs.Script.{Script};
-ghost use Rattle.melt_scion.specs.Heaps.{no_homes_on};
-ghost use Rattle.melt_core.specs.Views.{IsQuiet, Standing, view};
+ghost use Rattle.melt_scion.specs.Heaps.{OnDisk};
+ghost use Rattle.melt_core.specs.Views.{IsQuiet, Standing, call_of, value, view};
+ghost use Rattle.melt_core.specs.Holdings.{IsSound};
+ghost use Rattle.melt_core.specs.Epochs.{HasFinished};
 ghost use Rattle.melt_step.specs.declared.thread.ThreadState.{ThreadState};
-ghost use Rattle.melt_step.specs.Threads.{AllWait, CalledAt, CalledFirst, CollectedAll, CollectedAt, ForCollection};
-ghost use Rattle.melt_step.specs.Threads.{IsPlanning, JustCollected, KeepsRun, KnowsStop, MakesCollections, MakesFor};
-ghost use Rattle.melt_step.specs.Threads.{MakesForAll, MakesPlanned, NoneBelow, Passed, Resumed, RunStands, SomeGoesOn};
-ghost use Rattle.melt_step.specs.Threads.{StandsCollected};
+ghost use Rattle.melt_step.specs.Collections.{MayCollect};
+ghost use Rattle.melt_step.specs.Lone.{NoneForwarded};
+ghost use Rattle.melt_step.specs.Safepoints.{Attempted, Awaited, AwaitsCall, CalledAt, CountsOpen, Forced, KeepsRun};
+ghost use Rattle.melt_step.specs.Safepoints.{Lacked, LackedWords, LacksWords, LentOf, MadeCall, MakesCollection, MakesFor, MakesForAll};
+ghost use Rattle.melt_step.specs.Safepoints.{NoRoom, SomeAwaits, SomeLacksWords, SomeStands, StopCounts, StopsForced};
+ghost use Rattle.melt_step.specs.Safepoints.{RunStands, StopsRun, open_faults};
+ghost use Rattle.melt_step.specs.Shown.{Shown, shown_by};
+ghost use Rattle.melt_step.specs.Threads.{AllWait, CollectedAll, CollectedAt, CountsLosses, ForCollection, KnowsStop};
+ghost use Rattle.melt_step.specs.Threads.{NoneBelow, Passed, Resumed, SomeGoesOn, losses};
+ghost use Rattle.melt_step.specs.Endings.{AreHalted, StopsSo};
 
-use crate::events::{call_alone, drop_if_ended};
+use crate::alone::call_alone;
+use crate::collector::CollectRefusal;
+use crate::ending::{Ended, Stop, halt_all};
+use crate::events::drop_if_ended;
 use crate::run::Run;
-use crate::thread::Mode;
-use melt_core::Core;
-use melt_model::{NoMemory, Phase, Reply, ThreadEnd};
+use crate::thread::{Mode, ThreadState};
+use melt_core::{Core, Rest};
+use melt_disk::StaleSpace;
+use melt_io::{RecordReader, StaleDisk};
+use melt_model::{Halt, Journal, ThreadEnd};
+use melt_scion::Heap;
 use std::alloc::Global;
 
+/// What comes of a call that is made alone.
+#[derive(Drop)]
+pub enum Attempt<R: Drop> {
+    /// It was answered, or its thread has ended. The epoch goes on over the reader.
+    Made(R),
+    /// It lacked so many words of the heap, and its epoch is over.
+    Lacks(u32),
+}
+
+/// Begins a new epoch behind one in which nothing came back from the disk.
+fn renew(core: Core) -> Core
+    requires quiet { IsQuiet (view core) }
+    requires none_forwarded { NoneForwarded (view core) }
+    requires sound { IsSound (view core) }
+    ensures finished { HasFinished (view core) (view result) }
+    ensures rests { (told : Bool) (disk : OnDisk) → Standing told disk (view core) → Standing told disk (view result) }
+    ensures stop { (view result).stop ≡ false }
+{
+    let (heap, rest) = core.finish();
+    Core::begin(heap, rest)
+}
+
+/// What is left of a run that the disk halts: each thread that has not ended is halted.
+fn halt_run<'a>(
+    heap: Option<Heap>,
+    rest: Rest,
+    mut states: Vec<ThreadState<'a>>,
+    journal: Vec<Journal>,
+    halt: Halt,
+) -> Ended<'a>
+    ensures heap { result.heap ≡ heap }
+    ensures rest { result.rest ≡ rest }
+    ensures states { AreHalted states.entry.items result.states.items }
+    ensures journal { result.journal ≡ journal }
+    ensures halt { result.halt ≡ Some halt }
+{
+    halt_all(&mut states);
+    Ended {
+        heap,
+        rest,
+        states,
+        journal,
+        halt: Some(halt),
+    }
+}
+
 impl<'a> Run<'a> {
-    /// Makes the collection that is planned.
-    fn collect(mut self, alloc: Global) -> Result<Run<'a>, NoMemory>
-        requires planning { IsPlanning self.collector }
-        requires stands { Standing true no_homes_on (view self.core) }
-        requires quiet { IsQuiet (view self.core) }
-        ensures { IfOk result (MakesPlanned self.entry) }
+    /// Makes a collection: the one that is planned, or a Move where `force` says so.
+    fn collect<D: StaleDisk>(
+        mut self,
+        alloc: Global,
+        space: &mut StaleSpace<'_, D>,
+        force: bool,
+    ) -> Result<Run<'a>, Stop<'a>>
+        requires { MayCollect space.old.end (view self.core) }
+        ensures made { IfOk result (MakesCollection force (shown_by D.image space.old) (shown_by D.image space.new)
+            self.entry) }
+        ensures stopped { IfErr result (StopsForced force (shown_by D.image space.old) (shown_by D.image space.new)
+            self.entry) }
+        ensures same_disk { space.new.disk.ghost_name ≡ space.old.disk.ghost_name }
+        ensures count { D.faults space.old.disk.now ≤ D.faults space.new.disk.now }
+        ensures read_faults { D.read_faults space.new.disk.now ≡ D.read_faults space.old.disk.now }
+        ensures stop_counts { IfErr result (λ stop. StopCounts stop self.entry.states.items
+            (D.faults space.old.disk.now) (D.faults space.new.disk.now) (D.read_faults space.old.disk.now)
+            (D.read_faults space.new.disk.now)) }
     {
         let core = self.core;
-        self.core = self.collector.collect_planned(alloc, core)?;
-        Ok(self)
+        match self.collector.collect(alloc, core, space, force) {
+            Ok(core) => {
+                self.core = core;
+                Ok(self)
+            }
+            Err(CollectRefusal::NoMemory) => Err(Stop::NoMemory),
+            Err(CollectRefusal::DiskFull { heap, rest, full }) => {
+                let halt = Halt::DiskFull {
+                    end: full.end,
+                    need: full.need,
+                    limit: full.limit,
+                };
+                let journal = self.collector.journal;
+                Err(Stop::Halted(halt_run(Some(heap), rest, self.states, journal, halt)))
+            }
+            Err(CollectRefusal::DiskFault { rest }) => {
+                let journal = self.collector.journal;
+                Err(Stop::Halted(halt_run(None, rest, self.states, journal, Halt::DiskFault)))
+            }
+        }
     }
 
     /// Makes the collection for which a thread waits, if it waits for one of its own.
-    fn collect_for(self, alloc: Global, thread: u32) -> Result<Run<'a>, NoMemory>
-        requires stands { (script : Script) × ((config : Config) × RunStands script config self) }
+    fn collect_for<D: StaleDisk>(
+        self,
+        alloc: Global,
+        space: &mut StaleSpace<'_, D>,
+        thread: u32,
+    ) -> Result<Run<'a>, Stop<'a>>
+        requires stands { SomeStands (shown_by D.image space.old) self }
         requires thread { thread < length self.states.items }
         requires first { NoneBelow ForCollection self.states.items thread }
         requires quiet { IsQuiet (view self.core) }
-        ensures keeps { IfOk result (KeepsRun self.entry) }
+        ensures keeps { IfOk result (KeepsRun (shown_by D.image space.old) (shown_by D.image space.new) self.entry) }
         ensures quiet { IfOk result (λ run. IsQuiet (view run.core)) }
         ensures only { IfOk result (λ run. CollectedAt self.entry.states.items run.states.items thread) }
         ensures made { IfOk result (λ run. (s : ThreadState) → slice_get self.entry.states.items thread ≡ Some s
             → MakesFor s self.entry run) }
+        ensures lost { IfOk result (λ run. losses run.states.items ≡ losses self.entry.states.items) }
+        ensures stopped { IfErr result (StopsRun (shown_by D.image space.old) (shown_by D.image space.new) self.entry) }
+        ensures same_disk { space.new.disk.ghost_name ≡ space.old.disk.ghost_name }
+        ensures count { D.faults space.old.disk.now ≤ D.faults space.new.disk.now }
+        ensures read_faults { D.read_faults space.new.disk.now ≡ D.read_faults space.old.disk.now }
+        ensures stop_counts { IfErr result (λ stop. StopCounts stop self.entry.states.items
+            (D.faults space.old.disk.now) (D.faults space.new.disk.now) (D.read_faults space.old.disk.now)
+            (D.read_faults space.new.disk.now)) }
     {
         match self.states[thread as usize].mode {
-            Mode::Collecting => {
-                let mut run = self.collect(alloc)?;
-                let every = run.every;
-                let state = &mut run.states[thread as usize];
-                state.take_reply(Reply::Done, every);
-                let mode = state.mode;
-                drop_if_ended(&mut run.core, mode, thread);
-                Ok(run)
-            }
-            Mode::Silent => {
-                let mut run = self.collect(alloc)?;
-                let state = &mut run.states[thread as usize];
-                state.go_on();
-                let mode = state.mode;
-                drop_if_ended(&mut run.core, mode, thread);
-                Ok(run)
-            }
-            _ => Ok(self),
+            Mode::Collecting | Mode::Silent => {}
+            _ => return Ok(self),
         }
+        let mut run = self.collect(alloc, space, false)?;
+        let every = run.every;
+        let state = &mut run.states[thread as usize];
+        state.take_collection(every);
+        let mode = state.mode;
+        drop_if_ended(&mut run.core, mode, thread);
+        Ok(run)
     }
 
     /// Makes the collections for which threads wait, in ascending order.
-    fn collect_for_all(self, alloc: Global) -> Result<Run<'a>, NoMemory>
-        requires stands { (script : Script) × ((config : Config) × RunStands script config self) }
+    fn collect_for_all<D: StaleDisk>(
+        self,
+        alloc: Global,
+        space: &mut StaleSpace<'_, D>,
+    ) -> Result<Run<'a>, Stop<'a>>
+        requires stands { SomeStands (shown_by D.image space.old) self }
         requires quiet { IsQuiet (view self.core) }
-        ensures keeps { IfOk result (KeepsRun self.entry) }
+        ensures keeps { IfOk result (KeepsRun (shown_by D.image space.old) (shown_by D.image space.new) self.entry) }
         ensures quiet { IfOk result (λ run. IsQuiet (view run.core)) }
         ensures all { IfOk result (λ run. CollectedAll self.entry.states.items run.states.items) }
         ensures made { IfOk result (MakesForAll self.entry) }
+        ensures lost { IfOk result (λ run. losses run.states.items ≡ losses self.entry.states.items) }
+        ensures stopped { IfErr result (StopsRun (shown_by D.image space.old) (shown_by D.image space.new) self.entry) }
+        ensures same_disk { space.new.disk.ghost_name ≡ space.old.disk.ghost_name }
+        ensures count { D.faults space.old.disk.now ≤ D.faults space.new.disk.now }
+        ensures read_faults { D.read_faults space.new.disk.now ≡ D.read_faults space.old.disk.now }
+        ensures stop_counts { IfErr result (λ stop. StopCounts stop self.entry.states.items
+            (D.faults space.old.disk.now) (D.faults space.new.disk.now) (D.read_faults space.old.disk.now)
+            (D.read_faults space.new.disk.now)) }
     {
         let mut run = self;
         for t in 0..run.states.len() as u32 {
-            run = run.collect_for(alloc, t)?;
+            run = run.collect_for(alloc, space, t)?;
         }
         Ok(run)
     }
 
     /// The lowest thread that waits for room.
     fn lacking(&self) -> Option<u32>
-        requires stands { (script : Script) × ((config : Config) × RunStands script config self.now) }
+        requires few { length self.now.states.items ≤ 8 }
         ensures some { IfSome result
             (λ t. (s : ThreadState) × (slice_get self.now.states.items t ≡ Some s) × (s.mode ≡ Mode.Lacking)) }
         ensures first { IfSome result (NoneBelow (λ mode. mode ≡ Mode.Lacking) self.now.states.items) }
@@ -97,89 +209,271 @@ impl<'a> Run<'a> {
         None
     }
 
-    /// Makes the call of the first thread that lacked room, after a collection. If it lacks room even after a forced
-    /// one, the thread ends.
-    fn call_first(self, alloc: Global, thread: u32) -> Result<Run<'a>, NoMemory>
-        requires stands { (script : Script) × ((config : Config) × StandsCollected script config self) }
-        requires waits { (s : ThreadState) × (slice_get self.states.items thread ≡ Some s) × (s.mode ≡ Mode.Lacking) }
-        requires first { NoneBelow (λ mode. mode ≡ Mode.Lacking) self.states.items thread }
-        requires quiet { IsQuiet (view self.core) }
-        ensures keeps { IfOk result (λ run. (script : Script) (config : Config)
-            → StandsCollected script config self.entry → RunStands script config run) }
-        ensures quiet { IfOk result (λ run. IsQuiet (view run.core)) }
-        ensures only { IfOk result (λ run. CalledAt self.entry.states.items run.states.items thread) }
-        ensures called { IfOk result (λ run. CalledFirst self.entry run thread) }
+    /// Makes the call of a thread alone. Answers the words that it lacked, if it was refused for want of room.
+    fn call<R: RecordReader>(&mut self, thread: u32, end: u32, reader: &mut R) -> Option<u32>
+        requires awaits { (shown : Shown) × (shown.end ≡ end) × (shown.image ≡ R.image reader.old)
+            × ((forced : ℕ) × SomeAwaits shown forced self.old thread) }
+        ensures made { IfNone result ((shown : Shown) → shown.end ≡ end → shown.image ≡ R.image reader.old
+            → MadeCall (Awaited shown self.old thread) shown self.old self.new thread) }
+        ensures lacks { IfSome result (λ need. (shown : Shown) → shown.end ≡ end → shown.image ≡ R.image reader.old
+            → LackedWords (λ forced told script config. AwaitsCall told script config shown forced self.old thread)
+            shown self.old self.new thread need) }
+        ensures image { R.image reader.new ≡ R.image reader.old }
+        ensures lost { CountsLosses self.old.states.items self.new.states.items (R.faults reader.old)
+            (R.faults reader.new) }
     {
-        let Run {
-            mut core,
-            mut states,
-            mut collector,
-            every,
-        } = self;
-        let state = &mut states[thread as usize];
-        if let Some(op) = state.op {
-            if call_alone(&mut core, state, thread, op, every).is_some() {
-                core = collector.collect(alloc, core, Phase::Inactive)?;
-                let held = core.used();
-                if let Some(need) = call_alone(&mut core, state, thread, op, every) {
-                    state.mode = Mode::Ended(ThreadEnd::OutOfHeap { held, need });
-                    core.drop_all(thread);
-                }
-            }
-        }
-        Ok(Run {
-            core,
-            states,
-            collector,
-            every,
-        })
+        let state = &mut self.states[thread as usize];
+        let Some(op) = state.op else {
+            unreachable!();
+        };
+        call_alone(&mut self.core, state, thread, op, self.every, end, reader)
     }
 
-    /// The threads that wait go on, in a new epoch where the stop word is set.
+    /// Makes the call of a thread alone, in the epoch that a collection began.
+    fn attempt<D: StaleDisk>(
+        self,
+        alloc: Global,
+        space: &mut StaleSpace<'_, D>,
+        thread: u32,
+    ) -> Result<(Run<'a>, Attempt<D::Reader>), Stop<'a>>
+        requires awaits { (forced : ℕ) × SomeAwaits (shown_by D.image space.old) forced self thread }
+        ensures attempted { IfOk result (λ done. Attempted D.Reader.image D.Reader.faults
+            (Awaited (shown_by D.image space.old) self.entry thread)
+            (λ forced told script config. AwaitsCall told script config (shown_by D.image space.old) forced self.entry
+            thread) (shown_by D.image space.new) self.entry done.0 thread (D.read_faults space.old.disk.now)
+            (D.read_faults space.new.disk.now) done.1) }
+        ensures stopped { IfErr result (StopsRun (shown_by D.image space.old) (shown_by D.image space.new) self.entry) }
+        ensures same_disk { space.new.disk.ghost_name ≡ space.old.disk.ghost_name }
+        ensures count { D.faults space.old.disk.now ≤ D.faults space.new.disk.now }
+        ensures stop_counts { IfErr result (λ stop. StopCounts stop self.entry.states.items
+            (D.faults space.old.disk.now) (D.faults space.new.disk.now) (D.read_faults space.old.disk.now)
+            (D.read_faults space.new.disk.now)) }
+    {
+        let (mut run, mut reader) = self.lend(alloc, space)?;
+        match run.call(thread, space.end(), &mut reader) {
+            None => Ok((run, Attempt::Made(reader))),
+            Some(need) => {
+                space.give_back(reader);
+                Ok((run, Attempt::Lacks(need)))
+            }
+        }
+    }
+
+    /// Moves what is stale to the disk, and makes the call of a thread again that lacked words.
+    fn try_again<D: StaleDisk>(
+        self,
+        alloc: Global,
+        space: &mut StaleSpace<'_, D>,
+        thread: u32,
+        need: u32,
+    ) -> Result<(Run<'a>, Attempt<D::Reader>), Stop<'a>>
+        requires lacks { (forced : ℕ) × (forced < 2)
+            × SomeLacksWords (shown_by D.image space.old) forced self thread need }
+        ensures attempted { IfOk result (λ done. Attempted D.Reader.image D.Reader.faults
+            (λ told script config. (forced : ℕ) × (forced < 2)
+            × LacksWords told script config (shown_by D.image space.old) forced self.entry thread need)
+            (Forced (shown_by D.image space.old) self.entry thread need)
+            (shown_by D.image space.new) self.entry done.0 thread (D.read_faults space.old.disk.now)
+            (D.read_faults space.new.disk.now) done.1) }
+        ensures stopped { IfErr result (StopsForced true (shown_by D.image space.old) (shown_by D.image space.new)
+            self.entry) }
+        ensures same_disk { space.new.disk.ghost_name ≡ space.old.disk.ghost_name }
+        ensures count { D.faults space.old.disk.now ≤ D.faults space.new.disk.now }
+        ensures stop_counts { IfErr result (λ stop. StopCounts stop self.entry.states.items
+            (D.faults space.old.disk.now) (D.faults space.new.disk.now) (D.read_faults space.old.disk.now)
+            (D.read_faults space.new.disk.now)) }
+    {
+        let run = self.collect(alloc, space, true)?;
+        run.attempt(alloc, space, thread)
+    }
+
+    /// Whether so many words have room beside those of the objects that registers hold.
+    fn may_fit(&self, need: u32) -> bool
+        requires { IsSound (view self.now.core) }
+        ensures { (disk : OnDisk) → Standing true disk (view self.now.core) → (held : ℕ)
+            → CostsSum (words_of (view self.now.core).log) (Held (value (view self.now.core))) held
+            → IsTrue result ↔ (held + need ≤ self.now.words) }
+    {
+        u64::from(self.core.held()) + u64::from(need) <= u64::from(self.words)
+    }
+
+    /// Ends a thread for which the heap has no room, even without what may leave it.
+    fn out_of_heap(mut self, thread: u32, need: u32) -> Run<'a>
+        requires lacks { (shown : Shown) × ((forced : ℕ) × SomeLacksWords shown forced self thread need) }
+        ensures made { (shown : Shown) → MadeCall (λ told script config. (forced : ℕ)
+            × LacksWords told script config shown forced self.entry thread need
+            × (told ≡ true → NoRoom config (view self.entry.core) need)) shown self.entry result thread }
+        ensures lost { losses result.states.items ≡ losses self.entry.states.items }
+    {
+        let held = self.core.held();
+        let state = &mut self.states[thread as usize];
+        state.mode = Mode::Ended(ThreadEnd::OutOfHeap { held, need });
+        self.core.drop_all(thread);
+        let core = self.core;
+        self.core = renew(core);
+        self
+    }
+
+    /// Makes a call once more that lacked words behind a forced Move, behind a second one. Where it lacks words still,
+    /// there is no room for them beside what registers hold, and its thread ends.
+    fn move_again<D: StaleDisk>(
+        self,
+        alloc: Global,
+        space: &mut StaleSpace<'_, D>,
+        thread: u32,
+        need: u32,
+    ) -> Result<(Run<'a>, Option<D::Reader>), Stop<'a>>
+        requires lacks { SomeLacksWords (shown_by D.image space.old) 1 self thread need }
+        ensures made { IfOk result (λ done. MadeCall
+            (λ told script config. LacksWords told script config (shown_by D.image space.old) 1 self.entry thread need)
+            (shown_by D.image space.new) self.entry done.0 thread) }
+        ensures lent { IfOk result (λ done. LentOf D.Reader.image (shown_by D.image space.new) done.1) }
+        ensures lost { IfOk result (λ done. CountsOpen self.entry.states.items done.0.states.items
+            (D.read_faults space.old.disk.now) (D.read_faults space.new.disk.now)
+            (open_faults D.Reader.faults done.1)) }
+        ensures stopped { IfErr result (λ stop. (told : Bool) (script : Script) (config : Config)
+            → LacksWords told script config (shown_by D.image space.old) 1 self.entry thread need
+            → StopsSo told script config (shown_by D.image space.new) stop) }
+        ensures same_disk { space.new.disk.ghost_name ≡ space.old.disk.ghost_name }
+        ensures count { D.faults space.old.disk.now ≤ D.faults space.new.disk.now }
+        ensures stop_counts { IfErr result (λ stop. StopCounts stop self.entry.states.items
+            (D.faults space.old.disk.now) (D.faults space.new.disk.now) (D.read_faults space.old.disk.now)
+            (D.read_faults space.new.disk.now)) }
+    {
+        if !self.may_fit(need) {
+            return Ok((self.out_of_heap(thread, need), None));
+        }
+        let (run, attempt) = self.try_again(alloc, space, thread, need)?;
+        match attempt {
+            Attempt::Made(reader) => Ok((run, Some(reader))),
+            Attempt::Lacks(need) => Ok((run.out_of_heap(thread, need), None)),
+        }
+    }
+
+    /// Makes a call once more that lacked words, behind a Move that is forced, and behind a second one where it lacks
+    /// words still. Its thread ends as soon as they have no room beside what registers hold.
+    fn move_for<D: StaleDisk>(
+        self,
+        alloc: Global,
+        space: &mut StaleSpace<'_, D>,
+        thread: u32,
+        need: u32,
+    ) -> Result<(Run<'a>, Option<D::Reader>), Stop<'a>>
+        requires lacks { SomeLacksWords (shown_by D.image space.old) 0 self thread need }
+        ensures made { IfOk result (λ done. MadeCall
+            (λ told script config. LacksWords told script config (shown_by D.image space.old) 0 self.entry thread need)
+            (shown_by D.image space.new) self.entry done.0 thread) }
+        ensures lent { IfOk result (λ done. LentOf D.Reader.image (shown_by D.image space.new) done.1) }
+        ensures lost { IfOk result (λ done. CountsOpen self.entry.states.items done.0.states.items
+            (D.read_faults space.old.disk.now) (D.read_faults space.new.disk.now)
+            (open_faults D.Reader.faults done.1)) }
+        ensures stopped { IfErr result (λ stop. (told : Bool) (script : Script) (config : Config)
+            → LacksWords told script config (shown_by D.image space.old) 0 self.entry thread need
+            → StopsSo told script config (shown_by D.image space.new) stop) }
+        ensures same_disk { space.new.disk.ghost_name ≡ space.old.disk.ghost_name }
+        ensures count { D.faults space.old.disk.now ≤ D.faults space.new.disk.now }
+        ensures stop_counts { IfErr result (λ stop. StopCounts stop self.entry.states.items
+            (D.faults space.old.disk.now) (D.faults space.new.disk.now) (D.read_faults space.old.disk.now)
+            (D.read_faults space.new.disk.now)) }
+    {
+        if !self.may_fit(need) {
+            return Ok((self.out_of_heap(thread, need), None));
+        }
+        let (run, attempt) = self.try_again(alloc, space, thread, need)?;
+        match attempt {
+            Attempt::Made(reader) => Ok((run, Some(reader))),
+            Attempt::Lacks(need) => run.move_again(alloc, space, thread, need),
+        }
+    }
+
+    /// Makes the call of the first thread that lacked room, behind a collection. Where it lacks room still, what no
+    /// register holds is moved to the disk, in two Moves at most: one leaves it stale, and the next writes it.
+    fn make_room<D: StaleDisk>(
+        self,
+        alloc: Global,
+        space: &mut StaleSpace<'_, D>,
+        thread: u32,
+    ) -> Result<(Run<'a>, Option<D::Reader>), Stop<'a>>
+        requires awaits { SomeAwaits (shown_by D.image space.old) 0 self thread }
+        ensures made { IfOk result (λ done. MadeCall
+            (λ told script config. AwaitsCall told script config (shown_by D.image space.old) 0 self.entry thread)
+            (shown_by D.image space.new) self.entry done.0 thread) }
+        ensures lent { IfOk result (λ done. LentOf D.Reader.image (shown_by D.image space.new) done.1) }
+        ensures lost { IfOk result (λ done. CountsOpen self.entry.states.items done.0.states.items
+            (D.read_faults space.old.disk.now) (D.read_faults space.new.disk.now)
+            (open_faults D.Reader.faults done.1)) }
+        ensures stopped { IfErr result (λ stop. (told : Bool) (script : Script) (config : Config)
+            → AwaitsCall told script config (shown_by D.image space.old) 0 self.entry thread
+            → StopsSo told script config (shown_by D.image space.new) stop) }
+        ensures same_disk { space.new.disk.ghost_name ≡ space.old.disk.ghost_name }
+        ensures count { D.faults space.old.disk.now ≤ D.faults space.new.disk.now }
+        ensures stop_counts { IfErr result (λ stop. StopCounts stop self.entry.states.items
+            (D.faults space.old.disk.now) (D.faults space.new.disk.now) (D.read_faults space.old.disk.now)
+            (D.read_faults space.new.disk.now)) }
+    {
+        let (run, attempt) = self.attempt(alloc, space, thread)?;
+        match attempt {
+            Attempt::Made(reader) => Ok((run, Some(reader))),
+            Attempt::Lacks(need) => run.move_for(alloc, space, thread, need),
+        }
+    }
+
+    /// The calls of the threads that wait are made again.
     fn resume(mut self) -> Run<'a>
-        requires stands { (script : Script) × ((config : Config) × RunStands script config self) }
+        requires stands { (shown : Shown) × SomeStands shown self }
         requires quiet { IsQuiet (view self.core) }
+        requires stop { (view self.core).stop ≡ false }
         requires collected { (t : ℕ) (s : ThreadState) → slice_get self.states.items t ≡ Some s → ForCollection s.mode
             → ⊥ }
-        ensures keeps { KeepsRun self.entry result }
-        ensures quiet { IsQuiet (view result.core) }
+        ensures keeps { (shown : Shown) → KeepsRun shown shown self.entry result }
+        ensures core { result.core ≡ self.entry.core }
         ensures stop { KnowsStop (view result.core) result.states.items }
         ensures resumed { Resumed self.entry.states.items result.states.items }
-        ensures collector { result.collector ≡ self.entry.collector }
+        ensures lost { losses result.states.items ≡ losses self.entry.states.items }
     {
         for state in self.states.iter_mut() {
             state.make_again();
-        }
-        if self.core.is_stopped() {
-            let (heap, rest) = self.core.finish();
-            self.core = Core::begin(heap, rest);
         }
         self
     }
 
     /// What is done when no thread can go on: collections for those that wait for one, then the call of the first that
-    /// lacked room, after a collection if there was none; then all that wait go on.
-    pub fn pass_safepoint(self, alloc: Global) -> Result<Run<'a>, NoMemory>
-        requires stands { (script : Script) × ((config : Config) × RunStands script config self) }
+    /// lacked room, after a collection if there was none; then all that wait go on. The reader is that of the epoch of
+    /// that call, if it goes on.
+    pub fn pass_safepoint<D: StaleDisk>(
+        self,
+        alloc: Global,
+        space: &mut StaleSpace<'_, D>,
+    ) -> Result<(Run<'a>, Option<D::Reader>), Stop<'a>>
+        requires stands { SomeStands (shown_by D.image space.old) self }
         requires waits { AllWait self.states.items }
         requires stop { KnowsStop (view self.core) self.states.items }
         requires some { SomeGoesOn self.states.items }
-        ensures keeps { IfOk result (KeepsRun self.entry) }
-        ensures quiet { IfOk result (λ run. IsQuiet (view run.core)) }
-        ensures stop { IfOk result (λ run. KnowsStop (view run.core) run.states.items) }
-        ensures made { IfOk result (λ run.
-            MakesCollections self.entry.states.items self.entry.collector run.collector) }
-        ensures passed { IfOk result (λ run. Passed self.entry.states.items run.states.items) }
+        ensures keeps { IfOk result (λ done. KeepsRun (shown_by D.image space.old) (shown_by D.image space.new) self.entry
+            done.0) }
+        ensures quiet { IfOk result (λ done. IsQuiet (view done.0.core)) }
+        ensures stop { IfOk result (λ done. KnowsStop (view done.0.core) done.0.states.items) }
+        ensures passed { IfOk result (λ done. Passed self.entry.states.items done.0.states.items) }
+        ensures lent { IfOk result (λ done. LentOf D.Reader.image (shown_by D.image space.new) done.1) }
+        ensures lost { IfOk result (λ done. CountsOpen self.entry.states.items done.0.states.items
+            (D.read_faults space.old.disk.now) (D.read_faults space.new.disk.now)
+            (open_faults D.Reader.faults done.1)) }
+        ensures stopped { IfErr result (StopsRun (shown_by D.image space.old) (shown_by D.image space.new) self.entry) }
+        ensures same_disk { space.new.disk.ghost_name ≡ space.old.disk.ghost_name }
+        ensures count { D.faults space.old.disk.now ≤ D.faults space.new.disk.now }
+        ensures stop_counts { IfErr result (λ stop. StopCounts stop self.entry.states.items (D.faults space.old.disk.now)
+            (D.faults space.new.disk.now) (D.read_faults space.old.disk.now) (D.read_faults space.new.disk.now)) }
     {
-        let run = self.collect_for_all(alloc)?;
-        let Some(t) = run.lacking() else {
-            return Ok(run.resume());
+        let run = self.collect_for_all(alloc, space)?;
+        let Some(thread) = run.lacking() else {
+            return Ok((run.resume(), None));
         };
         let run = if run.core.is_stopped() {
-            run.collect(alloc)?
+            run.collect(alloc, space, false)?
         } else {
             run
         };
-        Ok(run.call_first(alloc, t)?.resume())
+        let (run, reader) = run.make_room(alloc, space, thread)?;
+        Ok((run.resume(), reader))
     }
 }

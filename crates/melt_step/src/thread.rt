@@ -1,7 +1,8 @@
 //! The threads of a run.
 ghost use Rattle.std.specs.Prelude.{◌≡◌, ◌<◌, ◌↔◌, length, vec_capacity, IsTrue, IsSome, IfOk, true, Some, None};
 ghost use Rattle.melt_trace.specs.Script.{operations};
-ghost use Rattle.melt_step.specs.Threads.{CallsAgain, DueBy, IsEnded, IsNewThread, MayGo, TakesReply};
+ghost use Rattle.melt_step.specs.Endings.{halted};
+ghost use Rattle.melt_step.specs.Threads.{CallsAgain, DueBy, GoesOn, IsEnded, IsNewThread, MayGo, TakesReply};
 
 use melt_model::{NoMemory, Op, Reply, ThreadEnd};
 use melt_trace::{Cursor, Trace};
@@ -95,6 +96,16 @@ impl<'a> ThreadState<'a> {
         }
     }
 
+    /// Halts the thread, if it has not ended.
+    pub fn halt(&mut self)
+        ensures { self.new ≡ halted self.old }
+    {
+        match self.mode {
+            Mode::Ended(_) => {}
+            _ => self.mode = Mode::Ended(ThreadEnd::Halted),
+        }
+    }
+
     /// Takes the reply to the next operation. After each of these whose number is a multiple of `every` a silent
     /// collection is due; 0 is for none.
     pub fn take_reply(&mut self, reply: Reply, every: u32)
@@ -108,6 +119,19 @@ impl<'a> ThreadState<'a> {
             self.mode = Mode::Due;
         } else {
             self.go_on();
+        }
+    }
+
+    /// Goes on behind the collection for which it waited: with the reply, if that was its next operation.
+    pub fn take_collection(&mut self, every: u32)
+        requires { self.old.mode ≡ Mode.Collecting → length self.old.replies.items < vec_capacity self.old.replies }
+        ensures takes { self.old.mode ≡ Mode.Collecting → TakesReply self.old self.new Reply.Done }
+        ensures due { self.old.mode ≡ Mode.Collecting → DueBy every self.old self.new }
+        ensures silent { self.old.mode ≡ Mode.Silent → GoesOn self.old self.new }
+    {
+        match self.mode {
+            Mode::Collecting => self.take_reply(Reply::Done, every),
+            _ => self.go_on(),
         }
     }
 }

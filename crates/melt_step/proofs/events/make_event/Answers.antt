@@ -1,61 +1,114 @@
 -- What the event was, by the mode of the thread.
-use Rattle.std.proofs.Common.{rules, refl, inl, true}
-use Rattle.melt_scion.specs.Heaps.{no_homes_on}
+use Rattle.std.proofs.Common.{rules, refl, sym, subst, inl, ap}
+use Rattle.std.specs.Prelude.{◌≡◌}
+use Rattle.melt_record.specs.declared.damage.Damaged.{Damaged as Damage}
+use Rattle.melt_core.specs.declared.answer.Refusal.TheVariants.{Damaged}
 use Rattle.melt_core.specs.Views.{view}
-use Rattle.melt_core.proofs.Disks.{stands_untold}
-use Rattle.melt_step.proofs.Calling.{waits_step, goes_step, lacks_step, told_step}
+use Rattle.melt_core.specs.Advances.{IsDamage}
+use Rattle.melt_core.specs.declared.answer.StepResult.TheVariants.{Refused}
+use Rattle.melt_step.specs.Threads.{CountsLoss, DropsIfEnded, SetsStop, TakesTurn}
+use Rattle.melt_step.specs.declared.thread.Mode.{Mode}
+use Rattle.melt_step.proofs.Calling.{begins_ready, counts_none, goes_sets, goes_step, refused_call, refused_counts}
+use Rattle.melt_step.proofs.Calling.{refused_sets, refused_step, thread_there, told_kept, told_sets, told_step}
+use Rattle.melt_step.proofs.Calling.{waits_step}
 use Rattle.melt_step.proofs.events.make_event.Goals as goal
 
 pub returns-in-Running-Some-Collect-clause-step : goal.returns-in-Running-Some-Collect-clause-step
-returns-in-Running-Some-Collect-clause-step c =
-    waits_step (view c.args.core.now) (view c.ask.new.self) c.args.thread c.args.state.now _ c.requires.ready.stands
+returns-in-Running-Some-Collect-clause-step g c told disk under stands =
+    waits_step told disk (view c.args.core.now) (view c.ask.new.self) c.args.thread c.args.state.now _ stands
     c.ask.ensures (inl (c.in-Running-Some-Collect.is-0, search rules, refl))
 
-pub advance-requires : goal.advance-requires
-advance-requires c = record {
-  stands = stands_untold true no_homes_on (view c.args.core.now) c.requires.ready.stands;
-  thread = search rules;
-  bounds = search rules;
-  no_collect = search rules;
-  continued = search rules;
+pub answered-requires : goal.answered-requires
+answered-requires g c = record {
+  thread = thread_there (view c.args.core.now) (view c.advance.new.self) c.args.thread
+      (c.in-Answered.ensures.advances.over c.requires.ready.disk c.requires.ready.ends).others c.requires.ready.thread;
+  no_call = (c.in-Answered.ensures.advances.over c.requires.ready.disk c.requires.ready.ends).outcome.call;
   room = search rules;
-  few = search rules;
 }
 
-pub answered-requires : goal.answered-requires
-answered-requires c = record {
-  stands = c.advance.ensures.advances.keeps true (λ told. tt) c.requires.ready.stands;
-  thread = search rules;
-  no_call = search rules;
-  room = search rules;
+pub drop_if_ended-requires : goal.drop_if_ended-requires
+drop_if_ended-requires g c = record {
+  thread = thread_there (view c.args.core.now) (view c.advance.new.self) c.args.thread
+      (c.in-Refused.ensures.advances.over c.requires.ready.disk c.requires.ready.ends).others c.requires.ready.thread;
+  no_call =
+      refused_call _ c.requires.ready.disk (view c.args.core.now) (view c.advance.new.self) c.args.thread
+      c.in-Running-Some.op c.in-Refused.refusal
+      (c.in-Refused.ensures.advances.over c.requires.ready.disk c.requires.ready.ends).outcome;
 }
 
 pub returns-in-Going : goal.returns-in-Going
-returns-in-Going c =
-    let both = goes_step (view c.args.core.now)
-    (view c.advance.new.core) c.args.thread c.in-Running-Some.op c.args.state.now (search rules) (search rules)
-    (search rules) c.requires.ready.stands c.requires.ready.forwards (search rules) in
-    record { step = both.0; stop = both.1; due = λ other. absurd (other refl) }
-
-pub returns-in-Refused-Pause-Space : goal.returns-in-Refused-Pause-Space
-returns-in-Refused-Pause-Space c =
-    let both = lacks_step (view c.args.core.now)
-    (view c.advance.new.core) c.args.thread c.in-Running-Some.op c.advance.result c.args.state.now (search rules)
-    (search rules) (search rules) c.requires.ready.stands c.advance.ensures.advances (search rules) in
-    record { step = both.0; stop = both.1; due = λ other. absurd (other refl) }
+returns-in-Going g c = record {
+  step = λ told disk under stands.
+      goes_step told _ disk (view c.args.core.now) (view c.advance.new.self) c.args.thread c.in-Running-Some.op
+      c.args.state.now (search rules) (search rules) (search rules) stands under.tells c.requires.ready.forwards
+      (c.in-Going.ensures.advances.over disk under.ends);
+  stop =
+      goes_sets (view c.args.core.now) (view c.advance.new.self) c.args.state.now (search rules)
+      (c.in-Going.ensures.advances.over c.requires.ready.disk c.requires.ready.ends).outcome.stop;
+  due = λ other. absurd (other refl);
+  image = search rules;
+  lost = counts_none c.args.state.now c.args.state.now _ _ (search rules) (search rules);
+}
 
 pub returns-in-Answered : goal.returns-in-Answered
-returns-in-Answered c =
-    let both = told_step (view c.args.core.now) (view c.advance.new.core)
-    (view c.answered.new.core) c.args.thread c.in-Running-Some.op c.in-Answered.reply c.args.state.now
-    c.answered.new.state
-    (search rules) (search rules) (search rules) c.requires.ready.stands
-    (c.advance.ensures.advances.keeps true (λ told. tt) c.requires.ready.stands) c.advance.ensures.advances.others
-    (search rules) c.answered.ensures.takes c.answered.ensures.drops in
-    record { step = both.0; stop = both.1; due = c.answered.ensures.due }
+returns-in-Answered g c = record {
+  step = λ told disk under stands.
+      let event = c.in-Answered.ensures.advances.over disk under.ends in
+      told_step told disk (view c.args.core.now) (view c.advance.new.self) (view c.answered.new.core) c.args.thread
+      c.in-Running-Some.op c.in-Answered.reply c.args.state.now c.answered.new.state (search rules) (search rules)
+      (search rules) stands (event.keeps told under.tells stands) event.others event.outcome c.answered.ensures.takes
+      c.answered.ensures.drops;
+  stop =
+      told_sets (view c.args.core.now) (view c.advance.new.self) (view c.answered.new.core) c.args.thread
+      c.args.state.now c.answered.new.state c.in-Answered.reply
+      (c.in-Answered.ensures.advances.over c.requires.ready.disk c.requires.ready.ends).outcome.stop
+      c.answered.ensures.takes c.answered.ensures.drops;
+  due = c.answered.ensures.due;
+  image = search rules;
+  lost =
+      counts_none c.args.state.now c.answered.new.state _ _
+      (told_kept c.args.state.now c.answered.new.state c.in-Answered.reply c.answered.ensures.takes) (search rules);
+}
+
+pub returns-in-Refused : goal.returns-in-Refused
+returns-in-Refused g c =
+    let drops = subst (λ (m : Mode). DropsIfEnded (view c.advance.new.self)
+    (view c.drop_if_ended.new.core) c.args.thread m)
+    c.mode_after-state.ensures c.drop_if_ended.ensures in
+    let damage : (damaged : Damage) → c.in-Refused.refusal ≡ Damaged damaged
+    → IsDamage (g.R.RecordReader.image c.args.reader.now) c.args.end (view c.args.core.now) c.args.thread damaged =
+    λ damaged is. c.in-Refused.ensures.damage damaged (ap Refused is) in
+    record {
+      step =
+          subst (λ (m : Mode). TakesTurn c.args.end (g.R.RecordReader.image c.args.reader.now) (view c.args.core.now)
+          (view c.drop_if_ended.new.core) c.args.thread c.args.state.now (record c.args.state.now { mode = m }))
+          (sym c.mode_after-state.ensures)
+          (λ told disk under stands.
+          refused_step told (g.R.RecordReader.image c.args.reader.now) disk (view c.args.core.now)
+          (view c.advance.new.self) (view c.drop_if_ended.new.core) c.args.thread c.in-Running-Some.op
+          c.args.state.now c.in-Refused.refusal (search rules) (search rules) (search rules)
+          (begins_ready told (g.R.RecordReader.image c.args.reader.now) c.args.end disk (view c.args.core.now)
+          c.args.thread c.in-Running-Some.op c.args.state.now c.in-Refused.refusal c.requires.ready (search rules)
+          under stands damage)
+          (c.in-Refused.ensures.advances.over disk under.ends) drops);
+      stop =
+          subst (λ (m : Mode). SetsStop (view c.args.core.now) (view c.drop_if_ended.new.core)
+          (record c.args.state.now { mode = m })) (sym c.mode_after-state.ensures)
+          (refused_sets _ c.requires.ready.disk (view c.args.core.now) (view c.advance.new.self)
+          (view c.drop_if_ended.new.core) c.args.thread c.in-Running-Some.op c.args.state.now c.in-Refused.refusal
+          (c.in-Refused.ensures.advances.over c.requires.ready.disk c.requires.ready.ends).outcome drops);
+      due = λ other. absurd (other refl);
+      image = search rules;
+      lost =
+          subst (λ (m : Mode). CountsLoss c.args.state.now (record c.args.state.now { mode = m })
+          (g.R.RecordReader.faults c.args.reader.now) (g.R.RecordReader.faults c.advance.new.reader))
+          (sym c.mode_after-state.ensures)
+          (refused_counts c.args.state.now c.in-Refused.refusal _ _ c.in-Refused.ensures.uses.fault
+          c.in-Refused.ensures.uses.count);
+    }
 
 pub returns-in_default-clause-step : goal.returns-in_default-clause-step
-returns-in_default-clause-step c =
-    waits_step (view c.args.core.now)
-    (view c.ask-in_default.new.self) c.args.thread c.args.state.now _ c.requires.ready.stands c.ask-in_default.ensures
+returns-in_default-clause-step g c told disk under stands =
+    waits_step told disk (view c.args.core.now)
+    (view c.ask-in_default.new.self) c.args.thread c.args.state.now _ stands c.ask-in_default.ensures
     (search rules)

@@ -1,106 +1,87 @@
 -- The registers that were lent are those of the rest, before the collection and behind it.
-use Rattle.std.proofs.Common.{◌≡◌, List, length, refl, sym, ◌∙◌, ap, subst}
-use Rattle.std.proofs.lemmas.List.{with_items_is}
-use Rattle.std.specs.Prelude.{All, true}
-use Rattle.melt_scion.specs.Heaps.{IsFormed, no_homes_on}
+use Rattle.std.proofs.Common.{List, sym, ◌∙◌, subst}
+use Rattle.std.specs.Prelude.{false}
+use Rattle.melt_move.specs.Collecting.{IsFormedOn}
+use Rattle.melt_move.specs.Planned.{phase_done}
 use Rattle.melt_scion.specs.declared.registers.Registers.{Registers}
-use Rattle.melt_copy.specs.Copying.{Collects}
-use Rattle.melt_core.specs.Views.{view, maps_of}
-use Rattle.melt_core.specs.Epochs.{core_of}
+use Rattle.melt_model.specs.declared.reports.Phase.{Phase}
+use Rattle.melt_core.specs.Views.{view}
 use Rattle.melt_core.specs.Lending.{with_held}
 use Rattle.melt_core.specs.declared.machine.Core.{Core}
 use Rattle.melt_core.specs.declared.machine.Rest.{Rest}
-use Rattle.melt_core.proofs.Disks.{stands_settled}
-use Rattle.melt_model.specs.declared.reports.Journal.{Journal}
-use Rattle.melt_step.specs.Threads.{CoreCollected}
-use Rattle.melt_step.proofs.Collecting.{names_are, rest_formed, rest_collected, collected_named, finished_collected}
-use Rattle.melt_step.proofs.Collecting.{same_sizes, LeavesWords, left_words, planned_by}
+use Rattle.melt_step.specs.Collections.{CollectsCore}
+use Rattle.melt_step.specs.Shown.{Shown, shown_by}
+use Rattle.melt_step.specs.declared.collector.Collector.{Collector}
+use Rattle.melt_step.proofs.Collecting.{rest_formed}
+use Rattle.melt_step.proofs.Gathering.{IsMade, collects_core, begins_named, begins_settled, only_lent, planned_lent}
+use Rattle.melt_step.proofs.Gathering.{when_pushed}
+use Rattle.melt_step.proofs.Refused.{is_full}
+use Rattle.melt_step.proofs.collector.Collector.collect.Given.{Over}
 use Rattle.melt_step.proofs.collector.Collector.collect.Goals as goal
-use Rattle.melt_step.proofs.collector.Collector.collect.Goals.{In_ok-journal}
+use Rattle.melt_step.proofs.collector.Collector.collect.Goals.{In-Ok}
 
 pub collect_uncounted-requires-clause-formed : goal.collect_uncounted-requires-clause-formed
-collect_uncounted-requires-clause-formed c =
-    subst (IsFormed c.finish-heap.result.0) (sym c.registers.ensures.value)
-    (rest_formed c.finish-heap.result.0 c.finish-heap.result.1 (c.finish-heap.ensures.rests true no_homes_on
-    c.requires.stands))
+collect_uncounted-requires-clause-formed g c κs within =
+    subst (λ (held : List Registers). IsFormedOn c.finish-heap.result.0 held c.args.space.now.end)
+    (sym c.registers-registers.ensures.value)
+    (rest_formed false c.requires.disk c.finish-heap.result.0 c.finish-heap.result.1 c.args.space.now.end
+    (c.finish-heap.ensures.rests false c.requires.disk c.requires.stands) c.requires.ends)
 
-pub collect_uncounted-requires-clause-settled : goal.collect_uncounted-requires-clause-settled
-collect_uncounted-requires-clause-settled c =
-    stands_settled true no_homes_on (view (core_of c.finish-heap.result.0 c.finish-heap.result.1)) refl
-    (c.finish-heap.ensures.rests true no_homes_on c.requires.stands).stands
-
--- the registers behind the collection are those of the rest
-given_back : (c : In_ok-journal)
-    → (with_held c.finish-heap.result.1 c.collect_uncounted.new.registers).held.items
-    ≡ c.collect_uncounted.new.registers
-given_back c = with_items_is c.finish-heap.result.1.held c.collect_uncounted.new.registers
-    (c.collect_uncounted.auto.registers ∙ (ap length c.registers.ensures.value ∙ sym c.finish-heap.result.1.held.ok.0))
-
--- so heap and rest were collected
-collects : (c : In_ok-journal)
-    → Collects c.finish-heap.result.0 c.finish-heap.result.1.held.items c.collect_uncounted.new.heap
-    (with_held c.finish-heap.result.1 c.collect_uncounted.new.registers).held.items c.args.phase c.in_ok-journal.journal
-collects c =
-    subst (λ (xs : List Registers). Collects c.finish-heap.result.0 xs c.collect_uncounted.new.heap
-    (with_held c.finish-heap.result.1 c.collect_uncounted.new.registers).held.items c.args.phase
-    c.in_ok-journal.journal) c.registers.ensures.value
-    (subst (λ (xs : List Registers).
-    Collects c.finish-heap.result.0 c.registers.result.now c.collect_uncounted.new.heap xs c.args.phase
-    c.in_ok-journal.journal) (sym (given_back c)) c.in_ok-journal.ensures.collected)
-
-pub begin-requires : goal.begin-requires
-begin-requires c =
-    let at = (goal.at.begin-requires c).In_ok-journal in
+-- what the collection made
+made : (g : Over) (c : In-Ok g) → IsMade (phase_done c.args.force c.args.self.now.plan.next)
+    (shown_by g.D.StaleDisk.image c.args.space.now) (shown_by g.D.StaleDisk.image c.collect_uncounted.new.space)
+    (view c.args.core) c.finish-heap.result.0 c.in-Ok.heap c.finish-heap.result.1
+    (with_held c.finish-heap.result.1 c.collect_uncounted.new.registers) c.in-Ok.journal
+made g c =
     let rest : Rest = c.finish-heap.result.1 in
+    let lent : List Registers = c.registers-registers.result.now in
+    let registers : List Registers = c.collect_uncounted.new.registers in
     record {
-      names = collected_named c.finish-heap.result.0 c.collect_uncounted.new.heap rest
-          (with_held rest c.collect_uncounted.new.registers).held.items c.args.phase c.in_ok-journal.journal
-          (c.finish-heap.ensures.rests true no_homes_on c.requires.stands) (collects at);
-      settled = (collects at).settled;
+      rests = c.finish-heap.ensures.rests;
+      finished = c.finish-heap.ensures.finished;
+      planned = planned_lent rest lent registers c.registers-registers.ensures.value c.collect_uncounted.auto.registers
+          (phase_done c.args.force c.args.self.now.plan.next) c.finish-heap.result.0 c.in-Ok.heap
+          c.args.space.now.end c.collect_uncounted.new.space.end (g.D.StaleDisk.image c.args.space.now.disk.now)
+          (g.D.StaleDisk.image c.collect_uncounted.new.space.disk.now) c.in-Ok.journal c.in-Ok.ensures.collects;
+      only = only_lent rest lent registers c.registers-registers.ensures.value c.collect_uncounted.auto.registers
+          c.in-Ok.ensures.before c.in-Ok.ensures.after;
+      fits = c.in-Ok.ensures.fits;
+      limit = c.in-Ok.ensures.keeps.limit;
+      still = c.in-Ok.ensures.keeps.tells;
     }
 
-pub returns-clause-collected : goal.returns-clause-collected
-returns-clause-collected c =
-    let at = (goal.at.returns-clause-collected c).In_ok-journal in
-    let rest : Rest = c.finish-heap.result.1 in
-    let after : Rest = with_held rest c.collect_uncounted.new.registers in
-    let before : All (λ (x : Registers). length x.regs ≡ 16) rest.held.items =
-    subst (All (λ (x : Registers). length x.regs ≡ 16)) c.registers.ensures.value c.collect_uncounted.ensures.before in
-    let sixteen : All (λ (x : Registers). length x.regs ≡ 16) after.held.items =
-    subst (All (λ (x : Registers). length x.regs ≡ 16)) (sym (given_back at)) c.in_ok-journal.ensures.after in
-    let same : length after.held.items ≡ length rest.held.items =
-    ap length (given_back at) ∙ (c.collect_uncounted.auto.registers ∙ ap length c.registers.ensures.value) in
-    subst (λ (core : Core). CoreCollected (view c.args.core) (view core)) (sym c.begin.ensures)
-    (finished_collected (view c.args.core) (view (core_of c.finish-heap.result.0 rest))
-    (view (core_of c.collect_uncounted.new.heap after)) c.finish-heap.ensures.finished
-    (rest_collected c.finish-heap.result.0 c.collect_uncounted.new.heap rest after c.args.phase c.in_ok-journal.journal
-    (c.finish-heap.ensures.rests true no_homes_on c.requires.stands) c.requires.phase (collects at) same
-    (same_sizes rest.held.items after.held.items same before sixteen) refl refl refl refl))
+pub begin-requires-clause-names : goal.begin-requires-clause-names
+begin-requires-clause-names g c =
+    let at = (goal.at.begin-requires-clause-names g c).In-Ok in
+    begins_named _ _ _ _ _ _ _ _ _ (made g at) c.requires
 
-pub returns-clause-plans : goal.returns-clause-plans
-returns-clause-plans c =
-    let at = (goal.at.returns-clause-plans c).In_ok-journal in
+pub begin-requires-clause-settled : goal.begin-requires-clause-settled
+begin-requires-clause-settled g c =
+    let at = (goal.at.begin-requires-clause-settled g c).In-Ok in
+    begins_settled _ _ _ _ _ _ _ _ _ (made g at) c.requires
+
+pub returns-else-is_err-clause-collected : goal.returns-else-is_err-clause-collected
+returns-else-is_err-clause-collected g c =
+    let at = (goal.at.returns-else-is_err-clause-collected g c).In-Ok in
+    let shown : Shown = shown_by g.D.StaleDisk.image c.args.space.now in
+    let later : Shown = shown_by g.D.StaleDisk.image c.collect_uncounted.new.space in
+    let phase : Phase = phase_done c.args.force c.args.self.now.plan.next in
     let rest : Rest = c.finish-heap.result.1 in
     let after : Rest = with_held rest c.collect_uncounted.new.registers in
-    let at_rest = c.finish-heap.ensures.rests true no_homes_on c.requires.stands in
-    let of_phase : c.in_ok-journal.journal.phase ≡ c.args.phase =
-    ((collects at).each (maps_of c.finish-heap.result.0.names) no_homes_on
-    (names_are c.finish-heap.result.0.names c.finish-heap.result.0.maps at_rest.stands.named)
-    (record { words = at_rest.stands.holds.formed; registers = at_rest.stands.registers })).told.of_phase in
-    let left : LeavesWords (view c.begin.result) c.in_ok-journal.journal =
-    subst (λ (core : Core). LeavesWords (view core) c.in_ok-journal.journal) (sym c.begin.ensures)
-    (left_words c.finish-heap.result.0 c.collect_uncounted.new.heap rest after c.args.phase c.in_ok-journal.journal
-    at_rest c.requires.phase (collects at)) in
-    let written : Journal = record c.in_ok-journal.journal { end = 1 } in
-    let leaves : LeavesWords (view c.begin.result) written =
-    record {
-      held_within = left.held_within;
-      live = left.live;
-      within = left.within;
-      bodies = left.bodies;
-      stubs = left.stubs;
-    } in
-    planned_by c.args.self.now c.plan.new.self _
-    (view c.begin.result) c.args.phase written c.requires.planning c.plan.ensures.planning
-    c.plan.ensures.journal c.requires.phase of_phase
-    c.in_ok-push.ensures.items refl c.plan.ensures.next refl c.plan.ensures.config leaves refl
+    let plans : Collector = record { journal = c.push.new.self; plan = c.collect_uncounted.new.plan } in
+    subst (λ (core : Core). CollectsCore phase shown later (view c.args.core) (view core) c.args.self.now plans)
+    (sym c.begin.ensures)
+    (collects_core phase shown later (view c.args.core) c.finish-heap.result.0 c.in-Ok.heap rest after c.in-Ok.journal
+    (made g at) c.args.self.now plans c.requires
+    (when_pushed c.push.result c.push.new.self.items c.args.self.now.journal.items _
+    (sym c.is_err.ensures.value ∙ c.if-is_err.false) c.push.ensures.items) c.in-Ok.ensures.plans)
+
+pub returns-in-Err-DiskFull-clause-refused : goal.returns-in-Err-DiskFull-clause-refused
+returns-in-Err-DiskFull-clause-refused g c =
+    let settled = rw c.in-Err-DiskFull.field-0-is at c.in-Err-DiskFull.ensures.refused in
+    is_full (phase_done c.args.force c.args.self.now.plan.next) g.D.StaleDisk.image g.D.StaleDisk.writes
+    (view c.args.core) c.finish-heap.result.0 c.finish-heap.result.1 c.registers-registers.result.now
+    c.collect_uncounted.new.registers c.args.space.now c.collect_uncounted.new.space c.in-Err-DiskFull.heap
+    c.in-Err-DiskFull.full settled c.finish-heap.ensures.rests c.finish-heap.ensures.finished
+    c.registers-registers.ensures.value c.collect_uncounted.auto.registers c.in-Err-DiskFull.ensures.before
+    c.in-Err-DiskFull.ensures.keeps.limit c.in-Err-DiskFull.ensures.keeps.tells

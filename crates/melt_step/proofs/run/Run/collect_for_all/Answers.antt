@@ -1,36 +1,41 @@
 -- The run stands between the collections, so each may be made.
-use Rattle.std.proofs.Common.{◌≡◌, ◌<◌, List, length, ◌∙◌, arith}
+use Rattle.std.proofs.Common.{◌≡◌, ◌<◌, false, List, length, refl, ◌∙◌, arith}
+use Rattle.std.proofs.lemmas.Result.{err_from_is_err_and}
 use Rattle.std.specs.Prelude.{Some, slice_get}
 use Rattle.melt_step.specs.declared.thread.ThreadState.{ThreadState}
-use Rattle.melt_step.proofs.Ending.{state_at}
+use Rattle.melt_step.proofs.Composing.{stop_counts_then, stops_then}
+use Rattle.melt_step.proofs.Counting.{counts_same}
+use Rattle.melt_step.proofs.Outcomes.{state_at}
 use Rattle.melt_step.proofs.Passing.{CollectedBelow, collected_none, collected_more, collected_all}
 use Rattle.melt_step.proofs.Safepoints.{below_none, below_more, below_all, none_below}
 use Rattle.melt_step.proofs.run.Run.collect_for_all.Goals as goal
 
 pub collect_for-requires-clause-stands : goal.collect_for-requires-clause-stands
-collect_for-requires-clause-stands c = (
+collect_for-requires-clause-stands g c κs within = (
   c.requires.stands.0,
-  (
-    c.requires.stands.1.0,
-    c.loop-t.invariant.keeps c.requires.stands.0 c.requires.stands.1.0 c.requires.stands.1.1,
-  ),
+  c.requires.stands.1,
+  c.loop-t.invariant.keeps false c.requires.stands.0 c.requires.stands.1 c.requires.stands.2,
 )
 
 pub collect_for-requires-clause-first : goal.collect_for-requires-clause-first
-collect_for-requires-clause-first c =
+collect_for-requires-clause-first g c κs within =
     none_below c.args.self.states.items c.loop-t.run.states.items c.loop-t.t c.loop-t.invariant.below
 
 pub loop-t-init : goal.loop-t-init
-loop-t-init c =
+loop-t-init g c =
     record {
-      keeps = λ script config stands. stands;
+      keeps = λ told script config stands. stands;
       quiet = c.requires.quiet;
       below = collected_none c.args.self.states.items;
       made = below_none c.args.self;
+      lost = refl;
+      count = omega arith;
+      same_disk = refl;
+      read_faults = refl;
     }
 
 pub loop-t-preserved : goal.loop-t-preserved
-loop-t-preserved c =
+loop-t-preserved g c =
     let states : List ThreadState = c.args.self.states.items in
     let below : CollectedBelow states c.loop-t.run.states.items c.loop-t.t = c.loop-t.invariant.below in
     let within : c.loop-t.t < length c.loop-t.run.states.items =
@@ -38,21 +43,39 @@ loop-t-preserved c =
     let state : (s : ThreadState) × (slice_get states c.loop-t.t ≡ Some s) =
     state_at states c.loop-t.t (omega (arith, within, below.count)) in
     record {
-      keeps = λ script config stands.
-          c.in_ok-run.ensures.keeps script config (c.loop-t.invariant.keeps script config stands);
+      keeps = λ told script config stands.
+          c.in_ok-run.ensures.keeps told script config (c.loop-t.invariant.keeps told script config stands);
       quiet = c.in_ok-run.ensures.quiet;
       below = collected_more states c.loop-t.run.states.items c.in_ok-run.run'.states.items c.loop-t.t below within
           c.in_ok-run.ensures.only;
       made = below_more c.args.self c.loop-t.run c.in_ok-run.run' c.loop-t.t state.0 c.loop-t.invariant.made state.1
           (c.in_ok-run.ensures.made state.0 (below.rest c.loop-t.t (omega arith) ∙ state.1));
+      lost = c.in_ok-run.ensures.lost ∙ c.loop-t.invariant.lost;
+      count = omega (arith, c.in_ok-run.ensures.count, c.loop-t.invariant.count);
+      same_disk = c.in_ok-run.ensures.same_disk ∙ c.loop-t.invariant.same_disk;
+      read_faults = c.in_ok-run.ensures.read_faults ∙ c.loop-t.invariant.read_faults;
     }
 
+pub returns-in_err-run-clause-stopped : goal.returns-in_err-run-clause-stopped
+returns-in_err-run-clause-stopped g c =
+    let exit = err_from_is_err_and c.from_residual.result c.from_residual.ensures.1 in
+    rw (exit.1, exit.2)
+    (stops_then _ _ _ c.args.self c.loop-t.run _ c.loop-t.invariant.keeps c.in_err-run.ensures.stopped)
+
+pub returns-in_err-run-clause-stop_counts : goal.returns-in_err-run-clause-stop_counts
+returns-in_err-run-clause-stop_counts g c =
+    let exit = err_from_is_err_and c.from_residual.result c.from_residual.ensures.1 in
+    rw (exit.1, exit.2)
+    (stop_counts_then _ c.args.self.states.items c.loop-t.run.states.items _ _ _ _ _ _ c.loop-t.invariant.count
+    c.in_err-run.ensures.count (counts_same c.args.self.states.items c.loop-t.run.states.items _ _
+    c.loop-t.invariant.lost (omega (arith, c.loop-t.invariant.read_faults))) c.in_err-run.ensures.stop_counts)
+
 pub returns-clause-all : goal.returns-clause-all
-returns-clause-all c =
+returns-clause-all g c =
     collected_all c.args.self.states.items c.loop-t.run.states.items c.loop-t.t c.loop-t.invariant.below
     (omega (arith, c.loop-t-test.false, c.len-t-end.ensures, c.args.self.states.ok.0))
 
 pub returns-clause-made : goal.returns-clause-made
-returns-clause-made c =
+returns-clause-made g c =
     below_all c.args.self c.loop-t.run c.loop-t.t c.loop-t.invariant.made
     (omega (arith, c.loop-t-test.false, c.len-t-end.ensures, c.args.self.states.ok.0))

@@ -1,202 +1,208 @@
 -- Collections, and the call of a thread that lacked room, give some thread less to do.
-use Rattle.std.proofs.Common.{◌≡◌, ◌≢◌, true, List, refl, sym, ◌∙◌, subst}
-use Rattle.std.specs.Prelude.{Some, slice_get}
+use Rattle.std.proofs.Common.{◌≡◌, Bool, true, false, List, refl, sym, ◌∙◌, subst, arith}
+use Rattle.std.proofs.lemmas.Result.{err_from_is_err_and}
 use Rattle.melt_model.specs.declared.config.Config.{Config}
 use Rattle.melt_trace.specs.Script.{Script}
-use Rattle.melt_core.specs.Views.{IsQuiet, view}
-use Rattle.melt_step.specs.Threads.{CalledAt, JustCollected, KeepsRun, MakesCollections, MakesPlanned, NoneBelow}
-use Rattle.melt_step.specs.Threads.{OweBehindCollects, Planned, RunStands, StandsCollected, collections_due}
-use Rattle.melt_step.specs.declared.collector.Collector.{Collector}
+use Rattle.melt_core.specs.Views.{view}
+use Rattle.melt_step.specs.Safepoints.{AwaitsCall, CalledAt, RunStands}
+use Rattle.melt_step.specs.Shown.{shown_by}
+use Rattle.melt_step.specs.Threads.{CountsLosses}
 use Rattle.melt_step.specs.declared.run.Run.{Run}
-use Rattle.melt_step.specs.declared.thread.Mode.{Mode}
-use Rattle.melt_step.specs.declared.thread.Mode.TheVariants.{Lacking}
 use Rattle.melt_step.specs.declared.thread.ThreadState.{ThreadState}
-use Rattle.melt_step.proofs.Collections.{Run_collected, just_made}
-use Rattle.melt_step.proofs.Journals.{planned_one}
+use Rattle.melt_step.proofs.Composing.{BeforeCall, CountsBefore, awaits_call, before_made, before_same, counts_made}
+use Rattle.melt_step.proofs.Composing.{stop_counts_then, stops_planned, stops_then}
+use Rattle.melt_step.proofs.Counting.{counts_by, counts_same, counts_then}
+use Rattle.melt_step.proofs.Journals.{may_collect}
 use Rattle.melt_step.proofs.Modes.{someone_waits}
-use Rattle.melt_step.proofs.Passing.{owe_behind, passed_collected, passed_called}
-use Rattle.melt_step.proofs.Safepoints.{OneWaits, called_own, just_collected, lacked, makes_called, makes_own}
-use Rattle.melt_step.proofs.Safepoints.{none_collected, none_own}
+use Rattle.melt_step.proofs.Passing.{passed_called, passed_collected}
+use Rattle.melt_step.proofs.Safepoints.{OneWaits, called_own, none_own, own_collected, stop_collected}
 use Rattle.melt_step.proofs.Tables.{waiting_quiet}
+use Rattle.melt_step.proofs.run.Run.pass_safepoint.Given.{Over}
 use Rattle.melt_step.proofs.run.Run.pass_safepoint.Goals as goal
-use Rattle.melt_step.proofs.run.Run.pass_safepoint.Goals.{Joined-is_stopped, then-is_stopped+in_ok-run-2}
-use Rattle.melt_step.proofs.run.Run.pass_safepoint.Goals.{else-is_stopped}
+use Rattle.melt_step.proofs.run.Run.pass_safepoint.Goals.{In_ok-run, Joined-is_stopped}
+use Rattle.melt_step.proofs.run.Run.pass_safepoint.Goals.{then-is_stopped+in_ok-run-2, else-is_stopped}
 
 pub collect_for_all-requires-clause-quiet : goal.collect_for_all-requires-clause-quiet
-collect_for_all-requires-clause-quiet c =
-    waiting_quiet c.requires.stands.0 c.requires.stands.1.0
-    (view c.args.self.core) c.args.self.states.items c.requires.stands.1.1.table c.requires.waits
+collect_for_all-requires-clause-quiet g c κs within =
+    waiting_quiet false c.requires.stands.0 c.requires.stands.1 c.requires.stands.2.disk
+    (view c.args.self.core) c.args.self.states.items c.requires.stands.2.table c.requires.waits
 
-pub lacking-requires : goal.lacking-requires
-lacking-requires c =
-    record {
-      stands = (
-        c.requires.stands.0,
-        (
-          c.requires.stands.1.0,
-          c.in_ok-run.ensures.keeps c.requires.stands.0 c.requires.stands.1.0
-              c.requires.stands.1.1,
-        ),
-      );
-    }
+-- a thread waits
+waits : (g : Over) (c : In_ok-run g) → OneWaits c.args.self.states.items
+waits g c = someone_waits (view c.args.self.core) c.args.self.states.items c.requires.stop c.requires.waits
+    c.requires.some
+
+-- the run stands behind the collections for which threads waited
+stands : (g : Over) (c : In_ok-run g) → RunStands false c.requires.stands.0 c.requires.stands.1
+    (shown_by g.D.StaleDisk.image c.collect_for_all.new.space) c.in_ok-run.run'
+stands g c = c.in_ok-run.ensures.keeps false c.requires.stands.0 c.requires.stands.1 c.requires.stands.2
 
 pub resume-requires-clause-stands : goal.resume-requires-clause-stands
-resume-requires-clause-stands c = (
-  c.requires.stands.0,
-  (
-    c.requires.stands.1.0,
-    c.in_ok-run.ensures.keeps c.requires.stands.0 c.requires.stands.1.0 c.requires.stands.1.1,
-  ),
-)
+resume-requires-clause-stands g c =
+    let at = (goal.at.resume-requires-clause-stands g c).In_ok-run in
+    (_, (c.requires.stands.0, c.requires.stands.1, stands g at))
+
+pub resume-requires-clause-stop : goal.resume-requires-clause-stop
+resume-requires-clause-stop g c =
+    let at = (goal.at.resume-requires-clause-stop g c).In_ok-run in
+    (own_collected c.args.self c.in_ok-run.run' c.in_ok-run.ensures.made c.in_ok-run.ensures.all (waits g at)
+    c.in_default.ensures.none).stop
 
 pub resume-requires-clause-collected : goal.resume-requires-clause-collected
-resume-requires-clause-collected c =
+resume-requires-clause-collected g c =
     none_own c.args.self.states.items c.in_ok-run.run'.states.items c.in_ok-run.ensures.all
 
-pub returns-in_default-clause-keeps : goal.returns-in_default-clause-keeps
-returns-in_default-clause-keeps c = λ script config stands.
-    c.resume.ensures.keeps script config (c.in_ok-run.ensures.keeps script config stands)
-
-pub returns-in_default-clause-made : goal.returns-in_default-clause-made
-returns-in_default-clause-made c =
-    makes_own c.args.self c.in_ok-run.run' c.resume.result.collector c.in_ok-run.ensures.made c.in_ok-run.ensures.all
-    (someone_waits (view c.args.self.core) c.args.self.states.items c.requires.stop c.requires.waits c.requires.some)
-    c.in_default.ensures.none c.resume.ensures.collector
-
 pub returns-in_default-clause-passed : goal.returns-in_default-clause-passed
-returns-in_default-clause-passed c =
+returns-in_default-clause-passed g c =
+    let at = (goal.at.returns-in_default-clause-passed g c).In_ok-run in
     passed_collected c.args.self.states.items c.in_ok-run.run'.states.items c.resume.result.states.items
-    c.in_ok-run.ensures.all c.in_default.ensures.none
-    c.resume.ensures.resumed (someone_waits
-    (view c.args.self.core) c.args.self.states.items c.requires.stop c.requires.waits c.requires.some)
+    c.in_ok-run.ensures.all c.in_default.ensures.none c.resume.ensures.resumed (waits g at)
 
--- how a run stands before the call that is made first
-record BeforeCall (old mid run : Run) : Type 0 where
-  keeps : KeepsRun mid run
-  states : run.states.items ≡ mid.states.items
-  just : JustCollected run
-  quiet : IsQuiet (view run.core)
-  own : collections_due old.states.items ≢ 0 → Planned (collections_due old.states.items) old.collector run.collector
-  room : collections_due old.states.items ≡ 0 → Planned 1 old.collector run.collector
+pub collect-requires-after_bounds : goal.collect-requires-after_bounds
+collect-requires-after_bounds g c κs within =
+    may_collect false c.requires.stands.0 c.requires.stands.1 _ c.in_ok-run.run'
+    (stands g (goal.at.collect-requires-after_bounds g c).In_ok-run) c.in_ok-run.ensures.quiet
 
-before_call : (c : Joined-is_stopped) → BeforeCall c.args.self c.in_ok-run.run' c.if-is_stopped.run
-before_call c =
-    let old : Run = c.args.self in
+pub returns-in_err-run-2-clause-stopped : goal.returns-in_err-run-2-clause-stopped
+returns-in_err-run-2-clause-stopped g c =
+    let exit = err_from_is_err_and c.from_residual-in_err-run-2.result c.from_residual-in_err-run-2.ensures.1 in
+    rw (exit.1, exit.2)
+    (stops_then _ _ _ c.args.self c.in_ok-run.run' _ c.in_ok-run.ensures.keeps
+    (stops_planned _ _ c.in_ok-run.run' _ c.in_err-run-2.ensures.stopped))
+
+-- as many threads are lost behind the collections as before
+lost : (g : Over) (c : In_ok-run g) → CountsLosses c.args.self.states.items c.in_ok-run.run'.states.items
+    (g.D.StaleDisk.read_faults c.args.space.now.disk.now)
+    (g.D.StaleDisk.read_faults c.collect_for_all.new.space.disk.now)
+lost g c = counts_same c.args.self.states.items c.in_ok-run.run'.states.items _ _ c.in_ok-run.ensures.lost
+    (omega (arith, c.in_ok-run.ensures.read_faults))
+
+pub returns-in_err-run-2-clause-stop_counts : goal.returns-in_err-run-2-clause-stop_counts
+returns-in_err-run-2-clause-stop_counts g c =
+    let exit = err_from_is_err_and c.from_residual-in_err-run-2.result c.from_residual-in_err-run-2.ensures.1 in
+    rw (exit.1, exit.2)
+    (stop_counts_then _ c.args.self.states.items c.in_ok-run.run'.states.items _ _ _ _ _ _ c.in_ok-run.ensures.count
+    c.in_err-run-2.ensures.count (lost g (goal.at.returns-in_err-run-2-clause-stop_counts g c).In_ok-run)
+    c.in_err-run-2.ensures.stop_counts)
+
+-- how the run stands before the call that is made first
+before_call : (g : Over) (c : Joined-is_stopped g)
+    → BeforeCall (shown_by g.D.StaleDisk.image c.collect_for_all.new.space)
+    (shown_by g.D.StaleDisk.image c.if-is_stopped.space) c.in_ok-run.run' c.if-is_stopped.run
+before_call g c =
     let mid : Run = c.in_ok-run.run' in
-    let waits : OneWaits old.states.items =
-    someone_waits (view old.core) old.states.items c.requires.stop c.requires.waits c.requires.some in
-    let stopped : (view old.core).stop ≡ true = c.requires.stop.waits waits.0 waits.1.0 waits.1.1 waits.1.2 in
+    let one : OneWaits c.args.self.states.items =
+    someone_waits (view c.args.self.core) c.args.self.states.items c.requires.stop c.requires.waits c.requires.some in
+    let stopped : (view c.args.self.core).stop ≡ true = c.requires.stop.waits one.0 one.1.0 one.1.1 one.1.2 in
     elim c.if-is_stopped.branch [
-      | then-is_stopped+in_ok-run-2 w ↦
-          let run : Run = w.in_ok-run-2.run' in
-          let made : MakesPlanned mid run = w.in_ok-run-2.ensures in
-          let none = none_collected old mid c.in_ok-run.ensures.made
-          (sym c.is_stopped.ensures ∙ w.if-is_stopped.true) in
-          let one : Planned 1 old.collector run.collector =
-          subst (λ (x : Collector). Planned 1 x run.collector) none.1
-          (planned_one mid.collector run.collector (view run.core) made.plans) in
-          subst (BeforeCall old mid) (sym w.run-is) (record {
-            keeps = λ script config stands. Run_collected script config mid run stands made;
-            states = made.states;
-            just = just_made mid run run made refl refl refl;
-            quiet = made.collected.stays.quiet;
-            own = λ some. absurd (some none.0);
-            room = λ nothing. one;
-          })
-      | else-is_stopped w ↦
-          let some = just_collected old mid c.in_ok-run.ensures.made stopped
-          (sym c.is_stopped.ensures ∙ w.if-is_stopped.false) in
-          subst (BeforeCall old mid) (sym w.run-is) (record {
-            keeps = λ script config stands. stands;
-            states = refl;
-            just = some.1;
-            quiet = c.in_ok-run.ensures.quiet;
-            own = λ more. c.in_ok-run.ensures.made.planned;
-            room = λ nothing. absurd (some.0 nothing);
-          })
+      | then-is_stopped+in_ok-run-2 w ↦ rw (w.space-is, w.run-is)
+          (before_made _ _ mid w.in_ok-run-2.run' w.in_ok-run-2.ensures.made)
+      | else-is_stopped w ↦ rw (w.space-is, w.run-is)
+          (before_same _ mid
+          (stop_collected c.args.self mid c.in_ok-run.ensures.made stopped
+          (sym c.is_stopped.ensures ∙ w.if-is_stopped.false)) c.in_ok-run.ensures.quiet)
     ]
 
--- the run stands before the call
-keeps_before : (c : Joined-is_stopped) (script : Script) (config : Config) → RunStands script config c.args.self
-    → StandsCollected script config c.if-is_stopped.run
-keeps_before c = λ script config stands. record {
-  stands = (before_call c).keeps script config (c.in_ok-run.ensures.keeps script config stands);
-  owed = subst (OweBehindCollects script) (sym (before_call c).states)
-      (owe_behind script config (view c.args.self.core) c.args.self.states.items c.in_ok-run.run'.states.items
-      stands.table c.requires.waits c.in_ok-run.ensures.all);
-  collected = (before_call c).just;
-}
+-- the run stands before that call
+keeps_before : (g : Over) (c : Joined-is_stopped g) (told : Bool) (script : Script) (config : Config)
+    → RunStands told script config (shown_by g.D.StaleDisk.image c.args.space.now) c.args.self
+    → AwaitsCall told script config (shown_by g.D.StaleDisk.image c.if-is_stopped.space) 0 c.if-is_stopped.run
+    c.in-Some.thread
+keeps_before g c =
+    awaits_call _ _ _ c.args.self c.in_ok-run.run' c.if-is_stopped.run c.in-Some.thread c.in_ok-run.ensures.keeps
+    c.requires.waits c.in_ok-run.ensures.all (before_call g c) c.in-Some.ensures.some
 
-pub call_first-requires-clause-stands : goal.call_first-requires-clause-stands
-call_first-requires-clause-stands c = (
+pub make_room-requires-clause-awaits : goal.make_room-requires-clause-awaits
+make_room-requires-clause-awaits g c κs within = (
   c.requires.stands.0,
-  (
-    c.requires.stands.1.0,
-    keeps_before c c.requires.stands.0 c.requires.stands.1.0 c.requires.stands.1.1,
-  ),
+  c.requires.stands.1,
+  keeps_before g (goal.at.make_room-requires-clause-awaits g c).Joined-is_stopped false c.requires.stands.0
+      c.requires.stands.1 c.requires.stands.2,
 )
 
-pub call_first-requires-clause-waits : goal.call_first-requires-clause-waits
-call_first-requires-clause-waits c =
-    subst (λ (states : List ThreadState). (s : ThreadState) × (slice_get states c.in-Some.t ≡ Some s)
-    × (s.mode ≡ Lacking)) (sym (before_call c).states) c.in-Some.ensures.some
+-- what was counted before that call
+counts_before : (g : Over) (c : Joined-is_stopped g)
+    → CountsBefore c.args.self.states.items c.if-is_stopped.run.states.items
+    (g.D.StaleDisk.faults c.args.space.now.disk.now) (g.D.StaleDisk.faults c.if-is_stopped.space.disk.now)
+    (g.D.StaleDisk.read_faults c.args.space.now.disk.now) (g.D.StaleDisk.read_faults c.if-is_stopped.space.disk.now)
+counts_before g c =
+    let states : List ThreadState = c.args.self.states.items in
+    let mid : List ThreadState = c.in_ok-run.run'.states.items in
+    let first : CountsLosses states mid (g.D.StaleDisk.read_faults c.args.space.now.disk.now)
+    (g.D.StaleDisk.read_faults c.collect_for_all.new.space.disk.now) =
+    counts_same states mid _ _ c.in_ok-run.ensures.lost (omega (arith, c.in_ok-run.ensures.read_faults)) in
+    elim c.if-is_stopped.branch [
+      | then-is_stopped+in_ok-run-2 w ↦ rw (w.space-is, w.run-is)
+          (counts_made states mid w.in_ok-run-2.run'.states.items _ _ _ _ _ _ w.in_ok-run-2.ensures.made.states
+          c.in_ok-run.ensures.count w.in_ok-run-2.ensures.count first w.in_ok-run-2.ensures.read_faults)
+      | else-is_stopped w ↦ rw (w.space-is, w.run-is)
+          (record { count = c.in_ok-run.ensures.count; lost = first })
+    ]
 
-pub call_first-requires-clause-first : goal.call_first-requires-clause-first
-call_first-requires-clause-first c =
-    subst (λ (states : List ThreadState). NoneBelow (λ (m : Mode). m ≡ Lacking) states c.in-Some.t)
-    (sym (before_call c).states) c.in-Some.ensures.first
+pub returns-in_err-run-3-clause-stopped : goal.returns-in_err-run-3-clause-stopped
+returns-in_err-run-3-clause-stopped g c =
+    let joined = (goal.at.returns-in_err-run-3-clause-stopped g c).Joined-is_stopped in
+    let exit = err_from_is_err_and c.from_residual-in_err-run-3.result c.from_residual-in_err-run-3.ensures.1 in
+    rw (exit.1, exit.2) (λ told script config had.
+    c.in_err-run-3.ensures.stopped told script config (keeps_before g joined told script config had))
 
-pub call_first-requires-clause-quiet : goal.call_first-requires-clause-quiet
-call_first-requires-clause-quiet c = (before_call c).quiet
+pub returns-in_err-run-3-clause-stop_counts : goal.returns-in_err-run-3-clause-stop_counts
+returns-in_err-run-3-clause-stop_counts g c =
+    let joined = (goal.at.returns-in_err-run-3-clause-stop_counts g c).Joined-is_stopped in
+    let exit = err_from_is_err_and c.from_residual-in_err-run-3.result c.from_residual-in_err-run-3.ensures.1 in
+    let counts = counts_before g joined in
+    rw (exit.1, exit.2)
+    (stop_counts_then _ c.args.self.states.items c.if-is_stopped.run.states.items _ _ _ _ _ _ counts.count
+    c.in_err-run-3.ensures.count counts.lost c.in_err-run-3.ensures.stop_counts)
 
 pub resume-requires-2-clause-stands : goal.resume-requires-2-clause-stands
-resume-requires-2-clause-stands c =
-    let joined : Joined-is_stopped = (goal.at.resume-requires-2-clause-stands c).Joined-is_stopped in (
-      c.requires.stands.0,
+resume-requires-2-clause-stands g c =
+    let joined = (goal.at.resume-requires-2-clause-stands g c).Joined-is_stopped in (
+      _,
       (
-        c.requires.stands.1.0,
-        c.in_ok-call_first.ensures.keeps c.requires.stands.0 c.requires.stands.1.0
-            (keeps_before joined c.requires.stands.0 c.requires.stands.1.0 c.requires.stands.1.1),
+        c.requires.stands.0,
+        c.requires.stands.1,
+        c.in_ok-run-3.ensures.made.keeps false c.requires.stands.0 c.requires.stands.1
+            (keeps_before g joined false c.requires.stands.0 c.requires.stands.1 c.requires.stands.2),
       ),
     )
 
+-- only the thread that lacked room changed in the call
+called : (g : Over) (c : Joined-is_stopped g) (after : List ThreadState)
+    → CalledAt c.if-is_stopped.run.states.items after c.in-Some.thread
+    → CalledAt c.in_ok-run.run'.states.items after c.in-Some.thread
+called g c after = subst (λ (xs : List ThreadState). CalledAt xs after c.in-Some.thread) (before_call g c).states
+
 pub resume-requires-2-clause-collected : goal.resume-requires-2-clause-collected
-resume-requires-2-clause-collected c =
-    let joined : Joined-is_stopped = (goal.at.resume-requires-2-clause-collected c).Joined-is_stopped in
+resume-requires-2-clause-collected g c =
+    let joined = (goal.at.resume-requires-2-clause-collected g c).Joined-is_stopped in
     let mid : List ThreadState = c.in_ok-run.run'.states.items in
-    let called : List ThreadState = c.in_ok-call_first.field-0.states.items in
-    let lacks : (s : ThreadState) × (slice_get mid c.in-Some.t ≡ Some s) × (s.mode ≡ Lacking) =
-    c.in-Some.ensures.some in
-    called_own mid called c.in-Some.t lacks.0 (none_own c.args.self.states.items mid c.in_ok-run.ensures.all) lacks.1
-    (subst (λ (states : List ThreadState). CalledAt states called c.in-Some.t)
-    (before_call joined).states c.in_ok-call_first.ensures.only)
+    let after : List ThreadState = c.in_ok-run-3.run'.states.items in
+    let lacks = c.in-Some.ensures.some in
+    called_own mid after c.in-Some.thread lacks.0 (none_own c.args.self.states.items mid c.in_ok-run.ensures.all)
+    lacks.1 (called g joined after c.in_ok-run-3.ensures.made.called)
 
 pub returns-clause-keeps : goal.returns-clause-keeps
-returns-clause-keeps c =
-    let joined : Joined-is_stopped = (goal.at.returns-clause-keeps c).Joined-is_stopped in
-    λ script config stands. c.resume-2.ensures.keeps script config
-    (c.in_ok-call_first.ensures.keeps script config (keeps_before joined script config stands))
-
-pub returns-clause-made : goal.returns-clause-made
-returns-clause-made c =
-    let joined : Joined-is_stopped = (goal.at.returns-clause-made c).Joined-is_stopped in
-    let before : BeforeCall c.args.self c.in_ok-run.run' joined.if-is_stopped.run = before_call joined in
-    let called : Run = c.in_ok-call_first.field-0 in
-    let lacks : (s : ThreadState) × (slice_get c.in_ok-run.run'.states.items c.in-Some.t ≡ Some s)
-    × (s.mode ≡ Lacking) = c.in-Some.ensures.some in
-    subst (MakesCollections c.args.self.states.items c.args.self.collector) (sym c.resume-2.ensures.collector)
-    (makes_called c.args.self joined.if-is_stopped.run called c.in-Some.t before.own before.room
-    (lacked c.args.self.states.items c.in_ok-run.run'.states.items c.in-Some.t lacks.0 c.in_ok-run.ensures.all lacks.1
-    lacks.2) c.in_ok-call_first.ensures.called)
+returns-clause-keeps g c =
+    let joined = (goal.at.returns-clause-keeps g c).Joined-is_stopped in
+    λ told script config had. c.resume-2.ensures.keeps _ told script config
+    (c.in_ok-run-3.ensures.made.keeps told script config (keeps_before g joined told script config had))
 
 pub returns-clause-passed : goal.returns-clause-passed
-returns-clause-passed c =
-    let joined : Joined-is_stopped = (goal.at.returns-clause-passed c).Joined-is_stopped in
+returns-clause-passed g c =
+    let joined = (goal.at.returns-clause-passed g c).Joined-is_stopped in
     let mid : List ThreadState = c.in_ok-run.run'.states.items in
-    let called : List ThreadState = c.in_ok-call_first.field-0.states.items in
-    let lacks : (s : ThreadState) × (slice_get mid c.in-Some.t ≡ Some s) × (s.mode ≡ Lacking) =
-    c.in-Some.ensures.some in
-    passed_called c.args.self.states.items mid called c.resume-2.result.states.items c.in-Some.t lacks.0
-    c.in_ok-run.ensures.all lacks.1
-    (subst (λ (states : List ThreadState). CalledAt states called c.in-Some.t)
-    (before_call joined).states c.in_ok-call_first.ensures.only) c.resume-2.ensures.resumed
+    let after : List ThreadState = c.in_ok-run-3.run'.states.items in
+    let lacks = c.in-Some.ensures.some in
+    passed_called c.args.self.states.items mid after c.resume-2.result.states.items c.in-Some.thread lacks.0
+    c.in_ok-run.ensures.all lacks.1 (called g joined after c.in_ok-run-3.ensures.made.called)
+    c.resume-2.ensures.resumed
+
+pub returns-clause-lost : goal.returns-clause-lost
+returns-clause-lost g c =
+    let joined = (goal.at.returns-clause-lost g c).Joined-is_stopped in
+    let after : List ThreadState = c.in_ok-run-3.run'.states.items in
+    counts_by c.args.self.states.items c.args.self.states.items after c.resume-2.result.states.items _ _ refl
+    c.resume-2.ensures.lost
+    (counts_then c.args.self.states.items c.if-is_stopped.run.states.items after _ _ _ (counts_before g joined).lost
+    c.in_ok-run-3.ensures.lost)

@@ -1,45 +1,146 @@
--- A round is an event or a safepoint.
-use Rattle.std.proofs.Common.{◌≡◌, rules, sym, subst}
-use Rattle.std.specs.Prelude.{None}
-use Rattle.melt_step.specs.Threads.{AllWait, IsNearer, RunStands}
+-- An epoch and a safepoint make a round, and less is to do behind it.
+use Rattle.std.proofs.Common.{◌≡◌, ◌≤◌, ◌⊎◌, false, refl, sym, ◌∙◌, ap, subst, arith}
+use Rattle.std.proofs.lemmas.Result.{err_from_is_err_and}
+use Rattle.melt_step.specs.Safepoints.{IsNearer, KeepsRun}
+use Rattle.melt_step.specs.Shown.{Shown, shown_by}
+use Rattle.melt_step.specs.Threads.{CountsLosses}
 use Rattle.melt_step.specs.declared.run.Run.{Run}
-use Rattle.melt_step.proofs.Going.{safepoint_less}
+use Rattle.melt_step.proofs.Composing.{counts_closed, epoch_counts, keeps_on, keeps_same, round_nearer, shown_is}
+use Rattle.melt_step.proofs.Composing.{stop_counts_then, stops_then}
+use Rattle.melt_step.proofs.Counting.{counts_then}
+use Rattle.melt_step.proofs.run.Run.run_all.Given.{Over}
 use Rattle.melt_step.proofs.run.Run.run_all.Goals as goal
-use Rattle.melt_step.proofs.run.Run.run_all.Goals.{After-take_turn}
+use Rattle.melt_step.proofs.run.Run.run_all.Goals.{In_ok-next, After-give_back, in-Some, in_default}
 
-pub take_turn-requires-clause-stands : goal.take_turn-requires-clause-stands
-take_turn-requires-clause-stands c =
-    (c.requires.stands.0, c.loop-run.invariant.keeps c.args.trace.now c.requires.stands.0 c.requires.stands.1)
+pub returns-in_err-next-clause-stopped : goal.returns-in_err-next-clause-stopped
+returns-in_err-next-clause-stopped g c =
+    let exit = err_from_is_err_and c.from_residual.result c.from_residual.ensures.1 in
+    rw (exit.1, exit.2)
+    (stops_then _ _ _ c.args.self c.loop-alloc.run _ c.loop-alloc.invariant.keeps c.in_err-next.ensures.stopped)
 
--- the run stands behind the turn
-stands : (c : After-take_turn) → RunStands c.args.trace.now c.requires.stands.0 c.take_turn.new.self
-stands c = c.take_turn.ensures.keeps c.args.trace.now c.requires.stands.0
-    (c.loop-run.invariant.keeps c.args.trace.now c.requires.stands.0 c.requires.stands.1)
+pub returns-in_err-next-clause-stop_counts : goal.returns-in_err-next-clause-stop_counts
+returns-in_err-next-clause-stop_counts g c =
+    let exit = err_from_is_err_and c.from_residual.result c.from_residual.ensures.1 in
+    let none = c.in_err-next.ensures.stop_counts in
+    rw (exit.1, exit.2)
+    (stop_counts_then _ c.args.self.states.items c.loop-alloc.run.states.items _ _ _ _ _ _ c.loop-alloc.invariant.count
+    c.in_err-next.ensures.count
+    (counts_closed g.D.Reader.RecordReader.faults c.loop-alloc.lent c.args.self.states.items
+    c.loop-alloc.run.states.items _ _ none.0 c.loop-alloc.invariant.lost) none.1)
 
-pub pass_safepoint-requires-clause-stands : goal.pass_safepoint-requires-clause-stands
-pass_safepoint-requires-clause-stands c =
-    (c.args.trace.now, (c.requires.stands.0, stands (goal.at.pass_safepoint-requires-clause-stands c).After-take_turn))
+-- the run stands as the epoch begins
+begun : (g : Over) (c : In_ok-next g) → KeepsRun (shown_by g.D.StaleDisk.image c.args.space.now)
+    (shown_by g.D.StaleDisk.image c.lend_on.new.space) c.args.self c.in_ok-next.next
+begun g c =
+    keeps_same _ _ _ c.args.self c.loop-alloc.run c.in_ok-next.next c.in_ok-next.ensures.shown
+    c.in_ok-next.ensures.same c.loop-alloc.invariant.keeps
 
-pub pass_safepoint-requires-clause-waits : goal.pass_safepoint-requires-clause-waits
-pass_safepoint-requires-clause-waits c =
-    let none : c.take_turn.result ≡ None = search rules in
-    let waits = c.take_turn.ensures.waits none in
-    subst (λ (run : Run). AllWait run.states.items) (sym waits.0) waits.1
+-- what is seen of the disk is what the reader of the epoch reads
+reads : (g : Over) (c : In_ok-next g)
+    → g.D.StaleDisk.image c.lend_on.new.space.disk.now ≡ g.D.Reader.RecordReader.image c.in_ok-next.reader
+reads g c = ap (λ (shown : Shown). shown.image) c.in_ok-next.ensures.shown ∙ sym c.in_ok-next.ensures.image
 
-pub returns-then-has_ended-clause-ended : goal.returns-then-has_ended-clause-ended
-returns-then-has_ended-clause-ended c = c.has_ended.ensures.ended c.if-has_ended.true
+pub run_epoch-requires-clause-stands : goal.run_epoch-requires-clause-stands
+run_epoch-requires-clause-stands g c =
+    let at = (goal.at.run_epoch-requires-clause-stands g c).In_ok-next in (
+      shown_by g.D.StaleDisk.image c.lend_on.new.space,
+      sym c.end.ensures,
+      reads g at,
+      (c.requires.stands.0, begun g at false c.args.trace.now c.requires.stands.0 c.requires.stands.1),
+    )
 
-pub loop-run-smaller : goal.loop-run-smaller
-loop-run-smaller c =
-    let none : c.take_turn.result ≡ None = search rules in
-    subst (λ (run : Run). IsNearer run c.in_ok-run.run') (c.take_turn.ensures.waits none).0
-    (safepoint_less c.args.trace.now c.requires.stands.0 c.take_turn.new.self c.in_ok-run.run'
-    (stands (goal.at.loop-run-smaller c).After-take_turn) c.in_ok-run.ensures.quiet c.in_ok-run.ensures.passed)
+-- and where it is over, and its reader is given back
+epoch : (g : Over) (c : After-give_back g) → KeepsRun (shown_by g.D.StaleDisk.image c.args.space.now)
+    (shown_by g.D.StaleDisk.image c.give_back.new.self) c.args.self c.run_epoch.new.self
+epoch g c =
+    let shown : Shown = shown_by g.D.StaleDisk.image c.lend_on.new.space in
+    let image = ap (λ (x : Shown). x.image) c.in_ok-next.ensures.shown ∙ sym c.in_ok-next.ensures.image in
+    let before = keeps_same _ _ shown c.args.self c.loop-alloc.run c.in_ok-next.next c.in_ok-next.ensures.shown
+    c.in_ok-next.ensures.same c.loop-alloc.invariant.keeps in
+    keeps_same _ shown _ c.args.self c.run_epoch.new.self c.run_epoch.new.self
+    (shown_is _ shown c.give_back.ensures.end c.give_back.ensures.limit c.give_back.ensures.image) refl
+    (keeps_on _ shown c.end.result _ c.args.self c.in_ok-next.next c.run_epoch.new.self c.run_epoch.ensures.keeps
+    (sym c.end.ensures) image before)
 
-pub loop-run-preserved : goal.loop-run-preserved
-loop-run-preserved c = record {
-  keeps = λ script config had.
-      c.in_ok-run.ensures.keeps script config
-      (c.take_turn.ensures.keeps script config (c.loop-run.invariant.keeps script config had));
-  stop = c.in_ok-run.ensures.stop;
-}
+pub pass-requires-clause-stands : goal.pass-requires-clause-stands
+pass-requires-clause-stands g c κs within = (
+  c.args.trace.now,
+  c.requires.stands.0,
+  epoch g (goal.at.pass-requires-clause-stands g c).After-give_back false c.args.trace.now c.requires.stands.0
+      c.requires.stands.1,
+)
+
+-- what was counted by then
+counts : (g : Over) (c : After-give_back g) → CountsLosses c.args.self.states.items c.run_epoch.new.self.states.items
+    (g.D.StaleDisk.read_faults c.args.space.now.disk.now) (g.D.StaleDisk.read_faults c.give_back.new.self.disk.now)
+counts g c =
+    epoch_counts c.args.self.states.items c.loop-alloc.run.states.items c.in_ok-next.next.states.items
+    c.run_epoch.new.self.states.items _ _ _ _ _ _ _
+    (ap (λ (run : Run). run.states.items) c.in_ok-next.ensures.same) c.in_ok-next.ensures.read_faults
+    c.in_ok-next.ensures.faults c.loop-alloc.invariant.lost c.run_epoch.ensures.lost c.give_back.ensures.read_faults
+
+-- no fewer writes and lends had failed than before
+rises : (g : Over) (c : After-give_back g)
+    → g.D.StaleDisk.faults c.args.space.now.disk.now ≤ g.D.StaleDisk.faults c.give_back.new.self.disk.now
+rises g c = omega (
+  arith,
+  c.loop-alloc.invariant.count,
+  c.in_ok-next.ensures.count,
+  c.give_back.ensures.count,
+)
+
+pub returns-in_err-run-clause-stopped : goal.returns-in_err-run-clause-stopped
+returns-in_err-run-clause-stopped g c =
+    let at = (goal.at.returns-in_err-run-clause-stopped g c).After-give_back in
+    let exit = err_from_is_err_and c.from_residual-in_err-run.result c.from_residual-in_err-run.ensures.1 in
+    rw (exit.1, exit.2)
+    (stops_then _ _ _ c.args.self c.run_epoch.new.self _ (epoch g at) c.in_err-run.ensures.stopped)
+
+pub returns-in_err-run-clause-stop_counts : goal.returns-in_err-run-clause-stop_counts
+returns-in_err-run-clause-stop_counts g c =
+    let at = (goal.at.returns-in_err-run-clause-stop_counts g c).After-give_back in
+    let exit = err_from_is_err_and c.from_residual-in_err-run.result c.from_residual-in_err-run.ensures.1 in
+    rw (exit.1, exit.2)
+    (stop_counts_then _ c.args.self.states.items c.run_epoch.new.self.states.items _ _ _ _ _ _ (rises g at)
+    c.in_err-run.ensures.count (counts g at) c.in_err-run.ensures.stop_counts)
+
+pub loop-alloc-smaller : goal.loop-alloc-smaller
+loop-alloc-smaller g c =
+    let near : (c.run_epoch.new.self ≡ c.loop-alloc.run) ⊎ IsNearer c.loop-alloc.run c.run_epoch.new.self =
+    subst (λ (run : Run). (c.run_epoch.new.self ≡ run) ⊎ IsNearer run c.run_epoch.new.self)
+    c.in_ok-next.ensures.same c.run_epoch.ensures.nearer in
+    round_nearer c.loop-alloc.run c.run_epoch.new.self c.in_ok-run.field-0-0
+    (c.has_ended.ensures.goes c.loop-alloc-test.true) near c.in_ok-run.ensures.nearer
+
+pub loop-alloc-preserved : goal.loop-alloc-preserved
+loop-alloc-preserved g c =
+    let at = (goal.at.loop-alloc-preserved g c).After-give_back in
+    let so_far = rises g at in
+    record {
+      keeps = λ told script config had.
+          c.in_ok-run.ensures.keeps told script config (epoch g at told script config had);
+      stop = c.in_ok-run.ensures.stop;
+      quiet = c.in_ok-run.ensures.quiet;
+      lent = c.in_ok-run.ensures.lent;
+      count = omega (arith, so_far, c.in_ok-run.ensures.count);
+      same_disk = c.in_ok-run.ensures.same_disk ∙ c.give_back.ensures.same_disk ∙ c.in_ok-next.ensures.same_disk
+          ∙ c.loop-alloc.invariant.same_disk;
+      lost = counts_then c.args.self.states.items c.run_epoch.new.self.states.items c.in_ok-run.field-0-0.states.items
+          _ _ _ (counts g at) c.in_ok-run.ensures.lost;
+    }
+
+pub end-requires-2-clause-ended : goal.end-requires-2-clause-ended
+end-requires-2-clause-ended g c = c.has_ended.ensures.ended c.loop-alloc-test.false
+
+pub returns-clause-ended : goal.returns-clause-ended
+returns-clause-ended g c =
+    let now : Shown = shown_by g.D.StaleDisk.image c.loop-alloc.space in
+    let seen_same : shown_by g.D.StaleDisk.image c.match-lent.space ≡ now = elim c.match-lent.branch [
+      | in-Some w ↦ rw w.space-is
+          (shown_is _ now w.give_back-in-Some.ensures.end w.give_back-in-Some.ensures.limit
+          w.give_back-in-Some.ensures.image)
+      | in_default w ↦ rw w.space-is refl
+    ] in
+    λ told script config had. c.end-2.ensures.stands told script config _
+    (keeps_same _ now _ c.args.self c.loop-alloc.run c.loop-alloc.run seen_same refl c.loop-alloc.invariant.keeps told
+    script config had)

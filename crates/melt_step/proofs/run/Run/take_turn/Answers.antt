@@ -9,72 +9,80 @@ use Rattle.melt_step.specs.Threads.{AllWait, MayGo}
 use Rattle.melt_step.specs.Turns.{GoesAt}
 use Rattle.melt_step.proofs.Tables.{table_ready}
 use Rattle.melt_step.proofs.Modes.{stop_known}
+use Rattle.melt_step.proofs.Counting.{counts_same, counts_set}
 use Rattle.melt_step.proofs.Going.{step_keeps, step_less}
 use Rattle.melt_step.proofs.run.Run.take_turn.Goals as goal
 use Rattle.melt_step.proofs.run.Run.take_turn.Goals.{After-index_mut-state, In-Some}
+use Rattle.melt_step.proofs.run.Run.take_turn.Given.{Over}
 
 pub next-requires : goal.next-requires
-next-requires c = ap length c.deref.ensures.value ∙ c.requires.stands.1.table.count
+next-requires g c = ap length c.deref.ensures.value ∙ c.requires.stands.3.1.table.count
 
 -- the thread that the turns gave the event
-given : (c : In-Some) → GoesAt c.args.self.now.states.items c.in-Some.thread
-given c = subst (λ (xs : List ThreadState). GoesAt xs c.in-Some.thread) c.deref.ensures.value c.in-Some.ensures.goes
+given : (g : Over) (c : In-Some g) → GoesAt c.args.self.now.states.items c.in-Some.thread
+given g c = subst (λ (xs : List ThreadState). GoesAt xs c.in-Some.thread) c.deref.ensures.value c.in-Some.ensures.goes
 
 pub index_mut-state-requires : goal.index_mut-state-requires
-index_mut-state-requires c =
-    let turn = given (goal.at.index_mut-state-requires c).In-Some in
+index_mut-state-requires g c =
+    let turn = given g (goal.at.index_mut-state-requires g c).In-Some in
     let within : c.in-Some.thread < length c.args.self.now.states.items =
     slice_get_within c.args.self.now.states.items c.in-Some.thread turn.0 turn.1 in
     omega (arith, within, c.args.self.now.states.ok)
 
 -- the state that was borrowed
-here : (c : After-index_mut-state) → GoesAt c.args.self.now.states.items c.in-Some.thread
+here : (g : Over) (c : After-index_mut-state g) → GoesAt c.args.self.now.states.items c.in-Some.thread
     → (slice_get c.args.self.now.states.items c.in-Some.thread ≡ Some c.index_mut-state.result.now)
     × MayGo c.index_mut-state.result.now.mode
-here c turn =
+here g c turn =
     let is : c.index_mut-state.result.now ≡ turn.0 =
     c.index_mut-state.ensures.value
     ∙ get_or_from_slice_get c.args.self.now.states.items c.in-Some.thread turn.0 _ turn.1 in
     (turn.1 ∙ ap Some (sym is), subst (λ (x : ThreadState). MayGo x.mode) (sym is) turn.2)
 
 pub make_event-requires : goal.make_event-requires
-make_event-requires c =
-    let at = goal.at.make_event-requires c in
-    let borrowed = here at.After-index_mut-state (given at.In-Some) in
+make_event-requires g c =
+    let at = goal.at.make_event-requires g c in
+    let borrowed = here g at.After-index_mut-state (given g at.In-Some) in
+    let stands = c.requires.stands in
     record {
-      ready = table_ready c.args.trace.now c.requires.stands.0
-          (view c.args.self.now.core) c.args.self.now.states.items c.in-Some.thread _ c.requires.stands.1.table
+      ready = table_ready c.args.trace.now stands.3.0 stands.3.1.disk (view c.args.self.now.core)
+          c.args.self.now.states.items c.in-Some.thread _ _ stands.3.1.table (stands.3.1.under.ends ∙ stands.1)
           borrowed.0;
       goes = borrowed.1;
     }
 
 pub returns : goal.returns
-returns c =
-    let at = goal.at.returns c in
-    let borrowed = here at.After-index_mut-state (given at.In-Some) in
+returns g c =
+    let at = goal.at.returns g c in
+    let borrowed = here g at.After-index_mut-state (given g at.In-Some) in
     let s : ThreadState = c.index_mut-state.result.now in
     let after : ThreadState = c.make_event.new.state in
     let states : List ThreadState = c.args.self.now.states.items in
+    let stands = c.requires.stands in
     record {
-      keeps = step_keeps c.args.self.now _ c.in-Some.thread s after borrowed.0 borrowed.1 c.make_event.ensures.step refl
-          c.make_event.ensures.due refl refl;
+      keeps = step_keeps c.args.end _ c.args.self.now _ c.in-Some.thread s after borrowed.0 borrowed.1
+          c.make_event.ensures.step refl c.make_event.ensures.due refl refl refl;
       stop = stop_known (view c.args.self.now.core)
           (view c.make_event.new.core) states c.in-Some.thread s after c.requires.stop borrowed.0 borrowed.1
           c.make_event.ensures.stop;
       there =
           let within : c.in-Some.thread < length states = slice_get_within states c.in-Some.thread s borrowed.0 in
           omega (arith, within, length-set states c.in-Some.thread after);
-      nearer = λ some. step_less c.args.trace.now c.requires.stands.0 (view c.args.self.now.core)
-          (view c.make_event.new.core) states c.in-Some.thread s after c.requires.stands.1.table borrowed.0 borrowed.1
+      nearer = λ some. step_less c.args.trace.now stands.3.0 stands.0 c.args.end _ c.args.self.now
+          (view c.make_event.new.core) c.in-Some.thread s after stands.3.1 stands.1 borrowed.0 borrowed.1
           c.make_event.ensures.step;
       waits = λ none. absurd (cc);
+      image = c.make_event.ensures.image;
+      lost = counts_set states c.in-Some.thread s after _ _ borrowed.0 c.make_event.ensures.lost;
     }
 
 pub returns-in_default : goal.returns-in_default
-returns-in_default c = record {
-  keeps = λ script config stands. stands;
+returns-in_default g c = record {
+  keeps = λ shown ends shows told script config stands. stands;
   stop = c.requires.stop;
   there = tt;
   nearer = λ some. absurd (let wrong : false ≡ true = some in cc);
   waits = λ none. (refl, subst AllWait c.deref.ensures.value c.in_default.ensures.none);
+  image = refl;
+  lost = counts_same c.args.self.now.states.items c.args.self.now.states.items _ _ refl (omega arith);
 }

@@ -1,0 +1,178 @@
+-- The parts of a safepoint, and of a run, one after the other.
+use Rattle.std.proofs.Common.{◌≡◌, ℕ, ◌+◌, ◌-◌, ◌^◌, ◌<◌, ◌≤◌, Bool, true, false, ◌⊎◌, List, refl, sym, ◌∙◌, ap, subst}
+use Rattle.std.proofs.Common.{arith, inl, inr}
+use Rattle.std.proofs.lemmas.Bool.{cases_lt}
+use Rattle.std.specs.Prelude.{Result, Ok, Err, IfOk, Option, None}
+use Rattle.melt_io.specs.Outside.{Rose, counted}
+use Rattle.melt_model.specs.declared.config.Config.{Config}
+use Rattle.melt_trace.specs.Script.{Script}
+use Rattle.melt_core.specs.Views.{IsQuiet, view}
+use Rattle.melt_step.specs.declared.ending.Stop.{Stop}
+use Rattle.melt_step.specs.declared.ending.Stop.TheVariants.{NoMemory, Halted}
+use Rattle.melt_step.specs.declared.run.Run.{Run}
+use Rattle.melt_step.specs.declared.thread.ThreadState.{ThreadState}
+use Rattle.melt_step.specs.Endings.{AllEnded}
+use Rattle.melt_step.specs.Safepoints.{AwaitsCall, CountsOpen, IsNearer, JustCollected, KeepsRun, MakesCollection}
+use Rattle.melt_step.specs.Safepoints.{RunStands, StopCounts, StopsForced, StopsRun, WaitsForRoom, open_faults}
+use Rattle.melt_step.specs.Shown.{Shown}
+use Rattle.melt_step.specs.Threads.{AllWait, CollectedAll, CountsLosses, OweBehindCollects, SomeGoesOn}
+use Rattle.melt_step.proofs.Counting.{counts_back, counts_open, counts_then}
+use Rattle.melt_step.proofs.Journals.{just_collected, stands_collected}
+use Rattle.melt_step.proofs.Passing.{owe_behind}
+
+-- what holds of a result by two things that hold of it
+pub ok_both : {X Y : Type 0} (r : Result X Y) (P Q R : X → Type 0) → ((x : X) → P x → Q x → R x) → IfOk r P → IfOk r Q
+    → IfOk r R
+ok_both (Ok x) P Q R both p q = both x p q
+ok_both (Err e) P Q R both p q = tt
+
+-- a count that has risen since then, has risen since before
+pub rose_since : (a b c : ℕ) → a ≤ b → b ≤ c → Rose b c → Rose a c
+rose_since a b c first second rose below = elim (cases_lt b (2 ^ 64 - 1)) [
+  | inl more ↦ let up : b < c = rose more in omega (arith, first, up)
+  | inr full ↦ omega (arith, below, full, second)
+]
+
+-- what was counted where a run was stopped, from before the part that ended well
+pub stop_counts_then : (stop : Stop) (states mid : List ThreadState) (a b c x y z : ℕ) → a ≤ b → b ≤ c
+    → CountsLosses states mid x y → StopCounts stop mid b c y z → StopCounts stop states a c x z
+stop_counts_then NoMemory states mid a b c x y z first second lost counts = tt
+stop_counts_then (Halted ended) states mid a b c x y z first second lost counts = (
+  λ is. rose_since a b c first second (counts.0 is),
+  counts_then states mid ended.states.items x y z lost counts.1,
+)
+
+-- a run that stood on, and was stopped then
+pub stops_then : (shown mid later : Shown) (old run : Run) (stop : Stop) → KeepsRun shown mid old run
+    → StopsRun mid later run stop → StopsRun shown later old stop
+stops_then shown mid later old run stop keeps stops told script config stands =
+    stops told script config (keeps told script config stands)
+
+-- a collection that is not forced
+pub stops_planned : (shown later : Shown) (run : Run) (stop : Stop) → StopsForced false shown later run stop
+    → StopsRun shown later run stop
+stops_planned shown later run stop stops told script config stands =
+    stops told script config stands (λ is. absurd (let wrong : false ≡ true = is in cc))
+
+-- a run stands behind a collection that was planned
+pub planned_keeps : (shown later : Shown) (old new : Run) → MakesCollection false shown later old new
+    → KeepsRun shown later old new
+planned_keeps shown later old new made told script config stands =
+    stands_collected told script config false shown later old new stands made
+    (λ is. absurd (let wrong : false ≡ true = is in cc))
+
+-- How a run stands before the call that is made first: behind a collection, with the threads as all collections left
+-- them.
+pub record BeforeCall (shown later : Shown) (mid run : Run) : Type 0 where
+  pub keeps : KeepsRun shown later mid run
+  pub states : run.states.items ≡ mid.states.items
+  pub just : JustCollected run
+  pub quiet : IsQuiet (view run.core)
+
+-- as one more collection is made
+pub before_made : (shown later : Shown) (mid run : Run) → MakesCollection false shown later mid run
+    → BeforeCall shown later mid run
+before_made shown later mid run made = record {
+  keeps = planned_keeps shown later mid run made;
+  states = made.states;
+  just = just_collected false shown later mid run made;
+  quiet = made.collects.quiet;
+}
+
+-- or as there was one already
+pub before_same : (shown : Shown) (run : Run) → JustCollected run → IsQuiet (view run.core)
+    → BeforeCall shown shown run run
+before_same shown run just quiet = record {
+  keeps = λ told script config stands. stands;
+  states = refl;
+  just = just;
+  quiet = quiet;
+}
+
+-- a thread that lacks room may make its call then
+pub awaits_call : (shown mid_shown later : Shown) (old mid run : Run) (t : ℕ) → KeepsRun shown mid_shown old mid
+    → AllWait old.states.items → CollectedAll old.states.items mid.states.items → BeforeCall mid_shown later mid run
+    → WaitsForRoom mid.states.items t → (told : Bool) (script : Script) (config : Config)
+    → RunStands told script config shown old → AwaitsCall told script config later 0 run t
+awaits_call shown mid_shown later old mid run t keeps waits all before lacks told script config stands = record {
+  stands = before.keeps told script config (keeps told script config stands);
+  owed = subst (OweBehindCollects script) (sym before.states)
+      (owe_behind told script config stands.disk (view old.core) old.states.items mid.states.items stands.table waits
+      all);
+  collected = before.just;
+  quiet = before.quiet;
+  waits = subst (λ (states : List ThreadState). WaitsForRoom states t) (sym before.states) lacks;
+  left = λ is. tt;
+}
+
+-- What was counted of the disk and of the threads since a run began to pass a safepoint.
+pub record CountsBefore (states after : List ThreadState) (faults faults_after reads reads_after : ℕ) : Type 0 where
+  pub count : faults ≤ faults_after
+  pub lost : CountsLosses states after reads reads_after
+
+-- behind one collection more, no thread more is lost, and no read more failed
+pub counts_made : (states mid after : List ThreadState) (a b c x y z : ℕ) → after ≡ mid → a ≤ b → b ≤ c
+    → CountsLosses states mid x y → z ≡ y → CountsBefore states after a c x z
+counts_made states mid after a b c x y z same first second lost reads = record {
+  count = omega (arith, first, second);
+  lost = subst (CountsLosses states after x) (sym reads)
+      (subst (λ (xs : List ThreadState). CountsLosses states xs x y) (sym same) lost);
+}
+
+-- some thread has not ended, or all have
+all_or_some : (states : List ThreadState) → SomeGoesOn states → AllEnded states → ⊥
+all_or_some states some all = some.1.2 (all some.0 some.1.0 some.1.1)
+
+-- An epoch and a safepoint bring a run nearer to its end, in which some thread has not ended.
+pub round_nearer : (head mid next : Run) → SomeGoesOn head.states.items → (mid ≡ head) ⊎ IsNearer head mid
+    → IsNearer mid next ⊎ (AllEnded mid.states.items × (next ≡ mid)) → IsNearer head next
+round_nearer head mid next some epoch safepoint = elim epoch [
+  | inl same ↦ elim safepoint [
+    | inl near ↦ subst (λ (run : Run). IsNearer run next) same near
+    | inr over ↦ absurd (all_or_some head.states.items some
+        (subst (λ (run : Run). AllEnded run.states.items) same over.0))
+  ]
+  | inr near ↦ elim safepoint [
+    | inl more ↦ omega (arith, near, more)
+    | inr over ↦ subst (IsNearer head) (sym over.1) near
+  ]
+]
+
+-- what is seen of a disk is told by its parts
+pub shown_is : (a b : Shown) → a.end ≡ b.end → a.limit ≡ b.limit → a.image ≡ b.image → a ≡ b
+shown_is a b ends limits images =
+    let by : ℕ → ℕ → Option (List ℕ) → Shown = λ n m i. record { end = n; limit = m; image = i } in
+    ap (λ (n : ℕ). by n a.limit a.image) ends
+    ∙ (ap (λ (m : ℕ). by b.end m a.image) limits ∙ ap (λ (i : Option (List ℕ)). by b.end b.limit i) images)
+
+-- the same run over what is seen the same
+pub keeps_same : (first shown later : Shown) (old run next : Run) → later ≡ shown → next ≡ run
+    → KeepsRun first shown old run → KeepsRun first later old next
+keeps_same first shown later old run next seen same keeps told script config stands =
+    subst (λ (x : Run). RunStands told script config later x) (sym same)
+    (subst (λ (x : Shown). RunStands told script config x run) (sym seen) (keeps told script config stands))
+
+-- a run went on in an epoch, over what is seen
+pub keeps_on : (first shown : Shown) (end : ℕ) (image : Option (List ℕ)) (old run next : Run)
+    → ((seen : Shown) → seen.end ≡ end → seen.image ≡ image → KeepsRun seen seen run next) → shown.end ≡ end
+    → shown.image ≡ image → KeepsRun first shown old run → KeepsRun first shown old next
+keeps_on first shown end image old run next keeps ends images before told script config stands =
+    keeps shown ends images told script config (before told script config stands)
+
+-- no reader is lent, so none more was lost than reads failed on those that were given back
+pub counts_closed : {Reader : Type 0} (faults : Reader → ℕ) (lent : Option Reader) (states after : List ThreadState)
+    (a b : ℕ) → lent ≡ None → CountsOpen states after a b (open_faults faults lent) → CountsLosses states after a b
+counts_closed faults lent states after a b none counts =
+    let no_more : open_faults faults lent ≡ 0 = ap (open_faults faults) none in
+    subst (CountsLosses states after a) (omega (arith, no_more)) counts
+
+-- what was counted where the reader of an epoch is given back
+pub epoch_counts : (states mid begun after : List ThreadState) (a b c d e f g : ℕ) → begun ≡ mid → c ≡ b → f ≡ e
+    → CountsLosses states mid a (b + e) → CountsLosses begun after f g → d ≡ counted c g
+    → CountsLosses states after a d
+epoch_counts states mid begun after a b c d e f g same reads faults first second back =
+    let before : CountsLosses states mid a (c + f) =
+    subst (CountsLosses states mid a) (omega (arith, reads, faults)) first in
+    let epoch : CountsLosses mid after f g = subst (λ (xs : List ThreadState). CountsLosses xs after f g) same second in
+    subst (CountsLosses states after a) (sym back)
+    (counts_back states after a c g (counts_open states mid after a c f g before epoch))

@@ -1,0 +1,123 @@
+-- Each event goes on with the call, or ends it.
+use Rattle.std.proofs.Common.{◌≡◌, ◌∙◌, rules, true, false, sym, ap, subst}
+use Rattle.std.specs.Prelude.{ℕ, List, Option, None, Some}
+use Rattle.melt_record.specs.declared.damage.Damaged.{Damaged as Damage}
+use Rattle.melt_core.specs.Advances.{AdvancesWhere, IsDamage, TellsDisk}
+use Rattle.melt_core.specs.Views.{view}
+use Rattle.melt_core.specs.declared.answer.Refusal.{Refusal}
+use Rattle.melt_core.specs.declared.answer.Refusal.TheVariants.{Damaged}
+use Rattle.melt_core.specs.declared.answer.StepResult.TheVariants.{Refused}
+use Rattle.melt_step.specs.Lone.{CalledOver}
+use Rattle.melt_step.specs.Shown.{Underlies}
+use Rattle.melt_step.specs.Threads.{DropsIfEnded}
+use Rattle.melt_step.specs.declared.thread.Mode.{Mode}
+use Rattle.melt_step.specs.declared.thread.ThreadState.{ThreadState}
+use Rattle.melt_step.proofs.Calling.{KeepsOthers_both, goes_nearer, refused_call, thread_there, under_untold}
+use Rattle.melt_step.proofs.LoneCalls.{call_asks, call_goes, call_lacks, call_lost, call_reads, call_told}
+use Rattle.melt_step.proofs.LoneCalls.{few_still, lacks_space, never_pauses}
+use Rattle.melt_step.proofs.alone.call_alone.Goals as goal
+
+pub advance-requires : goal.advance-requires
+advance-requires g c =
+    call_asks c.args.end (view c.args.core.now) (view c.loop-reply.core) c.args.thread c.args.state.now c.args.op
+    c.requires.ready c.loop-reply.invariant.on
+    (c.loop-reply.invariant.stands false c.requires.ready.disk
+    (under_untold c.args.end (g.R.RecordReader.image c.args.reader.now) c.requires.ready.disk c.requires.ready.ends)
+    c.requires.ready.stands)
+
+pub loop-reply-smaller : goal.loop-reply-smaller
+loop-reply-smaller g c =
+    goes_nearer c.requires.ready.disk (view c.loop-reply.core) (view c.advance.new.self) c.args.thread c.args.op
+    (c.in-Going.ensures.advances.over c.requires.ready.disk c.requires.ready.ends).outcome
+    (few_still (view c.args.core.now) (view c.loop-reply.core) c.args.thread c.args.op c.loop-reply.invariant.on
+    c.requires.ready.forwards)
+
+pub loop-reply-preserved : goal.loop-reply-preserved
+loop-reply-preserved g c = record {
+  on =
+      call_goes (view c.args.core.now) (view c.loop-reply.core) (view c.advance.new.self) c.args.thread c.args.op _
+      c.requires.ready.disk c.requires.ready.none_forwarded c.loop-reply.invariant.on
+      (c.in-Going.ensures.advances.over c.requires.ready.disk c.requires.ready.ends);
+  stands = λ told disk under stands.
+      (c.in-Going.ensures.advances.over disk under.ends).keeps told
+      (subst (λ (image : Option (List ℕ)). told ≡ true → TellsDisk image disk) (sym c.loop-reply.invariant.image)
+      under.tells) (c.loop-reply.invariant.stands told disk under stands);
+  state = c.loop-reply.invariant.state;
+  image = c.in-Going.ensures.image ∙ c.loop-reply.invariant.image;
+  faults = search rules;
+}
+
+pub answered-requires-clause-thread : goal.answered-requires-clause-thread
+answered-requires-clause-thread g c =
+    thread_there (view c.args.core.now) (view c.advance.new.self) c.args.thread
+    (KeepsOthers_both (view c.args.core.now) (view c.loop-reply.core) (view c.advance.new.self) c.args.thread
+    c.loop-reply.invariant.on.others
+    (c.in-Answered.ensures.advances.over c.requires.ready.disk c.requires.ready.ends).others) c.requires.ready.thread
+
+pub answered-requires-clause-no_call : goal.answered-requires-clause-no_call
+answered-requires-clause-no_call g c =
+    (c.in-Answered.ensures.advances.over c.requires.ready.disk c.requires.ready.ends).outcome.call
+
+pub returns-in-Answered-clause-called : goal.returns-in-Answered-clause-called
+returns-in-Answered-clause-called g c told disk under stands =
+    let event = c.in-Answered.ensures.advances.over disk under.ends in
+    let stood = c.loop-reply.invariant.stands told disk under stands in
+    call_told told disk (view c.args.core.now) (view c.loop-reply.core) (view c.advance.new.self)
+    (view c.answered.new.core) c.args.thread c.args.op c.in-Answered.reply c.args.state.now c.answered.new.state
+    c.requires.ready.waits c.requires.ready.next c.requires.ready.no_collect c.loop-reply.invariant.on stood
+    (event.keeps told
+    (subst (λ (image : Option (List ℕ)). told ≡ true → TellsDisk image disk)
+    (sym c.loop-reply.invariant.image) under.tells)
+    stood) event.others event.outcome (search rules) c.answered.ensures.drops
+
+pub returns-in-Some-clause-called : goal.returns-in-Some-clause-called
+returns-in-Some-clause-called g c told disk under stands =
+    let space = lacks_space c.in-Refused.refusal c.in-Some.need (sym c.words_lacked.ensures ∙ c.in-Some.is) in
+    subst (λ (s : ThreadState). CalledOver told disk (view c.args.core.now) (view c.advance.new.self) c.args.thread
+    c.args.state.now s c.args.op (Some c.in-Some.need)) (sym c.loop-reply.invariant.state)
+    (call_lacks told _ disk (view c.args.core.now) (view c.loop-reply.core) (view c.advance.new.self) c.args.thread
+    c.args.op c.in-Some.need _ c.args.state.now c.requires.ready.bounds c.requires.ready.none_forwarded
+    c.loop-reply.invariant.on (c.loop-reply.invariant.stands told disk under stands)
+    (subst (λ (image : Option (List ℕ)). told ≡ true → TellsDisk image disk)
+    (sym c.loop-reply.invariant.image) under.tells)
+    (subst (λ (why : Refusal). AdvancesWhere (TellsDisk (g.R.RecordReader.image c.loop-reply.reader) disk) disk
+    (view c.loop-reply.core) (view c.advance.new.self) c.args.thread c.args.op (Refused why)) space
+    (c.in-Refused.ensures.advances.over disk under.ends)))
+
+pub drop_if_ended-requires-clause-thread : goal.drop_if_ended-requires-clause-thread
+drop_if_ended-requires-clause-thread g c =
+    thread_there (view c.args.core.now) (view c.advance.new.self) c.args.thread
+    (KeepsOthers_both (view c.args.core.now) (view c.loop-reply.core) (view c.advance.new.self) c.args.thread
+    c.loop-reply.invariant.on.others
+    (c.in-Refused.ensures.advances.over c.requires.ready.disk c.requires.ready.ends).others) c.requires.ready.thread
+
+pub drop_if_ended-requires-clause-no_call : goal.drop_if_ended-requires-clause-no_call
+drop_if_ended-requires-clause-no_call g c =
+    refused_call _ c.requires.ready.disk (view c.loop-reply.core) (view c.advance.new.self) c.args.thread c.args.op
+    c.in-Refused.refusal (c.in-Refused.ensures.advances.over c.requires.ready.disk c.requires.ready.ends).outcome
+
+pub returns-in-None-clause-called : goal.returns-in-None-clause-called
+returns-in-None-clause-called g c told disk under stands =
+    let damage : (damaged : Damage) → c.in-Refused.refusal ≡ Damaged damaged
+    → IsDamage (g.R.RecordReader.image c.loop-reply.reader) c.args.end (view c.loop-reply.core) c.args.thread damaged =
+    λ damaged is. c.in-Refused.ensures.damage damaged (ap Refused is) in
+    let seen : Underlies told c.args.end (g.R.RecordReader.image c.loop-reply.reader) disk =
+    subst (λ (image : Option (List ℕ)). Underlies told c.args.end image disk)
+    (sym c.loop-reply.invariant.image) under in
+    let event = c.in-Refused.ensures.advances.over disk under.ends in
+    let no_pause = never_pauses _ disk (view c.args.core.now) (view c.loop-reply.core) (view c.advance.new.self)
+    c.args.thread c.args.op c.in-Refused.refusal c.requires.ready.some_forward c.loop-reply.invariant.on event.outcome
+    (sym c.words_lacked.ensures ∙ c.in-None.is) in
+    subst (λ (s : ThreadState). CalledOver told disk (view c.args.core.now)
+    (view c.drop_if_ended.new.core) c.args.thread
+    c.args.state.now (record s { mode = c.mode_after-state.result }) c.args.op None) (sym c.loop-reply.invariant.state)
+    (subst (λ (m : Mode). CalledOver told disk (view c.args.core.now) (view c.drop_if_ended.new.core) c.args.thread
+    c.args.state.now (record c.args.state.now { mode = m }) c.args.op None) (sym c.mode_after-state.ensures)
+    (call_lost told (g.R.RecordReader.image c.loop-reply.reader) disk (view c.args.core.now) (view c.loop-reply.core)
+    (view c.advance.new.self) (view c.drop_if_ended.new.core) c.args.thread c.args.op c.args.state.now
+    c.in-Refused.refusal c.requires.ready.waits c.requires.ready.next no_pause c.loop-reply.invariant.on
+    (call_reads told (g.R.RecordReader.image c.loop-reply.reader) c.args.end disk (view c.args.core.now)
+    (view c.loop-reply.core) c.args.thread c.args.op c.in-Refused.refusal c.loop-reply.invariant.on seen
+    (c.loop-reply.invariant.stands told disk under stands) damage) event
+    (subst (λ (m : Mode). DropsIfEnded (view c.advance.new.self) (view c.drop_if_ended.new.core) c.args.thread m)
+    c.mode_after-state.ensures c.drop_if_ended.ensures)))

@@ -1,0 +1,43 @@
+-- Where a collection was refused, the run is halted.
+use Rattle.melt_move.specs.Planned.{phase_done}
+use Rattle.melt_core.specs.Views.{view}
+use Rattle.melt_step.proofs.Journals.{halted_counts, refused_failed, refused_full, stands_failed, stands_full}
+use Rattle.melt_step.proofs.run.Run.collect.Goals as goal
+
+pub returns-in-Err-DiskFull-clause-stopped : goal.returns-in-Err-DiskFull-clause-stopped
+returns-in-Err-DiskFull-clause-stopped g c = λ told script config stands tight.
+    stands_full told script config c.args.force _ _ c.args.self c.in-Err-DiskFull.heap c.in-Err-DiskFull.rest
+    c.in-Err-DiskFull.full c.halt_run.result stands tight
+    (refused_full _ _ _ _ _ _ _ _ c.in-Err-DiskFull.field-0-is c.in-Err-DiskFull.ensures.refused) (record {
+      heap_is = c.halt_run.ensures.heap;
+      rest_is = c.halt_run.ensures.rest;
+      states = c.halt_run.ensures.states;
+      journal = cc (c.halt_run.ensures.journal, c.in-Err-DiskFull.ensures.journal_stays);
+      halt_is = c.halt_run.ensures.halt;
+    })
+
+pub returns-in-Err-DiskFull-clause-stop_counts : goal.returns-in-Err-DiskFull-clause-stop_counts
+returns-in-Err-DiskFull-clause-stop_counts g c = (
+  λ is. absurd (cc (c.halt_run.ensures.halt, is)),
+  halted_counts c.args.self.states.items c.halt_run.result.states.items _ _ c.halt_run.ensures.states
+      c.collect.ensures.keeps.read_faults,
+)
+
+pub returns-clause-stopped : goal.returns-clause-stopped
+returns-clause-stopped g c = λ told script config stands tight.
+    stands_failed told script config _ _ c.args.self c.in-Err-DiskFault.rest c.halt_run-in-Err-DiskFault.result stands
+    (refused_failed (phase_done c.args.force c.args.self.collector.plan.next) _ _ (view c.args.self.core) _ _
+    c.in-Err-DiskFault.field-0-is c.in-Err-DiskFault.ensures.refused) (record {
+      heap_is = c.halt_run-in-Err-DiskFault.ensures.heap;
+      rest_is = c.halt_run-in-Err-DiskFault.ensures.rest;
+      states = c.halt_run-in-Err-DiskFault.ensures.states;
+      journal = cc (c.halt_run-in-Err-DiskFault.ensures.journal, c.in-Err-DiskFault.ensures.journal_stays);
+      halt_is = c.halt_run-in-Err-DiskFault.ensures.halt;
+    })
+
+pub returns-clause-stop_counts : goal.returns-clause-stop_counts
+returns-clause-stop_counts g c = (
+  λ is. c.collect.ensures.failed c.in-Err-DiskFault.rest (cc (c.in-Err-DiskFault.is, c.in-Err-DiskFault.field-0-is)),
+  halted_counts c.args.self.states.items c.halt_run-in-Err-DiskFault.result.states.items _ _
+      c.halt_run-in-Err-DiskFault.ensures.states c.collect.ensures.keeps.read_faults,
+)

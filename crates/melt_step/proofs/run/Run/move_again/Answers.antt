@@ -1,0 +1,43 @@
+-- Behind a second Move the call is made, or its thread ends.
+use Rattle.std.proofs.Common.{arith}
+use Rattle.std.proofs.lemmas.Result.{err_from_is_err_and}
+use Rattle.melt_step.specs.Safepoints.{LackedWords, Forced}
+use Rattle.melt_step.specs.Shown.{shown_by}
+use Rattle.melt_step.proofs.TwoMoves.{made_further, made_gone, stops_behind, unfit, unfit_twice}
+use Rattle.melt_step.proofs.run.Run.move_again.Given.{Over}
+use Rattle.melt_step.proofs.run.Run.move_again.Goals as goal
+use Rattle.melt_step.proofs.run.Run.move_again.Goals.{In-Lacks}
+
+pub returns-then-not-may_fit-clause-made : goal.returns-then-not-may_fit-clause-made
+returns-then-not-may_fit-clause-made g c =
+    made_gone (unfit c.may_fit.result c.if-not-may_fit.true c.may_fit.ensures)
+    (c.out_of_heap.ensures.made (shown_by g.D.StaleDisk.image c.args.space.now))
+
+pub returns-in_err-run-clause-stopped : goal.returns-in_err-run-clause-stopped
+returns-in_err-run-clause-stopped g c =
+    let exit = err_from_is_err_and c.from_residual.result c.from_residual.ensures.1 in
+    rw (exit.1, exit.2) (stops_behind _ _ c.args.self c.args.thread 1 c.args.need _ c.in_err-run.ensures.stopped)
+
+-- the call lacked words behind the Move too
+lacked : (g : Over) (c : In-Lacks g)
+    → LackedWords (Forced (shown_by g.D.StaleDisk.image c.args.space.now) c.args.self c.args.thread c.args.need)
+    (shown_by g.D.StaleDisk.image c.try_again.new.space) c.args.self c.in_ok-run.run' c.args.thread c.in-Lacks.need
+lacked g c = (rw c.in-Lacks.is at c.in_ok-run.ensures.attempted).0
+
+pub out_of_heap-requires-in-Lacks : goal.out_of_heap-requires-in-Lacks
+out_of_heap-requires-in-Lacks g c =
+    let lacks = c.requires.lacks in
+    let at = (goal.at.out_of_heap-requires-in-Lacks g c).In-Lacks in
+    record {
+      lacks = (
+        shown_by g.D.StaleDisk.image c.try_again.new.space,
+        (2, (lacks.0, lacks.1, (lacked g at).keeps _ lacks.0 lacks.1 2 (omega arith, lacks.2))),
+      );
+    }
+
+pub returns-in-Lacks-clause-made : goal.returns-in-Lacks-clause-made
+returns-in-Lacks-clause-made g c =
+    let at = (goal.at.returns-in-Lacks-clause-made g c).In-Lacks in
+    made_further (omega arith) (lacked g at)
+    (made_gone unfit_twice
+    (c.out_of_heap-in-Lacks.ensures.made (shown_by g.D.StaleDisk.image c.try_again.new.space)))

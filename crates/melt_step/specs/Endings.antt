@@ -1,0 +1,86 @@
+-- What is left of a run that has ended, or was halted.
+use Rattle.std.specs.Prelude.{◌≡◌, ℕ, ◌+◌, ◌<◌, ◌≤◌, Bool, true, false, List, length, map, slice_get, Option, None, Some}
+use Rattle.melt_model.specs.declared.config.Config.{Config}
+use Rattle.melt_model.specs.declared.reports.Halt.{Halt}
+use Rattle.melt_model.specs.declared.reports.Halt.TheVariants as halt
+use Rattle.melt_model.specs.declared.reports.ThreadEnd.TheVariants as end
+use Rattle.melt_trace.specs.Script.{Script}
+use Rattle.melt_scion.specs.Collected.{CountsWords}
+use Rattle.melt_scion.specs.Heaps.{OnDisk, state_of}
+use Rattle.melt_scion.specs.declared.heap.Heap.{Heap}
+use Rattle.melt_move.specs.Plans.{WantsHome}
+use Rattle.melt_core.specs.Epochs.{core_of}
+use Rattle.melt_core.specs.Views.{View, view}
+use Rattle.melt_step.specs.Journals.{IsJournalOf, MayMove, before, end_of}
+use Rattle.melt_step.specs.Run.{collections}
+use Rattle.melt_step.specs.Shown.{Shown, Underlies}
+use Rattle.melt_step.specs.Threads.{HaveCuts, IsEnded, TableStands, owing, replies_of}
+use Rattle.melt_step.specs.declared.ending.Ended.{Ended}
+use Rattle.melt_step.specs.declared.ending.Stop.{Stop}
+use Rattle.melt_step.specs.declared.ending.Stop.TheVariants.{NoMemory, Halted}
+use Rattle.melt_step.specs.declared.thread.Mode.{Mode}
+use Rattle.melt_step.specs.declared.thread.Mode.TheVariants as mode
+use Rattle.melt_step.specs.declared.thread.ThreadState.{ThreadState}
+
+-- a thread that has not ended is halted
+abbrev pub halted_mode : Mode → Mode
+halted_mode (mode.Ended e) = mode.Ended e
+halted_mode m = mode.Ended end.Halted
+
+abbrev pub halted : ThreadState → ThreadState
+halted s = record s { mode = halted_mode s.mode }
+
+-- and so all threads
+abbrev pub AreHalted : List ThreadState → List ThreadState → Type 0
+AreHalted states after = after ≡ map halted states
+
+-- all threads have ended
+abbrev pub AllEnded : List ThreadState → Type 0
+AllEnded states = (t : ℕ) (s : ThreadState) → slice_get states t ≡ Some s → IsEnded s.mode
+
+-- The disk had no room for the new homes of a Move of this heap, which was planned or forced.
+pub record EndsFull (told : Bool) (config : Config) (shown : Shown) (disk : OnDisk) (ended : Ended) (heap : Heap)
+    (finish need limit : ℕ) : Type 0 where
+  pub end_is : finish ≡ shown.end
+  pub end_last : finish ≡ end_of (before ended.journal.items (length ended.journal.items))
+  pub limit_is : limit ≡ config.disk
+  pub above : limit < finish + need
+  pub may_move : MayMove config (before ended.journal.items (length ended.journal.items))
+  pub needs : told ≡ true → CountsWords (state_of heap ended.rest.held.items disk)
+      (WantsHome (state_of heap ended.rest.held.items disk)) need
+
+-- Why a run has ended, and what is left of it then: all threads have ended; or the disk was full, and they are halted; or
+-- the disk failed, and they are halted and no heap is left.
+abbrev pub EndsBy : Bool → Config → Shown → OnDisk → View → List ThreadState → Ended → Option Halt → Option Heap → Type 0
+EndsBy told config shown disk v states ended None (Some heap) =
+    AllEnded states × (ended.states.items ≡ states) × (v ≡ view (core_of heap ended.rest))
+    × Underlies told shown.end shown.image disk
+EndsBy told config shown disk v states ended (Some (halt.DiskFull finish need limit)) (Some heap) =
+    AreHalted states ended.states.items × (v ≡ view (core_of heap ended.rest))
+    × Underlies told shown.end shown.image disk × EndsFull told config shown disk ended heap finish need limit
+EndsBy told config shown disk v states ended (Some halt.DiskFault) None = AreHalted states ended.states.items
+EndsBy told config shown disk v states ended None None = ⊥
+EndsBy told config shown disk v states ended (Some (halt.DiskFull finish need limit)) None = ⊥
+EndsBy told config shown disk v states ended (Some halt.DiskFault) (Some heap) = ⊥
+
+-- A run that has ended, for the script, told or not: when it ended its threads stood so, over a disk. It is seen so, but
+-- where it failed.
+pub record EndedStands (told : Bool) (script : Script) (config : Config) (shown : Shown) (ended : Ended) : Type 0 where
+  pub disk : OnDisk
+  pub v : View
+  pub states : List ThreadState
+  pub table : TableStands told script config disk v states
+  pub cuts : told ≡ true → HaveCuts script v.log states config ended.journal.items
+  pub journal : IsJournalOf config ended.journal.items
+  pub collected : collections script config (replies_of states) (length script.programs)
+      ≤ length ended.journal.items + owing states
+  pub log : ended.rest.log.items ≡ v.log
+  pub cause : EndsBy told config shown disk v states ended ended.halt ended.heap
+
+abbrev pub SomeEnded : Shown → Ended → Type 0
+SomeEnded shown ended = (script : Script) × (config : Config) × EndedStands false script config shown ended
+
+-- what stands where a run was stopped
+abbrev pub StopsSo : Bool → Script → Config → Shown → Stop → Type 0
+StopsSo told script config shown NoMemory = Unit {0}
+StopsSo told script config shown (Halted ended) = EndedStands told script config shown ended

@@ -1,0 +1,241 @@
+-- A run between two events, and what the parts of a safepoint do to it.
+use Rattle.std.specs.Prelude.{◌≡◌, ◌≢◌, ℕ, zero, suc, ◌+◌, ◌<◌, ◌≤◌, Bool, true, false, List, [], ◌∷◌, ◌++◌, length}
+use Rattle.std.specs.Prelude.{slice_get, slice_set, Option, None, Some}
+use Rattle.melt_model.specs.Alive.{Held, words_of, CostsSum}
+use Rattle.melt_model.specs.declared.config.Config.{Config}
+use Rattle.melt_model.specs.declared.operations.Op.{Op}
+use Rattle.melt_model.specs.declared.reports.Halt.TheVariants as halt
+use Rattle.melt_model.specs.declared.reports.Journal.{Journal}
+use Rattle.melt_io.specs.Outside.{Rose}
+use Rattle.melt_trace.specs.Script.{Script}
+use Rattle.melt_move.specs.Planned.{phase_done}
+use Rattle.melt_scion.specs.Heaps.{OnDisk}
+use Rattle.melt_core.specs.Views.{View, view, value, IsQuiet}
+use Rattle.melt_step.specs.Collections.{CollectsCore}
+use Rattle.melt_step.specs.Endings.{StopsSo}
+use Rattle.melt_step.specs.Journals.{IsJournalOf, IsTight, before, end_of, next_of}
+use Rattle.melt_step.specs.Lone.{IsMarked, NoneForwarded}
+use Rattle.melt_step.specs.Needs.{NeedsWords}
+use Rattle.melt_step.specs.Run.{HasRisen, collections}
+use Rattle.melt_step.specs.Shown.{Shown, Underlies}
+use Rattle.melt_step.specs.Threads.{CountsLosses, ForCollection, HaveCuts}
+use Rattle.melt_step.specs.Threads.{IsPaused, OweBehindCollects, TableStands, jobs_of, owing, potential}
+use Rattle.melt_step.specs.Threads.{replies_of, collections_due}
+use Rattle.melt_step.specs.declared.collector.Collector.{Collector}
+use Rattle.melt_step.specs.declared.ending.Stop.{Stop}
+use Rattle.melt_step.specs.declared.ending.Stop.TheVariants.{NoMemory, Halted}
+use Rattle.melt_step.specs.declared.run.Run.{Run}
+use Rattle.melt_step.specs.declared.safepoint.Attempt.{Attempt}
+use Rattle.melt_step.specs.declared.safepoint.Attempt.TheVariants.{Made, Lacks}
+use Rattle.melt_step.specs.declared.thread.Mode.TheVariants.{Lacking}
+use Rattle.melt_step.specs.declared.thread.ThreadState.{ThreadState}
+
+-- the last collection, if there was one
+abbrev pub last_of : Collector → Option Journal
+last_of c = before c.journal.items (length c.journal.items)
+
+-- What a collector knows, over what is seen of the disk: the collections so far, and of which phase the next one is.
+pub record CollectorStands (config : Config) (shown : Shown) (c : Collector) : Type 0 where
+  pub plan : c.plan ≡ record { next = next_of config (last_of c); mark = config.mark; move_ = config.move_ }
+  pub journal : IsJournalOf config c.journal.items
+  pub end : shown.end ≡ end_of (last_of c)
+  pub within : shown.end ≤ config.disk
+  pub limit : shown.limit ≡ config.disk
+
+-- A run between two events, for a script, told or not, over a disk that is seen so.
+pub record RunStands (told : Bool) (script : Script) (config : Config) (shown : Shown) (run : Run) : Type 0 where
+  pub disk : OnDisk
+  pub under : Underlies told shown.end shown.image disk
+  pub table : TableStands told script config disk (view run.core) run.states.items
+  pub words : run.words ≡ config.heap
+  pub every : run.every ≡ config.every
+  pub collector : CollectorStands config shown run.collector
+  pub cuts : told ≡ true → HaveCuts script (view run.core).log run.states.items config run.collector.journal.items
+  pub collected : collections script config (replies_of run.states.items)
+      (length script.programs) ≤ length run.collector.journal.items + owing run.states.items
+
+-- for some script, told or not
+abbrev pub SomeStands : Shown → Run → Type 0
+SomeStands shown run = (script : Script) × (config : Config) × RunStands false script config shown run
+
+-- for each script for which the run stood, told or not, it stands
+abbrev pub KeepsRun : Shown → Shown → Run → Run → Type 0
+KeepsRun shown later old new = (told : Bool) (script : Script) (config : Config)
+    → RunStands told script config shown old → RunStands told script config later new
+
+-- and where it was stopped, that is for its cause
+abbrev pub StopsRun : Shown → Shown → Run → Stop → Type 0
+StopsRun shown later old stop = (told : Bool) (script : Script) (config : Config)
+    → RunStands told script config shown old → StopsSo told script config later stop
+
+-- and so where a collection was to be made, which may be forced only where an object might have no room
+abbrev pub StopsForced : Bool → Shown → Shown → Run → Stop → Type 0
+StopsForced force shown later old stop = (told : Bool) (script : Script) (config : Config)
+    → RunStands told script config shown old → (force ≡ true → IsTight config (last_of old.collector))
+    → StopsSo told script config later stop
+
+-- where a run was halted by a fault of the disk, so many writes and lends had failed before and after; and no thread more
+-- was lost than reads failed
+abbrev pub StopCounts : Stop → List ThreadState → (faults faults_after lost lost_after : ℕ) → Type 0
+StopCounts NoMemory states faults faults_after lost lost_after = Unit {0}
+StopCounts (Halted ended) states faults faults_after lost lost_after =
+    (ended.halt ≡ Some halt.DiskFault → Rose faults faults_after)
+    × CountsLosses states ended.states.items lost lost_after
+
+-- A run has less to do than before.
+abbrev pub IsNearer : Run → Run → Type 0
+IsNearer old new = potential new.states.items (view new.core).calls < potential old.states.items (view old.core).calls
+
+-- A collection was made, and all else of the run is as before.
+pub record MakesCollection (force : Bool) (shown later : Shown) (old new : Run) : Type 0 where
+  pub collects : CollectsCore (phase_done force old.collector.plan.next) shown later (view old.core) (view new.core)
+      old.collector new.collector
+  pub states : new.states.items ≡ old.states.items
+  pub words : new.words ≡ old.words
+  pub every : new.every ≡ old.every
+
+-- Nothing was done since the last collection but to take replies to it: the epoch is new, and the words in use are those
+-- that the collection left.
+pub record JustCollected (run : Run) : Type 0 where
+  pub stop : (view run.core).stop ≡ false
+  pub none_forwarded : NoneForwarded (view run.core)
+  pub prefix : List Journal
+  pub last : Journal
+  pub journal : run.collector.journal.items ≡ prefix ++ last ∷ []
+  pub free : (view run.core).free ≡ last.live + 1
+
+-- the words in use are those of the objects that registers hold
+pub record OnlyHeld (v : View) : Type 0 where
+  pub words : ℕ
+  pub holds : CostsSum (words_of v.log) (Held (value v)) words
+  pub free : v.free ≡ words + 1
+
+-- What so many forced Moves in a row have left: after the first each object that no register holds is stale, and after
+-- the second there is none.
+abbrev pub LeftBy : ℕ → View → Type 0
+LeftBy zero v = Unit {0}
+LeftBy (suc zero) v = IsMarked v
+LeftBy (suc (suc k)) v = OnlyHeld v
+
+-- the thread waits for room
+abbrev pub WaitsForRoom : List ThreadState → ℕ → Type 0
+WaitsForRoom states t = (s : ThreadState) × (slice_get states t ≡ Some s) × (s.mode ≡ Lacking)
+
+-- A run at a safepoint, behind a collection, and behind so many that were forced in a row: a thread that lacked room is to
+-- make its call.
+pub record AwaitsCall (told : Bool) (script : Script) (config : Config) (shown : Shown) (forced : ℕ) (run : Run)
+    (t : ℕ) : Type 0 where
+  pub stands : RunStands told script config shown run
+  pub owed : OweBehindCollects script run.states.items
+  pub collected : JustCollected run
+  pub quiet : IsQuiet (view run.core)
+  pub waits : WaitsForRoom run.states.items t
+  pub left : told ≡ true → LeftBy forced (view run.core)
+
+abbrev pub SomeAwaits : Shown → ℕ → Run → ℕ → Type 0
+SomeAwaits shown forced run t = (script : Script) × (config : Config)
+    × AwaitsCall false script config shown forced run t
+
+-- so many words more have no room beside those of the objects that registers hold
+abbrev pub NoRoom : Config → View → ℕ → Type 0
+NoRoom config v need = (held : ℕ) → CostsSum (words_of v.log) (Held (value v)) held → config.heap < held + need
+
+-- what so many forced Moves in a row tell of a call that lacked words behind them
+abbrev pub LacksBy : Config → ℕ → View → ℕ → Type 0
+LacksBy config zero v need = Unit {0}
+LacksBy config (suc zero) v need = IsMarked v
+LacksBy config (suc (suc k)) v need = NoRoom config v need
+
+-- The thread made its call, behind so many forced Moves in a row, and lacked so many words.
+pub record LacksWords (told : Bool) (script : Script) (config : Config) (shown : Shown) (forced : ℕ) (run : Run)
+    (t need : ℕ) : Type 0 where
+  pub stands : RunStands told script config shown run
+  pub owed : OweBehindCollects script run.states.items
+  pub quiet : IsQuiet (view run.core)
+  pub none_forwarded : NoneForwarded (view run.core)
+  pub waits : WaitsForRoom run.states.items t
+  pub tight : IsTight config (last_of run.collector)
+  pub op : Op
+  pub next : (s : ThreadState) → slice_get run.states.items t ≡ Some s → s.op ≡ Some op
+  pub needs : told ≡ true → NeedsWords (view run.core).log (value (view run.core)) t op need
+  pub left : told ≡ true → LacksBy config forced (view run.core) need
+
+abbrev pub SomeLacksWords : Shown → ℕ → Run → ℕ → ℕ → Type 0
+SomeLacksWords shown forced run t need = (script : Script) × (config : Config)
+    × LacksWords false script config shown forced run t need
+
+-- only this thread changed, has less to do, and does not wait
+abbrev pub CalledAt : List ThreadState → List ThreadState → ℕ → Type 0
+CalledAt states after t = (s : ThreadState) → slice_get states t ≡ Some s
+    → (x : ThreadState) × (after ≡ slice_set states t x) × (jobs_of x < jobs_of s) × (IsPaused x.mode → ⊥)
+
+-- the faults of a reader that is lent still, if one is
+abbrev pub open_faults : {Reader : Type 0} → (Reader → ℕ) → Option Reader → ℕ
+open_faults faults None = 0
+open_faults faults (Some reader) = faults reader
+
+-- A reader is lent of what is seen, if one is.
+abbrev pub LentOf : {Reader : Type 0} → (Reader → Option (List ℕ)) → Shown → Option Reader → Type 0
+LentOf image shown None = Unit {0}
+LentOf image shown (Some reader) = image reader ≡ shown.image
+
+-- no more threads were lost than reads failed, on readers that were given back and on one that is lent still
+abbrev pub CountsOpen : List ThreadState → List ThreadState → (lost lost_after more : ℕ) → Type 0
+CountsOpen states after lost lost_after more = CountsLosses states after lost (lost_after + more)
+
+-- what stands before a part of a safepoint, told or not, for a script
+abbrev pub Standpoint : Type 1
+Standpoint = Bool → Script → Config → Type 0
+
+-- a thread that lacked room is to make its call
+abbrev pub Awaited : Shown → Run → ℕ → Standpoint
+Awaited shown old t told script config = (forced : ℕ) × AwaitsCall told script config shown forced old t
+
+-- it made its call, and lacked words
+abbrev pub Lacked : Shown → Run → ℕ → ℕ → Standpoint
+Lacked shown old t need told script config = (forced : ℕ) × LacksWords told script config shown forced old t need
+
+-- The call of the thread was made: it has less to do, and does not wait.
+pub record MadeCall (Before : Standpoint) (later : Shown) (old new : Run) (t : ℕ) : Type 0 where
+  pub keeps : (told : Bool) (script : Script) (config : Config) → Before told script config
+      → RunStands told script config later new
+  pub quiet : IsQuiet (view new.core)
+  pub stop : (view new.core).stop ≡ false
+  pub called : CalledAt old.states.items new.states.items t
+
+-- The call lacked words, and all threads are as they were.
+pub record LackedWords (Before : ℕ → Standpoint) (later : Shown) (old new : Run) (t need : ℕ) : Type 0 where
+  pub keeps : (told : Bool) (script : Script) (config : Config) (forced : ℕ) → Before forced told script config
+      → LacksWords told script config later forced new t need
+  pub states : new.states.items ≡ old.states.items
+
+-- behind so many forced Moves, of which the last is made now
+abbrev pub Forced : Shown → Run → ℕ → ℕ → ℕ → Standpoint
+Forced shown old t need zero told script config = ⊥
+Forced shown old t need (suc forced) told script config =
+    (forced < 2) × LacksWords told script config shown forced old t need
+
+-- What comes of a call. Its reader is lent still, if it was made.
+abbrev pub Attempted : {Reader : Type 0} → (image : Reader → Option (List ℕ)) → (faults : Reader → ℕ)
+    → (Before : Standpoint) → (Again : ℕ → Standpoint) → Shown → Run → Run → ℕ → (lost lost_after : ℕ)
+    → Attempt Reader → Type 0
+Attempted image faults Before Again later old new t lost lost_after (Made reader) = MadeCall Before later old new t
+    × (image reader ≡ later.image) × CountsOpen old.states.items new.states.items lost lost_after (faults reader)
+Attempted image faults Before Again later old new t lost lost_after (Lacks need) =
+    LackedWords Again later old new t need × HasRisen lost lost_after
+
+-- What was collected for a thread: one collection as it was planned, if it waited for one. Else all is as before.
+pub record MakesFor (s : ThreadState) (old new : Run) : Type 0 where
+  pub made : ForCollection s.mode → JustCollected new
+  pub none : (ForCollection s.mode → ⊥) → new ≡ old
+
+-- what was collected for all threads
+pub record MakesForAll (old new : Run) : Type 0 where
+  pub made : collections_due old.states.items ≢ 0 → JustCollected new
+  pub none : collections_due old.states.items ≡ 0 → new ≡ old
+
+-- A run at a safepoint, behind the collections for which threads waited, of which there was one.
+pub record StandsCollected (told : Bool) (script : Script) (config : Config) (shown : Shown) (run : Run) : Type 0 where
+  pub stands : RunStands told script config shown run
+  pub owed : OweBehindCollects script run.states.items
+  pub collected : JustCollected run

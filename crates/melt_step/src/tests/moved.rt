@@ -1,0 +1,295 @@
+use super::given::{Wanted, compare, copied, emptied, expect, leaving, run_over};
+use melt_io::SteadyDisk;
+use melt_model::{Halt, Journal, Phase, Reply, ThreadEnd};
+use std::test::Fail;
+
+/// An object leaves at the third collection, and comes back with its number.
+pub const MOVE_AND_RETURN: &[u8] =
+    b"melt 1\nthreads 1\nglobals 1\nthread 0\nnew 0 0 1\nput 0 0 7\ngstore 0 0\ndrop 0\n\
+      collect\ncollect\ncollect\ngload 0 0\nget 0 0\ndone\n";
+
+pub const MOVE_AND_RETURN_REPLIES: [Reply; 9] = [
+    Reply::Done,
+    Reply::Done,
+    Reply::Done,
+    Reply::Done,
+    Reply::Done,
+    Reply::Done,
+    Reply::Done,
+    Reply::Ref,
+    Reply::Num(7),
+];
+
+/// An object leaves twice, and comes back by each of its globals. They name one object.
+pub const SAME_HOME: &[u8] =
+    b"melt 1\nthreads 1\nglobals 3\nthread 0\nnew 0 0 1\nput 0 0 9\ngstore 0 0\ngstore 1 0\ngstore 2 0\ndrop 0\n\
+      collect\ncollect\ncollect\ngload 0 0\nput 0 0 10\ndrop 0\ncollect\ncollect\n\
+      gload 0 2\nget 0 0\ngload 1 1\nsame 0 1\ndone\n";
+
+pub const SAME_HOME_REPLIES: [Reply; 18] = [
+    Reply::Done,
+    Reply::Done,
+    Reply::Done,
+    Reply::Done,
+    Reply::Done,
+    Reply::Done,
+    Reply::Done,
+    Reply::Done,
+    Reply::Done,
+    Reply::Ref,
+    Reply::Done,
+    Reply::Done,
+    Reply::Done,
+    Reply::Done,
+    Reply::Ref,
+    Reply::Num(10),
+    Reply::Ref,
+    Reply::Yes,
+];
+
+/// The collections of a run in which an object of three words leaves, comes back and leaves again.
+pub const JOURNAL_OF_THREE: [Journal; 5] = [
+    Journal {
+        phase: Phase::Inactive,
+        held: 0,
+        live: 3,
+        bodies: 0,
+        stubs: 0,
+        end: 1,
+    },
+    Journal {
+        phase: Phase::Mark,
+        held: 0,
+        live: 3,
+        bodies: 0,
+        stubs: 0,
+        end: 1,
+    },
+    Journal {
+        phase: Phase::Move,
+        held: 0,
+        live: 0,
+        bodies: 1,
+        stubs: 0,
+        end: 4,
+    },
+    Journal {
+        phase: Phase::Move,
+        held: 0,
+        live: 3,
+        bodies: 0,
+        stubs: 1,
+        end: 4,
+    },
+    Journal {
+        phase: Phase::Move,
+        held: 0,
+        live: 0,
+        bodies: 1,
+        stubs: 0,
+        end: 4,
+    },
+];
+
+/// The home of an object that came back is a Stub behind the next collection, and names the object still.
+const STUB: &[u8] =
+    b"melt 1\nthreads 1\nglobals 2\nthread 0\nnew 0 0 1\nput 0 0 9\ngstore 0 0\ngstore 1 0\ndrop 0\n\
+      collect\ncollect\ncollect\ngload 0 0\ncollect\ngload 1 1\nsame 0 1\ndone\n";
+
+/// An object that refers to itself, and a cycle of two.
+const CYCLES: &[u8] =
+    b"melt 1\nthreads 1\nglobals 2\nthread 0\nnew 0 1 0\nstore 0 0 0\ngstore 0 0\nnew 1 1 0\nnew 2 1 0\n\
+      store 1 0 2\nstore 2 0 1\ngstore 1 1\ndrop 0\ndrop 1\ndrop 2\ncollect\ncollect\ncollect\n\
+      gload 0 0\nload 1 0 0\nsame 0 1\ngload 2 1\nload 3 2 0\nload 4 3 0\nsame 2 4\nsame 2 3\ndone\n";
+
+/// Two objects come back in one epoch.
+pub const TWO_RETURN: &[u8] =
+    b"melt 1\nthreads 1\nglobals 2\nthread 0\nnew 0 0 0\ngstore 0 0\nnew 0 0 1\ngstore 1 0\ndrop 0\n\
+      collect\ncollect\ncollect\ngload 0 0\ngload 1 1\ndone\n";
+
+pub const TWO_RETURN_REPLIES: [Reply; 10] = [
+    Reply::Done,
+    Reply::Done,
+    Reply::Done,
+    Reply::Done,
+    Reply::Done,
+    Reply::Done,
+    Reply::Done,
+    Reply::Done,
+    Reply::Ref,
+    Reply::Ref,
+];
+
+/// The collections where there is a word for the forwarding of one object only: the last one makes room for the other.
+pub const TWO_RETURN_JOURNAL: [Journal; 4] = [
+    Journal {
+        phase: Phase::Inactive,
+        held: 0,
+        live: 5,
+        bodies: 0,
+        stubs: 0,
+        end: 1,
+    },
+    Journal {
+        phase: Phase::Mark,
+        held: 0,
+        live: 5,
+        bodies: 0,
+        stubs: 0,
+        end: 1,
+    },
+    Journal {
+        phase: Phase::Move,
+        held: 0,
+        live: 0,
+        bodies: 2,
+        stubs: 0,
+        end: 6,
+    },
+    Journal {
+        phase: Phase::Move,
+        held: 2,
+        live: 2,
+        bodies: 0,
+        stubs: 1,
+        end: 6,
+    },
+];
+
+/// An object of 8 words leaves.
+const EIGHT_WORDS: &[u8] =
+    b"melt 1\nthreads 1\nglobals 1\nthread 0\nnew 0 0 6\ngstore 0 0\ndrop 0\ncollect\ncollect\ncollect\ndone\n";
+
+#[test]
+fn an_object_leaves_and_comes_back(rt: HostRuntime) -> Result<(), Fail> {
+    let alloc = rt.alloc();
+    let mut disk = SteadyDisk::new(alloc);
+    let (report, left) = run_over(alloc, MOVE_AND_RETURN, leaving(16, 1024), &mut disk)?;
+    let wanted = Wanted {
+        threads: &[(&MOVE_AND_RETURN_REPLIES, ThreadEnd::Done)],
+        journal: &JOURNAL_OF_THREE[..3],
+        halt: None,
+    };
+    compare(&rt, &report, &left, &wanted);
+    assert_eq!(rt; disk.image.as_slice(), [0, 4_295_032_833, 0, 7].as_slice());
+    assert_eq!(rt; disk.writes, 1);
+    Ok(())
+}
+
+#[test]
+fn an_object_that_leaves_again_has_the_same_home(rt: HostRuntime) -> Result<(), Fail> {
+    let alloc = rt.alloc();
+    let mut disk = SteadyDisk::new(alloc);
+    let (report, left) = run_over(alloc, SAME_HOME, leaving(16, 1024), &mut disk)?;
+    let wanted = Wanted {
+        threads: &[(&SAME_HOME_REPLIES, ThreadEnd::Done)],
+        journal: &JOURNAL_OF_THREE,
+        halt: None,
+    };
+    compare(&rt, &report, &left, &wanted);
+    assert_eq!(rt; disk.image.as_slice(), [0, 4_295_032_833, 0, 10].as_slice());
+    assert_eq!(rt; disk.writes, 3);
+    Ok(())
+}
+
+#[test]
+fn a_home_that_became_a_stub_names_the_same_object(rt: HostRuntime) -> Result<(), Fail> {
+    let replies = [
+        Reply::Done,
+        Reply::Done,
+        Reply::Done,
+        Reply::Done,
+        Reply::Done,
+        Reply::Done,
+        Reply::Done,
+        Reply::Done,
+        Reply::Ref,
+        Reply::Done,
+        Reply::Ref,
+        Reply::Yes,
+    ];
+    let [first, second, third, ..] = JOURNAL_OF_THREE;
+    let settling = Journal {
+        phase: Phase::Move,
+        held: 3,
+        live: 3,
+        bodies: 0,
+        stubs: 1,
+        end: 4,
+    };
+    let wanted = Wanted {
+        threads: &[(&replies, ThreadEnd::Done)],
+        journal: &[first, second, third, settling],
+        halt: None,
+    };
+    expect(&rt, STUB, leaving(16, 1024), &wanted)
+}
+
+#[test]
+fn cycles_come_back_as_they_were(rt: HostRuntime) -> Result<(), Fail> {
+    let mut replies = [Reply::Done; 22];
+    let told = [
+        Reply::Ref,
+        Reply::Ref,
+        Reply::Yes,
+        Reply::Ref,
+        Reply::Ref,
+        Reply::Ref,
+        Reply::Yes,
+        Reply::No,
+    ];
+    replies[14..].copy_from_slice(&told);
+    let last = emptied(3, 10);
+    let wanted = Wanted {
+        threads: &[(&replies, ThreadEnd::Done)],
+        journal: &[
+            copied(Phase::Inactive, 0, 9),
+            copied(Phase::Mark, 0, 9),
+            last,
+        ],
+        halt: None,
+    };
+    expect(&rt, CYCLES, leaving(16, 1024), &wanted)
+}
+
+#[test]
+fn a_collection_makes_room_for_forwarding_words(rt: HostRuntime) -> Result<(), Fail> {
+    let mut wanted = Wanted {
+        threads: &[(&TWO_RETURN_REPLIES, ThreadEnd::Done)],
+        journal: &TWO_RETURN_JOURNAL,
+        halt: None,
+    };
+    expect(&rt, TWO_RETURN, leaving(1, 1024), &wanted)?;
+    wanted.journal = &TWO_RETURN_JOURNAL[..3];
+    expect(&rt, TWO_RETURN, leaving(2, 1024), &wanted)
+}
+
+#[test]
+fn a_disk_without_room_halts_the_run(rt: HostRuntime) -> Result<(), Fail> {
+    let full = Halt::DiskFull {
+        end: 1,
+        need: 8,
+        limit: 8,
+    };
+    let wanted = Wanted {
+        threads: &[(&[Reply::Done; 5], ThreadEnd::Halted)],
+        journal: &[copied(Phase::Inactive, 0, 8), copied(Phase::Mark, 0, 8)],
+        halt: Some(full),
+    };
+    expect(&rt, EIGHT_WORDS, leaving(16, 8), &wanted)
+}
+
+#[test]
+fn an_object_fills_the_disk(rt: HostRuntime) -> Result<(), Fail> {
+    let last = emptied(1, 9);
+    let wanted = Wanted {
+        threads: &[(&[Reply::Done; 6], ThreadEnd::Done)],
+        journal: &[
+            copied(Phase::Inactive, 0, 8),
+            copied(Phase::Mark, 0, 8),
+            last,
+        ],
+        halt: None,
+    };
+    expect(&rt, EIGHT_WORDS, leaving(16, 9), &wanted)
+}
