@@ -1,9 +1,14 @@
 -- Laws of what is due, and of what was written.
-use Rattle.std.proofs.Common.{◌≡◌, ℕ, suc, ◌+◌, ◌<◌, ◌≤◌, Bool, true, false, List, [], ◌∷◌, ◌++◌, length, take, refl}
+use Rattle.std.proofs.Common.{◌≡◌, ℕ, zero, suc, ◌+◌, ◌<◌, ◌≤◌, Bool, true, false, List, [], ◌∷◌, ◌++◌, length, take, refl}
 use Rattle.std.proofs.Common.{sym, ◌∙◌, ap, subst, arith, inl, inr}
-use Rattle.std.proofs.lemmas.Bool.{cond-false, lt-leb}
+use Rattle.std.proofs.lemmas.Bool.{cases_Bool, cond-false, lt-leb}
+use Rattle.std.proofs.lemmas.List.Sums.{sum_by-cons}
+use Rattle.std.proofs.lemmas.Option.{same_Some}
 use Rattle.std.proofs.lemmas.List.{length-take-le, take-append-drop, length-replicate}
-use Rattle.std.specs.Prelude.{Option, None, Some, slice_get, replicate, nat_le, Err, ◌||◌, if◌then◌else◌}
+use Rattle.std.specs.Prelude.{Option, None, Some, IsSome, slice_get, replicate, nat_le, Err, ◌||◌, ◌⊎◌, if◌then◌else◌}
+use Rattle.std.specs.List.{count_by, sum_by}
+use Rattle.melt_model.specs.declared.reports.Halt.{Halt}
+use Rattle.melt_model.specs.declared.reports.Halt.TheVariants as halt
 use Rattle.std.specs.List.{list_any}
 use Rattle.melt_io.specs.Outside.{Rose, TakesFront, Appends}
 use Rattle.melt_io.specs.Whole.{TakesCount}
@@ -13,13 +18,13 @@ use Rattle.melt_model.specs.declared.reports.ThreadReport.{ThreadReport}
 use Rattle.melt_model.specs.declared.reports.ThreadEnd.{ThreadEnd}
 use Rattle.melt_model.specs.declared.reports.ThreadEnd.TheVariants as end
 use Rattle.melt_trace.specs.Script.{Script}
-use Rattle.melt_step.specs.Run.{MayEnd, IsStepReport}
+use Rattle.melt_step.specs.Run.{MayEnd, CountsLost, is_lost, lost_in}
 use Rattle.melt_trace.specs.Language.{max_bytes, script_of}
 use Rattle.melt_top.specs.Text.{read_fault_text, refused_text}
 use Rattle.melt_top.specs.Command.{number_of, status_of, ended, is_disk_fault, is_damaged, is_out_of_heap}
 use Rattle.melt_top.specs.Command.{halted_by_fault, halted_by_full}
 use Rattle.melt_top.specs.Headline.{Change, IsUntouched, ReadAFront, ReadAtMost, StepDue, Due, IsRefused, WroteAll}
-use Rattle.melt_top.specs.Headline.{Outcome, IsBuilt}
+use Rattle.melt_top.specs.Headline.{Outcome, IsBuilt, DiskChange, IsUnused, TraceDue}
 use Rattle.melt_top.specs.declared.command.Command.{Command}
 use Rattle.melt_top.specs.declared.command.Run.{Run}
 use Rattle.melt_top.specs.declared.command.Command.TheVariants.{Gen, Step}
@@ -42,44 +47,27 @@ read_a_front input n few count =
     record { bytes = t.0; front = t.2; no_more = omega (arith, t.1) }
 
 -- the reading failed
-pub read_failed : (run : Run) (input : Change) (n : ℕ) (due : Status) (output : List ℕ)
+pub read_failed : (run : Run) (input : Change) (disk : DiskChange) (n : ℕ) (due : Status) (output : List ℕ)
     → n ≤ max_bytes + 1 → TakesCount input.before n input.after → Rose input.faults_before input.faults_after
-    → due ≡ status.ReadFault → output ≡ read_fault_text → StepDue run input due output
-read_failed run input n due output few count rose is told =
+    → IsUnused disk → due ≡ status.ReadFault → output ≡ read_fault_text → StepDue run input disk due output
+read_failed run input disk n due output few count rose unused is told =
     let t = taken input.before input.after n count in
-    inl (record { bytes = t.0; front = t.2; no_more = omega (arith, t.1); fault = rose; status = is; told = told })
+    inl (record { bytes = t.0; front = t.2; no_more = omega (arith, t.1); fault = rose; disk_stays = unused; status = is; told = told })
 
 -- more bytes than a trace may have
 long_refused : (bytes : List ℕ) → max_bytes < length bytes → script_of bytes ≡ Err (0, 1)
 long_refused bytes long = cond-false (nat_le (length bytes) max_bytes) _ _ (lt-leb (length bytes) max_bytes long)
 
-pub too_long : (run : Run) (input : Change) (n : ℕ) (due : Status) (output : List ℕ) → n ≡ max_bytes + 1
-    → TakesCount input.before n input.after → due ≡ status.Trace → output ≡ refused_text 0 1
-    → StepDue run input due output
-too_long run input n due output long count is told =
+pub too_long : (run : Run) (input : Change) (disk : DiskChange) (n : ℕ) (due : Status) (output : List ℕ) → n ≡ max_bytes + 1
+    → TakesCount input.before n input.after → IsUnused disk → due ≡ status.Trace → output ≡ refused_text 0 1
+    → StepDue run input disk due output
+too_long run input disk n due output long count unused is told =
     let t = taken input.before input.after n count in
     inr (record {
       bytes = t.0;
       read = record { front = t.2; whole = λ short. absurd (omega (arith, t.1, long)); no_more = omega (arith, t.1, long) };
-      trace = inl (record { line = 0; reason = 1; first_bad = long_refused t.0 (omega (arith, t.1, long)); status = is; told = told });
+      trace = inl (record { line = 0; reason = 1; first_bad = long_refused t.0 (omega (arith, t.1, long)); disk_stays = unused; status = is; told = told });
     })
-
--- a thread ends Done, or out of heap
-ends_so : (script : Script) (config : Config) (report : Report) (t : ℕ) (e : ThreadEnd)
-    → MayEnd script config report t e → (is_disk_fault e ≡ false) × (is_damaged e ≡ false)
-ends_so script config report t end.Done may = (refl, refl)
-ends_so script config report t (end.OutOfHeap held need) may = (refl, refl)
-ends_so script config report t end.DiskFault may = absurd may
-ends_so script config report t (end.Damaged home at word) may = absurd may
-ends_so script config report t end.Halted may = absurd may
-
--- where no thread ended so
-none_ended : (test : ThreadEnd → Bool) (threads : List ThreadReport)
-    → ((t : ℕ) (r : ThreadReport) → slice_get threads t ≡ Some r → test r.end ≡ false)
-    → list_any (λ (r : ThreadReport). test r.end) threads ≡ false
-none_ended test [] none = refl
-none_ended test (r ∷ threads) none =
-    ap (λ (b : Bool). b || list_any (λ (x : ThreadReport). test x.end) threads) (none 0 r refl) ∙ none_ended test threads (λ t x at. none (suc t) x at)
 
 -- the statuses that may be due
 abbrev MayBeDue : Status → Type 0
@@ -87,48 +75,42 @@ MayBeDue status.Done = Unit {0}
 MayBeDue status.Usage = Unit {0}
 MayBeDue status.Trace = Unit {0}
 MayBeDue status.ReadFault = Unit {0}
-MayBeDue status.DiskFault = ⊥
+MayBeDue status.DiskFault = Unit {0}
 MayBeDue status.OutOfHeap = Unit {0}
-MayBeDue status.DiskFull = ⊥
+MayBeDue status.DiskFull = Unit {0}
 MayBeDue status.WriteFault = ⊥
 MayBeDue status.NoMemory = ⊥
-MayBeDue status.Damaged = ⊥
+MayBeDue status.Damaged = Unit {0}
 MayBeDue status.BadDump = ⊥
 MayBeDue status.Illegal = ⊥
 
-chosen : (a b c d : Bool) → a ≡ false → b ≡ false → c ≡ false
+chosen : (a b c d : Bool)
     → MayBeDue (if a then status.DiskFault else if b then status.Damaged else if c then status.DiskFull else if d then status.OutOfHeap else status.Done)
-chosen true b c d p q r = absurd (cc)
-chosen false true c d p q r = absurd (cc)
-chosen false false true d p q r = absurd (cc)
-chosen false false false true p q r = tt
-chosen false false false false p q r = tt
-
-either : (a b : Bool) → a ≡ false → b ≡ false → (a || b) ≡ false
-either true b p q = p
-either false b p q = q
+chosen true b c d = tt
+chosen false true c d = tt
+chosen false false true d = tt
+chosen false false false true = tt
+chosen false false false false = tt
 
 -- the status of a run
-ran_status : (script : Script) (config : Config) (report : Report) → IsStepReport script config report
-    → MayBeDue (status_of report)
-ran_status script config report reported =
-    chosen (ended is_disk_fault report || halted_by_fault report.halt) (ended is_damaged report) (halted_by_full report.halt) (ended is_out_of_heap report)
-    (either (ended is_disk_fault report) (halted_by_fault report.halt) (none_ended is_disk_fault report.threads (λ t r at. (ends_so script config report t r.end (reported.ends t r at)).0)) (ap halted_by_fault reported.no_halt))
-    (none_ended is_damaged report.threads (λ t r at. (ends_so script config report t r.end (reported.ends t r at)).1)) (ap halted_by_full reported.no_halt)
+ran_status : (report : Report) → MayBeDue (status_of report)
+ran_status report =
+    chosen (ended is_disk_fault report || halted_by_fault report.halt) (ended is_damaged report) (halted_by_full report.halt)
+    (ended is_out_of_heap report)
 
-step_due : (run : Run) (input : Change) (due : Status) (output : List ℕ) → StepDue run input due output
+step_due : (run : Run) (input : Change) (disk : DiskChange) (due : Status) (output : List ℕ) → StepDue run input disk due output
     → MayBeDue due
-step_due run input due output (inl failed) = subst MayBeDue (sym failed.status) tt
-step_due run input due output (inr read) = elim read.trace [
+step_due run input disk due output (inl failed) = subst MayBeDue (sym failed.status) tt
+step_due run input disk due output (inr read) = elim read.trace [
   | inl refused ↦ subst MayBeDue (sym refused.status) tt
-  | inr ran ↦ subst MayBeDue (sym ran.ran.status) (ran_status ran.script run.config ran.ran.report ran.ran.has_run.reported)
+  | inr ran ↦ subst MayBeDue (sym ran.ran.status) (ran_status ran.ran.report)
 ]
 
-is_due : (command : Option Command) (input : Change) (due : Status) (output : List ℕ)
-    → Due command input due output → MayBeDue due
-is_due None input due output is = subst MayBeDue (sym is.status) tt
-is_due (Some (Step run)) input due output is = step_due run input due output is
-is_due (Some (Gen recipe)) input due output is = elim is.done [
+is_due : (command : Option Command) (input : Change) (disk : DiskChange) (due : Status) (output : List ℕ)
+    → Due command input disk due output → MayBeDue due
+is_due None input disk due output is = subst MayBeDue (sym is.status) tt
+is_due (Some (Step run)) input disk due output is = step_due run input disk due output is
+is_due (Some (Gen recipe)) input disk due output is = elim is.done [
   | inl none ↦ subst MayBeDue (sym none.status) tt
   | inr trace ↦ subst MayBeDue (sym trace.status) tt
 ]
@@ -138,42 +120,42 @@ built status.Done may = tt
 built status.Usage may = tt
 built status.Trace may = tt
 built status.ReadFault may = tt
-built status.DiskFault may = may
+built status.DiskFault may = tt
 built status.OutOfHeap may = tt
-built status.DiskFull may = may
+built status.DiskFull may = tt
 built status.WriteFault may = tt
 built status.NoMemory may = tt
-built status.Damaged may = may
+built status.Damaged may = tt
 built status.BadDump may = may
 built status.Illegal may = may
 
 -- what is due has a status of today
-pub due_built : (command : Option Command) (input : Change) (due : Status) (output : List ℕ)
-    → Due command input due output → IsBuilt due
-due_built command input due output is = built due (is_due command input due output is)
+pub due_built : (command : Option Command) (input : Change) (disk : DiskChange) (due : Status) (output : List ℕ)
+    → Due command input disk due output → IsBuilt due
+due_built command input disk due output is = built due (is_due command input disk due output is)
 
 -- what was done, where all was written that may be due
-outcome : (command : Option Command) (input out : Change) (due : Status) → MayBeDue due
-    → WroteAll command input out due → Outcome command input out due
-outcome command input out status.Done may wrote = wrote
-outcome command input out status.Usage may wrote = wrote
-outcome command input out status.Trace may wrote = wrote
-outcome command input out status.ReadFault may wrote = wrote
-outcome command input out status.DiskFault may wrote = wrote
-outcome command input out status.OutOfHeap may wrote = wrote
-outcome command input out status.DiskFull may wrote = wrote
-outcome command input out status.WriteFault may wrote = absurd may
-outcome command input out status.NoMemory may wrote = absurd may
-outcome command input out status.Damaged may wrote = wrote
-outcome command input out status.BadDump may wrote = wrote
-outcome command input out status.Illegal may wrote = wrote
+outcome : (command : Option Command) (input : Change) (disk : DiskChange) (out : Change) (due : Status) → MayBeDue due
+    → WroteAll command input disk out due → Outcome command input disk out due
+outcome command input disk out status.Done may wrote = wrote
+outcome command input disk out status.Usage may wrote = wrote
+outcome command input disk out status.Trace may wrote = wrote
+outcome command input disk out status.ReadFault may wrote = wrote
+outcome command input disk out status.DiskFault may wrote = wrote
+outcome command input disk out status.OutOfHeap may wrote = wrote
+outcome command input disk out status.DiskFull may wrote = wrote
+outcome command input disk out status.WriteFault may wrote = absurd may
+outcome command input disk out status.NoMemory may wrote = absurd may
+outcome command input disk out status.Damaged may wrote = wrote
+outcome command input disk out status.BadDump may wrote = wrote
+outcome command input disk out status.Illegal may wrote = wrote
 
 -- everything that was due was written
-pub wrote_all : (command : Option Command) (input out : Change) (due : Status) (output bytes : List ℕ)
-    → Due command input due output → bytes ≡ output → Appends out.before bytes out.after
-    → Outcome command input out due
-wrote_all command input out due output bytes is same written =
-    outcome command input out due (is_due command input due output is)
+pub wrote_all : (command : Option Command) (input : Change) (disk : DiskChange) (out : Change) (due : Status) (output bytes : List ℕ)
+    → Due command input disk due output → bytes ≡ output → Appends out.before bytes out.after
+    → Outcome command input disk out due
+wrote_all command input disk out due output bytes is same written =
+    outcome command input disk out due (is_due command input disk due output is)
     (record { output = output; due = is; written = subst (λ (xs : List ℕ). Appends out.before xs out.after) same written })
 
 -- ---- words that are refused
@@ -200,10 +182,10 @@ no_usage_of false false true d = tt
 no_usage_of false false false true = tt
 no_usage_of false false false false = tt
 
-no_usage : (run : Run) (input : Change) (due : Status) (output : List ℕ) → StepDue run input due output
+no_usage : (run : Run) (input : Change) (disk : DiskChange) (due : Status) (output : List ℕ) → StepDue run input disk due output
     → NotUsage due
-no_usage run input due output (inl failed) = subst NotUsage (sym failed.status) tt
-no_usage run input due output (inr read) = elim read.trace [
+no_usage run input disk due output (inl failed) = subst NotUsage (sym failed.status) tt
+no_usage run input disk due output (inr read) = elim read.trace [
   | inl refused ↦ subst NotUsage (sym refused.status) tt
   | inr ran ↦
       let report = ran.ran.report in
@@ -212,12 +194,12 @@ no_usage run input due output (inr read) = elim read.trace [
 ]
 
 -- Usage is due only where the words are refused
-pub refused_words : (command : Option Command) (input : Change) (due : Status) (output : List ℕ)
-    → Due command input due output → due ≡ status.Usage
+pub refused_words : (command : Option Command) (input : Change) (disk : DiskChange) (due : Status) (output : List ℕ)
+    → Due command input disk due output → due ≡ status.Usage
     → IsRefused command
-refused_words None input due output is usage = tt
-refused_words (Some (Step run)) input due output is usage = subst NotUsage usage (no_usage run input due output is)
-refused_words (Some (Gen recipe)) input due output is usage = elim is.done [
+refused_words None input disk due output is usage = tt
+refused_words (Some (Step run)) input disk due output is usage = subst NotUsage usage (no_usage run input disk due output is)
+refused_words (Some (Gen recipe)) input disk due output is usage = elim is.done [
   | inl none ↦ none.many
   | inr trace ↦
       let done : NotUsage status.Done = tt in
@@ -252,24 +234,160 @@ not_read_fault false false false true e = omega (arith, e)
 not_read_fault false false false false e = omega (arith, e)
 
 -- a reading fault is due only where the source's count of faults rose
-pub read_fault_rose : (command : Option Command) (input : Change) (due : Status) (output : List ℕ)
-    → Due command input due output → due ≡ status.ReadFault
+pub read_fault_rose : (command : Option Command) (input : Change) (disk : DiskChange) (due : Status) (output : List ℕ)
+    → Due command input disk due output → due ≡ status.ReadFault
     → Rose input.faults_before input.faults_after
-read_fault_rose None input due output is e = absurd (omega (arith, ap number_of is.status, ap number_of e))
-read_fault_rose (Some (Step run)) input due output (inl failed) e = failed.fault
-read_fault_rose (Some (Step run)) input due output (inr read) e = elim read.trace [
+read_fault_rose None input disk due output is e = absurd (omega (arith, ap number_of is.status, ap number_of e))
+read_fault_rose (Some (Step run)) input disk due output (inl failed) e = failed.fault
+read_fault_rose (Some (Step run)) input disk due output (inr read) e = elim read.trace [
   | inl refused ↦ absurd (omega (arith, ap number_of refused.status, ap number_of e))
   | inr ran ↦
       let report = ran.ran.report in
       absurd (not_read_fault (ended is_disk_fault report || halted_by_fault report.halt) (ended is_damaged report) (halted_by_full report.halt)
       (ended is_out_of_heap report) (ap number_of (sym ran.ran.status ∙ e)))
 ]
-read_fault_rose (Some (Gen recipe)) input due output is e = elim is.done [
+read_fault_rose (Some (Gen recipe)) input disk due output is e = elim is.done [
   | inl none ↦ absurd (omega (arith, ap number_of none.status, ap number_of e))
   | inr trace ↦ absurd (omega (arith, ap number_of trace.status, ap number_of e))
 ]
 
 -- a failed write is never due
-pub no_write_fault : (command : Option Command) (input : Change) (due : Status) (output : List ℕ)
-    → Due command input due output → due ≡ status.WriteFault → ⊥
-no_write_fault command input due output is e = subst MayBeDue e (is_due command input due output is)
+pub no_write_fault : (command : Option Command) (input : Change) (disk : DiskChange) (due : Status) (output : List ℕ)
+    → Due command input disk due output → due ≡ status.WriteFault → ⊥
+no_write_fault command input disk due output is e = subst MayBeDue e (is_due command input disk due output is)
+
+-- ---- the disk
+
+-- a refused trace does not use it
+pub refused_trace : (run : Run) (bytes : List ℕ) (disk : DiskChange) (due : Status) (output : List ℕ) (line reason : ℕ)
+    → script_of bytes ≡ Err (line, reason) → IsUnused disk → due ≡ status.Trace → output ≡ refused_text line reason
+    → TraceDue run bytes disk due output
+refused_trace run bytes disk due output line reason bad unused is told = inl (record {
+  line = line;
+  reason = reason;
+  first_bad = bad;
+  disk_stays = unused;
+  status = is;
+  told = told;
+})
+
+-- what decides the status of a report, where it is that of a fault of the disk
+fault_cases : (a b c d e : Bool)
+    → (if a || b then status.DiskFault else if c then status.Damaged else if d then status.DiskFull else if e then status.OutOfHeap else status.Done)
+    ≡ status.DiskFault → (a ≡ true) ⊎ (b ≡ true)
+fault_cases true b c d e is = inl refl
+fault_cases false true c d e is = inr refl
+fault_cases false false true d e is = absurd (omega (arith, ap number_of is))
+fault_cases false false false true e is = absurd (omega (arith, ap number_of is))
+fault_cases false false false false true is = absurd (omega (arith, ap number_of is))
+fault_cases false false false false false is = absurd (omega (arith, ap number_of is))
+
+-- and where it is that of damage
+damage_case : (a b c d : Bool)
+    → (if a then status.DiskFault else if b then status.Damaged else if c then status.DiskFull else if d then status.OutOfHeap else status.Done)
+    ≡ status.Damaged → b ≡ true
+damage_case true b c d is = absurd (omega (arith, ap number_of is))
+damage_case false true c d is = refl
+damage_case false false true d is = absurd (omega (arith, ap number_of is))
+damage_case false false false true is = absurd (omega (arith, ap number_of is))
+damage_case false false false false is = absurd (omega (arith, ap number_of is))
+
+-- a thread that could not read the disk is counted
+lost_counts : (e : ThreadEnd) → is_disk_fault e ≡ true → is_lost e ≡ true
+lost_counts end.DiskFault is = refl
+lost_counts end.Done is = absurd (cc)
+lost_counts (end.OutOfHeap held need) is = absurd (cc)
+lost_counts (end.Damaged home at word) is = absurd (cc)
+lost_counts end.Halted is = absurd (cc)
+
+-- some thread has an end for which the test holds
+some_ended : (test : ThreadEnd → Bool) (threads : List ThreadReport)
+    → list_any (λ (r : ThreadReport). test r.end) threads ≡ true
+    → (t : ℕ) × ((r : ThreadReport) × (slice_get threads t ≡ Some r) × (test r.end ≡ true))
+some_ended test [] any = absurd (cc)
+some_ended test (r ∷ threads) any = elim (cases_Bool (test r.end)) [
+  | inl here ↦ (0, (r, refl, here))
+  | inr not_here ↦
+      let rest : list_any (λ (x : ThreadReport). test x.end) threads ≡ true =
+      sym (ap (λ (b : Bool). b || list_any (λ (x : ThreadReport). test x.end) threads) not_here) ∙ any in
+      let found = some_ended test threads rest in (suc found.0, found.1)
+]
+
+-- and is counted then
+counted_one : (test : ThreadReport → Bool) (threads : List ThreadReport) (t : ℕ) (r : ThreadReport)
+    → slice_get threads t ≡ Some r → test r ≡ true → 1 ≤ count_by test threads
+counted_one test [] t r at is = absurd (cc)
+counted_one test (x ∷ threads) zero r at is =
+    let f : ThreadReport → ℕ = λ (y : ThreadReport). if test y then 1 else 0 in
+    let one : f x ≡ 1 = ap (λ (b : Bool). if b then 1 else 0) (ap test (same_Some x r at) ∙ is) in
+    omega (arith, one, sum_by-cons f x threads)
+counted_one test (x ∷ threads) (suc t) r at is =
+    let f : ThreadReport → ℕ = λ (y : ThreadReport). if test y then 1 else 0 in
+    let rest : 1 ≤ sum_by f threads = counted_one test threads t r at is in
+    omega (arith, rest, sum_by-cons f x threads)
+
+-- the count rose where some thread was lost
+rose_lost : (lost before after : ℕ) → 1 ≤ lost → CountsLost lost before after → Rose before after
+rose_lost lost before after some (inl counted) = λ below. omega (arith, some, counted, below)
+rose_lost lost before after some (inr full) = λ below. omega (arith, full, below)
+
+halted_so : (h : Option Halt) → halted_by_fault h ≡ true → h ≡ Some halt.DiskFault
+halted_so None is = absurd (cc)
+halted_so (Some (halt.DiskFull at need limit)) is = absurd (cc)
+halted_so (Some halt.DiskFault) is = refl
+
+-- a fault of the disk is due only where one of its counts rose
+pub disk_fault_rose : (command : Option Command) (input : Change) (disk : DiskChange) (due : Status) (output : List ℕ)
+    → Due command input disk due output → due ≡ status.DiskFault
+    → Rose disk.faults_before disk.faults_after ⊎ Rose disk.read_faults_before disk.read_faults_after
+disk_fault_rose None input disk due output is e = absurd (omega (arith, ap number_of is.status, ap number_of e))
+disk_fault_rose (Some (Step run)) input disk due output (inl failed) e =
+    absurd (omega (arith, ap number_of failed.status, ap number_of e))
+disk_fault_rose (Some (Step run)) input disk due output (inr read) e = elim read.trace [
+  | inl refused ↦ absurd (omega (arith, ap number_of refused.status, ap number_of e))
+  | inr ran ↦
+      let report = ran.ran.report in
+      elim (fault_cases (ended is_disk_fault report) (halted_by_fault report.halt) (ended is_damaged report)
+      (halted_by_full report.halt) (ended is_out_of_heap report) (sym ran.ran.status ∙ e)) [
+        | inl ended_so ↦
+            let found = some_ended is_disk_fault report.threads ended_so in
+            inr (rose_lost (lost_in report) disk.read_faults_before disk.read_faults_after
+            (counted_one (λ (r : ThreadReport). is_lost r.end) report.threads found.0 found.1.0 found.1.1
+            (lost_counts found.1.0.end found.1.2)) ran.ran.counts.lost)
+        | inr halted ↦ inl (ran.ran.counts.halted (halted_so report.halt halted))
+      ]
+]
+disk_fault_rose (Some (Gen recipe)) input disk due output is e = elim is.done [
+  | inl none ↦ absurd (omega (arith, ap number_of none.status, ap number_of e))
+  | inr trace ↦ absurd (omega (arith, ap number_of trace.status, ap number_of e))
+]
+
+-- a thread that ended by damage did not read a disk that tells its words
+damaged_untold : (script : Script) (config : Config) (report : Report) (t : ℕ) (e : ThreadEnd)
+    → MayEnd true script config report t e → is_damaged e ≡ true → ⊥
+damaged_untold script config report t end.Done may is = absurd (cc)
+damaged_untold script config report t (end.OutOfHeap held need) may is = absurd (cc)
+damaged_untold script config report t end.DiskFault may is = absurd (cc)
+damaged_untold script config report t (end.Damaged home at word) may is = may.0 refl
+damaged_untold script config report t end.Halted may is = absurd (cc)
+
+-- damage is never due where the disk tells its words
+pub never_damaged : (command : Option Command) (input : Change) (disk : DiskChange) (due : Status) (output : List ℕ)
+    → Due command input disk due output → due ≡ status.Damaged → IsSome disk.before → ⊥
+never_damaged None input disk due output is e tells = omega (arith, ap number_of is.status, ap number_of e)
+never_damaged (Some (Step run)) input disk due output (inl failed) e tells =
+    omega (arith, ap number_of failed.status, ap number_of e)
+never_damaged (Some (Step run)) input disk due output (inr read) e tells = elim read.trace [
+  | inl refused ↦ omega (arith, ap number_of refused.status, ap number_of e)
+  | inr ran ↦
+      let report = ran.ran.report in
+      let found = some_ended is_damaged report.threads (damage_case (ended is_disk_fault report || halted_by_fault report.halt)
+      (ended is_damaged report) (halted_by_full report.halt) (ended is_out_of_heap report) (sym ran.ran.status ∙ e)) in
+      let reported = (ran.ran.has_run true (λ told. tells)).reported in
+      damaged_untold ran.script run.config report found.0 found.1.0.end (reported.ends found.0 found.1.0 found.1.1)
+      found.1.2
+]
+never_damaged (Some (Gen recipe)) input disk due output is e tells = elim is.done [
+  | inl none ↦ omega (arith, ap number_of none.status, ap number_of e)
+  | inr trace ↦ omega (arith, ap number_of trace.status, ap number_of e)
+]

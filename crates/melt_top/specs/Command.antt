@@ -47,10 +47,13 @@ configured config = if nat_le config.mark config.move_ then Some config else Non
 abbrev pub config_of : Given → Option Config
 config_of given = do
   heap ← number_or 16 4194304 65536 (value_of given (codes "heap"))
+  forward ← number_or 1 65536 1024 (value_of given (codes "forward"))
+  disk ← number_or 2 268435456 16777216 (value_of given (codes "disk"))
   mark ← number_or 0 100 50 (value_of given (codes "mark"))
   move_ ← number_or 0 100 80 (value_of given (codes "move"))
   every ← number_or 1 1048576 0 (value_of given (codes "every"))
-  configured (record { heap = heap; forward = 1024; disk = 16777216; mark = mark; move_ = move_; every = every })
+  configured
+      (record { heap = heap; forward = forward; disk = disk; mark = mark; move_ = move_; every = every })
 
 -- which texts of a run are written
 abbrev pub texts_of : Given → Texts

@@ -1,5 +1,6 @@
 -- What a call of the program does, from the words and the bytes read to the bytes written.
-use Rattle.std.specs.Prelude.{◌≡◌, ℕ, ◌+◌, ◌<◌, ◌≤◌, List, [], length, take, Option, None, Some, IfSome, ◌⊎◌, Ok, Err}
+use Rattle.std.specs.Prelude.{◌≡◌, ℕ, ◌+◌, ◌<◌, ◌≤◌, Bool, true, List, [], length, take, Option, None, Some, IfSome}
+use Rattle.std.specs.Prelude.{IsSome, ◌⊎◌, Ok, Err}
 use Rattle.melt_io.specs.Outside.{Rose, TakesFront, Appends}
 use Rattle.melt_model.specs.declared.reports.Report.{Report}
 use Rattle.melt_scion.specs.declared.heap.Heap.{Heap}
@@ -7,7 +8,8 @@ use Rattle.melt_trace.specs.Script.{Script}
 use Rattle.melt_trace.specs.Language.{max_bytes, operation_count, script_of}
 use Rattle.melt_top.specs.Text.{text, usage_text, read_fault_text, refused_text}
 use Rattle.melt_top.specs.Command.{status_of}
-use Rattle.melt_step.specs.Run.{HasRun}
+use Rattle.melt_step.specs.Run.{HasRun, CountsFaults}
+use Rattle.melt_step.specs.Shown.{Shown}
 use Rattle.melt_top.specs.declared.command.Command.{Command}
 use Rattle.melt_top.specs.declared.command.Command.TheVariants.{Gen, Step}
 use Rattle.melt_top.specs.declared.command.Recipe.{Recipe}
@@ -23,6 +25,34 @@ pub record Change : Type 0 where
   pub after : Option (List ℕ)
   pub faults_before : ℕ
   pub faults_after : ℕ
+
+-- What the disk had before a call and after it: its words, where it tells them, the failures of its writes and lends, and
+-- those of the reads of readers that were given back.
+pub record DiskChange : Type 0 where
+  pub before : Option (List ℕ)
+  pub after : Option (List ℕ)
+  pub faults_before : ℕ
+  pub faults_after : ℕ
+  pub read_faults_before : ℕ
+  pub read_faults_after : ℕ
+
+-- what happened to a disk, of which these say its words and its counts
+abbrev pub disk_change : {Disk : Type 0} → (Disk → Option (List ℕ)) → (faults read_faults : Disk → ℕ)
+    → (old new : Disk) → DiskChange
+disk_change image faults read_faults old new = record {
+  before = image old;
+  after = image new;
+  faults_before = faults old;
+  faults_after = faults new;
+  read_faults_before = read_faults old;
+  read_faults_after = read_faults new;
+}
+
+-- the disk was not used
+pub record IsUnused (disk : DiskChange) : Type 0 where
+  pub words : disk.after ≡ disk.before
+  pub faults : disk.faults_after ≡ disk.faults_before
+  pub read_faults : disk.read_faults_after ≡ disk.read_faults_before
 
 -- nothing was read
 pub record IsUntouched (input : Change) : Type 0 where
@@ -42,55 +72,63 @@ pub record ReadAFront (input : Change) : Type 0 where
   pub no_more : length bytes ≤ max_bytes + 1
 
 -- The bytes are no trace, and the output has the first bad line and why it is bad.
-pub record TraceRefused (bytes : List ℕ) (due : Status) (output : List ℕ) : Type 0 where
+pub record TraceRefused (bytes : List ℕ) (disk : DiskChange) (due : Status) (output : List ℕ) : Type 0 where
   pub line : ℕ
   pub reason : ℕ
   pub first_bad : script_of bytes ≡ Err (line, reason)
+  pub disk_stays : IsUnused disk
   pub status : due ≡ status.Trace
   pub told : output ≡ refused_text line reason
 
--- The output is the text of a report of a run of the script, whose replies are those of one legal history: the one that
--- the report stores, and of which each entry is written where that is asked. The run left a heap that stands for this
--- history.
-pub record RunDue (script : Script) (run : Run) (due : Status) (output : List ℕ) : Type 0 where
+-- The output is the text of a report of a run of the script. Where the disk tells its words, the replies are those of one
+-- legal history: the one that the report stores, and of which each entry is written where that is asked; and what the
+-- run left of its heap stands for this history, over the words that the disk has then. The disk's counts tell of each
+-- thread that could not read it, and of a run that it halted by a fault.
+pub record RunDue (script : Script) (run : Run) (disk : DiskChange) (due : Status) (output : List ℕ) : Type 0 where
   pub report : Report
   pub heap : Option Heap
-  pub has_run : HasRun script run.config report heap
+  pub shown : Shown
+  pub has_run : (told : Bool) → (told ≡ true → IsSome disk.before)
+      → HasRun told script run.config shown report heap
+  pub shows : shown.image ≡ disk.after
+  pub counts : CountsFaults report disk.faults_before disk.faults_after disk.read_faults_before disk.read_faults_after
   pub status : due ≡ status_of report
   pub told : output ≡ text (record { report = report; texts = run.texts })
 
 -- the bytes are a trace, and it was run
-pub record TraceRan (run : Run) (bytes : List ℕ) (due : Status) (output : List ℕ) : Type 0 where
+pub record TraceRan (run : Run) (bytes : List ℕ) (disk : DiskChange) (due : Status) (output : List ℕ) : Type 0 where
   pub script : Script
   pub says : script_of bytes ≡ Ok script
-  pub ran : RunDue script run due output
+  pub ran : RunDue script run disk due output
 
 -- what is due for the bytes of a trace
-abbrev pub TraceDue : Run → List ℕ → Status → List ℕ → Type 0
-TraceDue run bytes due output = TraceRefused bytes due output ⊎ TraceRan run bytes due output
+abbrev pub TraceDue : Run → List ℕ → DiskChange → Status → List ℕ → Type 0
+TraceDue run bytes disk due output = TraceRefused bytes disk due output ⊎ TraceRan run bytes disk due output
 
 -- the reading failed, behind these bytes
-pub record CouldNotRead (input : Change) (due : Status) (output : List ℕ) : Type 0 where
+pub record CouldNotRead (input : Change) (disk : DiskChange) (due : Status) (output : List ℕ) : Type 0 where
   pub bytes : List ℕ
   pub front : TakesFront input.before bytes input.after
   pub no_more : length bytes ≤ max_bytes + 1
   pub fault : Rose input.faults_before input.faults_after
+  pub disk_stays : IsUnused disk
   pub status : due ≡ status.ReadFault
   pub told : output ≡ read_fault_text
 
 -- the input was read
-pub record CouldRead (run : Run) (input : Change) (due : Status) (output : List ℕ) : Type 0 where
+pub record CouldRead (run : Run) (input : Change) (disk : DiskChange) (due : Status) (output : List ℕ) : Type 0 where
   pub bytes : List ℕ
   pub read : WasRead input bytes
-  pub trace : TraceDue run bytes due output
+  pub trace : TraceDue run bytes disk due output
 
 -- what `step` has to write and to answer
-abbrev pub StepDue : Run → Change → Status → List ℕ → Type 0
-StepDue run input due output = CouldNotRead input due output ⊎ CouldRead run input due output
+abbrev pub StepDue : Run → Change → DiskChange → Status → List ℕ → Type 0
+StepDue run input disk due output = CouldNotRead input disk due output ⊎ CouldRead run input disk due output
 
 -- the words mean nothing: nothing is read
-pub record NotUnderstood (input : Change) (due : Status) (output : List ℕ) : Type 0 where
+pub record NotUnderstood (input : Change) (disk : DiskChange) (due : Status) (output : List ℕ) : Type 0 where
   pub untouched : IsUntouched input
+  pub disk_stays : IsUnused disk
   pub status : due ≡ status.Usage
   pub told : output ≡ usage_text
 
@@ -114,15 +152,17 @@ pub record MadeTrace (recipe : Recipe) (due : Status) (output : List ℕ) : Type
   pub told : output ≡ canonical (made recipe)
 
 -- what `gen` has to write and to answer, and it reads nothing
-pub record GenDue (recipe : Recipe) (input : Change) (due : Status) (output : List ℕ) : Type 0 where
+pub record GenDue (recipe : Recipe) (input : Change) (disk : DiskChange) (due : Status) (output : List ℕ)
+    : Type 0 where
   pub untouched : IsUntouched input
+  pub disk_stays : IsUnused disk
   pub done : MadeNone recipe due output ⊎ MadeTrace recipe due output
 
 -- What a command has to write and to answer.
-abbrev pub Due : Option Command → Change → Status → List ℕ → Type 0
-Due None input due output = NotUnderstood input due output
-Due (Some (Step run)) input due output = StepDue run input due output
-Due (Some (Gen recipe)) input due output = GenDue recipe input due output
+abbrev pub Due : Option Command → Change → DiskChange → Status → List ℕ → Type 0
+Due None input disk due output = NotUnderstood input disk due output
+Due (Some (Step run)) input disk due output = StepDue run input disk due output
+Due (Some (Gen recipe)) input disk due output = GenDue recipe input disk due output
 
 -- the words mean nothing, or a trace that would be too long
 abbrev pub IsRefused : Option Command → Type 0
@@ -137,16 +177,17 @@ ReadAtMost (Some (Step run)) input = ReadAFront input
 ReadAtMost (Some (Gen recipe)) input = IsUntouched input
 
 -- everything that was due was written
-pub record WroteAll (command : Option Command) (input out : Change) (answered : Status) : Type 0 where
+pub record WroteAll (command : Option Command) (input : Change) (disk : DiskChange) (out : Change)
+    (answered : Status) : Type 0 where
   pub output : List ℕ
-  pub due : Due command input answered output
+  pub due : Due command input disk answered output
   pub written : Appends out.before output out.after
 
 -- the writing failed, when a proper front of what was due had been written
-pub record WrotePart (command : Option Command) (input out : Change) : Type 0 where
+pub record WrotePart (command : Option Command) (input : Change) (disk : DiskChange) (out : Change) : Type 0 where
   pub status : Status
   pub output : List ℕ
-  pub due : Due command input status output
+  pub due : Due command input disk status output
   pub count : ℕ
   pub proper : count < length output
   pub written : Appends out.before (take count output) out.after
@@ -158,10 +199,10 @@ pub record GaveUp (command : Option Command) (input out : Change) : Type 0 where
   pub read : ReadAtMost command input
 
 -- What a call did, by the status that it answered.
-abbrev pub Outcome : Option Command → Change → Change → Status → Type 0
-Outcome command input out status.NoMemory = GaveUp command input out
-Outcome command input out status.WriteFault = WrotePart command input out
-Outcome command input out answered = WroteAll command input out answered
+abbrev pub Outcome : Option Command → Change → DiskChange → Change → Status → Type 0
+Outcome command input disk out status.NoMemory = GaveUp command input out
+Outcome command input disk out status.WriteFault = WrotePart command input disk out
+Outcome command input disk out answered = WroteAll command input disk out answered
 
 -- the statuses that a command has today
 abbrev pub IsBuilt : Status → Type 0
@@ -169,11 +210,11 @@ IsBuilt status.Done = Unit {0}
 IsBuilt status.Usage = Unit {0}
 IsBuilt status.Trace = Unit {0}
 IsBuilt status.ReadFault = Unit {0}
-IsBuilt status.DiskFault = ⊥
+IsBuilt status.DiskFault = Unit {0}
 IsBuilt status.OutOfHeap = Unit {0}
-IsBuilt status.DiskFull = ⊥
+IsBuilt status.DiskFull = Unit {0}
 IsBuilt status.WriteFault = Unit {0}
 IsBuilt status.NoMemory = Unit {0}
-IsBuilt status.Damaged = ⊥
+IsBuilt status.Damaged = Unit {0}
 IsBuilt status.BadDump = ⊥
 IsBuilt status.Illegal = ⊥

@@ -20,7 +20,8 @@ use Rattle.melt_top.specs.declared.options.WordsRefusal.TheVariants as refusal
 
 abbrev pub step_names : Names
 step_names = record {
-  options = codes "heap" ∷ codes "mark" ∷ codes "move" ∷ codes "every" ∷ [];
+  options =
+      codes "heap" ∷ codes "forward" ∷ codes "disk" ∷ codes "mark" ∷ codes "move" ∷ codes "every" ∷ [];
   flags = codes "quiet" ∷ codes "table" ∷ codes "log" ∷ [];
 }
 

@@ -22,6 +22,18 @@ const HEAP: Limits = Limits {
     high: 4_194_304,
 };
 
+/// How many forwarding words a heap has.
+const FORWARD: Limits = Limits {
+    low: 1,
+    high: 65_536,
+};
+
+/// The numbers of words that the disk may take.
+const DISK: Limits = Limits {
+    low: 2,
+    high: 268_435_456,
+};
+
 /// Parts of a hundred.
 const PART: Limits = Limits { low: 0, high: 100 };
 
@@ -101,8 +113,8 @@ fn read_config(options: &ArgMatches<'_>) -> Option<Config>
 {
     let config = Config {
         heap: HEAP.read_or(options.get_str("heap"), 65_536)?,
-        forward: 1024,
-        disk: 16_777_216,
+        forward: FORWARD.read_or(options.get_str("forward"), 1_024)?,
+        disk: DISK.read_or(options.get_str("disk"), 16_777_216)?,
         mark: PART.read_or(options.get_str("mark"), 50)?,
         move_: PART.read_or(options.get_str("move"), 80)?,
         every: EVERY.read_or(options.get_str("every"), 0)?,

@@ -9,7 +9,7 @@ mod tests;
 mod text;
 mod top;
 
-use melt_io::{OpenGate, StdSink, StdSource, SteadyDisk};
+use melt_io::{FileDisk, OpenGate, StdSink, StdSource};
 use status::Status;
 use std::alloc::{AllocError, Global};
 use std::process::ExitCode;
@@ -29,9 +29,9 @@ fn words<R: Env + AllocGlobal>(rt: &R) -> Result<Vec<String>, AllocError> {
 fn main(rt: HostRuntime) -> ExitCode {
     let mut input = StdSource::new(rt.stdin());
     let mut out = StdSink::new(rt.stdout());
-    let mut disk = SteadyDisk::new(rt.alloc());
-    let status = match words(&rt) {
-        Ok(words) => melt(
+    // The disk's file is made at the first write, so a run that writes none does not touch it.
+    let status = match (words(&rt), FileDisk::new(rt.alloc(), rt)) {
+        (Ok(words), Ok(mut disk)) => melt(
             &rt,
             rt.alloc(),
             &words,
@@ -40,7 +40,7 @@ fn main(rt: HostRuntime) -> ExitCode {
             &mut disk,
             &OpenGate,
         ),
-        Err(AllocError) => Status::NoMemory,
+        _ => Status::NoMemory,
     };
     ExitCode::from(status.code())
 }

@@ -87,6 +87,8 @@ fn step_options<'a>(alloc: Global) -> Result<Command<'a>, AllocError>
 {
     let parser = Command::new(alloc, "step").disable_help_flag(true);
     let parser = with_option(alloc, parser, "heap")?;
+    let parser = with_option(alloc, parser, "forward")?;
+    let parser = with_option(alloc, parser, "disk")?;
     let parser = with_option(alloc, parser, "mark")?;
     let parser = with_option(alloc, parser, "move")?;
     with_option(alloc, parser, "every")

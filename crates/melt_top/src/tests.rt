@@ -1,9 +1,14 @@
+mod each_fault;
+mod faults;
+mod given;
+
+use crate::command::{Command, Run, command_of};
 use crate::status::{Status, status_for};
 use crate::text::{Texts, report_text};
 use crate::top::melt;
 use melt_io::{MemSink, MemSource, OpenGate, Sink, Source, SteadyDisk, SteadySink, SteadySource};
 use melt_model::{
-    Entries, Halt, Journals, Replies, Reply, Report, ThreadEnd, ThreadReport, ThreadReports,
+    Config, Entries, Halt, Journals, Replies, Reply, Report, ThreadEnd, ThreadReport, ThreadReports,
 };
 use std::alloc::Global;
 use std::process::Abort;
@@ -18,6 +23,14 @@ const REPLIES: Texts = Texts {
 
 const TRACE: &[u8] = b"melt 1\nthreads 1\nglobals 0\nthread 0\nnew 0 1 0\nsame 0 0\ndone\n";
 
+fn strings(alloc: Global, words: &[&str]) -> Result<Vec<String>, Fail> {
+    let mut owned = Vec::new(alloc);
+    for word in words {
+        owned.push(String::from_str(alloc, word)?)?;
+    }
+    Ok(owned)
+}
+
 fn call<R: Threads + Sync + AllocGlobal, S: Source, K: Sink>(
     rt: &R,
     words: &[&str],
@@ -25,10 +38,7 @@ fn call<R: Threads + Sync + AllocGlobal, S: Source, K: Sink>(
     out: &mut K,
 ) -> Result<Status, Fail> {
     let alloc = rt.alloc();
-    let mut owned = Vec::new(alloc);
-    for word in words {
-        owned.push(String::from_str(alloc, word)?)?;
-    }
+    let owned = strings(alloc, words)?;
     let mut disk = SteadyDisk::new(alloc);
     Ok(melt(rt, alloc, &owned, input, out, &mut disk, &OpenGate))
 }
@@ -102,6 +112,63 @@ fn written<R: Threads + Sync + AllocGlobal + Abort>(
     let status = call(rt, words, &mut source, &mut sink)?;
     assert_eq!(rt; status, Status::Done);
     Ok(sink.bytes)
+}
+
+/// What a `step` with these words is given.
+fn configured<R: AllocGlobal>(rt: &R, words: &[&str]) -> Result<Option<Config>, Fail> {
+    let owned = strings(rt.alloc(), words)?;
+    match command_of(rt.alloc(), &owned)? {
+        Some(Command::Step(Run { config, .. })) => Ok(Some(config)),
+        Some(Command::Gen(_)) | None => Ok(None),
+    }
+}
+
+#[test]
+fn each_number_of_a_run_is_its_own_option(rt: HostRuntime) -> Result<(), Fail> {
+    let plain = Config {
+        heap: 65_536,
+        forward: 1_024,
+        disk: 16_777_216,
+        mark: 50,
+        move_: 80,
+        every: 0,
+    };
+    assert_eq!(rt; configured(&rt, &["step"])?, Some(plain));
+    let words = [
+        "step",
+        "--disk=12",
+        "--every",
+        "3",
+        "--forward",
+        "2",
+        "--heap=100",
+        "--mark",
+        "0",
+        "--move=1",
+    ];
+    let given = Config {
+        heap: 100,
+        forward: 2,
+        disk: 12,
+        mark: 0,
+        move_: 1,
+        every: 3,
+    };
+    assert_eq!(rt; configured(&rt, &words)?, Some(given));
+    Ok(())
+}
+
+#[test]
+fn a_run_has_the_least_and_the_largest_disk(rt: HostRuntime) -> Result<(), Fail> {
+    let cases = [
+        ["step", "--disk", "2", "--forward=1"],
+        ["step", "--forward", "65536", "--disk=268435456"],
+    ];
+    for words in cases {
+        let text = b"thread 0\nok\nyes\nend done\n".as_slice();
+        assert_eq!(rt; written(&rt, &words, TRACE)?.as_slice(), text);
+    }
+    Ok(())
 }
 
 #[test]
@@ -279,6 +346,12 @@ fn words_that_mean_nothing_read_nothing(rt: HostRuntime) -> Result<(), Fail> {
         &["step", "--quiet=true"],
         &["step", "--quiet", "true"],
         &["step", "--heap", "--quiet"],
+        &["step", "--forward", "0"],
+        &["step", "--forward=65537"],
+        &["step", "--forward", "1", "--forward", "2"],
+        &["step", "--disk", "1"],
+        &["step", "--disk=268435457"],
+        &["step", "--disk"],
         &["step", "--qui"],
         &["gen", "--quiet"],
         &["gen", "--kind", "tree", "--seed", "7", "--size", "2"],

@@ -1,16 +1,17 @@
 //! The whole program, over any source and any sink.
-ghost use Rattle.std.specs.Prelude.{◌≡◌, ◌⊎◌, map, string_bytes, IfOk, OnErr};
+ghost use Rattle.std.specs.Prelude.{◌≡◌, ◌⊎◌, map, string_bytes, IfOk, IsSome, OnErr};
 ghost use Rattle.melt_io.specs.Outside.{Rose};
 ghost use Rattle.melt_model.specs.Config.{InRanges};
 ghost use Rattle.melt_trace.specs.Grammar.{line};
 ghost use Rattle.melt_top.specs.Command.{HasRanges, meant};
 ghost use Rattle.melt_top.specs.Text.{refused_text};
 ghost use Rattle.melt_top.specs.Headline.{ReadAFront, RunDue, TraceDue, StepDue, MadeNone, MadeTrace, Due, IsRefused};
-ghost use Rattle.melt_top.specs.Headline.{ReadAtMost, Outcome, IsBuilt};
+ghost use Rattle.melt_top.specs.Headline.{ReadAtMost, Outcome, IsBuilt, disk_change};
 
 use crate::command::{Command, Recipe, Run, command_of};
 use crate::status::{Status, status_for};
 use crate::text::report_text;
+use melt_disk::StaleSpace;
 use melt_gen::{GenRefusal, generate};
 use melt_io::{Gate, ReadRefusal, Sink, Source, StaleDisk, read_all, write_all};
 use melt_model::NoMemory;
@@ -44,12 +45,22 @@ impl Answer {
     }
 }
 
-/// What is due for a run of a trace.
-fn run_answer(alloc: Global, run: Run, trace: &Trace) -> Result<Answer, NoMemory>
+/// What is due for a run of a trace, over a disk whose first words it does not read.
+fn run_answer<D: StaleDisk>(
+    alloc: Global,
+    run: Run,
+    trace: &Trace,
+    disk: &mut D,
+) -> Result<Answer, NoMemory>
     requires { InRanges run.config }
-    ensures { IfOk result (λ answer. RunDue trace.now run answer.status answer.text.items) }
+    ensures { IfOk result (λ answer. RunDue trace.now run
+        (disk_change D.image D.faults D.read_faults disk.old disk.new)
+        answer.status answer.text.items) }
 {
-    let (report, _heap) = run_schedule(alloc, trace, run.config)?;
+    let mut space = StaleSpace::new(disk, run.config.disk);
+    let (report, _heap) = run_schedule(alloc, trace, run.config, &mut space)?;
+    // What the run left of the disk is known once the space has handed it back.
+    let _disk = space.into_disk();
     let text = report_text(alloc, &report, run.texts)?;
     Ok(Answer {
         status: status_for(&report),
@@ -58,28 +69,41 @@ fn run_answer(alloc: Global, run: Run, trace: &Trace) -> Result<Answer, NoMemory
 }
 
 /// What is due for the bytes of a trace.
-fn trace_answer(alloc: Global, run: Run, bytes: &[u8]) -> Result<Answer, NoMemory>
+fn trace_answer<D: StaleDisk>(
+    alloc: Global,
+    run: Run,
+    bytes: &[u8],
+    disk: &mut D,
+) -> Result<Answer, NoMemory>
     requires { InRanges run.config }
-    ensures { IfOk result (λ answer. TraceDue run bytes.now answer.status answer.text.items) }
+    ensures { IfOk result (λ answer. TraceDue run bytes.now
+        (disk_change D.image D.faults D.read_faults disk.old disk.new)
+        answer.status answer.text.items) }
 {
     match parse(alloc, bytes) {
-        Ok(trace) => run_answer(alloc, run, &trace),
+        Ok(trace) => run_answer(alloc, run, &trace, disk),
         Err(ParseRefusal::Bad(error)) => Answer::refused(alloc, error),
         Err(ParseRefusal::NoMemory) => Err(NoMemory),
     }
 }
 
 /// What is due for the input of `step`.
-fn step_answer<S: Source>(alloc: Global, run: Run, input: &mut S) -> Result<Answer, NoMemory>
+fn step_answer<S: Source, D: StaleDisk>(
+    alloc: Global,
+    run: Run,
+    input: &mut S,
+    disk: &mut D,
+) -> Result<Answer, NoMemory>
     requires { InRanges run.config }
     ensures due { IfOk result (λ answer. StepDue run
         (record { before = S.left input.old; after = S.left input.new; faults_before = S.faults input.old; faults_after = S.faults input.new })
+        (disk_change D.image D.faults D.read_faults disk.old disk.new)
         answer.status answer.text.items) }
     ensures read { ReadAFront
         (record { before = S.left input.old; after = S.left input.new; faults_before = S.faults input.old; faults_after = S.faults input.new }) }
 {
     match read_all(alloc, input, MAX_BYTES) {
-        Ok(bytes) => trace_answer(alloc, run, &bytes),
+        Ok(bytes) => trace_answer(alloc, run, &bytes, disk),
         Err(ReadRefusal::Fault) => Answer::line(alloc, Status::ReadFault, b"error read", &[]),
         Err(ReadRefusal::TooLong) => Answer::refused(alloc, TraceError::too_long()),
         Err(ReadRefusal::NoMemory) => Err(NoMemory),
@@ -102,16 +126,22 @@ fn gen_answer(alloc: Global, recipe: Recipe) -> Result<Answer, NoMemory>
 }
 
 /// What is due for the words. Only `step` reads.
-fn answer_to<S: Source>(alloc: Global, words: &[String], input: &mut S) -> Result<Answer, NoMemory>
+fn answer_to<S: Source, D: StaleDisk>(
+    alloc: Global,
+    words: &[String],
+    input: &mut S,
+    disk: &mut D,
+) -> Result<Answer, NoMemory>
     ensures due { IfOk result (λ answer. Due (meant (map string_bytes words.now))
         (record { before = S.left input.old; after = S.left input.new; faults_before = S.faults input.old; faults_after = S.faults input.new })
+        (disk_change D.image D.faults D.read_faults disk.old disk.new)
         answer.status answer.text.items) }
     ensures read { OnErr result (ReadAtMost (meant (map string_bytes words.now))
         (record { before = S.left input.old; after = S.left input.new; faults_before = S.faults input.old; faults_after = S.faults input.new })) }
 {
     match command_of(alloc, words)? {
         None => Answer::line(alloc, Status::Usage, b"error usage", &[]),
-        Some(Command::Step(run)) => step_answer(alloc, run, input),
+        Some(Command::Step(run)) => step_answer(alloc, run, input, disk),
         Some(Command::Gen(recipe)) => gen_answer(alloc, recipe),
     }
 }
@@ -124,20 +154,24 @@ pub fn melt<X: Threads + Sync, S: Source, K: Sink, D: StaleDisk, G: Gate + Sync>
     words: &[String],
     input: &mut S,
     out: &mut K,
-    _disk: &mut D,
+    disk: &mut D,
     _gate: &G,
 ) -> Status
     ensures headline { Outcome (meant (map string_bytes words.now))
         (record { before = S.left input.old; after = S.left input.new; faults_before = S.faults input.old; faults_after = S.faults input.new })
+        (disk_change D.image D.faults D.read_faults disk.old disk.new)
         (record { before = K.written out.old; after = K.written out.new; faults_before = K.faults out.old; faults_after = K.faults out.new })
         result }
     // Each answer by itself. Want of memory alone has no cause.
     ensures usage { result ≡ Status.Usage → IsRefused (meant (map string_bytes words.now)) }
     ensures read_fault { result ≡ Status.ReadFault → Rose (S.faults input.old) (S.faults input.new) }
     ensures write_fault { result ≡ Status.WriteFault → Rose (K.faults out.old) (K.faults out.new) }
+    ensures disk_fault { result ≡ Status.DiskFault → Rose (D.faults disk.old) (D.faults disk.new)
+        ⊎ Rose (D.read_faults disk.old) (D.read_faults disk.new) }
+    ensures damaged { result ≡ Status.Damaged → IsSome (D.image disk.old) → ⊥ }
     ensures no_others { IsBuilt result }
 {
-    let Ok(answer) = answer_to(alloc, words, input) else {
+    let Ok(answer) = answer_to(alloc, words, input, disk) else {
         return Status::NoMemory;
     };
     match write_all(out, &answer.text) {

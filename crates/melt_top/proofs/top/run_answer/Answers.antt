@@ -1,0 +1,16 @@
+-- What the run left of the disk is what the disk has once the space has handed it back.
+use Rattle.std.proofs.Common.{rules}
+use Rattle.melt_step.specs.Shown.{shown_by}
+use Rattle.melt_top.proofs.top.run_answer.Goals as goal
+
+pub returns : goal.returns
+returns g c = record {
+  report = c.in_ok-report.report;
+  heap = c.in_ok-report._heap;
+  shown = shown_by g.D.StaleDisk.image c.run_schedule.new.space;
+  has_run = λ told some. c.in_ok-report.ensures.has_run told (λ yes. rw c.new-space.ensures.disk (some yes));
+  shows = search rules;
+  counts = search rules;
+  status = c.status_for.ensures;
+  told = c.in_ok-text.ensures;
+}

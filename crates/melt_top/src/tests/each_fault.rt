@@ -1,0 +1,131 @@
+use super::given::{AGAIN, Flaw, RETURN, STUB, Story, TWO, flawed, run_over};
+use crate::status::Status;
+use melt_io::MemDisk;
+use std::process::Abort;
+use std::test::Fail;
+use std::thread::Threads;
+
+/// More calls of one kind than a story makes of its disk.
+const CALLS: u64 = 64;
+
+const HALTED: &[u8] = b"end halted\nhalt disk-fault\n";
+
+const LOST: &[u8] = b"end disk-fault\n";
+
+/// A kind of calls of a disk.
+#[derive(Clone, Copy)]
+enum Calls {
+    Writes,
+    Lends,
+    /// The reads of the reader of this lend.
+    Reads(u64),
+}
+
+impl Calls {
+    /// The call of this number fails.
+    fn nth(self, number: u64) -> Flaw {
+        match self {
+            Calls::Writes => Flaw::Write(number),
+            Calls::Lends => Flaw::Lend(number),
+            Calls::Reads(lend) => Flaw::Read(lend, number),
+        }
+    }
+
+    /// The last lines of a run in which such a call failed.
+    fn last_lines(self) -> &'static [u8] {
+        match self {
+            Calls::Writes | Calls::Lends => HALTED,
+            Calls::Reads(_) => LOST,
+        }
+    }
+}
+
+/// How many calls of the disk failed.
+fn count_faults(disk: &MemDisk) -> u64 {
+    disk.faults.count().saturating_add(disk.read_faults)
+}
+
+/// Runs a story over a disk of which one call fails, and answers whether it came to that call. It writes what it writes
+/// over a steady disk, or, where the call failed, a front of that and the last lines.
+fn fails<R: Threads + Sync + AllocGlobal + Abort>(
+    rt: &R,
+    story: &Story<'_>,
+    steady: &[u8],
+    calls: Calls,
+    number: u64,
+) -> Result<bool, Fail> {
+    let mut disk = flawed(rt.alloc(), &[calls.nth(number)])?;
+    let (text, status) = run_over(rt, story, &mut disk)?;
+    if count_faults(&disk) == 0 {
+        assert_eq!(rt; text.as_slice(), steady);
+        assert_eq!(rt; status, Status::Done);
+        return Ok(false);
+    }
+    assert_eq!(rt; count_faults(&disk), 1);
+    let front = text.as_slice().strip_suffix(calls.last_lines());
+    assert!(rt; front.is_some_and(|front| steady.starts_with(front)));
+    assert_eq!(rt; status, Status::DiskFault);
+    Ok(true)
+}
+
+/// Lets each call of a kind fail in turn, and answers how many there are.
+fn fail_each<R: Threads + Sync + AllocGlobal + Abort>(
+    rt: &R,
+    story: &Story<'_>,
+    steady: &[u8],
+    calls: Calls,
+) -> Result<u64, Fail> {
+    for number in 1..CALLS {
+        if !fails(rt, story, steady, calls, number)? {
+            return Ok(number - 1);
+        }
+    }
+    Ok(CALLS)
+}
+
+/// Lets each read of each reader fail in turn, and answers how many there are.
+fn fail_each_read<R: Threads + Sync + AllocGlobal + Abort>(
+    rt: &R,
+    story: &Story<'_>,
+    steady: &[u8],
+    lends: u64,
+) -> Result<u64, Fail> {
+    let mut reads = 0u64;
+    for lend in 1..=lends {
+        let more = fail_each(rt, story, steady, Calls::Reads(lend))?;
+        reads = reads.saturating_add(more);
+    }
+    Ok(reads)
+}
+
+/// Lets each call of the disk fail in turn. There are so many writes, lends and reads.
+fn expect_each<R: Threads + Sync + AllocGlobal + Abort>(
+    rt: &R,
+    story: &Story<'_>,
+    wanted: (u64, u64, u64),
+) -> Result<(), Fail> {
+    let mut disk = flawed(rt.alloc(), &[])?;
+    let (steady, status) = run_over(rt, story, &mut disk)?;
+    assert_eq!(rt; status, Status::Done);
+    let text = steady.as_slice();
+    let writes = fail_each(rt, story, text, Calls::Writes)?;
+    let lends = fail_each(rt, story, text, Calls::Lends)?;
+    let reads = fail_each_read(rt, story, text, lends)?;
+    assert_eq!(rt; (disk.writes, disk.lends), (writes, lends));
+    assert_eq!(rt; (writes, lends, reads), wanted);
+    Ok(())
+}
+
+#[test]
+fn each_call_of_a_disk_may_fail(rt: HostRuntime) -> Result<(), Fail> {
+    let cases = [
+        (RETURN, (1, 4, 2)),
+        (STUB, (2, 5, 3)),
+        (AGAIN, (3, 6, 4)),
+        (TWO, (3, 5, 3)),
+    ];
+    for (story, wanted) in &cases {
+        expect_each(&rt, story, *wanted)?;
+    }
+    Ok(())
+}

@@ -1,0 +1,101 @@
+use super::strings;
+use crate::status::Status;
+use crate::top::melt;
+use melt_io::{MemDisk, OpenGate, StaleDisk, SteadySink, SteadySource};
+use std::alloc::Global;
+use std::test::Fail;
+use std::thread::Threads;
+
+/// What a disk in memory does wrong. All numbers count from 1.
+#[derive(Clone, Copy, Debug)]
+pub enum Flaw {
+    Write(u64),
+    Lend(u64),
+    /// A read of the reader of a lend.
+    Read(u64, u64),
+    /// What the reader of a lend gives at a place instead of the word there.
+    Lie(u64, u32, u64),
+}
+
+/// A trace, and the words that run it.
+#[derive(Clone, Copy)]
+pub struct Story<'a> {
+    pub words: &'a [&'a str],
+    pub trace: &'a [u8],
+}
+
+/// Adds a flaw to a disk.
+fn add_flaw(disk: &mut MemDisk, flaw: Flaw) -> Result<(), Fail> {
+    match flaw {
+        Flaw::Write(number) => disk.fail_writes.push(number)?,
+        Flaw::Lend(number) => disk.fail_lends.push(number)?,
+        Flaw::Read(lend, number) => disk.fail_reads.push((lend, number))?,
+        Flaw::Lie(lend, place, word) => disk.lies.push((lend, place, word))?,
+    }
+    Ok(())
+}
+
+/// A disk in memory with flaws.
+pub fn flawed(alloc: Global, flaws: &[Flaw]) -> Result<MemDisk, Fail> {
+    let mut disk = MemDisk::new(alloc);
+    for flaw in flaws {
+        add_flaw(&mut disk, *flaw)?;
+    }
+    Ok(disk)
+}
+
+/// Runs a story over a disk, and answers what it wrote and how it ended.
+pub fn run_over<R: Threads + Sync + AllocGlobal, D: StaleDisk>(
+    rt: &R,
+    story: &Story<'_>,
+    disk: &mut D,
+) -> Result<(Vec<u8>, Status), Fail> {
+    let alloc = rt.alloc();
+    let words = strings(alloc, story.words)?;
+    let mut source = SteadySource::new(story.trace.to_vec(alloc)?);
+    let mut sink = SteadySink::new(alloc);
+    let status = melt(rt, alloc, &words, &mut source, &mut sink, disk, &OpenGate);
+    Ok((sink.bytes, status))
+}
+
+/// The words of a run over 16 words in which objects leave at the third collection.
+pub const LEAVING: [&str; 7] = ["step", "--heap", "16", "--mark", "0", "--move", "0"];
+
+/// An object leaves at the third collection, and comes back with its number.
+pub const RETURN: Story<'static> = Story {
+    words: &LEAVING,
+    trace: b"melt 1\nthreads 1\nglobals 1\nthread 0\nnew 0 0 1\nput 0 0 7\ngstore 0 0\ndrop 0\n\
+        collect\ncollect\ncollect\ngload 0 0\nget 0 0\ndone\n",
+};
+
+/// An object comes back, and its home becomes a Stub.
+pub const STUB: Story<'static> = Story {
+    words: &LEAVING,
+    trace: b"melt 1\nthreads 1\nglobals 2\nthread 0\nnew 0 0 1\nput 0 0 9\ngstore 0 0\ngstore 1 0\ndrop 0\n\
+        collect\ncollect\ncollect\ngload 0 0\ncollect\ngload 1 1\nsame 0 1\ndone\n",
+};
+
+/// An object leaves twice, and comes back by each of its globals.
+pub const AGAIN: Story<'static> = Story {
+    words: &LEAVING,
+    trace: b"melt 1\nthreads 1\nglobals 3\nthread 0\nnew 0 0 1\nput 0 0 9\ngstore 0 0\ngstore 1 0\ngstore 2 0\ndrop 0\n\
+        collect\ncollect\ncollect\ngload 0 0\nput 0 0 10\ndrop 0\ncollect\ncollect\n\
+        gload 0 2\nget 0 0\ngload 1 1\nsame 0 1\ndone\n",
+};
+
+/// Two objects come back where there is one forwarding word: a collection comes between.
+pub const TWO: Story<'static> = Story {
+    words: &[
+        "step",
+        "--heap",
+        "16",
+        "--forward",
+        "1",
+        "--mark",
+        "0",
+        "--move",
+        "0",
+    ],
+    trace: b"melt 1\nthreads 1\nglobals 2\nthread 0\nnew 0 0 0\ngstore 0 0\nnew 0 0 1\ngstore 1 0\ndrop 0\n\
+        collect\ncollect\ncollect\ngload 0 0\ngload 1 1\ndone\n",
+};
