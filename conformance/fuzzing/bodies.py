@@ -52,10 +52,10 @@ def write_cases(folder, given, numbers):
     """Writes traces as `rt try --cases` wants them; answers the status that each has."""
     wanted = {}
     for number in numbers:
-        words, data = call_of(given.seed, number, given.kind, given.parts)
+        words, data = call_of(given.seed, number, given.kind)
         if len(data) > LARGEST_CASE or any(not word or "\n" in word for word in words):
             continue
-        status, output = answer(words, lambda: data, given.parts)
+        status, output = answer(words, lambda: data)
         name = f"t{number:05}"
         (folder / name).write_bytes(data)
         (folder / f"{name}.args").write_text("".join(word + "\n" for word in words))

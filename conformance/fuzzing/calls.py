@@ -6,7 +6,7 @@ from fuzzing import moving
 from fuzzing.damage import CHANGES, SELDOM
 from fuzzing.traces import KINDS
 from modelling.traces import LARGEST_INPUT, Refusal, operations_in, script_of
-from modelling.words import FLAGS, MOVING, TEXTS
+from modelling.words import FLAGS, STEP_RANGES
 
 MOST_OPERATIONS = 3_000   # a trace with more is not run: the model is slow
 MADE = ("list", "queue", "table", "tree")
@@ -24,6 +24,13 @@ def ordered_words(rng, given):
     return ["step", *itertools.chain.from_iterable((f"--{name}", str(value)) for name, value in pairs)]
 
 
+def with_sizes(rng, given):
+    """The same options, now and then with a number of forwarding words and of words of the disk."""
+    ranges = {name: STEP_RANGES[name] for name in ("forward", "disk")}
+    sizes = {name: rng.choice([low, high, rng.randint(low, high)]) for name, (low, high) in ranges.items()}
+    return {**given, **{name: size for name, size in sizes.items() if rng.random() < 0.1}}
+
+
 def with_flags(rng, words):
     """The same words with flags among them: the table and the log tell most, a sum of replies least."""
     flags = [f"--{flag}" for flag, part in zip(FLAGS, (0.15, 0.7, 0.5)) if rng.random() < part]
@@ -31,27 +38,26 @@ def with_flags(rng, words):
     return words[:1] + flags + words[1:] if rng.random() < 0.5 else words + flags
 
 
-def wrong_words(rng, words, parts):
+def wrong_words(rng, words):
     """The words of a call with one of them changed."""
     words = list(words)
     words += rng.choice([[], ["--heap", "64"], ["--every", "2"], ["--mark", "0", "--move", "0"]])
     change = rng.randrange(6)
     at = rng.randrange(len(words))
-    names = ["--heap", "--mark", "--move", "--every"]
-    if parts:
-        names += ["--forward", "--disk", "--quiet", "--table", "--log"]
+    texts = ["--forward", "--disk", "--quiet", "--table", "--log"]
+    names = ["--heap", "--mark", "--move", "--every", *texts]
     if change == 0:
         words[at] = rng.choice(["step", "--help", "-h", "--", "--heap", "--mark", "--move", "--every", "--Heap", "--disk", "",
-                                "--heap=64", "16", "heap", "run", *names[4:]])
+                                "--heap=64", "16", "heap", "run", *texts])
     elif change == 1:
         words.pop(at)
     elif change == 2:
-        words.insert(at, rng.choice(["--heap", "16", "--every", "--", "step", *names[4:]]))
+        words.insert(at, rng.choice(["--heap", "16", "--every", "--", "step", *texts]))
     else:
         name = rng.choice(names)
         words += [name, rng.choice(["15", "16", "17", "0", "1", "49", "50", "51", "79", "80", "81", "99", "100", "101", "1048576", "1048577",
                                     "4194304", "4194305", "4294967297", "18446744073709551616", "016", "+16", "-1", "1e3",
-                                    "", " 16", "16 ", "\u0661", *(["2", "65536", "65537", "268435456", "268435457"] if parts else [])])]
+                                    "", " 16", "16 ", "\u0661", "2", "65536", "65537", "268435456", "268435457"])]
     return words
 
 
@@ -83,24 +89,25 @@ def loosened(rng, lines):
     return out
 
 
-def sound(rng, parts):
-    """A trace that is one: its words and its bytes."""
-    if MOVING in parts:
+def sound(rng):
+    """A trace that is one: its words and its bytes. In half of them objects are to move to the disk and come back."""
+    if rng.random() < 0.5:
         lines, given = moving.trace(rng)
     else:
         lines, given = rng.choice(KINDS)(rng)
+        given = with_sizes(rng, given)
     if rng.random() < 0.15:
         lines = loosened(rng, lines)
     data = "\n".join(lines).encode("latin-1")
     words, data = ordered_words(rng, given), data if rng.random() < 0.05 else data + b"\n"
-    return with_flags(rng, words) if TEXTS in parts else words, data
+    return with_flags(rng, words), data
 
 
-def damaged(rng, parts):
+def damaged(rng):
     """A trace with a line or two changed, or a call with a word changed: its words and its bytes."""
-    words, data = sound(rng, parts)
+    words, data = sound(rng)
     if rng.random() < 0.15:
-        return wrong_words(rng, words, parts), data
+        return wrong_words(rng, words), data
     lines = data.decode("latin-1").split("\n")
     last = lines.pop()
     if rng.random() < 0.04:
@@ -113,7 +120,7 @@ def damaged(rng, parts):
     return words, data[:-1 if rng.random() < 0.05 else None].encode("utf-8" if rng.random() < 0.1 else "latin-1")
 
 
-def made(rng, parts):
+def made(rng):
     """A call of `gen`, which reads nothing."""
     return words_of_gen(rng), b""
 
@@ -132,10 +139,10 @@ def is_small(data):
     return sum(map(operations_in, script.programs)) <= MOST_OPERATIONS
 
 
-def call_of(seed, number, kind, parts):
-    """Call number NUMBER of a seed, for a program with these parts: its words and its bytes."""
+def call_of(seed, number, kind):
+    """Call number NUMBER of a seed: its words and its bytes."""
     for turn in itertools.count():
         rng = random.Random(f"{seed} {number} {kind} {turn}")
-        words, data = CALLS[kind][number % len(CALLS[kind])](rng, parts)
+        words, data = CALLS[kind][number % len(CALLS[kind])](rng)
         if is_small(data):
             return words, data

@@ -4,14 +4,14 @@ from itertools import islice
 from modelling.output import DONE, READ_FAULT, TRACE, USAGE, lines_of, status_of, text
 from modelling.running import Run
 from modelling.traces import MOST_OPERATIONS, Refusal, script_of
-from modelling.words import BUILT, Gen, meant
+from modelling.words import Gen, meant
 from scripts import load
 
 
-def answer(words, read, parts=BUILT, say=None):
+def answer(words, read, say=None):
     """The status and the output for words and an input, which is read where it is wanted. Each thing that happens is told to
     `say`, where it is given."""
-    options = meant(words, parts)
+    options = meant(words)
     if options is None:
         return USAGE, text(["error usage"])
     if isinstance(options, Gen):

@@ -190,7 +190,7 @@ class Run:
         if lacking is not None:
             if not collected:
                 self.collect(f"for thread {lacking.number}")
-            (self.serve if self.options.moves else self.serve_without_disk)(lacking)
+            self.serve(lacking)
         if lacking is None or self.calls.stop:
             self.calls.begin()
         for thread in self.threads:
@@ -219,13 +219,6 @@ class Run:
                 return
             self.collect(f"for thread {thread.number} once more", MOVE)
 
-    def serve_without_disk(self, thread):
-        """The same as long as nothing moves: one collection more, and then what is reached counts."""
-        if not self.is_made(thread):
-            entry = self.collect(f"for thread {thread.number} once more", INACTIVE)
-            if not self.is_made(thread):
-                self.end_out_of_heap(thread, entry.live)
-
     def is_made(self, thread):
         """Makes a call alone in a new epoch, from its beginning; whether it was answered, or ended its thread."""
         self.calls.begin()
@@ -252,17 +245,13 @@ class Run:
         thread.finish(f"end out-of-heap {held} {thread.need}")
 
     def collect(self, why, phase=None):
-        """A collection of this phase, or of the planned one, which plans the next; answers its entry."""
-        phase = phase or self.planned
-        if phase is MOVE and not self.options.moves:
-            phase = MARK
-        entry = collect(self.heap, self.disk, self.threads, phase)
+        """A collection of this phase, or of the planned one, which plans the next."""
+        entry = collect(self.heap, self.disk, self.threads, phase or self.planned)
         self.journal.append(entry)
         self.planned = next_phase(entry, self.options)
         if self.say:
             disk = f"; {entry.bodies} Bodies and {entry.stubs} Stubs, the disk ends before word {entry.end}" if entry.end > 1 else ""
-            self.say(f"       collection {why}: {phase}; {entry.live} words in use, {entry.held} held{disk}; the next is {self.planned}")
-        return entry
+            self.say(f"       collection {why}: {entry.phase}; {entry.live} words in use, {entry.held} held{disk}; the next is {self.planned}")
 
     def tell(self, thread, text):
         if self.say:

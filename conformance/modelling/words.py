@@ -4,12 +4,6 @@ from typing import NamedTuple, Optional
 
 from modelling.traces import LARGEST_NUMBER, number_of
 
-# Parts that the model had before the program: objects that move to a disk; and other texts than replies.
-MOVING, TEXTS = "moving", "texts"
-PARTS = (MOVING, TEXTS)
-# Those that the program has by now.
-BUILT = frozenset({TEXTS})
-
 
 @dataclass
 class Step:
@@ -23,7 +17,6 @@ class Step:
     quiet: bool = False
     table: bool = False
     log: bool = False
-    moves: bool = False   # whether objects move at all
 
 
 class Gen(NamedTuple):
@@ -34,27 +27,26 @@ class Gen(NamedTuple):
     threads: int
 
 
-STEP_RANGES = {"heap": (16, 4_194_304), "mark": (0, 100), "move": (0, 100), "every": (1, 1_048_576)}
-MOVING_RANGES = {"forward": (1, 65_536), "disk": (2, 268_435_456)}
+STEP_RANGES = {"heap": (16, 4_194_304), "forward": (1, 65_536), "disk": (2, 268_435_456), "mark": (0, 100), "move": (0, 100),
+               "every": (1, 1_048_576)}
 GEN_RANGES = {"seed": (0, LARGEST_NUMBER), "size": (1, 100_000), "threads": (1, 8)}
 FLAGS = ("quiet", "table", "log")
 KINDS = ("list", "queue", "table", "tree")
 
 
-def meant(words, parts=BUILT):
-    """What the words mean to a program with these parts, or None where they mean nothing."""
+def meant(words):
+    """What the words mean, or None where they mean nothing."""
     if words[:1] == ["step"]:
-        return step_of(words[1:], parts)
+        return step_of(words[1:])
     return gen_of(words[1:]) if words[:1] == ["gen"] else None
 
 
-def step_of(words, parts):
-    ranges = {**STEP_RANGES, **(MOVING_RANGES if MOVING in parts else {})}
-    given = given_by(words, ranges, FLAGS if TEXTS in parts else ())
-    given = given and numbers_in(given, ranges)
+def step_of(words):
+    given = given_by(words, STEP_RANGES, FLAGS)
+    given = given and numbers_in(given, STEP_RANGES)
     if given is None:
         return None
-    step = Step(**given, moves=MOVING in parts)
+    step = Step(**given)
     return step if step.mark <= step.move else None
 
 

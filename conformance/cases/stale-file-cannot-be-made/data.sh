@@ -1,0 +1,1 @@
+ln -s missing/melt.stale melt.stale
