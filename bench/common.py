@@ -1,9 +1,11 @@
-"""What bench/gen, bench/flags and bench/start share: the program, the largest traces, and how a process is measured."""
+"""What bench/gen, bench/flags, bench/start, bench/leak, bench/reload and bench/move share: the program, the largest traces, and how a
+process is measured."""
 import bisect
 import os
 import pathlib
 import re
 import shutil
+import statistics
 import subprocess
 import sys
 import tempfile
@@ -42,15 +44,15 @@ def compiled(source, folder):
     return str(program)
 
 
-def run(words, given=subprocess.DEVNULL, into=subprocess.DEVNULL):
-    """Runs a process once, with its input from a file and its output into one. Answers what it took."""
+def run(words, given=subprocess.DEVNULL, into=subprocess.DEVNULL, folder=None):
+    """Runs a process once, with its input from a file and its output into one, in this folder. Answers what it took."""
     if given != subprocess.DEVNULL:
         given.seek(0)
     if into != subprocess.DEVNULL:
         into.seek(0)
         into.truncate()
     begun = time.perf_counter()
-    child = subprocess.Popen(words, stdin=given, stdout=into)
+    child = subprocess.Popen(words, stdin=given, stdout=into, cwd=folder)
     _, status, usage = os.wait4(child.pid, 0)
     seconds = time.perf_counter() - begun
     child.returncode = os.waitstatus_to_exitcode(status)
@@ -59,12 +61,12 @@ def run(words, given=subprocess.DEVNULL, into=subprocess.DEVNULL):
     return Cost(seconds, usage.ru_utime + usage.ru_stime)
 
 
-def peak(words, given=subprocess.DEVNULL, into=subprocess.DEVNULL):
+def peak(words, given=subprocess.DEVNULL, into=subprocess.DEVNULL, folder=None):
     """The peak of memory in MiB, or None where GNU time is missing."""
     if not os.access(MEASURE, os.X_OK):
         return None
     with tempfile.NamedTemporaryFile() as told:
-        run([MEASURE, "-f", "%M", "-o", told.name, *words], given, into)
+        run([MEASURE, "-f", "%M", "-o", told.name, *words], given, into, folder)
         return int(told.read().split()[-1]) / 1024
 
 
@@ -72,15 +74,29 @@ def instructions(words, given=subprocess.DEVNULL):
     """How many instructions a process takes outside the system, or None where valgrind is missing."""
     if shutil.which("valgrind") is None:
         return None
-    with tempfile.NamedTemporaryFile("r") as told:
+    with tempfile.NamedTemporaryFile("r") as told, tempfile.TemporaryDirectory() as folder:
         run(["valgrind", "--tool=cachegrind", "--cache-sim=no", "--cachegrind-out-file=/dev/null",
-             f"--log-file={told.name}", *words], given)
+             f"--log-file={told.name}", *words], given, folder=folder)
         return int(re.search(r"I +refs: +([\d,]+)", told.read())[1].replace(",", ""))
 
 
 def least(costs):
     """The best time of each sort."""
     return Cost(*map(min, zip(*costs)))
+
+
+def processor(words, given=subprocess.DEVNULL):
+    """The time of the processor that one run takes, in a new folder."""
+    with tempfile.TemporaryDirectory() as folder:
+        return run(words, given, folder=folder).processor
+
+
+def more(longer, shorter, repeats):
+    """How much more the first call answers than the second, and how far that is known: the median of the differences of so many
+    pairs, and half the way between their quartiles."""
+    differences = sorted(longer() - shorter() for _ in range(repeats))
+    low, median, high = statistics.quantiles(differences, n=4)
+    return median, (high - low) / 2
 
 
 def gen(program, kind, seed, size, threads):
@@ -96,5 +112,5 @@ def largest(program, kind, seed, threads):
 
 
 def shown(number, form):
-    """The number in this form, or a dash where it is not known."""
-    return "-" if number is None else format(number, form)
+    """The number in this form, or a dash as wide where it is not known."""
+    return format("-", form.split(".")[0].rstrip("d")) if number is None else format(number, form)
