@@ -57,7 +57,7 @@ pub claimed_at : (v : View) (t address stored dst : ℕ) (c : Call) (shape : Sha
 claimed_at v t address stored dst c shape at stage = ap claimed_in at ∙ ap (λ (g : Stage). (region_of g).words) stage
 
 -- whatever is in use was made
-in_use_made : (disk : OnDisk) (v : View) (n : ℕ) → Standing true disk v → InUse (maps v) n → n < makes v.log
+pub in_use_made : (disk : OnDisk) (v : View) (n : ℕ) → Standing true disk v → InUse (maps v) n → n < makes v.log
 in_use_made disk v n s is = named_made v.log (maps v) (state disk v) is.0 n s.holds.formed (s.holds.tells refl) is.1
 
 -- the words of objects that were made stay when the history grows
@@ -66,14 +66,14 @@ words_stay h e n below = ap (λ (z : Option ModelShape). option_map_or (λ (x : 
     (sym (shape-append h (e ∷ []) n below))
 
 -- how many words the object that the entry made takes
-made_words : (h : List Entry) (e : Entry) (refs nums : ℕ) → e.act ≡ Make refs nums
+pub new_words : (h : List Entry) (e : Entry) (refs nums : ℕ) → e.act ≡ Make refs nums
     → words_of (h ++ e ∷ []) (makes h) ≡ 2 + refs + nums
-made_words h e refs nums act =
+new_words h e refs nums act =
     ap (λ (z : Option ModelShape). option_map_or (λ (x : ModelShape). 2 + x.refs + x.nums) z 0)
     (made_shape h e refs nums act)
 
 -- the words of what is in use, by the history with one entry more
-in_use_later : (disk : OnDisk) (v : View) (e : Entry) → (s : Standing true disk v)
+pub in_use_later : (disk : OnDisk) (v : View) (e : Entry) → (s : Standing true disk v)
     → CostsSum (words_of (v.log ++ e ∷ [])) (InUse (maps v)) (s.counts refl).in_use
 in_use_later disk v e s =
     CostsSum-cost (words_of v.log) (words_of (v.log ++ e ∷ [])) (InUse (maps v)) (s.counts refl).in_use
@@ -200,7 +200,7 @@ Counts_published disk v w t address stored dst c shape e s within at stage named
     counts_entered disk v w t address (makes v.log) shape None s within (record {
       sum = subst (λ (k : List Entry). CostsSum (words_of k) (InUse (maps v)) (s.counts refl).in_use) (sym log)
           (in_use_later disk v e s);
-      cost = ap (λ (k : List Entry). words_of k (makes v.log)) log ∙ made_words v.log e shape.refs shape.nums act;
+      cost = ap (λ (k : List Entry). words_of k (makes v.log)) log ∙ new_words v.log e shape.refs shape.nums act;
       unused = λ is. let less : makes v.log < makes v.log = in_use_made disk v (makes v.log) s is in omega arith;
       unnamed = λ b m. region_free disk v t address stored dst m c shape s at stage b;
       appears = named;

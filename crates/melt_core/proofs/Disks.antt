@@ -283,6 +283,7 @@ weaker tells disk v w t o result is = record {
   others = is.others;
   outcome = weaker_outcome tells disk v w t o result is.outcome;
   clean = is.clean;
+  makes = λ tell stands. is.makes tt stands;
 }
   where
     weaker_outcome : (tells : Type 0) (disk : OnDisk) (v w : View) (t : ℕ) (o : Op) (result : StepResult)

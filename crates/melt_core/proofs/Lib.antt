@@ -14,6 +14,7 @@ pub mod Standing
 pub mod Alive
 pub mod OnDiskCosts
 pub mod Counting
+pub mod WordsMade
 pub mod Plain
 pub mod Asked
 pub mod Words

@@ -33,6 +33,7 @@ as_told_by tells disk v w t o result tell is = record {
   others = is.others;
   outcome = outcome_told tells disk v w t o result tell is.outcome;
   clean = is.clean;
+  makes = λ free stands. is.makes tell stands;
 }
   where
     outcome_told : (tells : Type 0) (disk : OnDisk) (v w : View) (t : ℕ) (o : Op) (result : StepResult) → tells

@@ -62,7 +62,7 @@ same_word space after (suc k) same = ap (λ (words : List ℕ). get_or words k 0
 
 -- all holds as before where only the first free place is another, before which all ends that ended before the old one,
 -- and within the words
-holds_shifts : (told : Bool) (h : List Entry) (m : Maps) (s t : State) → FreeMoves s t t.free
+pub holds_shifts : (told : Bool) (h : List Entry) (m : Maps) (s t : State) → FreeMoves s t t.free
     → ((end : ℕ) → end ≤ s.free → end ≤ s.base.size + 1 → end ≤ t.free) → Holds told h m s → Holds told h m t
 holds_shifts told h m s t moves ends holds =
     holds_same told h h m s t (free_shifts m s t moves ends) (same_history h) holds

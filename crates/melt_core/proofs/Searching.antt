@@ -75,14 +75,14 @@ word_probes disk v search empty another Empty within tells = (within, inr (inl (
 word_probes disk v search empty another Another within tells = (within, inr (inr (tells, refl)))
 
 -- one forwarding word more was read that sends another home
-probed_more : (s : State) (home tried : ℕ) → Probed s home tried → tried < s.base.forwards
+pub probed_more : (s : State) (home tried : ℕ) → Probed s home tried → tried < s.base.forwards
     → SendsAnother (s.forward (probe home s.base.forwards tried)) home → Probed s home (tried + 1)
 probed_more s home tried is within another = record {
   few = omega arith;
   others = below_more _ _ is.others another;
 }
 
-searches_more : (told : Bool) (m : Maps) (s : State) (place : Place) (home tried : ℕ)
+pub searches_more : (told : Bool) (m : Maps) (s : State) (place : Place) (home tried : ℕ)
     → Searches told m s place home tried → tried < s.base.forwards
     → SendsAnother (s.forward (probe home s.base.forwards tried)) home → Searches told m s place home (tried + 1)
 searches_more told m s place home tried is within another = record {

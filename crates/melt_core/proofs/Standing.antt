@@ -1,5 +1,5 @@
 -- What an event of one thread has to show, so that all stands behind it as before.
-use Rattle.std.proofs.Common.{◌≡◌, ◌≢◌, ℕ, ◌<◌, ◌≤◌, ◌⊎◌, inl, inr, List, length, get_or, sym, ◌∙◌, ap, subst, arith}
+use Rattle.std.proofs.Common.{◌≡◌, ◌≢◌, ℕ, ◌<◌, ◌≤◌, ◌⊎◌, inl, inr, List, length, get_or, refl, sym, ◌∙◌, ap, subst, arith}
 use Rattle.std.proofs.Math.ListN.{set, length-set}
 use Rattle.std.proofs.lemmas.Bool.{cases_eq, cases_lt}
 use Rattle.std.proofs.lemmas.List.{get_or-set_same, get_or-set_other, get_or_past}
@@ -27,6 +27,7 @@ use Rattle.melt_core.proofs.Keeping.{event_keeps}
 use Rattle.melt_core.proofs.Staying.{known_stays, hold_stays, held_value_stays}
 use Rattle.melt_core.proofs.Values.{same_values, value_held, may_value}
 use Rattle.melt_core.proofs.Regions.{apart_sym}
+use Rattle.melt_core.proofs.WordsMade.{keeps_made}
 
 -- the buffers are as long as before, and those of the other threads stay
 pub record KeepsRests (v w : View) (t : ℕ) : Type 0 where
@@ -243,6 +244,10 @@ advances_where tells disk v w t o result asks made capacity applies outcome clea
       };
       outcome = outcome;
       clean = clean;
+      makes = λ tell stands.
+          let e : Happens disk true v w t made.mine cleared made.act made.after =
+          made.happens true (λ is. tell) stands in
+          keeps_made disk v w t made.mine cleared made.act stands (e.counts refl) evolves.names e.kept.log e.event;
     }
 
 pub advances : (disk : OnDisk) (v w : View) (t : ℕ) (o : Op) (result : StepResult) → (asks : Asks disk v t o)

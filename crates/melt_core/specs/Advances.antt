@@ -30,6 +30,7 @@ use Rattle.melt_core.specs.Known.{Evolves, IsPlace, IsTagged, word_in}
 use Rattle.melt_core.specs.Stages.{LoadsAt, Applies, change_of, cleared_by, Next, MustPause, events_left, reads_left}
 use Rattle.melt_core.specs.Stages.{Lacks, SearchesOn, ReadsAt}
 use Rattle.melt_core.specs.Changed.{HasRoomForEntry}
+use Rattle.melt_core.specs.Made.{KeepsMade}
 use Rattle.melt_core.specs.Views.{View, maps, state, values_of, value, registers_in, call_of, stage_of, rest_of, Standing}
 
 -- registers and globals that the operation names are there, and the object that it makes is small enough
@@ -194,7 +195,8 @@ LeavesClean disk v w t o Going = Unit {0}
 LeavesClean disk v w t o (Refused refusal) = Unit {0}
 
 -- One event of a thread was made, over a disk: what stood before, told or not, stands after, told only where the words of
--- the disk are told in the event; the shared words changed as that event changes them, and in no other way.
+-- the disk are told in the event; the shared words changed as that event changes them, and in no other way. What it made
+-- is in use.
 pub record AdvancesWhere (tells : Type 0) (disk : OnDisk) (v w : View) (t : ℕ) (o : Op) (result : StepResult)
     : Type 0 where
   pub keeps : (told : Bool) → (told ≡ true → tells) → Standing told disk v → Standing told disk w
@@ -204,6 +206,7 @@ pub record AdvancesWhere (tells : Type 0) (disk : OnDisk) (v w : View) (t : ℕ)
   pub others : KeepsOthers v w t
   pub outcome : Outcome tells disk v w t o result
   pub clean : LeavesClean disk v w t o result
+  pub makes : tells → Standing true disk v → KeepsMade v w
 
 -- in an event that reads nothing of the disk
 abbrev pub AdvancesOver : OnDisk → View → View → ℕ → Op → StepResult → Type 0

@@ -3,6 +3,7 @@ pub mod Known
 pub mod Events
 pub mod Stages
 pub mod Views
+pub mod Made
 pub mod Changed
 pub mod Advances
 pub mod Epochs

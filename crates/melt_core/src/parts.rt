@@ -60,18 +60,6 @@ pub(crate) fn reference(word: u64) -> Ref
     }
 }
 
-/// The word of a clean reference to the object at an address, or of none where the address is 0.
-pub(crate) fn reference_word(address: u32) -> u64
-    requires { address < 2 ^ 30 }
-    ensures { result ≡ 4 * address }
-{
-    if address == 0 {
-        encode_ref(Ref::Null)
-    } else {
-        encode_ref(Ref::Clean(address))
-    }
-}
-
 /// Replaces the word of a global.
 pub(crate) fn set_global_word(globals: &mut Globals, g: u8, word: u64)
     requires { g < length globals.old }

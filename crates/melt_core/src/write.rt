@@ -10,8 +10,9 @@ ghost use Rattle.melt_core.specs.Views.{stage_of, view};
 use crate::answer::StepResult;
 use crate::call::{Access, Place, Stage};
 use crate::machine::Core;
-use crate::parts::{Cell, reference_word, value_at};
+use crate::parts::{Cell, value_at};
 use melt_model::{Act, Op, Reply, Slot, Value};
+use melt_word::held_word;
 
 impl Core {
     /// Writes what a register holds into a slot of an object, or into a global.
@@ -25,7 +26,7 @@ impl Core {
         let address = self.register(thread, src);
         let slot = self.slot_at(place);
         let value = value_at(&self.heap.names, address);
-        self.set_word_in(place, reference_word(address));
+        self.set_word_in(place, held_word(address));
         self.note(thread, Act::Write { slot, value });
         self.set_call(thread, None);
         StepResult::Answered(Reply::Done)

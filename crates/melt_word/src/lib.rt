@@ -9,7 +9,9 @@ pub use header::{
     BadHeader, Header, MAX_PARTS, Shape, cost, decode_header, encode_header, one_header_per_word,
 };
 pub use home::{BadHome, HomeWord, MAX_SCION, decode_home, encode_home, one_home_per_word};
-pub use reference::{BadWord, MAX_ADDRESS, Ref, decode_ref, encode_ref, one_ref_per_word};
+pub use reference::{
+    BadWord, MAX_ADDRESS, Ref, decode_ref, encode_ref, held_word, one_ref_per_word,
+};
 
 #[cfg(test)]
 mod tests;

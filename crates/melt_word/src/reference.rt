@@ -68,6 +68,19 @@ pub fn encode_ref(reference: Ref) -> u64
     }
 }
 
+/// The word of what a register holds: a clean reference to the object at an address below 2^30, or none where the address
+/// is 0.
+pub fn held_word(address: u32) -> u64
+    requires { address < 2 ^ 30 }
+    ensures { result ≡ 4 * address }
+{
+    if address == 0 {
+        encode_ref(Ref::Null)
+    } else {
+        encode_ref(Ref::Clean(address))
+    }
+}
+
 /// The reference that a word holds.
 pub fn decode_ref(word: u64) -> Result<Ref, BadWord>
     ensures ok { IfOk result (λ r. IsRef r × (word ≡ ref_word r)) }

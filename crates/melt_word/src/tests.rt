@@ -19,6 +19,13 @@ fn words_of_references(rt: HostRuntime) {
 }
 
 #[test]
+fn words_of_registers(rt: HostRuntime) {
+    assert_eq!(rt; held_word(0), 0);
+    assert_eq!(rt; held_word(1), 4);
+    assert_eq!(rt; held_word(MAX_ADDRESS), 4_294_967_292);
+}
+
+#[test]
 fn words_of_headers(rt: HostRuntime) {
     let shape = Shape { refs: 0, nums: 1 };
     assert_eq!(rt; cost(shape), 3);

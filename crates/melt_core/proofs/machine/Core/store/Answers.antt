@@ -20,8 +20,8 @@ returns c = record {
       let v : View = view c.args.self.now in
       let m : View = view c.set_word_in.new.self in
       let only : OnlyWords v m = c.set_word_in.ensures.only in
-      let changes = only_place disk v m c.args.place (4 * c.register-address.result) c.reference_word.result only
-      c.reference_word.ensures (c.set_word_in.ensures.changes disk) in
+      let changes = only_place disk v m c.args.place (4 * c.register-address.result) c.held_word.result only
+      c.held_word.ensures (c.set_word_in.ensures.changes disk) in
       subst (λ (w : View). AdvancesOver disk v w c.args.thread c.args.op (Answered reply.Done)) (sym c.set_call.ensures)
       (subst (λ (n : View). AdvancesOver disk v (with_call n c.args.thread None) c.args.thread c.args.op
       (Answered reply.Done))
