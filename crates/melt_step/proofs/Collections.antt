@@ -1,5 +1,5 @@
 -- The collections for which threads wait: each goes on behind its own.
-use Rattle.std.proofs.Common.{◌≡◌, ℕ, ◌+◌, ◌<◌, ◌≤◌, suc, true, false, ◌⊎◌, List, [], ◌∷◌, ◌++◌, length, get_or}
+use Rattle.std.proofs.Common.{◌≡◌, ℕ, ◌+◌, ◌*◌, ◌<◌, ◌≤◌, suc, true, false, ◌⊎◌, List, [], ◌∷◌, ◌++◌, length, get_or}
 use Rattle.std.proofs.Common.{length-append, replicate, refl, sym, ◌∙◌, ap, subst, arith, inl, inr}
 use Rattle.std.proofs.Math.ListN.{set}
 use Rattle.std.proofs.lemmas.List.{append-nil}
@@ -23,19 +23,24 @@ use Rattle.melt_step.specs.declared.run.Run.{Run}
 use Rattle.melt_step.specs.declared.thread.ThreadState.{ThreadState}
 use Rattle.melt_step.specs.declared.thread.Mode.{Mode}
 use Rattle.melt_step.specs.declared.thread.Mode.TheVariants.{Running, Due, Silent, Collecting, Asked, Lacking, Ended}
-use Rattle.melt_step.specs.Run.{collections}
-use Rattle.melt_step.specs.Journals.{IsTight}
-use Rattle.melt_step.specs.Safepoints.{CollectorStands, KeepsRun, MakesCollection, MakesFor, RunStands, last_of}
+use Rattle.melt_step.specs.Counts.{CountsCollections}
+use Rattle.melt_step.specs.Journals.{IsTight, Planned}
+use Rattle.melt_step.specs.Safepoints.{CollectorStands, KeepsRun, MakesCollection, MakesFor, RunStands, StandsBut}
+use Rattle.melt_step.specs.Safepoints.{MakesPlanned, journal_of, last_of}
+use Rattle.melt_step.specs.Made.{MadeSoFar}
 use Rattle.melt_step.specs.Shown.{Shown}
 use Rattle.melt_step.specs.Threads.{CollectedFor, DropsIfEnded, DueBy, FitsMode, ForCollection, GoesOn}
 use Rattle.melt_step.specs.Threads.{HaveCuts, IsEnded, IsPaused, MayGo, TableStands, TakesReply, ThreadStep, ThreadTold}
-use Rattle.melt_step.specs.Threads.{jobs, jobs_of, left, lost, losses, owes, owes_silent, owing, replies_of, with_first}
-use Rattle.melt_step.proofs.Counting.{Adds, adds_silent, collections_grow, losses_same, told_lost}
+use Rattle.melt_step.specs.Threads.{collections_for, jobs, jobs_of, left, lost, losses, owes, owes_silent, with_first}
+use Rattle.melt_step.proofs.Counting.{Adds, Spare, adds_silent, adds_told, counts_taken, losses_same, open_over}
+use Rattle.melt_step.proofs.Counting.{told_lost}
 use Rattle.melt_step.proofs.Cuts.{HaveCuts_later}
-use Rattle.melt_step.proofs.Journals.{just_behind, spare_collected, stands_collected}
+use Rattle.melt_step.proofs.Journals.{collected_over, collected_table, just_behind, may_owe, spare_collected}
+use Rattle.melt_step.proofs.Journals.{planned_one, stands_collected}
 use Rattle.melt_step.proofs.Modes.{Table_gone, Table_runs, cuts_mode, dropped_keeps, ends_done, nothing_keeps}
 use Rattle.melt_step.proofs.Tables.{Table_step, Table_untold, table_ready}
 use Rattle.melt_step.proofs.Telling.{later_set}
+use Rattle.melt_step.proofs.WordsMade.{made_same}
 
 -- a thread that has ended has dropped its registers, and else nothing has changed
 drops_cases : (v w : View) (t : ℕ) (mode : Mode) → DropsIfEnded v w t mode → (IsEnded mode × HasDropped v w t)
@@ -54,6 +59,7 @@ pub record SameEpoch (v w : View) : Type 0 where
   pub stop : w.stop ≡ v.stop
   pub forward : w.forward ≡ v.forward
   pub log : w.log ≡ v.log
+  pub names : w.names ≡ v.names
   pub calls : w.calls ≡ v.calls
 
 -- so it is where a thread drops its registers
@@ -64,10 +70,11 @@ drops_same v w t mode drops = elim (drops_cases v w t mode drops) [
     stop = ap (λ (x : View). x.stop) gone.1.only;
     forward = ap (λ (x : View). x.forward) gone.1.only;
     log = ap (λ (x : View). x.log) gone.1.only;
+    names = ap (λ (x : View). x.names) gone.1.only;
     calls = ap (λ (x : View). x.calls) gone.1.only;
   }
   | inr goes ↦ subst (SameEpoch v) (sym goes.1)
-      (record { free = refl; stop = refl; forward = refl; log = refl; calls = refl })
+      (record { free = refl; stop = refl; forward = refl; log = refl; names = refl; calls = refl })
 ]
 
 -- no call is in flight in it
@@ -75,17 +82,17 @@ pub same_quiet : (v w : View) → SameEpoch v w → IsQuiet v → IsQuiet w
 same_quiet v w same quiet = λ u. ap (λ xs. get_or xs u None) same.calls ∙ quiet u
 
 -- the next operation of a thread that waits for its own collection is that
-pub collecting_op : (told : Bool) (script : Script) (config : Config) (shown : Shown) (run : Run) (t : ℕ)
-    (s : ThreadState) → RunStands told script config shown run → slice_get run.states.items t ≡ Some s
+pub collecting_op : {unpaid : ℕ} (told : Bool) (script : Script) (config : Config) (shown : Shown) (run : Run) (t : ℕ)
+    (s : ThreadState) → StandsBut unpaid told script config shown run → slice_get run.states.items t ≡ Some s
     → s.mode ≡ Collecting → s.op ≡ Some Collect
-collecting_op told script config shown run t s stands at is =
+collecting_op {unpaid} told script config shown run t s stands at is =
     subst (λ (m : Mode). FitsMode m s.op) is (stands.table.each t s at).fits
 
 -- it has room for the reply
-pub collecting_room : (told : Bool) (script : Script) (config : Config) (shown : Shown) (run : Run) (t : ℕ)
-    (s : ThreadState) → RunStands told script config shown run → slice_get run.states.items t ≡ Some s
+pub collecting_room : {unpaid : ℕ} (told : Bool) (script : Script) (config : Config) (shown : Shown) (run : Run) (t : ℕ)
+    (s : ThreadState) → StandsBut unpaid told script config shown run → slice_get run.states.items t ≡ Some s
     → s.mode ≡ Collecting → length s.replies.items < vec_capacity s.replies
-collecting_room told script config shown run t s stands at is =
+collecting_room {unpaid} told script config shown run t s stands at is =
     (table_ready script config stands.disk (view run.core) run.states.items t s stands.disk.end
     (Table_untold told script config stands.disk (view run.core) run.states.items stands.table) refl at).room
     (subst IsSome (sym (collecting_op told script config shown run t s stands at is)) refl)
@@ -140,25 +147,23 @@ pub record SetsState (mid new : Run) (t : ℕ) (after : ThreadState) : Type 0 wh
   pub every : new.every ≡ mid.every
   pub epoch : SameEpoch (view mid.core) (view new.core)
 
--- so many collections were made that no reply was told of
-abbrev pub Spare : Script → Config → Run → Type 0
-Spare script config run =
-    collections script config (replies_of run.states.items) (length script.programs) + 1
-    ≤ length run.collector.journal.items + owing run.states.items
+-- a collection was made that no reply was told of
+abbrev pub HasSpare : Script → Config → Run → Type 0
+HasSpare script config run = Spare script config run.states.items (length run.collector.journal.items)
 
 -- What is left to show of a run of which one thread changed: that all threads stand, and where the moments and the
 -- number of collections are.
-set_stands : (told : Bool) (script : Script) (config : Config) (shown : Shown) (mid new : Run) (t c : ℕ)
-    (after : ThreadState) → (stands : RunStands told script config shown mid) → SetsState mid new t after
+set_stands : (told : Bool) (script : Script) (config : Config) (shown : Shown) (mid new : Run) (t : ℕ)
+    (after : ThreadState) → (stands : StandsBut 1 told script config shown mid) → SetsState mid new t after
     → TableStands told script config stands.disk (view new.core) (set mid.states.items t after)
     → (told ≡ true → HaveCuts script (view mid.core).log (set mid.states.items t after) config
     mid.collector.journal.items)
-    → Spare script config mid → c ≤ 1 → Adds script config mid.states.items (set mid.states.items t after) c
+    → HasSpare script config mid → Adds script config mid.states.items (set mid.states.items t after) 1 0
     → RunStands told script config shown new
-set_stands told script config shown mid new t c after stands sets table cuts spare one adds =
+set_stands told script config shown mid new t after stands sets table cuts spare adds =
     let states : List ThreadState = set mid.states.items t after in
-    let all : Adds script config mid.states.items new.states.items c =
-    subst (λ (xs : List ThreadState). Adds script config mid.states.items xs c) (sym sets.states) adds in
+    let counts : CountsCollections script config 0 states (length mid.collector.journal.items) =
+    counts_taken script config mid.states.items states (length mid.collector.journal.items) spare adds in
     let journal : List Journal = new.collector.journal.items in
     let same : mid.collector.journal.items ≡ journal = ap (λ (x : Collector). x.journal.items) (sym sets.collector) in
     record {
@@ -172,7 +177,13 @@ set_stands told script config shown mid new t c after stands sets table cuts spa
           subst (λ (xs : List ThreadState). HaveCuts script (view new.core).log xs config journal) (sym sets.states)
           (subst (λ (h : List Entry). HaveCuts script h states config journal) (sym sets.epoch.log)
           (subst (HaveCuts script (view mid.core).log states config) same (cuts is)));
-      collected = omega (arith, all, one, spare, ap length same);
+      made = λ is.
+          subst (MadeSoFar config (view new.core)) same
+          (made_same (config.heap * length mid.collector.journal.items) (view mid.core) (view new.core)
+          sets.epoch.names sets.epoch.log (stands.made is));
+      counts = subst (λ (xs : List ThreadState). CountsCollections script config 0 xs (length journal))
+          (sym sets.states)
+          (subst (λ (js : List Journal). CountsCollections script config 0 states (length js)) same counts);
     }
 
 -- the moments of the collections stay those of a run in which a thread got a reply
@@ -187,7 +198,7 @@ cuts_reply script config log states t s after extra journal at goes grown cuts =
 
 -- the collection that is the next operation of a thread was made, and the thread got its reply
 Run_answered : (told : Bool) (script : Script) (config : Config) (shown : Shown) (mid new : Run) (t : ℕ)
-    (s after : ThreadState) → RunStands told script config shown mid → Spare script config mid
+    (s after : ThreadState) → StandsBut 1 told script config shown mid → HasSpare script config mid
     → IsQuiet (view mid.core) → slice_get mid.states.items t ≡ Some s → s.mode ≡ Collecting
     → TakesReply s after reply.Done → DueBy mid.every s after
     → DropsIfEnded (view mid.core) (view new.core) t after.mode → SetsState mid new t after
@@ -201,13 +212,17 @@ Run_answered told script config shown mid new t s after stands spare quiet at mo
     let step : ThreadStep told stands.disk v w t s after =
     collect_step told stands.disk v w t s after stands.table.stands (quiet t) mode
     (collecting_op told script config shown mid t s stands at mode) takes drops in
-    let grown = collections_grow told script config stands.disk v w states t s after stands.table at step by in
+    let next : s.op ≡ Some Collect = collecting_op told script config shown mid t s stands at mode in
+    let adds : Adds script config states (set states t after) 1 1 =
+    adds_told told script config v states t s after Collect reply.Done (stands.table.each t s at) at stands.table.count
+    by takes (ap (λ (o : Option Op). with_first o s.cursor.operations) next) (ap owes mode) goes in
     let within : stands.disk.end ≤ config.disk =
     subst (λ (n : ℕ). n ≤ config.disk) (sym stands.under.ends) stands.collector.within in
-    set_stands told script config shown mid new t grown.0 after stands sets
+    set_stands told script config shown mid new t after stands sets
     (Table_step told script config stands.disk v w states t s after within stands.table at goes step by)
     (λ is. cuts_reply script config v.log states t s after (reply.Done ∷ []) mid.collector.journal.items at goes
-    takes.replies (stands.cuts is)) spare grown.1 grown.2
+    takes.replies (stands.cuts is)) spare
+    (record { all = adds.all; asked = adds.asked; pays = omega (arith, adds.pays) })
 
 -- all threads stand where one goes on
 Table_goes_on : (told : Bool) (script : Script) (config : Config) (disk : OnDisk) (v w : View)
@@ -237,7 +252,7 @@ goes_on_mode s after on = elim on [
 
 -- the silent collection for which a thread waits was made, and the thread goes on
 Run_goes_on : (told : Bool) (script : Script) (config : Config) (shown : Shown) (mid new : Run) (t : ℕ)
-    (s after : ThreadState) → RunStands told script config shown mid → Spare script config mid
+    (s after : ThreadState) → StandsBut 1 told script config shown mid → HasSpare script config mid
     → IsQuiet (view mid.core) → slice_get mid.states.items t ≡ Some s → s.mode ≡ Silent → GoesOn s after
     → DropsIfEnded (view mid.core) (view new.core) t after.mode → SetsState mid new t after
     → RunStands told script config shown new
@@ -247,14 +262,14 @@ Run_goes_on told script config shown mid new t s after stands spare quiet at mod
     let goes : IsEnded s.mode → ⊥ = λ over. subst IsEnded mode over in
     let by = goes_on_mode s after on in
     let one : owes s.mode ≡ owes by.0 + 1 = let had : owes s.mode ≡ 1 = ap owes mode in omega (arith, had, by.2) in
-    set_stands told script config shown mid new t 1 after stands sets
+    set_stands told script config shown mid new t after stands sets
     (Table_goes_on told script config stands.disk v (view new.core) states t s after stands.table at goes (quiet t) on
     drops)
     (λ is. subst (λ (x : ThreadState). HaveCuts script v.log (set states t x) config mid.collector.journal.items)
     (sym by.1) (cuts_mode script config v.log states t s by.0 mid.collector.journal.items at goes (stands.cuts is)))
-    spare (omega arith)
-    (subst (λ (x : ThreadState). Adds script config states (set states t x) 1) (sym by.1)
-    (adds_silent script config states t s by.0 at stands.table.count one))
+    spare
+    (subst (λ (x : ThreadState). Adds script config states (set states t x) 1 0) (sym by.1)
+    (adds_silent script config states t s by.0 at stands.table.count one (open_over s.mode goes)))
 
 -- How a thread goes on behind the collection for which it waited.
 pub record TakesCollection (every : ℕ) (s after : ThreadState) : Type 0 where
@@ -272,9 +287,16 @@ waits_cases Asked waits = absurd waits
 waits_cases Lacking waits = absurd waits
 waits_cases (Ended e) waits = absurd waits
 
+-- and it has not ended
+own_open : (mode : Mode) → ForCollection mode → IsEnded mode → ⊥
+own_open mode waits ended = elim (waits_cases mode waits) [
+  | inl silent ↦ subst IsEnded silent ended
+  | inr own ↦ subst IsEnded own ended
+]
+
 -- a run stands where the thread goes on
 pub Run_taken : (told : Bool) (script : Script) (config : Config) (shown : Shown) (mid new : Run) (t : ℕ)
-    (s after : ThreadState) → RunStands told script config shown mid → Spare script config mid
+    (s after : ThreadState) → StandsBut 1 told script config shown mid → HasSpare script config mid
     → IsQuiet (view mid.core) → slice_get mid.states.items t ≡ Some s → ForCollection s.mode
     → TakesCollection mid.every s after → DropsIfEnded (view mid.core) (view new.core) t after.mode
     → SetsState mid new t after → RunStands told script config shown new
@@ -417,7 +439,8 @@ keeps_taken shown later old mid new t s after made was drops sets = λ told scri
     let here : slice_get mid.states.items t ≡ Some s =
     ap (λ (xs : List ThreadState). slice_get xs t) made.states ∙ was.at in
     Run_taken told script config later mid new t s after
-    (stands_collected told script config false shown later old mid stands made (never_forced config old.collector))
+    (stands_collected told script config false shown later old mid stands made (never_forced config old.collector)
+    (may_owe 0 old.states.items t s (omega arith) was.at (own_open s.mode was.waits)))
     (spare_collected told script config false shown later old mid stands made) made.collects.quiet here was.waits
     was.takes drops sets
 
@@ -426,19 +449,44 @@ pub collected_thread : (script : Script) (config : Config) (shown later : Shown)
     → RunStands false script config shown old → MakesCollection false shown later old mid
     → t < length old.states.items → t < length (view mid.core).held
 collected_thread script config shown later old mid t stands made below =
-    let behind : RunStands false script config later mid =
-    stands_collected false script config false shown later old mid stands made (never_forced config old.collector) in
-    omega (arith, below, behind.table.threads, stands.table.count)
+    let behind : TableStands false script config _ (view mid.core) mid.states.items =
+    collected_table false script config false shown later old mid
+    (collected_over false script config false shown later old mid stands made) in
+    omega (arith, below, behind.threads, stands.table.count)
+
+-- one is due to a thread that waits for one, and none to another
+own_one : (mode : Mode) → ForCollection mode → collections_for mode ≡ 1
+own_one mode waits = elim (waits_cases mode waits) [
+  | inl silent ↦ ap collections_for silent
+  | inr own ↦ ap collections_for own
+]
+
+own_none : (mode : Mode) → (ForCollection mode → ⊥) → collections_for mode ≡ 0
+own_none Running never = refl
+own_none Due never = refl
+own_none Silent never = absurd (never tt)
+own_none Collecting never = absurd (never tt)
+own_none Asked never = refl
+own_none Lacking never = refl
+own_none (Ended e) never = refl
 
 -- a collection was made for a thread that waits for one
 pub made_for : (shown later : Shown) (old mid new : Run) (s : ThreadState) → MakesCollection false shown later old mid
     → ForCollection s.mode → new.collector ≡ mid.collector → SameEpoch (view mid.core) (view new.core)
-    → MakesFor s old new
+    → MakesFor s shown old new
 made_for shown later old mid new s made waits collector same = record {
   made = λ for. just_behind false shown later old mid new made collector same.free same.stop same.forward;
   none = λ never. absurd (never waits);
+  planned = subst (λ (n : ℕ). MakesPlanned n shown old new) (sym (own_one s.mode waits)) (λ told script config stands.
+      subst (λ (c : Collector). Planned config 1 (journal_of old) c.journal.items) (sym collector)
+      (planned_one told script config shown later old mid stands made));
 }
 
 -- and none for another
-pub made_none : (old : Run) (s : ThreadState) → (ForCollection s.mode → ⊥) → MakesFor s old old
-made_none old s never = record { made = λ waits. absurd (never waits); none = λ no. refl }
+pub made_none : (shown : Shown) (old : Run) (s : ThreadState) → (ForCollection s.mode → ⊥) → MakesFor s shown old old
+made_none shown old s never = record {
+  made = λ waits. absurd (never waits);
+  none = λ no. refl;
+  planned = subst (λ (n : ℕ). MakesPlanned n shown old old) (sym (own_none s.mode never))
+      (λ told script config stands. refl);
+}

@@ -1,6 +1,6 @@
 -- The parts of a safepoint, and of a run, one after the other.
-use Rattle.std.proofs.Common.{◌≡◌, ℕ, ◌+◌, ◌-◌, ◌^◌, ◌<◌, ◌≤◌, Bool, true, false, ◌⊎◌, List, refl, sym, ◌∙◌, ap, subst}
-use Rattle.std.proofs.Common.{arith, inl, inr}
+use Rattle.std.proofs.Common.{◌≡◌, ◌≢◌, ℕ, zero, suc, ◌+◌, ◌-◌, ◌^◌, ◌<◌, ◌≤◌, Bool, true, false, ◌⊎◌, List, length}
+use Rattle.std.proofs.Common.{refl, sym, ◌∙◌, ap, subst, arith, inl, inr}
 use Rattle.std.proofs.lemmas.Bool.{cases_lt}
 use Rattle.std.specs.Prelude.{Result, Ok, Err, IfOk, Option, None}
 use Rattle.melt_io.specs.Outside.{Rose, counted}
@@ -13,11 +13,14 @@ use Rattle.melt_step.specs.declared.run.Run.{Run}
 use Rattle.melt_step.specs.declared.thread.ThreadState.{ThreadState}
 use Rattle.melt_step.specs.Endings.{AllEnded}
 use Rattle.melt_step.specs.Safepoints.{AwaitsCall, CountsOpen, IsNearer, JustCollected, KeepsRun, MakesCollection}
-use Rattle.melt_step.specs.Safepoints.{RunStands, StopCounts, StopsForced, StopsRun, WaitsForRoom, open_faults}
+use Rattle.melt_step.specs.Safepoints.{MakesPlanned}
+use Rattle.melt_step.specs.Makes.{if_none_was}
+use Rattle.melt_step.specs.Safepoints.{RunStands, StandsBut, StopCounts, StopsBut, StopsForced, StopsRun, WaitsForRoom}
+use Rattle.melt_step.specs.Safepoints.{open_faults}
 use Rattle.melt_step.specs.Shown.{Shown}
-use Rattle.melt_step.specs.Threads.{AllWait, CollectedAll, CountsLosses, OweBehindCollects, SomeGoesOn}
-use Rattle.melt_step.proofs.Counting.{counts_back, counts_open, counts_then}
-use Rattle.melt_step.proofs.Journals.{just_collected, stands_collected}
+use Rattle.melt_step.specs.Threads.{AllWait, CollectedAll, CountsLosses, IsEnded, OweBehindCollects, SomeGoesOn}
+use Rattle.melt_step.proofs.Counting.{counts_back, counts_more, counts_open, counts_then, overs_less}
+use Rattle.melt_step.proofs.Journals.{just_collected, may_owe, planned_one, stands_collected}
 use Rattle.melt_step.proofs.Passing.{owe_behind}
 
 -- what holds of a result by two things that hold of it
@@ -52,50 +55,89 @@ stops_then shown mid later old run stop keeps stops told script config stands =
 pub stops_planned : (shown later : Shown) (run : Run) (stop : Stop) → StopsForced false shown later run stop
     → StopsRun shown later run stop
 stops_planned shown later run stop stops told script config stands =
-    stops told script config stands (λ is. absurd (let wrong : false ≡ true = is in cc))
+    stops told script config ((0, stands), λ is. absurd (let wrong : false ≡ true = is in cc))
 
--- a run stands behind a collection that was planned
-pub planned_keeps : (shown later : Shown) (old new : Run) → MakesCollection false shown later old new
-    → KeepsRun shown later old new
-planned_keeps shown later old new made told script config stands =
+-- and where nothing is unpaid
+pub stops_paid : (shown later : Shown) (run : Run) (stop : Stop) → StopsBut shown later run stop
+    → StopsRun shown later run stop
+stops_paid shown later run stop stops told script config stands = stops told script config (0, stands)
+
+-- a run stands behind a collection that was planned, which is still to be paid for
+planned_keeps : (shown later : Shown) (old new : Run) → MakesCollection false shown later old new
+    → SomeGoesOn old.states.items → (told : Bool) (script : Script) (config : Config)
+    → RunStands told script config shown old → StandsBut 1 told script config later new
+planned_keeps shown later old new made some told script config stands =
     stands_collected told script config false shown later old new stands made
     (λ is. absurd (let wrong : false ≡ true = is in cc))
+    (may_owe 0 old.states.items some.0 some.1.0 (omega arith) some.1.1 some.1.2)
+
+-- and so where none was made
+same_keeps : (shown : Shown) (run : Run) → SomeGoesOn run.states.items → (told : Bool) (script : Script)
+    (config : Config) → RunStands told script config shown run → StandsBut 1 told script config shown run
+same_keeps shown run some told script config stands = record {
+  disk = stands.disk;
+  under = stands.under;
+  table = stands.table;
+  words = stands.words;
+  every = stands.every;
+  collector = stands.collector;
+  cuts = stands.cuts;
+  made = stands.made;
+  counts = counts_more script config run.states.items (length run.collector.journal.items)
+      (overs_less run.states.items some.0 some.1.0 some.1.1 some.1.2) stands.counts;
+}
 
 -- How a run stands before the call that is made first: behind a collection, with the threads as all collections left
 -- them.
-pub record BeforeCall (shown later : Shown) (mid run : Run) : Type 0 where
-  pub keeps : KeepsRun shown later mid run
+pub record BeforeCall (due : ℕ) (shown later : Shown) (mid run : Run) : Type 0 where
+  pub keeps : (told : Bool) (script : Script) (config : Config) → RunStands told script config shown mid
+      → StandsBut 1 told script config later run
   pub states : run.states.items ≡ mid.states.items
   pub just : JustCollected run
   pub quiet : IsQuiet (view run.core)
+  pub planned : MakesPlanned (if_none_was due) shown mid run
+
+-- none is made where there was one
+some_was : (due : ℕ) → due ≢ 0 → if_none_was due ≡ 0
+some_was zero was = absurd (was refl)
+some_was (suc n) was = refl
 
 -- as one more collection is made
-pub before_made : (shown later : Shown) (mid run : Run) → MakesCollection false shown later mid run
-    → BeforeCall shown later mid run
-before_made shown later mid run made = record {
-  keeps = planned_keeps shown later mid run made;
+pub before_made : (due : ℕ) (shown later : Shown) (mid run : Run) → due ≡ 0
+    → MakesCollection false shown later mid run → SomeGoesOn mid.states.items → BeforeCall due shown later mid run
+before_made due shown later mid run none made some = record {
+  keeps = planned_keeps shown later mid run made some;
   states = made.states;
   just = just_collected false shown later mid run made;
   quiet = made.collects.quiet;
+  planned = subst (λ (n : ℕ). MakesPlanned (if_none_was n) shown mid run) (sym none) (λ told script config stands.
+      planned_one told script config shown later mid run stands made);
 }
 
 -- or as there was one already
-pub before_same : (shown : Shown) (run : Run) → JustCollected run → IsQuiet (view run.core)
-    → BeforeCall shown shown run run
-before_same shown run just quiet = record {
-  keeps = λ told script config stands. stands;
+pub before_same : (due : ℕ) (shown : Shown) (run : Run) → due ≢ 0 → JustCollected run → IsQuiet (view run.core)
+    → SomeGoesOn run.states.items → BeforeCall due shown shown run run
+before_same due shown run was just quiet some = record {
+  keeps = same_keeps shown run some;
   states = refl;
   just = just;
   quiet = quiet;
+  planned = subst (λ (n : ℕ). MakesPlanned n shown run run) (sym (some_was due was))
+      (λ told script config stands. refl);
 }
 
+-- a thread that waits for room has not ended
+pub room_goes : (states : List ThreadState) (t : ℕ) → WaitsForRoom states t → SomeGoesOn states
+room_goes states t waits = (t, (waits.0, waits.1, λ ended. subst IsEnded waits.2 ended))
+
 -- a thread that lacks room may make its call then
-pub awaits_call : (shown mid_shown later : Shown) (old mid run : Run) (t : ℕ) → KeepsRun shown mid_shown old mid
-    → AllWait old.states.items → CollectedAll old.states.items mid.states.items → BeforeCall mid_shown later mid run
-    → WaitsForRoom mid.states.items t → (told : Bool) (script : Script) (config : Config)
-    → RunStands told script config shown old → AwaitsCall told script config later 0 run t
-awaits_call shown mid_shown later old mid run t keeps waits all before lacks told script config stands = record {
+pub awaits_call : (due : ℕ) (shown mid_shown later : Shown) (old mid run : Run) (t : ℕ)
+    → KeepsRun shown mid_shown old mid → AllWait old.states.items → CollectedAll old.states.items mid.states.items
+    → BeforeCall due mid_shown later mid run → WaitsForRoom mid.states.items t → (told : Bool) (script : Script)
+    (config : Config) → RunStands told script config shown old → AwaitsCall told script config later 0 run t
+awaits_call due shown mid_shown later old mid run t keeps waits all before lacks told script config stands = record {
   stands = before.keeps told script config (keeps told script config stands);
+  few = omega arith;
   owed = subst (OweBehindCollects script) (sym before.states)
       (owe_behind told script config stands.disk (view old.core) old.states.items mid.states.items stands.table waits
       all);

@@ -1,8 +1,8 @@
 -- How many collections the replies of all threads bring, and how many threads are lost.
-use Rattle.std.proofs.Common.{[], ◌≡◌, ◌≢◌, ℕ, ◌+◌, ◌-◌, ◌*◌, ◌/◌, ◌%◌, ◌^◌, ◌<◌, ◌≤◌, zero, suc, true, false, List}
+use Rattle.std.proofs.Common.{[], ◌≡◌, ◌≢◌, ℕ, ◌+◌, ◌-◌, ◌*◌, ◌/◌, ◌%◌, ◌^◌, ◌<◌, ◌≤◌, zero, suc, false, List}
 use Rattle.std.proofs.Common.{◌∷◌, ◌++◌}
 use Rattle.std.proofs.Common.{length, take, refl, sym, ◌∙◌, ap, subst, arith, length-append, inl, inr}
-use Rattle.std.proofs.Math.ListN.{set}
+use Rattle.std.proofs.Math.ListN.{length-set, set}
 use Rattle.std.proofs.Math.Nat.{div-add-mod, mod-lt, mul-le-mul_left, min-eq_left, min-eq_right}
 use Rattle.std.proofs.lemmas.Bool.{cases_eq, cases_lt}
 use Rattle.std.proofs.lemmas.List.Sums.{sum-map, sum_by-cons, sum_by_push}
@@ -14,55 +14,64 @@ use Rattle.melt_model.specs.declared.operations.Op.{Op}
 use Rattle.melt_model.specs.declared.operations.Op.TheVariants as op
 use Rattle.melt_model.specs.declared.operations.Op.TheVariants.{New, Collect}
 use Rattle.melt_model.specs.declared.operations.Reply.{Reply}
+use Rattle.melt_model.specs.declared.reports.ThreadEnd.TheVariants as end
 use Rattle.melt_trace.specs.Script.{Script, operations}
 use Rattle.melt_core.specs.Views.{View}
 use Rattle.melt_io.specs.Outside.{counted}
 use Rattle.melt_scion.specs.Heaps.{OnDisk}
 use Rattle.melt_core.specs.declared.answer.Refusal.{Refusal}
 use Rattle.melt_core.specs.declared.answer.Refusal.TheVariants as refusal
+use Rattle.melt_step.specs.declared.collector.Collector.{Collector}
+use Rattle.melt_step.specs.declared.run.Run.{Run}
 use Rattle.melt_step.specs.declared.thread.ThreadState.{ThreadState}
 use Rattle.melt_step.specs.declared.thread.Mode.{Mode}
 use Rattle.melt_step.specs.declared.thread.Mode.TheVariants.{Running, Due, Silent, Collecting, Asked, Lacking, Ended}
-use Rattle.melt_step.specs.Run.{HasRisen, is_collect, silent_in, collections, collections_of}
+use Rattle.melt_step.specs.Counts.{CountsCollections, answers, over, overs}
+use Rattle.melt_step.specs.Run.{HasRisen, collects, collects_of, is_collect, silent_in, total, collections}
+use Rattle.melt_step.specs.Run.{collections_of}
 use Rattle.melt_step.specs.Endings.{halted, halted_mode}
 use Rattle.melt_step.specs.Threads.{DueBy, IsEnded, owes, owing, mode_for, ThreadStands, replies_of, TableStands}
-use Rattle.melt_step.specs.Threads.{TakesReply, ThreadTold, ThreadStep, lost, losses, CountsLoss, CountsLosses}
+use Rattle.melt_step.specs.Threads.{TakesReply, ThreadLost, ThreadTold, ThreadStep, left, lost, losses}
+use Rattle.melt_step.specs.Threads.{CountsLoss, CountsLosses}
 use Rattle.melt_step.proofs.Cuts.{replies_here}
 use Rattle.melt_step.proofs.Telling.{take_next, replies_other, replies_same, sum_set}
-use Rattle.melt_step.proofs.Tables.{told_left, refused_owes}
+use Rattle.melt_step.proofs.Tables.{told_left, refused_owes, lost_ends}
 
--- the collections of all threads, where those of each are the same
-pub collections_same : (script : Script) (config : Config) (a b : ℕ → List Reply) (n : ℕ)
-    → ((u : ℕ) → u < n → collections_of script config a u ≡ collections_of script config b u)
-    → collections script config a n ≡ collections script config b n
-collections_same script config a b zero same = refl
-collections_same script config a b (suc n) same =
-    let prefix : collections script config a n ≡ collections script config b n =
-    collections_same script config a b n (λ u below. same u (omega arith)) in
-    let here : collections_of script config a n ≡ collections_of script config b n = same n (omega arith) in
+-- the sum over all threads, where what each has is the same
+pub total_same : (f g : ℕ → ℕ) (n : ℕ) → ((u : ℕ) → u < n → f u ≡ g u) → total f n ≡ total g n
+total_same f g zero same = refl
+total_same f g (suc n) same =
+    let prefix : total f n ≡ total g n = total_same f g n (λ u below. same u (omega arith)) in
+    let here : f n ≡ g n = same n (omega arith) in
     cc
 
--- the collections of all threads, where those of no thread but one differ
-collections_at : (script : Script) (config : Config) (a b : ℕ → List Reply) (t n : ℕ) → t < n
-    → ((u : ℕ) → u ≢ t → collections_of script config a u ≡ collections_of script config b u)
-    → collections script config a n + collections_of script config b t ≡ collections script config b n + collections_of
-    script config a t
-collections_at script config a b t zero below same = absurd (omega arith)
-collections_at script config a b t (suc n) below same = elim (cases_eq n t) [
+-- and where what no thread but one has differs
+total_at : (f g : ℕ → ℕ) (t n : ℕ) → t < n → ((u : ℕ) → u ≢ t → f u ≡ g u)
+    → total f n + g t ≡ total g n + f t
+total_at f g t zero below same = absurd (omega arith)
+total_at f g t (suc n) below same = elim (cases_eq n t) [
   | inl here ↦
-      let prefix : collections script config a n ≡ collections script config b n =
-      collections_same script config a b n (λ u under. same u (λ is. absurd (omega arith))) in
-      omega (arith, prefix, ap (collections_of script config a) here, ap (collections_of script config b) here)
+      let prefix : total f n ≡ total g n =
+      total_same f g n (λ u under. same u (λ is. absurd (omega arith))) in
+      omega (arith, prefix, ap f here, ap g here)
   | inr differ ↦
-      let prefix : collections script config a n + collections_of script config b t ≡ collections script config b n
-      + collections_of script config a t = collections_at script config a b t n (omega arith) same in
+      let prefix : total f n + g t ≡ total g n + f t = total_at f g t n (omega arith) same in
       omega (arith, prefix, same n differ)
 ]
 
--- the collections by the replies of a thread
+-- the `collect`s and the collections by the replies of a thread
+asked_by : Script → ℕ → List Reply → ℕ
+asked_by script u rs = count_by is_collect (take (length rs) (operations script u))
+
 by_replies : Script → Config → ℕ → List Reply → ℕ
 by_replies script config u rs = count_by is_collect (take (length rs) (operations script u)) + silent_in config.every
     (length rs)
+
+-- those of another thread stay
+asked_other : (script : Script) (states : List ThreadState) (t u : ℕ) (after : ThreadState) → u ≢ t
+    → collects_of script (replies_of (set states t after)) u ≡ collects_of script (replies_of states) u
+unfolding asked_by
+asked_other script states t u after differ = ap (asked_by script u) (replies_other states t u after differ)
 
 -- those of another thread stay
 collections_other : (script : Script) (config : Config) (states : List ThreadState) (t u : ℕ) (after : ThreadState)
@@ -85,11 +94,6 @@ is_no_collect (op.Same a b) differ = refl
 is_no_collect (op.Copy dst src) differ = refl
 is_no_collect (op.Drop r) differ = refl
 is_no_collect op.Collect differ = absurd (differ refl)
-
--- one reply counts as one collection at most
-one_at_most : (b : Bool) → (if b then 1 else 0) ≤ 1
-one_at_most true = omega arith
-one_at_most false = omega arith
 
 -- the quotients and rests of a number and the next one
 record Divided (m n q p : ℕ) : Type 0 where
@@ -192,35 +196,45 @@ silent_told config s after reply due takes =
           )
     ]
 
--- the collections of a thread that got a reply
-told_collections : (told : Bool) (script : Script) (config : Config) (v w : View) (states : List ThreadState) (t : ℕ)
-    (s after : ThreadState) → ThreadStands told script v t s → slice_get states t ≡ Some s → DueBy config.every s after
-    → (got : ThreadTold told v w t s after)
-    → collections_of script config (replies_of (set states t after)) t ≡ collections_of script config
-    (replies_of states) t + owes after.mode + (if is_collect got.op then 1 else 0)
-told_collections told script config v w states t s after st at due got =
+-- A thread got the reply to an operation, so that its `collect`s and its collections are counted anew.
+record CountsTold (script : Script) (config : Config) (states : List ThreadState) (t : ℕ) (after : ThreadState)
+    (op : Op) : Type 0 where
+  pub asked : collects_of script (replies_of (set states t after)) t ≡ collects_of script (replies_of states) t
+      + (if is_collect op then 1 else 0)
+  pub collections : collections_of script config (replies_of (set states t after)) t ≡ collections_of script config
+      (replies_of states) t + owes after.mode + (if is_collect op then 1 else 0)
+
+-- a thread with this next operation got its reply
+told_collections : (told : Bool) (script : Script) (config : Config) (v : View) (states : List ThreadState) (t : ℕ)
+    (s after : ThreadState) (op : Op) (reply : Reply) → ThreadStands told script v t s → slice_get states t ≡ Some s
+    → DueBy config.every s after → TakesReply s after reply → left s ≡ op ∷ s.cursor.operations
+    → CountsTold script config states t after op
+told_collections told script config v states t s after op reply st at due takes next_is =
     let ops : List Op = operations script t in
     let k : ℕ = length s.replies.items in
     let C : ℕ → ℕ = λ (n : ℕ). count_by is_collect (take n ops) in
     let count : length after.replies.items ≡ k + 1 =
-    ap length got.takes.replies ∙ length-append s.replies.items (got.reply ∷ []) in
+    ap length takes.replies ∙ length-append s.replies.items (reply ∷ []) in
     let now : length (replies_of (set states t after) t) ≡ k + 1 =
     omega (arith, count, ap length (replies_same states t s after at)) in
     let was : length (replies_of states t) ≡ k = ap length (replies_here states t s at) in
-    let taken : take (suc k) ops ≡ take k ops ++ got.op ∷ [] =
-    take_next ops s.cursor.operations k got.op (sym st.to_come ∙ told_left told v w t s after got) in
-    let next : C (suc k) ≡ C k + (if is_collect got.op then 1 else 0) =
-    ap (count_by is_collect) taken ∙ sum_by_push (λ (o : Op). if is_collect o then 1 else 0) (take k ops) got.op in
+    let taken : take (suc k) ops ≡ take k ops ++ op ∷ [] =
+    take_next ops s.cursor.operations k op (sym st.to_come ∙ next_is) in
+    let next : C (suc k) ≡ C k + (if is_collect op then 1 else 0) =
+    ap (count_by is_collect) taken ∙ sum_by_push (λ (o : Op). if is_collect o then 1 else 0) (take k ops) op in
     let suc_k : k + 1 ≡ suc k = omega arith in
-    omega (
-      arith,
-      next,
-      ap C was,
-      ap C (now ∙ suc_k),
-      ap (silent_in config.every) was,
-      ap (silent_in config.every) now,
-      silent_told config s after got.reply due got.takes,
-    )
+    record {
+      asked = omega (arith, next, ap C was, ap C (now ∙ suc_k));
+      collections = omega (
+        arith,
+        next,
+        ap C was,
+        ap C (now ∙ suc_k),
+        ap (silent_in config.every) was,
+        ap (silent_in config.every) now,
+        silent_told config s after reply due takes,
+      );
+    }
 
 -- the collections of a thread that got no reply
 silent_collections : (script : Script) (config : Config) (states : List ThreadState) (t : ℕ) (s after : ThreadState)
@@ -231,111 +245,332 @@ unfolding by_replies
 silent_collections script config states t s after at same =
     ap (by_replies script config t) (replies_same states t s after at ∙ (same ∙ sym (replies_here states t s at)))
 
+-- nor do its `collect`s change
+silent_asked : (script : Script) (states : List ThreadState) (t : ℕ) (s after : ThreadState)
+    → slice_get states t ≡ Some s → after.replies.items ≡ s.replies.items
+    → collects_of script (replies_of (set states t after)) t ≡ collects_of script (replies_of states) t
+unfolding asked_by
+silent_asked script states t s after at same =
+    ap (asked_by script t) (replies_same states t s after at ∙ (same ∙ sym (replies_here states t s at)))
+
 -- how many threads have a silent collection still to come, where a state was set
 pub owing_set : (states : List ThreadState) (t : ℕ) (s after : ThreadState) → slice_get states t ≡ Some s
     → owing (set states t after) + owes s.mode ≡ owing states + owes after.mode
 owing_set states t s after at = sum_set (λ (x : ThreadState). owes x.mode) states t s after at
 
--- So many collections more were made for the replies that threads got, and for those that are no longer to come.
-abbrev pub Adds : Script → Config → List ThreadState → List ThreadState → ℕ → Type 0
-Adds script config states after c =
-    collections script config (replies_of after) (length script.programs) + owing states ≡ collections script config
-    (replies_of states) (length script.programs) + owing after + c
+-- So many collections more were made for the replies that threads got, and for those that are no longer to come; so
+-- many replies more they got at least, or have ended.
+pub record Adds (script : Script) (config : Config) (states after : List ThreadState) (c paid : ℕ) : Type 0 where
+  pub all : collections script config (replies_of after) (length script.programs) + owing states ≡ collections script
+      config (replies_of states) (length script.programs) + owing after + c
+  pub asked : collects script (replies_of after) (length script.programs) ≤ collects script (replies_of states)
+      (length script.programs) + c
+  pub pays : answers states + overs states + paid ≤ answers after + overs after
+
+-- What a thread adds, of which the state was set.
+record AddsHere (script : Script) (config : Config) (states : List ThreadState) (t c paid : ℕ) (s after : ThreadState)
+    : Type 0 where
+  pub all : collections_of script config (replies_of (set states t after)) t + owes s.mode ≡ collections_of script
+      config (replies_of states) t + owes after.mode + c
+  pub asked : collects_of script (replies_of (set states t after)) t ≤ collects_of script (replies_of states) t + c
+  pub pays : length s.replies.items + over s.mode + paid ≤ length after.replies.items + over after.mode
 
 -- where the replies of one thread change alone
-adds_at : (script : Script) (config : Config) (states : List ThreadState) (t c : ℕ) (s after : ThreadState)
+adds_at : (script : Script) (config : Config) (states : List ThreadState) (t c pays : ℕ) (s after : ThreadState)
     → slice_get states t ≡ Some s → length states ≡ length script.programs
-    → collections_of script config (replies_of (set states t after)) t + owes s.mode ≡ collections_of script config
-    (replies_of states) t + owes after.mode + c → Adds script config states (set states t after) c
-adds_at script config states t c s after at count here =
-    let below : t < length states = slice_get_within states t s at in
-    omega (
-      arith,
-      here,
-      owing_set states t s after at,
-      collections_at script config (replies_of (set states t after)) (replies_of states) t (length script.programs)
-          (omega (arith, below, count)) (λ u differ. collections_other script config states t u after differ),
-    )
+    → AddsHere script config states t c pays s after → Adds script config states (set states t after) c pays
+adds_at script config states t c pays s after at count here =
+    let within : t < length states = slice_get_within states t s at in
+    let below : t < length script.programs = omega (arith, within, count) in
+    let A : (List ThreadState) → ℕ → ℕ = λ (xs : List ThreadState). collects_of script (replies_of xs) in
+    let C : (List ThreadState) → ℕ → ℕ = λ (xs : List ThreadState). collections_of script config (replies_of xs) in
+    record {
+      all = omega (
+        arith,
+        here.all,
+        owing_set states t s after at,
+        total_at (C (set states t after)) (C states) t (length script.programs) below
+            (λ u differ. collections_other script config states t u after differ),
+      );
+      asked = omega (
+        arith,
+        here.asked,
+        total_at (A (set states t after)) (A states) t (length script.programs) below
+            (λ u differ. asked_other script states t u after differ),
+      );
+      pays = omega (
+        arith,
+        here.pays,
+        sum_set (λ (x : ThreadState). length x.replies.items) states t s after at,
+        sum_set (λ (x : ThreadState). over x.mode) states t s after at,
+      );
+    }
+
+-- nothing changes
+pub adds_none : (script : Script) (config : Config) (states : List ThreadState) → Adds script config states states 0 0
+adds_none script config states = record { all = omega arith; asked = omega arith; pays = omega arith }
+
+-- one after the other
+pub adds_then : (script : Script) (config : Config) (states mid after : List ThreadState)
+    → Adds script config states mid 0 0 → Adds script config mid after 0 0 → Adds script config states after 0 0
+adds_then script config states mid after first second = record {
+  all = omega (arith, first.all, second.all);
+  asked = omega (arith, first.asked, second.asked);
+  pays = omega (arith, first.pays, second.pays);
+}
+
+-- a thread that has not ended
+pub open_over : (mode : Mode) → (IsEnded mode → ⊥) → over mode ≡ 0
+open_over Running goes = refl
+open_over Due goes = refl
+open_over Silent goes = refl
+open_over Collecting goes = refl
+open_over Asked goes = refl
+open_over Lacking goes = refl
+open_over (Ended e) goes = absurd (goes tt)
+
+-- and one that has
+pub ended_over : (mode : Mode) → IsEnded mode → over mode ≡ 1
+ended_over Running ended = absurd ended
+ended_over Due ended = absurd ended
+ended_over Silent ended = absurd ended
+ended_over Collecting ended = absurd ended
+ended_over Asked ended = absurd ended
+ended_over Lacking ended = absurd ended
+ended_over (Ended e) ended = refl
+
+-- no thread ends twice
+pub over_most : (mode : Mode) → over mode ≤ 1
+over_most Running = omega arith
+over_most Due = omega arith
+over_most Silent = omega arith
+over_most Collecting = omega arith
+over_most Asked = omega arith
+over_most Lacking = omega arith
+over_most (Ended e) = omega arith
 
 -- no reply and the same silent collections to come
-pub adds_mode : (script : Script) (config : Config) (states : List ThreadState) (t : ℕ) (s : ThreadState) (mode : Mode)
-    → slice_get states t ≡ Some s → length states ≡ length script.programs → owes s.mode ≡ owes mode
-    → Adds script config states (set states t (record s { mode = mode })) 0
-adds_mode script config states t s mode at count same =
-    adds_at script config states t 0 s (record s { mode = mode }) at count
-    (omega (arith, same, silent_collections script config states t s (record s { mode = mode }) at refl))
+pub adds_mode : (script : Script) (config : Config) (states : List ThreadState) (t pays : ℕ) (s : ThreadState)
+    (mode : Mode) → slice_get states t ≡ Some s → length states ≡ length script.programs → owes s.mode ≡ owes mode
+    → over s.mode + pays ≤ over mode → Adds script config states (set states t (record s { mode = mode })) 0 pays
+adds_mode script config states t pays s mode at count same ends =
+    adds_at script config states t 0 pays s (record s { mode = mode }) at count
+    (record {
+      all = omega (arith, same, silent_collections script config states t s (record s { mode = mode }) at refl);
+      asked = omega (arith, silent_asked script states t s (record s { mode = mode }) at refl);
+      pays = omega (arith, ends);
+    })
 
 -- a silent collection that was made for a thread
 pub adds_silent : (script : Script) (config : Config) (states : List ThreadState) (t : ℕ) (s : ThreadState)
     (mode : Mode) → slice_get states t ≡ Some s → length states ≡ length script.programs → owes s.mode ≡ owes mode + 1
-    → Adds script config states (set states t (record s { mode = mode })) 1
-adds_silent script config states t s mode at count same =
-    adds_at script config states t 1 s (record s { mode = mode }) at count
-    (omega (arith, same, silent_collections script config states t s (record s { mode = mode }) at refl))
+    → over s.mode ≡ 0 → Adds script config states (set states t (record s { mode = mode })) 1 0
+adds_silent script config states t s mode at count same goes =
+    adds_at script config states t 1 0 s (record s { mode = mode }) at count
+    (record {
+      all = omega (arith, same, silent_collections script config states t s (record s { mode = mode }) at refl);
+      asked = omega (arith, silent_asked script states t s (record s { mode = mode }) at refl);
+      pays = omega (arith, goes);
+    })
 
--- An event of a thread adds its silent collection to those that are to come, and one at most that was answered.
-here_step : (told : Bool) (script : Script) (config : Config) (disk : OnDisk) (v w : View) (states : List ThreadState)
-    (t : ℕ) (s after : ThreadState) → TableStands told script config disk v states → slice_get states t ≡ Some s
-    → ThreadStep told disk v w t s after → DueBy config.every s after
-    → Adds script config states (set states t after) 0 ⊎ ((got : ThreadTold told v w t s after)
-    × Adds script config states (set states t after) (if is_collect got.op then 1 else 0))
-here_step told script config disk v w states t s after table at step due =
-    let by_mode : (mode : Mode) → after ≡ record s { mode = mode } → owes s.mode ≡ owes mode
-    → Adds script config states (set states t after) 0 = λ mode is same.
-    subst (λ (y : ThreadState). Adds script config states (set states t y) 0) (sym is)
-    (adds_mode script config states t s mode at table.count same) in
-    let none_for : (r : Refusal) → 0 ≡ owes (mode_for r) =
-    λ r. sym (ap {B = ℕ} (λ (b : Bool). if b then 1 else 0) (refused_owes r)) in
-    elim step.what [
-      | inl waits ↦ inl (by_mode waits.0 waits.1.only
-          (elim waits.1.before [
-            | inl own ↦ ap owes own.0 ∙ ap owes (sym own.2)
-            | inr silent ↦ ap owes silent.0 ∙ ap owes (sym silent.1)
-          ]))
-      | inr rest ↦ elim rest [
-        | inl goes ↦ inl (by_mode s.mode goes.same refl)
-        | inr further ↦ elim further [
-          | inl refused ↦ inl (by_mode (mode_for (refusal.Pause refused.cause)) refused.only
-              (ap owes refused.running ∙ none_for (refusal.Pause refused.cause)))
-          | inr last ↦ elim last [
-            | inl lost ↦ inl (by_mode (mode_for lost.refusal) lost.only
-                (ap {B = ℕ} (λ (b : Bool). if b then 1 else 0) lost.not_due ∙ none_for lost.refusal))
-            | inr got ↦ inr (
-              got,
-              adds_at script config states t (if is_collect got.op then 1 else 0) s after at table.count
-                  (let none : owes s.mode ≡ 0 = ap {B = ℕ} (λ (b : Bool). if b then 1 else 0) got.not_due in
-                  omega (
-                    arith,
-                    none,
-                    told_collections told script config v w states t s after (table.each t s at) at due got,
-                  )),
-            )
-          ]
-        ]
-      ]
-    ]
+-- a reply to an operation
+pub adds_told : (told : Bool) (script : Script) (config : Config) (v : View) (states : List ThreadState) (t : ℕ)
+    (s after : ThreadState) (op : Op) (reply : Reply) → ThreadStands told script v t s → slice_get states t ≡ Some s
+    → length states ≡ length script.programs → DueBy config.every s after → TakesReply s after reply
+    → left s ≡ op ∷ s.cursor.operations → owes s.mode ≡ 0 → (IsEnded s.mode → ⊥)
+    → Adds script config states (set states t after) (if is_collect op then 1 else 0) 1
+adds_told told script config v states t s after op reply st at count due takes next none goes =
+    let counts : CountsTold script config states t after op =
+    told_collections told script config v states t s after op reply st at due takes next in
+    adds_at script config states t (if is_collect op then 1 else 0) 1 s after at count
+    (record {
+      all = omega (arith, none, counts.collections);
+      asked = omega (arith, counts.asked);
+      pays = omega (
+        arith,
+        open_over s.mode goes,
+        ap length takes.replies,
+        length-append s.replies.items (reply ∷ []),
+      );
+    })
 
--- one collection at most was answered
-pub collections_grow : (told : Bool) (script : Script) (config : Config) (disk : OnDisk) (v w : View)
+-- a reply to another operation than a collection
+pub adds_got : (told : Bool) (script : Script) (config : Config) (disk : OnDisk) (v w : View)
     (states : List ThreadState) (t : ℕ) (s after : ThreadState) → TableStands told script config disk v states
-    → slice_get states t ≡ Some s → ThreadStep told disk v w t s after → DueBy config.every s after
-    → (c : ℕ) × (c ≤ 1) × Adds script config states (set states t after) c
-collections_grow told script config disk v w states t s after table at step due =
-    elim (here_step told script config disk v w states t s after table at step due) [
-      | inl same ↦ (0, omega arith, same)
-      | inr more ↦ ((if is_collect more.0.op then 1 else 0), one_at_most (is_collect more.0.op), more.1)
-    ]
+    → slice_get states t ≡ Some s → DueBy config.every s after → (IsEnded s.mode → ⊥)
+    → (got : ThreadTold told v w t s after) → got.op ≢ Collect → Adds script config states (set states t after) 0 1
+adds_got told script config disk v w states t s after table at due goes got other =
+    subst (λ (c : ℕ). Adds script config states (set states t after) c 1)
+    (ap {B = ℕ} (λ (b : Bool). if b then 1 else 0) (is_no_collect got.op other))
+    (adds_told told script config v states t s after got.op got.reply (table.each t s at) at table.count due got.takes
+    (told_left told v w t s after got) (ap {B = ℕ} (λ (b : Bool). if b then 1 else 0) got.not_due) goes)
 
--- and none where the reply was to another operation
+-- a thread that was lost has ended
+pub adds_lost : (told : Bool) (script : Script) (config : Config) (disk : OnDisk) (v w : View)
+    (states : List ThreadState) (t : ℕ) (s after : ThreadState) → TableStands told script config disk v states
+    → slice_get states t ≡ Some s → ThreadLost told disk.end v w t s after
+    → Adds script config states (set states t after) 0 1
+adds_lost told script config disk v w states t s after table at is =
+    subst (λ (y : ThreadState). Adds script config states (set states t y) 0 1) (sym is.only)
+    (adds_mode script config states t 1 s (mode_for is.refusal) at table.count
+    (ap {B = ℕ} (λ (b : Bool). if b then 1 else 0) is.not_due
+    ∙ sym (ap {B = ℕ} (λ (b : Bool). if b then 1 else 0) (refused_owes is.refusal)))
+    (omega (
+      arith,
+      open_over s.mode is.goes,
+      ended_over (mode_for is.refusal)
+          (lost_ends told disk.end is.refusal is.cause),
+    )))
+
+-- less is said so
+adds_less : (script : Script) (config : Config) (states after : List ThreadState) → Adds script config states after 0 1
+    → Adds script config states after 0 0
+adds_less script config states after adds =
+    record { all = adds.all; asked = adds.asked; pays = omega (arith, adds.pays) }
+
+-- all threads that have ended are some of all
+pub overs_most : (states : List ThreadState) → overs states ≤ length states
+overs_most [] = omega arith
+overs_most (s ∷ states) =
+    let f : ThreadState → ℕ = λ (x : ThreadState). over x.mode in
+    omega (
+      arith,
+      over_most s.mode,
+      overs_most states,
+      sum-map f (s ∷ states),
+      sum-map f states,
+      sum_by-cons f s states,
+    )
+
+-- and not all where one has not
+pub overs_less : (states : List ThreadState) (t : ℕ) (s : ThreadState) → slice_get states t ≡ Some s
+    → (IsEnded s.mode → ⊥) → overs states + 1 ≤ length states
+overs_less states t s at goes =
+    let ended : ThreadState = record s { mode = Ended end.Done } in
+    let f : ThreadState → ℕ = λ (x : ThreadState). over x.mode in
+    omega (
+      arith,
+      sum_set f states t s ended at,
+      open_over s.mode goes,
+      overs_most (set states t ended),
+      length-set states t ended,
+    )
+
+-- What was counted stays counted where nothing is added but replies and ends.
+pub counts_on : (script : Script) (config : Config) (states after : List ThreadState) (made : ℕ)
+    → CountsCollections script config 0 states made → Adds script config states after 0 0
+    → CountsCollections script config 0 after made
+counts_on script config states after made counts adds = record {
+  collected = omega (arith, counts.collected, adds.all);
+  asked = omega (arith, counts.asked, adds.asked);
+  bounded = omega (arith, counts.bounded, adds.all, adds.pays);
+  pays = omega (arith, overs_most after);
+}
+
+-- a reply, or the end of a thread, pays for three collections
+pub counts_paid : (script : Script) (config : Config) (unpaid : ℕ) (states after : List ThreadState) (made : ℕ)
+    → unpaid ≤ 3 → CountsCollections script config unpaid states made → Adds script config states after 0 1
+    → CountsCollections script config 0 after made
+counts_paid script config unpaid states after made few counts adds = record {
+  collected = omega (arith, counts.collected, adds.all);
+  asked = omega (arith, counts.asked, adds.asked);
+  bounded = omega (arith, counts.bounded, adds.all, adds.pays, few);
+  pays = omega (arith, overs_most after);
+}
+
+-- it stays counted of a run with these threads and this collector
+pub counts_of : {unpaid : ℕ} (script : Script) (config : Config) (run : Run) (states : List ThreadState) (c : Collector)
+    → run.states.items ≡ states → run.collector ≡ c
+    → CountsCollections script config unpaid states (length c.journal.items)
+    → CountsCollections script config unpaid run.states.items (length run.collector.journal.items)
+counts_of {unpaid} script config run states c same collector counts =
+    subst (λ (x : Collector). CountsCollections script config unpaid run.states.items (length x.journal.items))
+    (sym collector)
+    (subst (λ (xs : List ThreadState). CountsCollections script config unpaid xs (length c.journal.items)) (sym same)
+    counts)
+
+-- So many collections were made that no reply was told of.
+pub record Spare (script : Script) (config : Config) (states : List ThreadState) (made : ℕ) : Type 0 where
+  pub collected : collections script config (replies_of states) (length script.programs) + 1 ≤ made + owing states
+  pub asked : collects script (replies_of states) (length script.programs) + 1 ≤ made
+  pub bounded : made + owing states ≤ collections script config (replies_of states) (length script.programs)
+      + 3 * (answers states + overs states) + 1
+
+-- the thread for which it was made goes on
+pub counts_taken : (script : Script) (config : Config) (states after : List ThreadState) (made : ℕ)
+    → Spare script config states made → Adds script config states after 1 0
+    → CountsCollections script config 0 after made
+counts_taken script config states after made spare adds = record {
+  collected = omega (arith, spare.collected, adds.all);
+  asked = omega (arith, spare.asked, adds.asked);
+  bounded = omega (arith, spare.bounded, adds.all, adds.pays);
+  pays = omega (arith, overs_most after);
+}
+
+-- one collection more was made, of which no reply was told yet
+pub counts_spare : (script : Script) (config : Config) (states : List ThreadState) (made more : ℕ)
+    → more ≡ made + 1 → CountsCollections script config 0 states made → Spare script config states more
+counts_spare script config states made more is counts = record {
+  collected = omega (arith, is, counts.collected);
+  asked = omega (arith, is, counts.asked);
+  bounded = omega (arith, is, counts.bounded);
+}
+
+-- one may be unpaid, where a thread has not ended
+pub counts_more : (script : Script) (config : Config) (states : List ThreadState) (made : ℕ)
+    → overs states + 1 ≤ length states → CountsCollections script config 0 states made
+    → CountsCollections script config 1 states made
+counts_more script config states made open_ counts = record {
+  collected = counts.collected;
+  asked = counts.asked;
+  bounded = omega (arith, counts.bounded);
+  pays = omega (arith, open_);
+}
+
+-- it is one more that is to be paid for, where a thread has not ended
+pub counts_made_more : (script : Script) (config : Config) (unpaid : ℕ) (states : List ThreadState) (made more : ℕ)
+    → more ≡ made + 1 → unpaid ≤ 2 → overs states + 1 ≤ length states
+    → CountsCollections script config unpaid states made → CountsCollections script config (suc unpaid) states more
+counts_made_more script config unpaid states made more is few open_ counts = record {
+  collected = omega (arith, is, counts.collected);
+  asked = omega (arith, is, counts.asked);
+  bounded = omega (arith, is, counts.bounded);
+  pays = omega (arith, few, open_);
+}
+
+-- An event of a thread adds nothing, where it got no reply to a collection.
 pub collections_step : (told : Bool) (script : Script) (config : Config) (disk : OnDisk) (v w : View)
     (states : List ThreadState) (t : ℕ) (s after : ThreadState) → TableStands told script config disk v states
     → slice_get states t ≡ Some s → ThreadStep told disk v w t s after → DueBy config.every s after
-    → ((got : ThreadTold told v w t s after) → got.op ≢ Collect) → Adds script config states (set states t after) 0
-collections_step told script config disk v w states t s after table at step due other =
-    elim (here_step told script config disk v w states t s after table at step due) [
-      | inl same ↦ same
-      | inr more ↦ subst (Adds script config states (set states t after))
-          (ap {B = ℕ} (λ (b : Bool). if b then 1 else 0) (is_no_collect more.0.op (other more.0))) more.1
+    → (IsEnded s.mode → ⊥) → ((got : ThreadTold told v w t s after) → got.op ≢ Collect)
+    → Adds script config states (set states t after) 0 0
+collections_step told script config disk v w states t s after table at step due goes other =
+    let by_mode : (mode : Mode) → after ≡ record s { mode = mode } → owes s.mode ≡ owes mode
+    → Adds script config states (set states t after) 0 0 = λ mode is same.
+    subst (λ (y : ThreadState). Adds script config states (set states t y) 0 0) (sym is)
+    (adds_mode script config states t 0 s mode at table.count same (omega (arith, open_over s.mode goes))) in
+    let none_for : (r : Refusal) → 0 ≡ owes (mode_for r) =
+    λ r. sym (ap {B = ℕ} (λ (b : Bool). if b then 1 else 0) (refused_owes r)) in
+    elim step.what [
+      | inl waits ↦ by_mode waits.0 waits.1.only
+          (elim waits.1.before [
+            | inl own ↦ ap owes own.0 ∙ ap owes (sym own.2)
+            | inr silent ↦ ap owes silent.0 ∙ ap owes (sym silent.1)
+          ])
+      | inr rest ↦ elim rest [
+        | inl is ↦ by_mode s.mode is.same refl
+        | inr further ↦ elim further [
+          | inl refused ↦ by_mode (mode_for (refusal.Pause refused.cause)) refused.only
+              (ap owes refused.running ∙ none_for (refusal.Pause refused.cause))
+          | inr last ↦ elim last [
+            | inl lost ↦ by_mode (mode_for lost.refusal) lost.only
+                (ap {B = ℕ} (λ (b : Bool). if b then 1 else 0) lost.not_due ∙ none_for lost.refusal)
+            | inr got ↦
+                adds_less script config states (set states t after)
+                (adds_got told script config disk v w states t s after table at due goes got (other got))
+          ]
+        ]
+      ]
     ]
 
 -- how many threads are lost, where a state was set

@@ -20,25 +20,26 @@ use Rattle.melt_trace.specs.Grammar.{InRange}
 use Rattle.melt_trace.specs.Script.{Script}
 use Rattle.melt_scion.specs.Heaps.{OnDisk}
 use Rattle.melt_core.specs.Advances.{InBounds, KeepsOthers, TellsDisk}
-use Rattle.melt_core.specs.Views.{View, view, call_of, value, values_of, IsQuiet}
+use Rattle.melt_core.specs.Views.{View, Standing, view, call_of, value, values_of, IsQuiet}
 use Rattle.melt_step.specs.Journals.{IsTight, before}
 use Rattle.melt_step.specs.Lone.{IsAloneReady, IsMarked, CalledAlone, CalledOver, LacksAlone}
+use Rattle.melt_step.specs.Makes.{IsLacking, MakesCall}
 use Rattle.melt_step.specs.Needs.{NeedsWords}
-use Rattle.melt_step.specs.Run.{collections}
 use Rattle.melt_step.specs.Safepoints.{Awaited, AwaitsCall, CalledAt, CollectorStands, JustCollected, LackedWords}
 use Rattle.melt_step.specs.Safepoints.{LacksBy, LacksWords, LeftBy, MadeCall, OnlyHeld, RunStands, SomeAwaits}
-use Rattle.melt_step.specs.Safepoints.{WaitsForRoom, last_of}
+use Rattle.melt_step.specs.Safepoints.{StandsBut, WaitsForRoom, last_of}
 use Rattle.melt_step.specs.Shown.{Shown}
+use Rattle.melt_step.specs.Made.{MadeSoFar, MakesInUse}
+use Rattle.melt_step.specs.Shown.{Underlies}
 use Rattle.melt_step.specs.Threads.{DueBy, FitsMode, HaveCuts, IsEnded, IsPaused, IsReady, TableStands, TakesReply}
 use Rattle.melt_step.specs.Threads.{OweBehindCollects, ThreadLost, ThreadStep, ThreadTold, jobs, jobs_of, left}
-use Rattle.melt_step.specs.Threads.{mode_for}
-use Rattle.melt_step.specs.Threads.{owing, replies_of, with_first}
+use Rattle.melt_step.specs.Threads.{mode_for, with_first}
 use Rattle.melt_step.specs.declared.collector.Collector.{Collector}
 use Rattle.melt_step.specs.declared.run.Run.{Run}
 use Rattle.melt_step.specs.declared.thread.Mode.{Mode}
 use Rattle.melt_step.specs.declared.thread.Mode.TheVariants.{Running, Due, Silent, Collecting, Asked, Lacking, Ended}
 use Rattle.melt_step.specs.declared.thread.ThreadState.{ThreadState}
-use Rattle.melt_step.proofs.Counting.{Adds, collections_step}
+use Rattle.melt_step.proofs.Counting.{Adds, adds_got, adds_lost, counts_of, counts_paid}
 use Rattle.melt_step.proofs.Cuts.{held_words_same, needs_same}
 use Rattle.melt_step.proofs.Journals.{before_end}
 use Rattle.melt_step.proofs.Tables.{Table_lacks, Table_step, cuts_step, lost_ends, table_ready}
@@ -53,11 +54,6 @@ if_none (Some x) P holds = tt
 pub if_some : {A : Type 0} (o : Option A) (P : A → Type 0) → ((x : A) → o ≡ Some x → P x) → IfSome o P
 if_some None P holds = tt
 if_some (Some x) P holds = holds x refl
-
--- The state of the thread that waits for room.
-pub record IsLacking (states : List ThreadState) (t : ℕ) (s : ThreadState) : Type 0 where
-  pub at : slice_get states t ≡ Some s
-  pub lacking : s.mode ≡ Lacking
 
 -- the state that was read is that of the thread
 pub lacking_here : (states : List ThreadState) (t : ℕ) (x d : ThreadState) → x ≡ get_or states t d
@@ -136,26 +132,21 @@ alone_ready {script} {config} {shown} {forced} {run} {t} {s} o awaits was next =
       room = ready.room fits.0;
     }
 
--- A call that was made alone for the thread: its core and the state of the thread are new.
-pub record MakesCall (shown : Shown) (old new : Run) (t : ℕ) (lacks : Option ℕ) : Type 0 where
-  pub s : ThreadState
-  pub after : ThreadState
-  pub op : Op
-  pub was : IsLacking old.states.items t s
-  pub next : s.op ≡ Some op
-  pub called : CalledAlone shown.end shown.image (view old.core) (view new.core) t s after op lacks
-  pub due : DueBy old.every s after
-  pub states : new.states.items ≡ set old.states.items t after
-  pub collector : new.collector ≡ old.collector
-  pub words : new.words ≡ old.words
-  pub every : new.every ≡ old.every
-
 -- what a call did over each disk that is seen so, seen by other names
 pub called_by : (shown : Shown) (finish : ℕ) (image : Option (List ℕ)) (v w : View) (t : ℕ) (s after : ThreadState)
     (o : Op) (lacks : Option ℕ) → shown.end ≡ finish → shown.image ≡ image
     → CalledAlone finish image v w t s after o lacks → CalledAlone shown.end shown.image v w t s after o lacks
 called_by shown finish image v w t s after o lacks ends shows called = λ told disk under.
     called told disk (record {
+      ends = under.ends ∙ ends;
+      tells = λ is. subst (λ (x : Option (List ℕ)). TellsDisk x disk) shows (under.tells is);
+    })
+
+-- and what it made
+pub makes_by : (shown : Shown) (finish : ℕ) (image : Option (List ℕ)) (v w : View) → shown.end ≡ finish
+    → shown.image ≡ image → MakesInUse finish image v w → MakesInUse shown.end shown.image v w
+makes_by shown finish image v w ends shows makes = λ disk under.
+    makes disk (record {
       ends = under.ends ∙ ends;
       tells = λ is. subst (λ (x : Option (List ℕ)). TellsDisk x disk) shows (under.tells is);
     })
@@ -186,6 +177,18 @@ lacked {told} {disk} {v} {w} {t} {s} {after} {o} {lacks} need is over = elim ove
   | inr other ↦ subst (LacksAlone told v w t s after o) (same_Some other.0 need (sym other.1 ∙ is)) other.2
 ]
 
+-- whatever it made is in use
+call_makes : {told : Bool} {script : Script} {config : Config} {shown : Shown} {forced : ℕ} {old new : Run} {t : ℕ}
+    {lacks : Option ℕ} → AwaitsCall told script config shown forced old t → MakesCall shown old new t lacks
+    → told ≡ true → MadeSoFar config (view new.core) new.collector.journal.items
+call_makes {told} {script} {config} {shown} {forced} {old} {new} {t} {lacks} awaits m is =
+    let stands : StandsBut (suc forced) told script config shown old = awaits.stands in
+    let disk : OnDisk = stands.disk in
+    subst (λ (c : Collector). MadeSoFar config (view new.core) c.journal.items) (sym m.collector)
+    (m.makes disk (subst (λ (b : Bool). Underlies b shown.end shown.image disk) is stands.under)
+    (subst (λ (b : Bool). Standing b disk (view old.core)) is stands.table.stands)
+    (config.heap * length old.collector.journal.items) (stands.made is))
+
 -- a call that lacked nothing is an event of its thread
 call_step : {told : Bool} {script : Script} {config : Config} {shown : Shown} {forced : ℕ} {old new : Run} {t : ℕ}
     {lacks : Option ℕ} (awaits : AwaitsCall told script config shown forced old t)
@@ -203,7 +206,7 @@ made_stands {told} {script} {config} {shown} {forced} {old} {new} {t} {lacks} aw
     let v : View = view old.core in
     let w : View = view new.core in
     let states : List ThreadState = old.states.items in
-    let stands : RunStands told script config shown old = awaits.stands in
+    let stands : StandsBut (suc forced) told script config shown old = awaits.stands in
     let disk : OnDisk = stands.disk in
     let open_ : IsEnded m.s.mode → ⊥ = lacking_open m.was in
     let within : disk.end ≤ config.disk =
@@ -216,11 +219,11 @@ made_stands {told} {script} {config} {shown} {forced} {old} {new} {t} {lacks} aw
     let cuts : told ≡ true → HaveCuts script w.log (set states t m.after) config old.collector.journal.items = λ tells.
     cuts_step told script config disk v w states t m.s m.after old.collector.journal.items within stands.table m.was.at
     open_ step due (stands.cuts tells) in
-    let adds : Adds script config states (set states t m.after) 0 =
-    collections_step told script config disk v w states t m.s m.after stands.table m.was.at step due
-    (λ got same. fits.1 (got.next ∙ ap Some same)) in
-    let added : Adds script config states new.states.items 0 =
-    subst (λ (xs : List ThreadState). Adds script config states xs 0) (sym m.states) adds in
+    let adds : Adds script config states (set states t m.after) 0 1 = elim (came none (call_over awaits m)).1 [
+      | inl is ↦ adds_lost told script config disk v w states t m.s m.after stands.table m.was.at is
+      | inr got ↦ adds_got told script config disk v w states t m.s m.after stands.table m.was.at due open_ got
+          (λ same. fits.1 (got.next ∙ ap Some same))
+    ] in
     record {
       disk = disk;
       under = stands.under;
@@ -232,12 +235,10 @@ made_stands {told} {script} {config} {shown} {forced} {old} {new} {t} {lacks} aw
           subst (λ (c : Collector). HaveCuts script w.log new.states.items config c.journal.items) (sym m.collector)
           (subst (λ (xs : List ThreadState). HaveCuts script w.log xs config old.collector.journal.items)
           (sym m.states) (cuts tells));
-      collected = omega (
-        arith,
-        added,
-        stands.collected,
-        ap (λ (c : Collector). length c.journal.items) m.collector,
-      );
+      made = call_makes awaits m;
+      counts = counts_of script config new (set states t m.after) old.collector m.states m.collector
+          (counts_paid script config (suc forced) states (set states t m.after) (length old.collector.journal.items)
+          (omega (arith, awaits.few)) stands.counts adds);
     }
 
 -- no call is in flight behind an event that leaves none of its thread
@@ -371,14 +372,13 @@ pub record SameRun (old new : Run) : Type 0 where
   pub every : new.every ≡ old.every
 
 -- it stands, where its threads do
-stands_same : {told : Bool} {script : Script} {config : Config} {shown : Shown} {old new : Run}
-    (stands : RunStands told script config shown old) → SameRun old new
+stands_same : {unpaid : ℕ} {told : Bool} {script : Script} {config : Config} {shown : Shown} {old new : Run}
+    (stands : StandsBut unpaid told script config shown old) → SameRun old new
     → TableStands told script config stands.disk (view new.core) old.states.items
-    → RunStands told script config shown new
-stands_same {told} {script} {config} {shown} {old} {new} stands same table =
+    → (told ≡ true → MadeSoFar config (view new.core) new.collector.journal.items)
+    → StandsBut unpaid told script config shown new
+stands_same {unpaid} {told} {script} {config} {shown} {old} {new} stands same table made =
     let w : View = view new.core in
-    let C : List ThreadState → ℕ = λ (xs : List ThreadState).
-    collections script config (replies_of xs) (length script.programs) in
     record {
       disk = stands.disk;
       under = stands.under;
@@ -392,13 +392,8 @@ stands_same {told} {script} {config} {shown} {old} {new} stands same table =
           (sym same.states)
           (subst (λ (h : List Entry). HaveCuts script h old.states.items config old.collector.journal.items)
           (sym same.history) (stands.cuts tells)));
-      collected = omega (
-        arith,
-        stands.collected,
-        ap C same.states,
-        ap owing same.states,
-        ap (λ (c : Collector). length c.journal.items) same.collector,
-      );
+      made = made;
+      counts = counts_of script config new old.states.items old.collector same.states same.collector stands.counts;
     }
 
 -- the values in all registers, where those of one thread and of the others stay
@@ -447,7 +442,7 @@ lacked_states {told} {script} {config} {shown} {forced} {old} {new} {t} {lacks} 
 -- the run stands behind a call that lacked words
 lacked_stands : {told : Bool} {script : Script} {config : Config} {shown : Shown} {forced : ℕ} {old new : Run}
     {t : ℕ} {lacks : Option ℕ} (need : ℕ) → AwaitsCall told script config shown forced old t
-    → MakesCall shown old new t lacks → lacks ≡ Some need → RunStands told script config shown new
+    → MakesCall shown old new t lacks → lacks ≡ Some need → StandsBut (suc forced) told script config shown new
 lacked_stands {told} {script} {config} {shown} {forced} {old} {new} {t} {lacks} need awaits m is =
     let over = call_over awaits m in
     let alone = lacked need is over in
@@ -461,6 +456,7 @@ lacked_stands {told} {script} {config} {shown} {forced} {old} {new} {t} {lacks} 
     stands_same awaits.stands same
     (Table_lacks told script config awaits.stands.disk (view old.core) (view new.core) old.states.items t m.s
     awaits.stands.table m.was.at m.was.lacking over.stands over.others (alone.call, alone.history, alone.values))
+    (call_makes awaits m)
 
 -- and the thread lacks them
 pub lacked_words : {told : Bool} {script : Script} {config : Config} {shown : Shown} {forced : ℕ} {old new : Run}
@@ -477,6 +473,7 @@ lacked_words {told} {script} {config} {shown} {forced} {old} {new} {t} {lacks} n
     let above : length v.space.list + 1 < v.free + need = alone.above in
     record {
       stands = lacked_stands need awaits m is;
+      few = awaits.few;
       owed = subst (OweBehindCollects script) (sym states) awaits.owed;
       quiet = quiet_behind v w t over.others alone.call awaits.quiet;
       none_forwarded = alone.none_forwarded;

@@ -1,5 +1,5 @@
 -- A run goes on by events and safepoints.
-use Rattle.std.proofs.Common.{◌≡◌, ◌≢◌, ℕ, ◌<◌, ◌≤◌, Bool, true, false, List, length, sym, ◌∙◌, ap, subst, arith}
+use Rattle.std.proofs.Common.{◌≡◌, ◌≢◌, ℕ, ◌*◌, ◌<◌, ◌≤◌, Bool, true, false, List, length, sym, ◌∙◌, subst, arith}
 use Rattle.std.proofs.Math.ListN.{set}
 use Rattle.std.specs.Prelude.{Option, Some, slice_get}
 use Rattle.melt_model.specs.declared.config.Config.{Config}
@@ -11,20 +11,22 @@ use Rattle.melt_step.specs.declared.run.Run.{Run}
 use Rattle.melt_step.specs.declared.thread.ThreadState.{ThreadState}
 use Rattle.melt_step.specs.declared.collector.Collector.{Collector}
 use Rattle.melt_step.specs.Safepoints.{CollectorStands, KeepsRun, RunStands}
+use Rattle.melt_step.specs.Made.{MadeSoFar, MakesInUse}
 use Rattle.melt_step.specs.Shown.{Shown, Underlies}
 use Rattle.melt_step.specs.Threads.{DueBy, HaveCuts, MayGo, Passed, TakesTurn, ThreadStep, ThreadTold, TableStands}
 use Rattle.melt_step.specs.Threads.{potential}
 use Rattle.melt_step.proofs.Tables.{Table_step, cuts_step, goes_on}
-use Rattle.melt_step.proofs.Counting.{Adds, collections_step}
+use Rattle.melt_step.proofs.Counting.{Adds, collections_step, counts_of, counts_on}
 use Rattle.melt_step.proofs.Potentials.{step_nearer, safepoint_nearer}
 
 -- a run stands on behind an event of a thread that can go on
 pub step_keeps : (finish : ℕ) (image : Option (List ℕ)) (old new : Run) (t : ℕ) (s after : ThreadState)
     → slice_get old.states.items t ≡ Some s → MayGo s.mode
     → TakesTurn finish image (view old.core) (view new.core) t s after → new.states.items ≡ set old.states.items t after
-    → DueBy old.every s after → new.every ≡ old.every → new.words ≡ old.words → new.collector ≡ old.collector
+    → DueBy old.every s after → MakesInUse finish image (view old.core) (view new.core)
+    → new.every ≡ old.every → new.words ≡ old.words → new.collector ≡ old.collector
     → (shown : Shown) → shown.end ≡ finish → shown.image ≡ image → KeepsRun shown shown old new
-step_keeps finish image old new t s after at goes turn states due every words collector shown ends shows told script
+step_keeps finish image old new t s after at goes turn states due makes every words collector shown ends shows told script
     config stands =
     let had : List ThreadState = old.states.items in
     let disk : OnDisk = stands.disk in
@@ -38,9 +40,9 @@ step_keeps finish image old new t s after at goes turn states due every words co
     let other : (got : ThreadTold told (view old.core) (view new.core) t s after) → got.op ≢ Collect =
     λ got. got.no_collect goes in
     let by : DueBy config.every s after = subst (λ (n : ℕ). DueBy n s after) stands.every due in
-    let adds : Adds script config had new.states.items 0 =
-    subst (λ (xs : List ThreadState). Adds script config had xs 0) (sym states)
-    (collections_step told script config disk (view old.core) (view new.core) had t s after table at step by other) in
+    let adds : Adds script config had (set had t after) 0 0 =
+    collections_step told script config disk (view old.core) (view new.core) had t s after table at step by
+    (goes_on s.mode goes) other in
     record {
       disk = disk;
       under = stands.under;
@@ -57,7 +59,13 @@ step_keeps finish image old new t s after at goes turn states due every words co
           (sym collector)
           (cuts_step told script config disk (view old.core) (view new.core) had t s after old.collector.journal.items
           within table at (goes_on s.mode goes) step by (stands.cuts is)));
-      collected = omega (arith, adds, stands.collected, ap (λ (x : Collector). length x.journal.items) collector);
+      made = λ is.
+          subst (λ (c : Collector). MadeSoFar config (view new.core) c.journal.items) (sym collector)
+          (makes disk (subst (λ (b : Bool). Underlies b finish image disk) is under)
+          (subst (λ (b : Bool). Standing b disk (view old.core)) is table.stands)
+          (config.heap * length old.collector.journal.items) (stands.made is));
+      counts = counts_of script config new (set had t after) old.collector states collector
+          (counts_on script config had (set had t after) (length old.collector.journal.items) stands.counts adds);
     }
 
 -- it has less to do than before

@@ -1,5 +1,5 @@
 -- The end of a thread for which the heap has no room, even without what may leave it.
-use Rattle.std.proofs.Common.{◌≡◌, ℕ, true, false, List, length, refl, sym, ◌∙◌, ap, subst, arith}
+use Rattle.std.proofs.Common.{◌≡◌, ℕ, ◌*◌, suc, true, false, List, length, refl, sym, ◌∙◌, ap, subst, arith}
 use Rattle.std.proofs.Math.ListN.{set}
 use Rattle.std.specs.Prelude.{Bool, Option}
 use Rattle.melt_model.specs.Alive.{Held, words_of, CostsSum}
@@ -15,18 +15,23 @@ use Rattle.melt_core.specs.Views.{View, view, call_in, call_of, value, held_valu
 use Rattle.melt_core.specs.Views.{Standing}
 use Rattle.melt_core.specs.declared.call.Call.{Call}
 use Rattle.melt_step.specs.Safepoints.{CollectorStands, LacksWords, MadeCall, NoRoom, RunStands, SomeLacksWords}
+use Rattle.melt_step.specs.Made.{MadeSoFar}
+use Rattle.melt_step.specs.Safepoints.{StandsBut}
 use Rattle.melt_step.specs.Shown.{Shown}
+use Rattle.melt_step.specs.Counts.{over}
 use Rattle.melt_step.specs.Threads.{HaveCuts, LacksNow, Renewed, TableStands, losses, lost, owes}
 use Rattle.melt_step.specs.declared.collector.Collector.{Collector}
 use Rattle.melt_step.specs.declared.run.Run.{Run}
 use Rattle.melt_step.specs.declared.thread.Mode.{Mode}
 use Rattle.melt_step.specs.declared.thread.Mode.TheVariants.{Ended}
 use Rattle.melt_step.specs.declared.thread.ThreadState.{ThreadState}
-use Rattle.melt_step.proofs.Counting.{Adds, adds_mode, losses_same}
+use Rattle.melt_step.proofs.Counting.{Adds, adds_mode, counts_of, counts_paid, losses_same}
 use Rattle.melt_step.proofs.Cuts.{lacks_room}
-use Rattle.melt_step.proofs.First.{IsLacking, called_at, frees_ended, lacking_open}
+use Rattle.melt_step.specs.Makes.{IsLacking}
+use Rattle.melt_step.proofs.First.{called_at, frees_ended, lacking_open}
 use Rattle.melt_step.proofs.Modes.{Table_gone, cuts_mode}
 use Rattle.melt_step.proofs.Tables.{Table_renewed}
+use Rattle.melt_step.proofs.WordsMade.{made_dropped, made_same}
 
 -- A thread that lacked so many words beside those that are held ended, and dropped its registers. A new epoch began.
 pub record EndsCall (old new : Run) (dropped : View) (t held need : ℕ) : Type 0 where
@@ -124,12 +129,13 @@ gone_stands : {told : Bool} {script : Script} {config : Config} {shown : Shown} 
     {t held need : ℕ} → HasNoRoom told script config shown old t need → EndsCall old new dropped t held need
     → RunStands told script config shown new
 gone_stands {told} {script} {config} {shown} {old} {new} {dropped} {t} {held} {need} has e =
-    let stands : RunStands told script config shown old = has.1.stands in
+    let stands : StandsBut (suc has.0) told script config shown old = has.1.stands in
     let mode : Mode = Ended (end.OutOfHeap held need) in
     let states : List ThreadState = old.states.items in
-    let adds : Adds script config states new.states.items 0 =
-    subst (λ (xs : List ThreadState). Adds script config states xs 0) (sym e.states)
-    (adds_mode script config states t e.s mode e.was.at stands.table.count (ap owes e.was.lacking)) in
+    let after : List ThreadState = set states t (record e.s { mode = mode }) in
+    let adds : Adds script config states after 0 1 =
+    adds_mode script config states t 1 e.s mode e.was.at stands.table.count (ap owes e.was.lacking)
+    (omega (arith, ap over e.was.lacking)) in
     record {
       disk = stands.disk;
       under = stands.under;
@@ -146,12 +152,14 @@ gone_stands {told} {script} {config} {shown} {old} {new} {dropped} {t} {held} {n
           old.collector.journal.items) (sym (gone_history e))
           (cuts_mode script config (view old.core).log states t e.s mode old.collector.journal.items e.was.at
           (lacking_open e.was) (stands.cuts tells))));
-      collected = omega (
-        arith,
-        adds,
-        stands.collected,
-        ap (λ (c : Collector). length c.journal.items) e.collector,
-      );
+      made = λ is.
+          let past : ℕ = config.heap * length old.collector.journal.items in
+          subst (λ (c : Collector). MadeSoFar config (view new.core) c.journal.items) (sym e.collector)
+          (made_same past dropped (view new.core) e.finished.names e.finished.log
+          (made_dropped (view old.core) dropped t e.drops past (stands.made is)));
+      counts = counts_of script config new after old.collector e.states e.collector
+          (counts_paid script config (suc has.0) states after (length old.collector.journal.items)
+          (omega (arith, has.1.few)) stands.counts adds);
     }
 
 -- the thread has ended, so its call is made no more

@@ -27,21 +27,24 @@ use Rattle.melt_core.proofs.Disks.{stands_untold}
 use Rattle.melt_step.specs.Collections.{CollectsCore, CollectedOver, FullOver, Gathers, IsFullCore, IsRefusedCore}
 use Rattle.melt_step.specs.Collections.{MayCollect}
 use Rattle.melt_step.specs.Endings.{AreHalted, EndsBy, EndsFull, EndedStands}
-use Rattle.melt_step.specs.Journals.{next_of, before, end_of, IsTight, MayMove, IsJournalOf}
+use Rattle.melt_step.specs.Journals.{next_of, before, end_of, IsTight, MayMove, IsJournalOf, OneMore, Planned}
 use Rattle.melt_step.specs.Lone.{NoneForwarded}
-use Rattle.melt_step.specs.Run.{collections}
-use Rattle.melt_step.specs.Safepoints.{CollectorStands, JustCollected, MakesCollection, RunStands, last_of}
+use Rattle.melt_step.specs.Counts.{CountsCollections, overs}
+use Rattle.melt_step.specs.Safepoints.{CollectorStands, JustCollected, MakesCollection, RunStands, StandsBut, last_of}
+use Rattle.melt_step.specs.Safepoints.{journal_of}
+use Rattle.melt_step.specs.Made.{MadeSoFar, MakesWithin}
 use Rattle.melt_step.specs.Shown.{Shown}
-use Rattle.melt_step.specs.Threads.{CountsLosses, HasCut, HaveCuts, TableStands, losses, owing, replies_of}
+use Rattle.melt_step.specs.Threads.{CountsLosses, HasCut, HaveCuts, IsEnded, TableStands, losses}
 use Rattle.melt_step.specs.declared.collector.Collector.{Collector}
 use Rattle.melt_step.specs.declared.collector.CollectRefusal.{CollectRefusal}
 use Rattle.melt_step.specs.declared.collector.CollectRefusal.TheVariants as refused
 use Rattle.melt_step.specs.declared.ending.Ended.{Ended}
 use Rattle.melt_step.specs.declared.run.Run.{Run}
 use Rattle.melt_step.specs.declared.thread.ThreadState.{ThreadState}
-use Rattle.melt_step.proofs.Counting.{counts_same, losses_halted}
+use Rattle.melt_step.proofs.Counting.{Spare, counts_made_more, counts_same, counts_spare, losses_halted, overs_less}
 use Rattle.melt_step.proofs.Cuts.{cut_now}
 use Rattle.melt_step.proofs.Tables.{Table_renewed}
+use Rattle.melt_step.proofs.WordsMade.{made_collected, run_within}
 
 -- one more at the end leaves those before
 get_before : (js : List Journal) (e : Journal) (k : ℕ) → k < length js → slice_get (js ++ e ∷ []) k ≡ slice_get js k
@@ -185,33 +188,33 @@ cuts_more script config disk v w states js entry table gathers history cuts =
     (cut_now script config disk v states entry table gathers))
 
 -- what a collection left, over the disk under a run
-abbrev pub Over : Bool → Script → Config → Bool → (shown later : Shown) → (old new : Run) → Type 0
-Over told script config force shown later old new =
-    (stands : RunStands told script config shown old) × (made : MakesCollection force shown later old new)
+abbrev pub Over : ℕ → Bool → Script → Config → Bool → (shown later : Shown) → (old new : Run) → Type 0
+Over unpaid told script config force shown later old new =
+    (stands : StandsBut unpaid told script config shown old) × (made : MakesCollection force shown later old new)
     × CollectedOver told (phase_done force old.collector.plan.next) later (view old.core)
     (view new.core) made.collects.entry
 
 -- it is left over some disk
-pub collected_over : (told : Bool) (script : Script) (config : Config) (force : Bool) (shown later : Shown)
-    (old new : Run) → RunStands told script config shown old → MakesCollection force shown later old new
-    → Over told script config force shown later old new
-collected_over told script config force shown later old new stands made =
+pub collected_over : {unpaid : ℕ} (told : Bool) (script : Script) (config : Config) (force : Bool)
+    (shown later : Shown) (old new : Run) → StandsBut unpaid told script config shown old
+    → MakesCollection force shown later old new → Over unpaid told script config force shown later old new
+collected_over {unpaid} told script config force shown later old new stands made =
     (stands, made, made.collects.each told stands.disk stands.under stands.table.stands)
 
 -- all threads stand behind a collection
-pub collected_table : (told : Bool) (script : Script) (config : Config) (force : Bool) (shown later : Shown)
-    (old new : Run) → (over : Over told script config force shown later old new)
+pub collected_table : {unpaid : ℕ} (told : Bool) (script : Script) (config : Config) (force : Bool)
+    (shown later : Shown) (old new : Run) → (over : Over unpaid told script config force shown later old new)
     → TableStands told script config over.2.disk (view new.core) new.states.items
-collected_table told script config force shown later old new over =
+collected_table {unpaid} told script config force shown later old new over =
     subst (TableStands told script config over.2.disk (view new.core)) (sym over.1.states)
     (Table_renewed told script config over.0.disk over.2.disk (view old.core) (view new.core) old.states.items
     over.0.table over.2.renewed)
 
 -- and so do the moments of the collections, told as the view before it tells
-collected_cuts : (told : Bool) (script : Script) (config : Config) (force : Bool) (shown later : Shown)
-    (old new : Run) → told ≡ true → Over told script config force shown later old new
+collected_cuts : {unpaid : ℕ} (told : Bool) (script : Script) (config : Config) (force : Bool) (shown later : Shown)
+    (old new : Run) → told ≡ true → Over unpaid told script config force shown later old new
     → HaveCuts script (view new.core).log new.states.items config new.collector.journal.items
-collected_cuts true script config force shown later old new is over =
+collected_cuts {unpaid} true script config force shown later old new is over =
     let w : View = view new.core in
     let entry : Journal = over.1.collects.entry in
     let more : HaveCuts script w.log old.states.items config (old.collector.journal.items ++ entry ∷ []) =
@@ -219,34 +222,70 @@ collected_cuts true script config force shown later old new is over =
     over.0.table (over.2.gathers refl) over.2.renewed.history (over.0.cuts refl) in
     subst (λ (xs : List ThreadState). HaveCuts script w.log xs config new.collector.journal.items) (sym over.1.states)
     (subst (HaveCuts script w.log old.states.items config) (sym over.1.collects.journal) more)
-collected_cuts false script config force shown later old new is over =
+collected_cuts {unpaid} false script config force shown later old new is over =
     absurd (let wrong : false ≡ true = is in cc)
+
+-- one entry more
+journal_more : {force : Bool} {shown later : Shown} {old new : Run} → MakesCollection force shown later old new
+    → length new.collector.journal.items ≡ length old.collector.journal.items + 1
+journal_more {force} {shown} {later} {old} {new} made =
+    omega (
+      arith,
+      journal_count (phase_done force old.collector.plan.next) shown later (view old.core) (view new.core) old.collector
+          new.collector made.collects,
+    )
+
+-- a collection that is planned is of the phase that was planned behind the one before
+pub planned_one : {unpaid : ℕ} (told : Bool) (script : Script) (config : Config) (shown later : Shown) (old new : Run)
+    → StandsBut unpaid told script config shown old → MakesCollection false shown later old new
+    → Planned config 1 (journal_of old) (journal_of new)
+planned_one {unpaid} told script config shown later old new stands made = (
+  journal_of old,
+  refl,
+  record {
+    entry = made.collects.entry;
+    journal = made.collects.journal;
+    of_phase = made.collects.of_phase ∙ ap (λ (p : Plan). p.next) stands.collector.plan;
+  },
+)
+
+-- and one that is forced is a Move
+pub moved_one : (shown later : Shown) (old new : Run) → MakesCollection true shown later old new
+    → OneMore Move (journal_of old) (journal_of new)
+moved_one shown later old new made = record {
+  entry = made.collects.entry;
+  journal = made.collects.journal;
+  of_phase = made.collects.of_phase;
+}
 
 -- a collection was made that no reply was told of yet
 pub spare_collected : (told : Bool) (script : Script) (config : Config) (force : Bool) (shown later : Shown)
     (old new : Run) → RunStands told script config shown old → MakesCollection force shown later old new
-    → collections script config (replies_of new.states.items)
-    (length script.programs) + 1 ≤ length new.collector.journal.items + owing new.states.items
+    → Spare script config new.states.items (length new.collector.journal.items)
 spare_collected told script config force shown later old new stands made =
-    let C : List ThreadState → ℕ = λ (xs : List ThreadState).
-    collections script config (replies_of xs) (length script.programs) in
-    let same : new.states.items ≡ old.states.items = made.states in
-    omega (
-      arith,
-      stands.collected,
-      journal_count (phase_done force old.collector.plan.next) shown later (view old.core) (view new.core) old.collector
-          new.collector made.collects,
-      ap C same,
-      ap owing same,
-    )
+    subst (λ (xs : List ThreadState). Spare script config xs (length new.collector.journal.items)) (sym made.states)
+    (counts_spare script config old.states.items (length old.collector.journal.items)
+    (length new.collector.journal.items) (journal_more made) stands.counts)
 
--- a run stands behind a collection
-pub stands_collected : (told : Bool) (script : Script) (config : Config) (force : Bool) (shown later : Shown)
-    (old new : Run) → RunStands told script config shown old → MakesCollection force shown later old new
-    → (force ≡ true → IsTight config (last_of old.collector)) → RunStands told script config later new
-stands_collected told script config force shown later old new stands made tight =
-    let over : Over told script config force shown later old new =
+-- So many collections are unpaid, and one more may be, as a thread has not ended.
+pub record MayOwe (unpaid : ℕ) (states : List ThreadState) : Type 0 where
+  pub few : unpaid ≤ 2
+  pub open_ : overs states + 1 ≤ length states
+
+-- so it may where this thread has not ended
+pub may_owe : (unpaid : ℕ) (states : List ThreadState) (t : ℕ) (s : ThreadState) → unpaid ≤ 2
+    → slice_get states t ≡ Some s → (IsEnded s.mode → ⊥) → MayOwe unpaid states
+may_owe unpaid states t s few at goes = record { few = few; open_ = overs_less states t s at goes }
+
+-- a run stands behind a collection, which is still to be paid for
+pub stands_collected : {unpaid : ℕ} (told : Bool) (script : Script) (config : Config) (force : Bool)
+    (shown later : Shown) (old new : Run) → StandsBut unpaid told script config shown old
+    → MakesCollection force shown later old new → (force ≡ true → IsTight config (last_of old.collector))
+    → MayOwe unpaid old.states.items → StandsBut (suc unpaid) told script config later new
+stands_collected {unpaid} told script config force shown later old new stands made tight owes =
+    let over : Over unpaid told script config force shown later old new =
     collected_over told script config force shown later old new stands made in
+    let n : ℕ = length new.collector.journal.items in
     record {
       disk = over.2.disk;
       under = over.2.under;
@@ -256,7 +295,14 @@ stands_collected told script config force shown later old new stands made tight 
       collector = collector_more config force shown later (view old.core) (view new.core) old.collector new.collector
           stands.collector made.collects stands.table.words tight;
       cuts = λ is. collected_cuts told script config force shown later old new is over;
-      collected = omega (arith, spare_collected told script config force shown later old new stands made);
+      made = λ is.
+          subst (MadeSoFar config (view new.core)) (sym over.1.collects.journal)
+          (made_collected config (view old.core) (view new.core) old.collector.journal.items over.1.collects.entry
+          (over.0.table.stands.counts is) (over.2.renewed.stands.counts is) over.0.table.words
+          over.2.renewed.history (over.0.made is));
+      counts = subst (λ (xs : List ThreadState). CountsCollections script config (suc unpaid) xs n) (sym made.states)
+          (counts_made_more script config unpaid old.states.items (length old.collector.journal.items) n
+          (journal_more made) owes.few owes.open_ stands.counts);
     }
 
 -- it was just made, also behind a thread that dropped its registers
@@ -281,9 +327,9 @@ just_collected force shown later old new made =
     just_behind force shown later old new new made refl refl refl refl
 
 -- a run whose threads have no call in flight may be collected
-pub may_collect : (told : Bool) (script : Script) (config : Config) (shown : Shown) (run : Run)
-    → RunStands told script config shown run → IsQuiet (view run.core) → MayCollect shown.end (view run.core)
-may_collect told script config shown run stands quiet = record {
+pub may_collect : {unpaid : ℕ} (told : Bool) (script : Script) (config : Config) (shown : Shown) (run : Run)
+    → StandsBut unpaid told script config shown run → IsQuiet (view run.core) → MayCollect shown.end (view run.core)
+may_collect {unpaid} told script config shown run stands quiet = record {
   disk = stands.disk;
   ends = stands.under.ends;
   stands = stands_untold told stands.disk (view run.core) stands.table.stands;
@@ -345,13 +391,13 @@ full_ends told config force shown later run heap rest full ended stands tight is
     }
 
 -- what is left where the disk was full for a collection
-pub stands_full : (told : Bool) (script : Script) (config : Config) (force : Bool) (shown later : Shown) (run : Run)
-    (heap : Heap) (rest : Rest) (full : DiskFull) (ended : Ended) → RunStands told script config shown run
-    → (force ≡ true → IsTight config (last_of run.collector))
+pub stands_full : {unpaid : ℕ} (told : Bool) (script : Script) (config : Config) (force : Bool) (shown later : Shown)
+    (run : Run) (heap : Heap) (rest : Rest) (full : DiskFull) (ended : Ended)
+    → StandsBut unpaid told script config shown run → (force ≡ true → IsTight config (last_of run.collector))
     → IsFullCore (phase_done force run.collector.plan.next) shown later (view run.core) heap rest full
     → Halts run (Some heap) rest (halt.DiskFull full.end full.need full.limit) ended
     → EndedStands told script config later ended
-stands_full told script config force shown later run heap rest full ended stands tight is halts =
+stands_full {unpaid} told script config force shown later run heap rest full ended stands tight is halts =
     let v : View = view run.core in
     let w : View = view (core_of heap rest) in
     let states : List ThreadState = run.states.items in
@@ -368,8 +414,11 @@ stands_full told script config force shown later run heap rest full ended stands
           (sym over.renewed.history)
           (subst (HaveCuts script v.log states config) (sym halts.journal) (stands.cuts tells));
       journal = subst (IsJournalOf config) (sym halts.journal) stands.collector.journal;
-      collected = subst (λ (js : List Journal). collections script config (replies_of states) (length script.programs)
-          ≤ length js + owing states) (sym halts.journal) stands.collected;
+      made = λ is. subst (λ (h : List Entry). MakesWithin config h ended.journal.items) (sym over.renewed.history)
+          (subst (MakesWithin config v.log) (sym halts.journal) (run_within is stands));
+      unpaid = unpaid;
+      counts = subst (λ (js : List Journal). CountsCollections script config unpaid states (length js))
+          (sym halts.journal) stands.counts;
       log = ap (λ (r : Rest). r.log.items) halts.rest_is;
       cause = ends_by told config later over.disk w run (Some heap) rest
           (halt.DiskFull full.end full.need full.limit) ended halts
@@ -377,10 +426,10 @@ stands_full told script config force shown later run heap rest full ended stands
     }
 
 -- what is left where the disk failed
-pub stands_failed : (told : Bool) (script : Script) (config : Config) (shown later : Shown) (run : Run) (rest : Rest)
-    (ended : Ended) → RunStands told script config shown run → rest.log.items ≡ (view run.core).log
+pub stands_failed : {unpaid : ℕ} (told : Bool) (script : Script) (config : Config) (shown later : Shown) (run : Run)
+    (rest : Rest) (ended : Ended) → StandsBut unpaid told script config shown run → rest.log.items ≡ (view run.core).log
     → Halts run None rest halt.DiskFault ended → EndedStands told script config later ended
-stands_failed told script config shown later run rest ended stands history halts =
+stands_failed {unpaid} told script config shown later run rest ended stands history halts =
     let v : View = view run.core in
     let states : List ThreadState = run.states.items in
     record {
@@ -390,8 +439,10 @@ stands_failed told script config shown later run rest ended stands history halts
       table = stands.table;
       cuts = λ tells. subst (HaveCuts script v.log states config) (sym halts.journal) (stands.cuts tells);
       journal = subst (IsJournalOf config) (sym halts.journal) stands.collector.journal;
-      collected = subst (λ (js : List Journal). collections script config (replies_of states) (length script.programs)
-          ≤ length js + owing states) (sym halts.journal) stands.collected;
+      made = λ is. subst (MakesWithin config v.log) (sym halts.journal) (run_within is stands);
+      unpaid = unpaid;
+      counts = subst (λ (js : List Journal). CountsCollections script config unpaid states (length js))
+          (sym halts.journal) stands.counts;
       log = ap (λ (r : Rest). r.log.items) halts.rest_is ∙ history;
       cause = ends_by told config later stands.disk v run None rest halt.DiskFault ended halts halts.states;
     }

@@ -13,6 +13,7 @@ pub mod Halting
 pub mod Journals
 pub mod Lone
 pub mod LoneCalls
+pub mod Lends
 pub mod Modes
 pub mod MovedSums
 pub mod Outcomes
@@ -29,3 +30,4 @@ pub mod Telling
 pub mod Tightening
 pub mod Turning
 pub mod TwoMoves
+pub mod WordsMade

@@ -1,11 +1,12 @@
 -- What a run reports of its threads when it has ended, or was halted.
-use Rattle.std.proofs.Common.{◌≡◌, ℕ, ◌+◌, ◌<◌, ◌≤◌, zero, suc, List, [], ◌∷◌, length, refl, sym, ◌∙◌, ap, subst, arith}
+use Rattle.std.proofs.Common.{◌≡◌, ℕ, ◌+◌, ◌*◌, ◌<◌, ◌≤◌, zero, suc, List, [], ◌∷◌, length, refl, sym, ◌∙◌, ap}
+use Rattle.std.proofs.Common.{subst, arith}
 use Rattle.std.proofs.Common.{◌⊎◌, inl, inr}
 use Rattle.std.proofs.Math.ListN.{length-map}
 use Rattle.std.proofs.lemmas.List.Elements.{All-get_or}
 use Rattle.std.proofs.lemmas.List.Sums.{sum-map, sum_by-cons}
 use Rattle.std.proofs.lemmas.Option.{slice_get_cases, slice_get_within, get_or_from_slice_get}
-use Rattle.std.specs.Prelude.{Bool, true, Option, Some, IsSome, slice_get, take, All, if◌then◌else◌}
+use Rattle.std.specs.Prelude.{Bool, true, Option, Some, IsSome, slice_get, take, map, sum, All, if◌then◌else◌}
 use Rattle.std.specs.List.{count_by, sum_by}
 use Rattle.std.specs.Option.{option_map_or}
 use Rattle.melt_model.specs.History.{Legal}
@@ -29,8 +30,11 @@ use Rattle.melt_step.specs.Endings.{AreHalted, EndedStands, halted_mode, halted}
 use Rattle.melt_step.specs.Journals.{IsJournalOf}
 use Rattle.melt_step.specs.Run.{silent_in, is_collect, is_halted, is_lost, replies_in, halted_in, Cut}
 use Rattle.melt_step.specs.Run.{IsCut, IsCollectedAt, LacksRoom, LoadsNext, MayEnd, MayHalt, HasCuts}
-use Rattle.melt_step.specs.Run.{HasHistory, collections_of, collections, IsStepReport}
+use Rattle.melt_step.specs.Counts.{answers}
+use Rattle.melt_step.specs.Run.{HasHistory, collects, collects_of, collections_of, collections, replies_told}
+use Rattle.melt_step.specs.Run.{IsStepReport}
 use Rattle.melt_step.specs.Threads.{owes, owing, lost, losses, IsEnded, replies_of, EndsSo, HasCut, HaveCuts}
+use Rattle.melt_step.specs.Made.{MakesWithin}
 use Rattle.melt_step.specs.Shown.{Shown}
 use Rattle.melt_step.specs.Threads.{TableStands}
 use Rattle.melt_step.proofs.Cuts.{replies_here, replies_past, told_now}
@@ -77,6 +81,15 @@ collections_same script config a b same (suc n) =
     ap (λ (k : ℕ). k + collections_of script config a n) (collections_same script config a b same n)
     ∙ ap (λ (rs : List Reply). collections script config b n
     + (count_by is_collect (take (length rs) (operations script n)) + silent_in config.every (length rs))) (same n)
+
+-- and the `collect`s
+asked_same : (script : Script) (a b : ℕ → List Reply) → ((t : ℕ) → a t ≡ b t) → (n : ℕ)
+    → collects script a n ≡ collects script b n
+asked_same script a b same zero = refl
+asked_same script a b same (suc n) =
+    ap (λ (k : ℕ). k + collects_of script a n) (asked_same script a b same n)
+    ∙ ap (λ (rs : List Reply). collects script b n + count_by is_collect (take (length rs) (operations script n)))
+    (same n)
 
 -- a thread of the run
 pub state_at : (states : List ThreadState) (t : ℕ) → t < length states
@@ -258,6 +271,30 @@ owing_halted states ended report reports =
     (λ t s r at there. owes_ended report s r (reports.ends t s r at there)) in
     omega (arith, less, sum-map f states)
 
+-- a report has the replies of all threads
+told_less : (states : List ThreadState) (threads : List ThreadReport) → length threads ≡ length states
+    → ((t : ℕ) (s : ThreadState) (r : ThreadReport) → slice_get states t ≡ Some s → slice_get threads t ≡ Some r
+    → r.replies ≡ s.replies.items) → answers states ≡ sum (map (λ (r : ThreadReport). length r.replies) threads)
+told_less [] [] count each = refl
+told_less [] (r ∷ threads) count each = absurd (omega (arith, count))
+told_less (s ∷ states) [] count each = absurd (omega (arith, count))
+told_less (s ∷ states) (r ∷ threads) count each =
+    let f : ThreadState → ℕ = λ (x : ThreadState). length x.replies.items in
+    let g : ThreadReport → ℕ = λ (x : ThreadReport). length x.replies in
+    let others : answers states ≡ sum (map g threads) =
+    told_less states threads (omega (arith, count)) (λ t x y at is. each (suc t) x y at is) in
+    omega (
+      arith,
+      ap length (each 0 s r refl refl),
+      others,
+      sum-map f (s ∷ states),
+      sum-map f states,
+      sum_by-cons f s states,
+      sum-map g (r ∷ threads),
+      sum-map g threads,
+      sum_by-cons g r threads,
+    )
+
 -- what stands, told or not, where it is told
 pub as_told : (told : Bool) (script : Script) (config : Config) (disk : OnDisk) (v : View) (states : List ThreadState)
     → told ≡ true → TableStands told script config disk v states → TableStands true script config disk v states
@@ -329,7 +366,7 @@ step_report told script config shown ended report stands reports halts =
           ≤ length report.journal + halted_in report =
           omega (
             arith,
-            stands.collected,
+            stands.counts.collected,
             owing_halted states ended report reports,
             collections_same script config (replies_of states) (replies_in report)
                 (replies_same states ended report reports) (length script.programs),
@@ -337,4 +374,31 @@ step_report told script config shown ended report stands reports halts =
           ) in
           subst (λ (n : ℕ). collections script config (replies_in report) n ≤ length report.journal + halted_in report)
           (sym threads) all;
+      made = λ is. subst (λ (h : List Entry). MakesWithin config h report.journal) history
+          (subst (MakesWithin config v.log) (sym reports.journal) (stands.made is));
+      asked =
+          let all : collects script (replies_in report) (length script.programs) ≤ length report.journal =
+          omega (
+            arith,
+            stands.counts.asked,
+            asked_same script (replies_of states) (replies_in report)
+                (replies_same states ended report reports) (length script.programs),
+            ap length reports.journal,
+          ) in
+          subst (λ (n : ℕ). collects script (replies_in report) n ≤ length report.journal) (sym threads) all;
+      bounded =
+          let all : length report.journal ≤ collections script config (replies_in report) (length script.programs)
+          + 3 * (replies_told report + length report.threads) =
+          omega (
+            arith,
+            stands.counts.bounded,
+            stands.counts.pays,
+            told_less states report.threads reports.count (reports.replies),
+            reports.count,
+            collections_same script config (replies_of states) (replies_in report)
+                (replies_same states ended report reports) (length script.programs),
+            ap length reports.journal,
+          ) in
+          subst (λ (n : ℕ). length report.journal ≤ collections script config (replies_in report) n
+          + 3 * (replies_told report + length report.threads)) (sym threads) all;
     }

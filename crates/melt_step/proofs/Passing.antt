@@ -18,6 +18,7 @@ use Rattle.melt_scion.specs.Heaps.{OnDisk}
 use Rattle.melt_model.specs.declared.history.Entry.{Entry}
 use Rattle.melt_model.specs.declared.reports.Journal.{Journal}
 use Rattle.melt_core.specs.declared.machine.Core.{Core}
+use Rattle.melt_step.specs.Made.{MadeSoFar}
 use Rattle.melt_step.specs.Shown.{Shown}
 use Rattle.melt_step.specs.Safepoints.{CalledAt, CollectorStands, KeepsRun}
 use Rattle.melt_core.specs.declared.machine.Rest.{Rest}
@@ -35,7 +36,7 @@ use Rattle.melt_step.specs.Threads.{CollectedFor, CollectedAt, CollectedAll, Res
 use Rattle.melt_step.proofs.Cuts.{first_left}
 use Rattle.melt_step.proofs.Modes.{Table_runs, cuts_mode}
 use Rattle.melt_step.proofs.Telling.{set_got, sum_set}
-use Rattle.melt_step.proofs.Counting.{Adds, adds_mode}
+use Rattle.melt_step.proofs.Counting.{Adds, adds_mode, adds_none, adds_then, counts_of, counts_on, open_over}
 use Rattle.melt_step.proofs.Telling.{get_set_same, get_set_other}
 
 -- a call was refused or was not
@@ -114,7 +115,7 @@ pub record AgainBelow (states after : List ThreadState) (n : ℕ) : Type 0 where
   pub cuts : (script : Script) (log : List Entry) (config : Config) (journal : List Journal)
       → HaveCuts script log states config journal → HaveCuts script log after config journal
   pub collected : (script : Script) (config : Config) → length states ≡ length script.programs
-      → Adds script config states after 0
+      → Adds script config states after 0 0
   pub lost : losses after ≡ losses states
 
 -- one thread more makes its call again
@@ -157,14 +158,14 @@ again_more states after n s x so_far at made = record {
             (sym (ap (set after n) (made.same not) ∙ set_got after n s at)) before
       ];
   collected = λ script config count.
-      let before : Adds script config states after 0 = so_far.collected script config count in
-      let one : Adds script config after (set after n x) 0 = elim (calls_again s.mode) [
-        | inl again ↦ subst (λ (z : ThreadState). Adds script config after (set after n z) 0) (sym (made.again again))
-            (adds_mode script config after n s Running at (so_far.count ∙ count) (again_owes s.mode again))
-        | inr not ↦ subst (λ (xs : List ThreadState). Adds script config after xs 0)
-            (sym (ap (set after n) (made.same not) ∙ set_got after n s at)) (omega arith)
+      let one : Adds script config after (set after n x) 0 0 = elim (calls_again s.mode) [
+        | inl again ↦ subst (λ (z : ThreadState). Adds script config after (set after n z) 0 0) (sym (made.again again))
+            (adds_mode script config after n 0 s Running at (so_far.count ∙ count) (again_owes s.mode again)
+            (omega (arith, open_over s.mode (again_open s.mode again))))
+        | inr not ↦ subst (λ (xs : List ThreadState). Adds script config after xs 0 0)
+            (sym (ap (set after n) (made.same not) ∙ set_got after n s at)) (adds_none script config after)
       ] in
-      omega (arith, before, one);
+      adds_then script config states after (set after n x) (so_far.collected script config count) one;
   lost =
       let sum_is : losses (set after n x) + lost s.mode ≡ losses after + lost x.mode =
       sum_set (λ (y : ThreadState). lost y.mode) after n s x at in
@@ -474,8 +475,7 @@ pub resumed_keeps : (shown : Shown) (old new : Run) (n : ℕ) → AgainBelow old
     → new.every ≡ old.every → new.words ≡ old.words → KeepsRun shown shown old new
 resumed_keeps shown old new n again quiet core collector every words told script config stands =
     let table : TableStands told script config stands.disk (view old.core) old.states.items = stands.table in
-    let adds : Adds script config old.states.items new.states.items 0 =
-    again.collected script config table.count in
+    let n : ℕ = length old.collector.journal.items in
     record {
       disk = stands.disk;
       under = stands.under;
@@ -489,5 +489,11 @@ resumed_keeps shown old new n again quiet core collector every words told script
           (sym core)
           (subst (λ (c : Collector). HaveCuts script (view old.core).log new.states.items config c.journal.items)
           (sym collector) (again.cuts script (view old.core).log config old.collector.journal.items (stands.cuts is)));
-      collected = omega (arith, adds, stands.collected, ap (λ (c : Collector). length c.journal.items) collector);
+      made = λ is.
+          subst (λ (c : Core). MadeSoFar config (view c) new.collector.journal.items) (sym core)
+          (subst (λ (c : Collector). MadeSoFar config (view old.core) c.journal.items) (sym collector)
+          (stands.made is));
+      counts = counts_of script config new new.states.items old.collector refl collector
+          (counts_on script config old.states.items new.states.items n stands.counts
+          (again.collected script config table.count));
     }

@@ -27,14 +27,17 @@ use Rattle.melt_step.specs.declared.run.Run.{Run}
 use Rattle.melt_step.specs.declared.thread.ThreadState.{ThreadState}
 use Rattle.melt_step.specs.declared.thread.Mode.{Mode}
 use Rattle.melt_step.specs.declared.thread.Mode.TheVariants.{Running, Due, Silent, Collecting, Asked, Lacking, Ended}
+use Rattle.melt_step.specs.Counts.{CountsCollections}
 use Rattle.melt_step.specs.Endings.{AllEnded, EndedStands}
 use Rattle.melt_step.specs.Journals.{before, next_of, end_of, IsJournalOf}
 use Rattle.melt_step.specs.Safepoints.{CollectorStands, RunStands, last_of}
+use Rattle.melt_step.specs.Made.{MadeSoFar, MakesWithin}
 use Rattle.melt_step.specs.Shown.{Shown}
 use Rattle.melt_step.specs.Threads.{left, to_reply, IsEnded, IsNewThread, AreNewThreads, HasCut, HaveCuts}
 use Rattle.melt_step.specs.Threads.{TableStands, Renewed}
 use Rattle.melt_step.proofs.Tables.{Table_renewed}
-use Rattle.melt_step.proofs.Starting.{bare, bare_shown, Table_new, collections_new}
+use Rattle.melt_step.proofs.Starting.{bare, bare_shown, Table_new, counts_new}
+use Rattle.melt_step.proofs.WordsMade.{made_nothing, run_within}
 
 -- the first k threads of a script before their first events, and how many operations they have together
 pub record NewSoFar (script : Script) (k : ℕ) (states : List ThreadState) (amount : ℕ) : Type 0 where
@@ -136,7 +139,12 @@ Run_new told script config shown entries globals threads heap rest run ranges en
       collector = Collector_new config shown run.collector ranges ends limits none plan;
       cuts = λ is. subst (HaveCuts script (view run.core).log states config) (sym none)
           (All-nil (HasCut script (view run.core).log states config));
-      collected = omega (arith, collections_new script config entries (length script.programs) states new_states);
+      made = λ is.
+          subst (λ (core : Core). MadeSoFar config (view core) run.collector.journal.items) (sym begins)
+          (made_nothing config (view (core_of heap rest)) run.collector.journal.items (table.stands.counts is)
+          is_rest.history);
+      counts = subst (λ (js : List Journal). CountsCollections script config 0 states (length js)) (sym none)
+          (counts_new script config entries states new_states);
     }
 
 -- how a thread has ended
@@ -229,7 +237,10 @@ ended_all told script config shown run heap rest stands over rests finished =
       cuts = λ is. subst (λ (h : List Entry). HaveCuts script h states config run.collector.journal.items)
           (sym finished.log) (stands.cuts is);
       journal = stands.collector.journal;
-      collected = stands.collected;
+      made = λ is. subst (λ (h : List Entry). MakesWithin config h run.collector.journal.items) (sym finished.log)
+          (run_within is stands);
+      unpaid = 0;
+      counts = stands.counts;
       log = refl;
       cause = (over, refl, refl, stands.under);
     }

@@ -7,11 +7,18 @@ use Rattle.std.proofs.lemmas.List.Sums.{sum-map, sum_by-cons}
 use Rattle.std.proofs.lemmas.Option.{same_Some, slice_get_within, slice_get_cases}
 use Rattle.std.specs.Prelude.{None, Some, slice_get, slice_set}
 use Rattle.melt_core.specs.Views.{view}
+use Rattle.melt_model.specs.declared.config.Config.{Config}
+use Rattle.melt_model.specs.declared.reports.Journal.{Journal}
 use Rattle.melt_step.specs.declared.run.Run.{Run}
 use Rattle.melt_step.specs.declared.thread.Mode.{Mode}
 use Rattle.melt_step.specs.declared.thread.Mode.TheVariants.{Running, Due, Silent, Collecting, Asked, Lacking, Ended}
 use Rattle.melt_step.specs.declared.thread.ThreadState.{ThreadState}
-use Rattle.melt_step.specs.Safepoints.{CalledAt, JustCollected, MakesFor, MakesForAll}
+use Rattle.melt_step.specs.Journals.{OneMore, Planned, before, next_of}
+use Rattle.melt_step.specs.Makes.{NoneLacks}
+use Rattle.melt_step.specs.Safepoints.{CalledAt, JustCollected, KeepsRun, MakesFor, MakesForAll, MakesPlanned}
+use Rattle.melt_step.specs.Safepoints.{WaitsForRoom}
+use Rattle.melt_step.specs.Safepoints.{journal_of}
+use Rattle.melt_step.specs.Shown.{Shown}
 use Rattle.melt_step.specs.Threads.{CollectedAll, CollectedFor, ForCollection, IsPaused, NoneBelow, Waits}
 use Rattle.melt_step.specs.Threads.{collections_due, collections_for}
 use Rattle.melt_step.proofs.Passing.{CollectedBelow, NoneOwn, for_collection, waits_for}
@@ -83,13 +90,34 @@ called_own states after t s none at called = λ u x there own.
     ]
 
 -- what was collected for the first threads
-pub record MadeBelow (old new : Run) (n : ℕ) : Type 0 where
+pub record MadeBelow (shown : Shown) (old new : Run) (n : ℕ) : Type 0 where
   pub made : collections_due (take n old.states.items) ≢ 0 → JustCollected new
   pub none : collections_due (take n old.states.items) ≡ 0 → new ≡ old
+  pub planned : MakesPlanned (collections_due (take n old.states.items)) shown old new
 
 -- nothing yet
-pub below_none : (old : Run) → MadeBelow old old 0
-below_none old = record { made = λ some. absurd (some refl); none = λ nothing. refl }
+pub below_none : (shown : Shown) (old : Run) → MadeBelow shown old old 0
+below_none shown old = record {
+  made = λ some. absurd (some refl);
+  none = λ nothing. refl;
+  planned = λ told script config stands. refl;
+}
+
+-- no collection or one, behind others
+planned_more : (config : Config) (m k : ℕ) (a b c : List Journal) → k ≤ 1 → Planned config m a b → Planned config k b c
+    → Planned config (m + k) a c
+planned_more config m zero a b c few first second =
+    let same : m ≡ m + 0 = omega arith in
+    subst (λ (n : ℕ). Planned config n a c) same (subst (Planned config m a) (sym second) first)
+planned_more config m (suc zero) a b c few first second =
+    let same : suc m ≡ m + 1 = omega arith in
+    let one : Planned config (suc m) a c = (
+      b,
+      first,
+      subst (λ (js : List Journal). OneMore (next_of config (before js (length js))) js c) second.1 second.2,
+    ) in
+    subst (λ (n : ℕ). Planned config n a c) same one
+planned_more config m (suc (suc k)) a b c few first second = absurd (omega (arith, few))
 
 -- how many collections the first threads wait for, and one thread more
 due_more : (states : List ThreadState) (n : ℕ) (s : ThreadState) → slice_get states n ≡ Some s
@@ -119,9 +147,10 @@ take_past (x ∷ states) zero past = absurd (omega arith)
 take_past (x ∷ states) (suc n) past = ap (λ (xs : List ThreadState). x ∷ xs) (take_past states n (omega arith))
 
 -- for one thread more
-pub below_more : (old run next : Run) (n : ℕ) (s : ThreadState) → MadeBelow old run n
-    → slice_get old.states.items n ≡ Some s → MakesFor s run next → MadeBelow old next (n + 1)
-below_more old run next n s so_far at makes =
+pub below_more : (shown mid : Shown) (old run next : Run) (n : ℕ) (s : ThreadState) → MadeBelow shown old run n
+    → slice_get old.states.items n ≡ Some s → KeepsRun shown mid old run → MakesFor s mid run next
+    → MadeBelow shown old next (n + 1)
+below_more shown mid old run next n s so_far at keeps makes =
     let m : ℕ = collections_due (take n old.states.items) in
     let k : ℕ = collections_for s.mode in
     let next_n : n + 1 ≡ suc n = omega arith in
@@ -137,16 +166,24 @@ below_more old run next n s so_far at makes =
         | inl own ↦ absurd (omega (arith, sum, nothing, own.1))
         | inr not ↦ makes.none not.0 ∙ so_far.none (omega (arith, sum, nothing))
       ];
+      planned = λ told script config stands.
+          subst (λ (j : ℕ). Planned config j (journal_of old) (journal_of next)) (sym sum)
+          (planned_more config m k (journal_of old) (journal_of run) (journal_of next)
+          (elim (own_one s.mode) [ inl own ↦ omega (arith, own.1) | inr not ↦ omega (arith, not.1) ])
+          (so_far.planned told script config stands)
+          (makes.planned told script config (keeps told script config stands)));
     }
 
 -- for all threads
-pub below_all : (old new : Run) (n : ℕ) → MadeBelow old new n → length old.states.items ≤ n → MakesForAll old new
-below_all old new n below all =
+pub below_all : (shown : Shown) (old new : Run) (n : ℕ) → MadeBelow shown old new n → length old.states.items ≤ n
+    → MakesForAll shown old new
+below_all shown old new n below all =
     let same : collections_due (take n old.states.items) ≡ collections_due old.states.items =
     ap collections_due (take_past old.states.items n all) in
     record {
       made = λ some. below.made (λ none. some (sym same ∙ none));
       none = λ nothing. below.none (same ∙ nothing);
+      planned = subst (λ (j : ℕ). MakesPlanned j shown old new) same below.planned;
     }
 
 -- where no collection is waited for, no thread waits for one
@@ -168,25 +205,50 @@ due_none (x ∷ states) (suc t) s none at own =
 abbrev pub OneWaits : List ThreadState → Type 0
 OneWaits states = (t : ℕ) × ((s : ThreadState) × (slice_get states t ≡ Some s) × Waits s.mode)
 
--- no thread lacks room
-abbrev pub NoneLacks : List ThreadState → Type 0
-NoneLacks states = (t : ℕ) (s : ThreadState) → slice_get states t ≡ Some s → s.mode ≡ Lacking → ⊥
-
 -- a thread waited, and none lacks room behind the collections: so there was one
-pub own_collected : (old mid : Run) → MakesForAll old mid → CollectedAll old.states.items mid.states.items
-    → OneWaits old.states.items → NoneLacks mid.states.items → JustCollected mid
-own_collected old mid makes all waits none =
-    makes.made (λ nothing. elim (waits_for waits.1.0.mode waits.1.2) [
-      | inl own ↦ due_none old.states.items waits.0 waits.1.0 nothing waits.1.1 own
-      | inr lacks ↦
-          let x : (x : ThreadState) × (slice_get mid.states.items waits.0 ≡ Some x) × CollectedFor waits.1.0 x =
-          all.each waits.0 waits.1.0 waits.1.1 in
-          none waits.0 x.0 x.1 (ap (λ (z : ThreadState). z.mode) (x.2.same lacks.1) ∙ lacks.0)
-    ])
+pub own_due : (old mid : Run) → CollectedAll old.states.items mid.states.items → OneWaits old.states.items
+    → NoneLacks mid.states.items → collections_due old.states.items ≢ 0
+own_due old mid all waits none = λ nothing. elim (waits_for waits.1.0.mode waits.1.2) [
+  | inl own ↦ due_none old.states.items waits.0 waits.1.0 nothing waits.1.1 own
+  | inr lacks ↦
+      let x : (x : ThreadState) × (slice_get mid.states.items waits.0 ≡ Some x) × CollectedFor waits.1.0 x =
+      all.each waits.0 waits.1.0 waits.1.1 in
+      none waits.0 x.0 x.1 (ap (λ (z : ThreadState). z.mode) (x.2.same lacks.1) ∙ lacks.0)
+]
+
+-- the same threads lack room behind the collections as before
+pub none_lacks : (states after : List ThreadState) → CollectedAll states after → NoneLacks after → NoneLacks states
+none_lacks states after all none t s at lacks =
+    let x : (x : ThreadState) × (slice_get after t ≡ Some x) × CollectedFor s x = all.each t s at in
+    let never : ForCollection s.mode → ⊥ = λ own. subst ForCollection lacks own in
+    none t x.0 x.1 (ap (λ (z : ThreadState). z.mode) (x.2.same never) ∙ lacks)
+
+pub room_before : (states after : List ThreadState) (t : ℕ) → CollectedAll states after → WaitsForRoom after t
+    → WaitsForRoom states t
+room_before states after t all waits = elim (slice_get_cases states t).1 [
+  | inl w ↦
+      let x : (x : ThreadState) × (slice_get after t ≡ Some x) × CollectedFor w.0 x = all.each t w.0 w.2 in
+      let is : x.0 ≡ waits.0 = same_Some x.0 waits.0 (sym x.1 ∙ waits.1) in
+      let lacks : x.0.mode ≡ Lacking = ap (λ (z : ThreadState). z.mode) is ∙ waits.2 in
+      elim (for_collection w.0.mode) [
+        | inl own ↦ absurd (x.2.goes own (subst IsPaused (sym lacks) tt))
+        | inr not ↦ (w.0, w.2, ap (λ (z : ThreadState). z.mode) (sym (x.2.same not)) ∙ lacks)
+      ]
+  | inr w ↦ absurd (let within : t < length after = slice_get_within after t waits.0 waits.1 in
+      omega (arith, within, all.count, w.0))
+]
 
 -- where the run stopped, and the stop word is not set behind the collections, there was one
-pub stop_collected : (old mid : Run) → MakesForAll old mid → (view old.core).stop ≡ true
-    → (view mid.core).stop ≡ false → JustCollected mid
-stop_collected old mid makes was is =
-    makes.made (λ none. let wrong : true ≡ false =
-    sym was ∙ (ap (λ (run : Run). (view run.core).stop) (sym (makes.none none)) ∙ is) in cc)
+pub stop_due : (shown : Shown) (old mid : Run) → MakesForAll shown old mid → (view old.core).stop ≡ true
+    → (view mid.core).stop ≡ false → collections_due old.states.items ≢ 0
+stop_due shown old mid makes was is = λ none.
+    let wrong : true ≡ false =
+    sym was ∙ (ap (λ (run : Run). (view run.core).stop) (sym (makes.none none)) ∙ is) in cc
+
+-- and where it is set, there was none
+pub stop_not_due : (shown : Shown) (old mid : Run) → MakesForAll shown old mid → (view mid.core).stop ≡ true
+    → collections_due old.states.items ≡ 0
+stop_not_due shown old mid makes is = elim (cases_eq (collections_due old.states.items) 0) [
+  | inl none ↦ none
+  | inr some ↦ absurd (let wrong : true ≡ false = sym is ∙ (makes.made some).stop in cc)
+]

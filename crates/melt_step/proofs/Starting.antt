@@ -38,10 +38,12 @@ use Rattle.melt_core.proofs.Values.{get_or_replicate}
 use Rattle.melt_step.specs.declared.thread.ThreadState.{ThreadState}
 use Rattle.melt_step.specs.declared.thread.Mode.{Mode}
 use Rattle.melt_step.specs.declared.thread.Mode.TheVariants.{Running, Asked, Ended}
-use Rattle.melt_step.specs.Run.{is_collect, silent_in, collections}
+use Rattle.melt_step.specs.Counts.{CountsCollections}
+use Rattle.melt_step.specs.Run.{collects, is_collect, silent_in, collections}
 use Rattle.melt_step.specs.Shown.{Underlies}
 use Rattle.melt_step.specs.Threads.{most_forwards, owes_silent, Waits, AreNewThreads, IsNewThread, FitsMode, KnowsStop}
-use Rattle.melt_step.specs.Threads.{ThreadStands, EndsSo, TableStands, replies_of, lost, losses}
+use Rattle.melt_step.specs.Threads.{ThreadStands, EndsSo, TableStands, replies_of, lost, losses, owes, owing}
+use Rattle.melt_step.proofs.Counting.{overs_most}
 use Rattle.melt_step.proofs.Cuts.{replies_here, replies_past}
 
 -- the words of an image that tells them; else they may be any
@@ -260,6 +262,26 @@ silent_none (suc e) =
       | inr none ↦ omega (arith, none)
     ]
 
+-- no `collect` was answered
+asked_new : (script : Script) (entries n : ℕ) (states : List ThreadState) → AreNewThreads script states entries
+    → collects script (replies_of states) n ≡ 0
+asked_new script entries zero states new_states = refl
+asked_new script entries (suc n) states new_states =
+    let none : length (replies_of states n) ≡ 0 = ap length (no_replies script entries n states new_states) in
+    let own : count_by is_collect (take (length (replies_of states n)) (operations script n)) ≡ 0 =
+    ap (λ (k : ℕ). count_by is_collect (take k (operations script n))) none in
+    omega (arith, asked_new script entries n states new_states, own)
+
+-- no silent collection is to come
+owing_none : (states : List ThreadState) → ((t : ℕ) (s : ThreadState) → slice_get states t ≡ Some s → owes s.mode ≡ 0)
+    → owing states ≡ 0
+owing_none [] each = refl
+owing_none (s ∷ states) each =
+    let f : ThreadState → ℕ = λ (x : ThreadState). owes x.mode in
+    let here : owes s.mode ≡ 0 = each 0 s refl in
+    let others : owing states ≡ 0 = owing_none states (λ t x at. each (suc t) x at) in
+    omega (arith, here, others, sum-map f states, sum-map f (s ∷ states), sum_by-cons f s states)
+
 -- no collection was answered
 pub collections_new : (script : Script) (config : Config) (entries n : ℕ) (states : List ThreadState)
     → AreNewThreads script states entries → collections script config (replies_of states) n ≡ 0
@@ -275,6 +297,22 @@ collections_new script config entries (suc n) states new_states =
       ap (silent_in config.every) none,
       silent_none config.every,
     )
+
+-- so all that is counted is nothing
+pub counts_new : (script : Script) (config : Config) (entries : ℕ) (states : List ThreadState)
+    → AreNewThreads script states entries → CountsCollections script config 0 states 0
+counts_new script config entries states new_states = record {
+  collected = omega (arith, collections_new script config entries (length script.programs) states new_states);
+  asked = omega (arith, asked_new script entries (length script.programs) states new_states);
+  bounded = omega (
+    arith,
+    owing_none states (λ t s at. elim (new_states.each t s at).mode [
+      | inl runs ↦ ap owes runs.0
+      | inr ends ↦ ap owes ends.0
+    ]),
+  );
+  pays = omega (arith, overs_most states);
+}
 
 -- where no thread is lost, none is counted
 none_lost : (states : List ThreadState) → ((t : ℕ) (s : ThreadState) → slice_get states t ≡ Some s → lost s.mode ≡ 0)

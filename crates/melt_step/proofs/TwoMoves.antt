@@ -15,13 +15,12 @@ use Rattle.melt_trace.specs.Script.{Script}
 use Rattle.melt_scion.specs.Heaps.{OnDisk}
 use Rattle.melt_core.specs.Views.{View, view, value, Standing}
 use Rattle.melt_step.specs.Collections.{CollectedOver, Gathers}
-use Rattle.melt_step.specs.Endings.{StopsSo}
 use Rattle.melt_step.specs.Run.{HasRisen}
 use Rattle.melt_step.specs.Safepoints.{Attempted, Awaited, AwaitsCall, CalledAt, Forced, LackedWords, LacksBy}
-use Rattle.melt_step.specs.Safepoints.{LacksWords, LeftBy, MadeCall, MakesCollection, NoRoom, RunStands}
-use Rattle.melt_step.specs.Safepoints.{Standpoint, StopCounts, StopsForced, StopsRun, WaitsForRoom}
+use Rattle.melt_step.specs.Safepoints.{LacksWords, LeftBy, MadeCall, MakesCollection, MayForce, NoRoom, StandsBut}
+use Rattle.melt_step.specs.Safepoints.{Standpoint, StopCounts, StopsBut, StopsForced, StopsFrom, WaitsForRoom}
 use Rattle.melt_step.specs.Shown.{Shown}
-use Rattle.melt_step.specs.Threads.{CountsLosses, OweBehindCollects, losses}
+use Rattle.melt_step.specs.Threads.{CountsLosses, IsEnded, OweBehindCollects, losses}
 use Rattle.melt_step.specs.declared.ending.Stop.{Stop}
 use Rattle.melt_step.specs.declared.run.Run.{Run}
 use Rattle.melt_step.specs.declared.safepoint.Attempt.{Attempt}
@@ -31,7 +30,7 @@ use Rattle.melt_step.proofs.Composing.{stop_counts_then}
 use Rattle.melt_step.proofs.Counting.{counted_cases, counts_open, counts_same}
 use Rattle.melt_step.proofs.Cuts.{held_words_same}
 use Rattle.melt_step.proofs.Gone.{HasNoRoom}
-use Rattle.melt_step.proofs.Journals.{just_collected, stands_collected}
+use Rattle.melt_step.proofs.Journals.{MayOwe, just_collected, may_owe, stands_collected}
 
 -- what is seen of a disk is told by its parts
 pub same_shown : (a b : Shown) → a.end ≡ b.end → a.limit ≡ b.limit → a.image ≡ b.image → a ≡ b
@@ -120,16 +119,24 @@ left_again told config (suc zero) later v w entry need tells few left free over 
     }
 left_again told config (suc (suc k)) later v w entry need tells few left free over = absurd (omega (arith, few))
 
+-- a thread that waits for room has not ended, so that one more collection may be unpaid
+room_owes : {unpaid : ℕ} (states : List ThreadState) (t : ℕ) → WaitsForRoom states t → unpaid ≤ 2
+    → MayOwe unpaid states
+room_owes {unpaid} states t waits few =
+    may_owe unpaid states t waits.0 few waits.1 (λ ended. subst IsEnded waits.2 ended)
+
 -- behind it the thread may make its call once more
 pub awaits_again : {told : Bool} {script : Script} {config : Config} {shown later : Shown} {forced : ℕ} {old new : Run}
     {t need : ℕ} → forced < 2 → LacksWords told script config shown forced old t need
     → MakesCollection true shown later old new → AwaitsCall told script config later (suc forced) new t
 awaits_again {told} {script} {config} {shown} {later} {forced} {old} {new} {t} {need} few lacks made =
-    let stands : RunStands told script config shown old = lacks.stands in
+    let stands : StandsBut (suc forced) told script config shown old = lacks.stands in
     let over : CollectedOver told Move later (view old.core) (view new.core) made.collects.entry =
     made.collects.each told stands.disk stands.under stands.table.stands in
     record {
-      stands = stands_collected told script config true shown later old new stands made (λ is. lacks.tight);
+      stands = stands_collected told script config true shown later old new stands made (λ is. lacks.tight)
+          (room_owes old.states.items t lacks.waits (omega (arith, few)));
+      few = omega (arith, few);
       owed = subst (OweBehindCollects script) (sym made.states) lacks.owed;
       collected = just_collected true shown later old new made;
       quiet = made.collects.quiet;
@@ -140,8 +147,7 @@ awaits_again {told} {script} {config} {shown} {later} {forced} {old} {new} {t} {
 
 -- so it stands from where the thread lacked words
 pub again_standpoint : (shown later : Shown) (old new : Run) (t need : ℕ) → MakesCollection true shown later old new
-    → (told : Bool) (script : Script) (config : Config)
-    → (forced : ℕ) × (forced < 2) × LacksWords told script config shown forced old t need
+    → (told : Bool) (script : Script) (config : Config) → MayForce shown old t need told script config
     → Awaited later new t told script config
 again_standpoint shown later old new t need made told script config lacked =
     (suc lacked.0, awaits_again lacked.1 lacked.2 made)
@@ -159,22 +165,29 @@ pub again_attempted : {Reader E : Type 0} (image : Reader → Option (List ℕ))
     → MakesCollection true shown mid old run → b ≡ a
     → IfOk result (λ done. Attempted image faults (Awaited mid run t)
     (λ forced told script config. AwaitsCall told script config mid forced run t) later run done.0 t b c done.1)
-    → IfOk result (λ done. Attempted image faults
-    (λ told script config. (forced : ℕ) × (forced < 2) × LacksWords told script config shown forced old t need)
+    → IfOk result (λ done. Attempted image faults (MayForce shown old t need)
     (Forced shown old t need) later old done.0 t a c done.1)
 again_attempted {Reader} {E} image faults shown mid later old run t need a b c (Ok done) made reads attempted =
-    attempted_from image faults (Awaited mid run t)
-    (λ told script config. (forced : ℕ) × (forced < 2) × LacksWords told script config shown forced old t need)
+    attempted_from image faults (Awaited mid run t) (MayForce shown old t need)
     (λ forced told script config. AwaitsCall told script config mid forced run t) (Forced shown old t need) later old
     run done.0 t a b c done.1 made.states reads (again_standpoint shown mid old run t need made)
     (forced_standpoint shown mid old run t need made) attempted
 again_attempted {Reader} {E} image faults shown mid later old run t need a b c (Err e) made reads attempted = tt
 
 -- a run that was stopped behind a forced Move
-pub forced_stops : (shown mid later : Shown) (old run : Run) (stop : Stop) → MakesCollection true shown mid old run
-    → StopsRun mid later run stop → StopsForced true shown later old stop
-forced_stops shown mid later old run stop made stops told script config stands tight =
-    stops told script config (stands_collected told script config true shown mid old run stands made tight)
+pub forced_stops : (shown mid later : Shown) (old run : Run) (t need : ℕ) (stop : Stop)
+    → MakesCollection true shown mid old run → StopsBut mid later run stop
+    → StopsFrom (MayForce shown old t need) later stop
+forced_stops shown mid later old run t need stop made stops told script config lacks =
+    let forced : ℕ = lacks.0 in
+    stops told script config (suc (suc forced), (awaits_again lacks.1 lacks.2 made).stands)
+
+-- or before it
+pub unforced_stops : (shown later : Shown) (old : Run) (t need : ℕ) (stop : Stop)
+    → StopsForced true shown later old stop → StopsFrom (MayForce shown old t need) later stop
+unforced_stops shown later old t need stop stops told script config lacks =
+    let forced : ℕ = lacks.0 in
+    stops told script config ((suc forced, lacks.2.stands), λ is. lacks.2.tight)
 
 -- what was counted where a run was stopped behind a part that lost no thread
 pub stop_counts_since : {A : Type 0} (result : Result A Stop) (states mid : List ThreadState) (a b c x y z : ℕ) → a ≤ b
@@ -197,8 +210,7 @@ if_err_from (Err e) P Q from is = from e is
 
 -- a call that was made behind a forced Move, told from where it lacked words before it
 pub made_behind : {shown later : Shown} {old new : Run} {t forced need : ℕ} → forced < 2
-    → MadeCall (λ told script config. (so_far : ℕ) × (so_far < 2)
-    × LacksWords told script config shown so_far old t need) later old new t
+    → MadeCall (MayForce shown old t need) later old new t
     → MadeCall (λ told script config. LacksWords told script config shown forced old t need) later old new t
 made_behind {shown} {later} {old} {new} {t} {forced} {need} few made =
     made_from made refl (λ told script config lacks. (forced, few, lacks))
@@ -253,11 +265,16 @@ pub unfit_twice : {shown : Shown} {run : Run} {t need : ℕ} (script : Script) (
 unfit_twice {shown} {run} {t} {need} script config lacks = lacks.left refl
 
 -- a run that was stopped behind a call that lacked words
-pub stops_behind : (shown later : Shown) (run : Run) (t forced need : ℕ) (stop : Stop)
-    → StopsForced true shown later run stop → (told : Bool) (script : Script) (config : Config)
-    → LacksWords told script config shown forced run t need → StopsSo told script config later stop
-stops_behind shown later run t forced need stop stops told script config lacks =
-    stops told script config lacks.stands (λ is. lacks.tight)
+pub stops_behind : (shown later : Shown) (run : Run) (t forced need : ℕ) (stop : Stop) → forced < 2
+    → StopsFrom (MayForce shown run t need) later stop
+    → StopsFrom (λ told script config. LacksWords told script config shown forced run t need) later stop
+stops_behind shown later run t forced need stop few stops told script config lacks =
+    stops told script config (forced, few, lacks)
+
+-- a call that was made at once
+pub made_at_once : {shown later : Shown} {old new : Run} {t : ℕ} → MadeCall (Awaited shown old t) later old new t
+    → MadeCall (λ told script config. AwaitsCall told script config shown 0 old t) later old new t
+made_at_once {shown} {later} {old} {new} {t} made = made_from made refl (λ told script config awaits. (0, awaits))
 
 -- where the call lacked words that was made first, and came to something then
 pub made_first : {shown mid later : Shown} {old run new : Run} {t need : ℕ}
@@ -268,7 +285,6 @@ made_first {shown} {mid} {later} {old} {run} {new} {t} {need} lacked made =
     made_from made lacked.states (λ told script config awaits. lacked.keeps told script config 0 awaits)
 
 -- a run that was stopped before the call was made
-pub stops_first : (shown later : Shown) (run : Run) (t : ℕ) (stop : Stop) → StopsRun shown later run stop
-    → (told : Bool) (script : Script) (config : Config) → AwaitsCall told script config shown 0 run t
-    → StopsSo told script config later stop
-stops_first shown later run t stop stops told script config awaits = stops told script config awaits.stands
+pub stops_first : (shown later : Shown) (run : Run) (t : ℕ) (stop : Stop) → StopsBut shown later run stop
+    → StopsFrom (λ told script config. AwaitsCall told script config shown 0 run t) later stop
+stops_first shown later run t stop stops told script config awaits = stops told script config (1, awaits.stands)

@@ -1,5 +1,5 @@
 -- What is left of a run that has ended, or was halted.
-use Rattle.std.specs.Prelude.{◌≡◌, ℕ, ◌+◌, ◌<◌, ◌≤◌, Bool, true, false, List, length, map, slice_get, Option, None, Some}
+use Rattle.std.specs.Prelude.{◌≡◌, ℕ, ◌+◌, ◌<◌, Bool, true, false, List, length, map, slice_get, Option, None, Some}
 use Rattle.melt_model.specs.declared.config.Config.{Config}
 use Rattle.melt_model.specs.declared.reports.Halt.{Halt}
 use Rattle.melt_model.specs.declared.reports.Halt.TheVariants as halt
@@ -12,9 +12,10 @@ use Rattle.melt_move.specs.Plans.{WantsHome}
 use Rattle.melt_core.specs.Epochs.{core_of}
 use Rattle.melt_core.specs.Views.{View, view}
 use Rattle.melt_step.specs.Journals.{IsJournalOf, MayMove, before, end_of}
-use Rattle.melt_step.specs.Run.{collections}
+use Rattle.melt_step.specs.Counts.{CountsCollections}
+use Rattle.melt_step.specs.Made.{MakesWithin}
 use Rattle.melt_step.specs.Shown.{Shown, Underlies}
-use Rattle.melt_step.specs.Threads.{HaveCuts, IsEnded, TableStands, owing, replies_of}
+use Rattle.melt_step.specs.Threads.{HaveCuts, IsEnded, TableStands}
 use Rattle.melt_step.specs.declared.ending.Ended.{Ended}
 use Rattle.melt_step.specs.declared.ending.Stop.{Stop}
 use Rattle.melt_step.specs.declared.ending.Stop.TheVariants.{NoMemory, Halted}
@@ -72,8 +73,9 @@ pub record EndedStands (told : Bool) (script : Script) (config : Config) (shown 
   pub table : TableStands told script config disk v states
   pub cuts : told ≡ true → HaveCuts script v.log states config ended.journal.items
   pub journal : IsJournalOf config ended.journal.items
-  pub collected : collections script config (replies_of states) (length script.programs)
-      ≤ length ended.journal.items + owing states
+  pub made : told ≡ true → MakesWithin config v.log ended.journal.items
+  pub unpaid : ℕ
+  pub counts : CountsCollections script config unpaid states (length ended.journal.items)
   pub log : ended.rest.log.items ≡ v.log
   pub cause : EndsBy told config shown disk v states ended ended.halt ended.heap
 

@@ -1,5 +1,6 @@
 -- Of which phases the collections of a run are.
-use Rattle.std.specs.Prelude.{◌≡◌, ℕ, zero, suc, ◌+◌, ◌<◌, ◌≤◌, ◌⊎◌, List, Option, None, Some, All, slice_get}
+use Rattle.std.specs.Prelude.{◌≡◌, ℕ, zero, suc, ◌+◌, ◌<◌, ◌≤◌, ◌⊎◌, List, [], ◌∷◌, ◌++◌, length, Option, None, Some}
+use Rattle.std.specs.Prelude.{All, slice_get}
 use Rattle.melt_model.specs.declared.config.Config.{Config}
 use Rattle.melt_model.specs.declared.reports.Journal.{Journal}
 use Rattle.melt_model.specs.declared.reports.Phase.{Phase}
@@ -39,3 +40,15 @@ pub record IsJournalOf (config : Config) (journal : List Journal) : Type 0 where
   pub words : All (λ j. (j.held ≤ j.live) × (j.live ≤ config.heap)) journal
   pub ends : (k : ℕ) (j : Journal) → slice_get journal k ≡ Some j → end_of (before journal k) ≤ j.end
   pub limit : All (λ j. j.end ≤ config.disk) journal
+
+-- One collection more was written down, of this phase.
+pub record OneMore (phase : Phase) (js later : List Journal) : Type 0 where
+  pub entry : Journal
+  pub journal : later ≡ js ++ entry ∷ []
+  pub of_phase : entry.phase ≡ phase
+
+-- so many more were, each of the phase that was planned behind the one before
+abbrev pub Planned : Config → ℕ → List Journal → List Journal → Type 0
+Planned config zero js later = later ≡ js
+Planned config (suc n) js later = (between : List Journal) × Planned config n js between
+    × OneMore (next_of config (before between (length between))) between later

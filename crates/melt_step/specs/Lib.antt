@@ -1,11 +1,14 @@
 pub mod Shown
 pub mod Journals
 pub mod Needs
+pub mod Made
 pub mod Run
 pub mod Threads
+pub mod Counts
 pub mod Lone
 pub mod Collections
 pub mod Endings
 pub mod Safepoints
+pub mod Makes
 pub mod Turns
 pub mod Choices

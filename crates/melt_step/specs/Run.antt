@@ -1,7 +1,7 @@
 -- What a report of a run by the written order says of a trace.
-use Rattle.std.specs.Prelude.{◌≡◌, ◌≢◌, ℕ, zero, suc, ◌+◌, ◌-◌, ◌/◌, ◌%◌, ◌^◌, ◌<◌, ◌≤◌, ◌⊎◌, Bool, true, false}
+use Rattle.std.specs.Prelude.{◌≡◌, ◌≢◌, ℕ, zero, suc, ◌+◌, ◌*◌, ◌-◌, ◌/◌, ◌%◌, ◌^◌, ◌<◌, ◌≤◌, ◌⊎◌, Bool, true, false}
 use Rattle.std.specs.Prelude.{if◌then◌else◌}
-use Rattle.std.specs.Prelude.{List, [], length, All, take, slice_get, Option, None, Some, IsSome}
+use Rattle.std.specs.Prelude.{List, [], length, map, sum, All, take, slice_get, Option, None, Some, IsSome}
 use Rattle.std.specs.List.{count_by}
 use Rattle.std.specs.Option.{option_map_or}
 use Rattle.melt_model.specs.Alive.{Alive, Held, words_of, CostsSum}
@@ -33,6 +33,7 @@ use Rattle.melt_move.specs.Plans.{WantsHome}
 use Rattle.melt_core.specs.Advances.{Breaks}
 use Rattle.melt_core.specs.declared.call.Stage.{Stage}
 use Rattle.melt_step.specs.Journals.{IsJournalOf, MayMove, before, end_of}
+use Rattle.melt_step.specs.Made.{MakesWithin}
 use Rattle.melt_step.specs.Needs.{IsLoad, NeedsWords}
 use Rattle.melt_step.specs.Shown.{Shown, Underlies}
 
@@ -171,15 +172,29 @@ abbrev pub silent_in : (every count : ℕ) → ℕ
 silent_in zero count = 0
 silent_in (suc every) count = count / suc every
 
+-- the sum of what the first n threads have
+abbrev pub total : (ℕ → ℕ) → ℕ → ℕ
+total f zero = 0
+total f (suc n) = total f n + f n
+
+-- how many `collect`s of a thread were answered, and of the first n threads together
+abbrev pub collects_of : Script → (ℕ → List Reply) → ℕ → ℕ
+collects_of script replies t = count_by is_collect (take (length (replies t)) (operations script t))
+
+abbrev pub collects : Script → (ℕ → List Reply) → ℕ → ℕ
+collects script replies n = total (collects_of script replies) n
+
 -- how many collections the replies of a thread brought, its `collect`s and the silent ones, and those of the first n
 -- threads together
 abbrev pub collections_of : Script → Config → (ℕ → List Reply) → ℕ → ℕ
-collections_of script config replies t =
-    count_by is_collect (take (length (replies t)) (operations script t)) + silent_in config.every (length (replies t))
+collections_of script config replies t = collects_of script replies t + silent_in config.every (length (replies t))
 
 abbrev pub collections : Script → Config → (ℕ → List Reply) → ℕ → ℕ
-collections script config replies zero = 0
-collections script config replies (suc n) = collections script config replies n + collections_of script config replies n
+collections script config replies n = total (collections_of script config replies) n
+
+-- the replies of all threads
+abbrev pub replies_told : Report → ℕ
+replies_told report = sum (map (λ (r : ThreadReport). length r.replies) report.threads)
 
 -- whether a thread was halted, and how many of a report were
 abbrev pub is_halted : ThreadEnd → Bool
@@ -212,7 +227,9 @@ MayHalt config report (Some halt.DiskFault) = Unit {0}
 
 -- What a run reports of a trace, over a disk that tells its words or not. Its history is the one that it stored. The
 -- journal has the collections, each of its phase: those that threads asked for, the silent ones, but for one of each
--- thread that was halted, and those that were made for room.
+-- journal has the collections, each of its phase: those that threads asked for, the silent ones, but for one of each
+-- thread that was halted, and those that were made for room, which are three at most for each reply and each thread.
+-- There is a bound of the words that were made by it.
 pub record IsStepReport (told : Bool) (script : Script) (config : Config) (report : Report) : Type 0 where
   pub history : told ≡ true → HasHistory script report.log report
   pub threads : length report.threads ≡ length script.programs
@@ -223,6 +240,10 @@ pub record IsStepReport (told : Bool) (script : Script) (config : Config) (repor
   pub cuts : told ≡ true → HasCuts script config report
   pub collected : collections script config (replies_in report) (length report.threads)
       ≤ length report.journal + halted_in report
+  pub made : told ≡ true → MakesWithin config report.log report.journal
+  pub asked : collects script (replies_in report) (length report.threads) ≤ length report.journal
+  pub bounded : length report.journal ≤ collections script config (replies_in report) (length report.threads)
+      + 3 * (replies_told report + length report.threads)
 
 -- the value of a register of a thread behind all its replies, if it was halted; else it holds nothing
 abbrev pub register_left : Script → Report → ℕ → ℕ → Value
@@ -283,3 +304,14 @@ pub record CountsFaults (report : Report) (faults faults_after read_faults read_
   pub halted : report.halt ≡ Some halt.DiskFault → Rose faults faults_after
   pub faults_rise : faults ≤ faults_after
   pub reads_rise : HasRisen read_faults read_faults_after
+
+-- no thread has an operation
+abbrev pub HasNoOperations : Script → Type 0
+HasNoOperations script = (t : ℕ) → operations script t ≡ []
+
+-- What a run leaves of the count of lends: it lends twice at most for each collection, and once more; and never where
+-- no thread has an operation.
+pub record CountsLends (script : Script) (report : Report) (lends lends_after : ℕ) : Type 0 where
+  pub few : lends_after ≤ lends + 2 * length report.journal + 1
+  pub rises : HasRisen lends lends_after
+  pub none : HasNoOperations script → lends_after ≡ lends

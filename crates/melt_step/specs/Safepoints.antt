@@ -1,6 +1,6 @@
 -- A run between two events, and what the parts of a safepoint do to it.
-use Rattle.std.specs.Prelude.{◌≡◌, ◌≢◌, ℕ, zero, suc, ◌+◌, ◌<◌, ◌≤◌, Bool, true, false, List, [], ◌∷◌, ◌++◌, length}
-use Rattle.std.specs.Prelude.{slice_get, slice_set, Option, None, Some}
+use Rattle.std.specs.Prelude.{◌≡◌, ◌≢◌, ℕ, zero, suc, ◌+◌, ◌*◌, ◌<◌, ◌≤◌, Bool, true, false, List, [], ◌∷◌, ◌++◌}
+use Rattle.std.specs.Prelude.{length, slice_get, slice_set, Option, None, Some}
 use Rattle.melt_model.specs.Alive.{Held, words_of, CostsSum}
 use Rattle.melt_model.specs.declared.config.Config.{Config}
 use Rattle.melt_model.specs.declared.operations.Op.{Op}
@@ -12,15 +12,17 @@ use Rattle.melt_move.specs.Planned.{phase_done}
 use Rattle.melt_scion.specs.Heaps.{OnDisk}
 use Rattle.melt_core.specs.Views.{View, view, value, IsQuiet}
 use Rattle.melt_step.specs.Collections.{CollectsCore}
+use Rattle.melt_step.specs.Counts.{CountsCollections}
 use Rattle.melt_step.specs.Endings.{StopsSo}
-use Rattle.melt_step.specs.Journals.{IsJournalOf, IsTight, before, end_of, next_of}
+use Rattle.melt_step.specs.Journals.{IsJournalOf, IsTight, Planned, before, end_of, next_of}
 use Rattle.melt_step.specs.Lone.{IsMarked, NoneForwarded}
+use Rattle.melt_step.specs.Made.{MadeSoFar}
 use Rattle.melt_step.specs.Needs.{NeedsWords}
-use Rattle.melt_step.specs.Run.{HasRisen, collections}
+use Rattle.melt_step.specs.Run.{HasRisen}
 use Rattle.melt_step.specs.Shown.{Shown, Underlies}
 use Rattle.melt_step.specs.Threads.{CountsLosses, ForCollection, HaveCuts}
-use Rattle.melt_step.specs.Threads.{IsPaused, OweBehindCollects, TableStands, jobs_of, owing, potential}
-use Rattle.melt_step.specs.Threads.{replies_of, collections_due}
+use Rattle.melt_step.specs.Threads.{IsPaused, OweBehindCollects, TableStands, jobs_of, potential, collections_due}
+use Rattle.melt_step.specs.Threads.{collections_for}
 use Rattle.melt_step.specs.declared.collector.Collector.{Collector}
 use Rattle.melt_step.specs.declared.ending.Stop.{Stop}
 use Rattle.melt_step.specs.declared.ending.Stop.TheVariants.{NoMemory, Halted}
@@ -34,6 +36,10 @@ use Rattle.melt_step.specs.declared.thread.ThreadState.{ThreadState}
 abbrev pub last_of : Collector → Option Journal
 last_of c = before c.journal.items (length c.journal.items)
 
+-- the collections of a run so far
+abbrev pub journal_of : Run → List Journal
+journal_of run = run.collector.journal.items
+
 -- What a collector knows, over what is seen of the disk: the collections so far, and of which phase the next one is.
 pub record CollectorStands (config : Config) (shown : Shown) (c : Collector) : Type 0 where
   pub plan : c.plan ≡ record { next = next_of config (last_of c); mark = config.mark; move_ = config.move_ }
@@ -42,8 +48,10 @@ pub record CollectorStands (config : Config) (shown : Shown) (c : Collector) : T
   pub within : shown.end ≤ config.disk
   pub limit : shown.limit ≡ config.disk
 
--- A run between two events, for a script, told or not, over a disk that is seen so.
-pub record RunStands (told : Bool) (script : Script) (config : Config) (shown : Shown) (run : Run) : Type 0 where
+-- A run between two events, for a script, told or not, over a disk that is seen so, where so many collections are
+-- unpaid.
+pub record StandsBut (unpaid : ℕ) (told : Bool) (script : Script) (config : Config) (shown : Shown) (run : Run)
+    : Type 0 where
   pub disk : OnDisk
   pub under : Underlies told shown.end shown.image disk
   pub table : TableStands told script config disk (view run.core) run.states.items
@@ -51,8 +59,12 @@ pub record RunStands (told : Bool) (script : Script) (config : Config) (shown : 
   pub every : run.every ≡ config.every
   pub collector : CollectorStands config shown run.collector
   pub cuts : told ≡ true → HaveCuts script (view run.core).log run.states.items config run.collector.journal.items
-  pub collected : collections script config (replies_of run.states.items)
-      (length script.programs) ≤ length run.collector.journal.items + owing run.states.items
+  pub made : told ≡ true → MadeSoFar config (view run.core) run.collector.journal.items
+  pub counts : CountsCollections script config unpaid run.states.items (length run.collector.journal.items)
+
+-- and where none is
+abbrev pub RunStands : Bool → Script → Config → Shown → Run → Type 0
+RunStands told script config shown run = StandsBut 0 told script config shown run
 
 -- for some script, told or not
 abbrev pub SomeStands : Shown → Run → Type 0
@@ -63,16 +75,49 @@ abbrev pub KeepsRun : Shown → Shown → Run → Run → Type 0
 KeepsRun shown later old new = (told : Bool) (script : Script) (config : Config)
     → RunStands told script config shown old → RunStands told script config later new
 
+-- what stands before a part of a safepoint, told or not, for a script
+abbrev pub Standpoint : Type 1
+Standpoint = Bool → Script → Config → Type 0
+
 -- and where it was stopped, that is for its cause
+abbrev pub StopsFrom : Standpoint → Shown → Stop → Type 0
+StopsFrom Before later stop = (told : Bool) (script : Script) (config : Config) → Before told script config
+    → StopsSo told script config later stop
+
 abbrev pub StopsRun : Shown → Shown → Run → Stop → Type 0
-StopsRun shown later old stop = (told : Bool) (script : Script) (config : Config)
-    → RunStands told script config shown old → StopsSo told script config later stop
+StopsRun shown later old stop =
+    StopsFrom (λ told script config. RunStands told script config shown old) later stop
+
+-- and so whatever is unpaid
+abbrev pub StopsBut : Shown → Shown → Run → Stop → Type 0
+StopsBut shown later old stop =
+    StopsFrom (λ told script config. (unpaid : ℕ) × StandsBut unpaid told script config shown old) later stop
 
 -- and so where a collection was to be made, which may be forced only where an object might have no room
 abbrev pub StopsForced : Bool → Shown → Shown → Run → Stop → Type 0
-StopsForced force shown later old stop = (told : Bool) (script : Script) (config : Config)
-    → RunStands told script config shown old → (force ≡ true → IsTight config (last_of old.collector))
-    → StopsSo told script config later stop
+StopsForced force shown later old stop =
+    StopsFrom (λ told script config. ((unpaid : ℕ) × StandsBut unpaid told script config shown old)
+    × (force ≡ true → IsTight config (last_of old.collector))) later stop
+
+-- Readers were lent no oftener than collections were made, but for so many.
+pub record LendsFew (more lends lends_after : ℕ) (js later : List Journal) : Type 0 where
+  pub few : lends_after + length js ≤ lends + length later + more
+  pub grows : length js ≤ length later
+  pub rises : HasRisen lends lends_after
+
+-- and so where a run was stopped
+abbrev pub StopLends : (more lends lends_after : ℕ) → List Journal → Stop → Type 0
+StopLends more lends lends_after js NoMemory = Unit {0}
+StopLends more lends lends_after js (Halted ended) = LendsFew more lends lends_after js ended.journal.items
+
+-- no oftener than twice for each collection, and once more
+pub record LendsTwice (lends lends_after : ℕ) (js later : List Journal) : Type 0 where
+  pub few : lends_after + 2 * length js ≤ lends + 2 * length later + 1
+  pub rises : HasRisen lends lends_after
+
+abbrev pub StopTwice : (lends lends_after : ℕ) → List Journal → Stop → Type 0
+StopTwice lends lends_after js NoMemory = Unit {0}
+StopTwice lends lends_after js (Halted ended) = LendsTwice lends lends_after js ended.journal.items
 
 -- where a run was halted by a fault of the disk, so many writes and lends had failed before and after; and no thread more
 -- was lost than reads failed
@@ -122,10 +167,11 @@ abbrev pub WaitsForRoom : List ThreadState → ℕ → Type 0
 WaitsForRoom states t = (s : ThreadState) × (slice_get states t ≡ Some s) × (s.mode ≡ Lacking)
 
 -- A run at a safepoint, behind a collection, and behind so many that were forced in a row: a thread that lacked room is to
--- make its call.
+-- make its call, which pays for these collections.
 pub record AwaitsCall (told : Bool) (script : Script) (config : Config) (shown : Shown) (forced : ℕ) (run : Run)
     (t : ℕ) : Type 0 where
-  pub stands : RunStands told script config shown run
+  pub stands : StandsBut (suc forced) told script config shown run
+  pub few : forced ≤ 2
   pub owed : OweBehindCollects script run.states.items
   pub collected : JustCollected run
   pub quiet : IsQuiet (view run.core)
@@ -149,7 +195,8 @@ LacksBy config (suc (suc k)) v need = NoRoom config v need
 -- The thread made its call, behind so many forced Moves in a row, and lacked so many words.
 pub record LacksWords (told : Bool) (script : Script) (config : Config) (shown : Shown) (forced : ℕ) (run : Run)
     (t need : ℕ) : Type 0 where
-  pub stands : RunStands told script config shown run
+  pub stands : StandsBut (suc forced) told script config shown run
+  pub few : forced ≤ 2
   pub owed : OweBehindCollects script run.states.items
   pub quiet : IsQuiet (view run.core)
   pub none_forwarded : NoneForwarded (view run.core)
@@ -183,10 +230,6 @@ LentOf image shown (Some reader) = image reader ≡ shown.image
 abbrev pub CountsOpen : List ThreadState → List ThreadState → (lost lost_after more : ℕ) → Type 0
 CountsOpen states after lost lost_after more = CountsLosses states after lost (lost_after + more)
 
--- what stands before a part of a safepoint, told or not, for a script
-abbrev pub Standpoint : Type 1
-Standpoint = Bool → Script → Config → Type 0
-
 -- a thread that lacked room is to make its call
 abbrev pub Awaited : Shown → Run → ℕ → Standpoint
 Awaited shown old t told script config = (forced : ℕ) × AwaitsCall told script config shown forced old t
@@ -209,6 +252,11 @@ pub record LackedWords (Before : ℕ → Standpoint) (later : Shown) (old new : 
       → LacksWords told script config later forced new t need
   pub states : new.states.items ≡ old.states.items
 
+-- it lacked words, and a Move may be forced for it
+abbrev pub MayForce : Shown → Run → ℕ → ℕ → Standpoint
+MayForce shown old t need told script config =
+    (forced : ℕ) × (forced < 2) × LacksWords told script config shown forced old t need
+
 -- behind so many forced Moves, of which the last is made now
 abbrev pub Forced : Shown → Run → ℕ → ℕ → ℕ → Standpoint
 Forced shown old t need zero told script config = ⊥
@@ -224,18 +272,19 @@ Attempted image faults Before Again later old new t lost lost_after (Made reader
 Attempted image faults Before Again later old new t lost lost_after (Lacks need) =
     LackedWords Again later old new t need × HasRisen lost lost_after
 
+-- So many collections were made of a run that stood, each as it was planned.
+abbrev pub MakesPlanned : ℕ → Shown → Run → Run → Type 0
+MakesPlanned n shown old new = (told : Bool) (script : Script) (config : Config)
+    → RunStands told script config shown old → Planned config n (journal_of old) (journal_of new)
+
 -- What was collected for a thread: one collection as it was planned, if it waited for one. Else all is as before.
-pub record MakesFor (s : ThreadState) (old new : Run) : Type 0 where
+pub record MakesFor (s : ThreadState) (shown : Shown) (old new : Run) : Type 0 where
   pub made : ForCollection s.mode → JustCollected new
   pub none : (ForCollection s.mode → ⊥) → new ≡ old
+  pub planned : MakesPlanned (collections_for s.mode) shown old new
 
--- what was collected for all threads
-pub record MakesForAll (old new : Run) : Type 0 where
+-- What was collected for all threads: one collection as it was planned for each that waited for one, and no other.
+pub record MakesForAll (shown : Shown) (old new : Run) : Type 0 where
   pub made : collections_due old.states.items ≢ 0 → JustCollected new
   pub none : collections_due old.states.items ≡ 0 → new ≡ old
-
--- A run at a safepoint, behind the collections for which threads waited, of which there was one.
-pub record StandsCollected (told : Bool) (script : Script) (config : Config) (shown : Shown) (run : Run) : Type 0 where
-  pub stands : RunStands told script config shown run
-  pub owed : OweBehindCollects script run.states.items
-  pub collected : JustCollected run
+  pub planned : MakesPlanned (collections_due old.states.items) shown old new

@@ -7,6 +7,7 @@ ghost use Rattle.std.specs.Prelude.{◌≡◌, ◌≢◌, ◌<◌, length, vec_c
 ghost use Rattle.melt_model.specs.declared.operations.Op.{Op};
 ghost use Rattle.melt_core.specs.Views.{view};
 ghost use Rattle.melt_step.specs.Lone.{IsAloneReady, CalledAlone, words_lacked_by};
+ghost use Rattle.melt_step.specs.Made.{MakesInUse};
 ghost use Rattle.melt_step.specs.Threads.{CountsLoss, DueBy};
 
 use crate::events::{answered, drop_if_ended, mode_after};
@@ -42,6 +43,7 @@ pub fn call_alone<R: RecordReader>(
         state.old state.new op result }
     ensures due { DueBy every state.old state.new }
     ensures image { R.image reader.new ≡ R.image reader.old }
+    ensures makes { MakesInUse end (R.image reader.old) (view core.old) (view core.new) }
     ensures lost { CountsLoss state.old state.new (R.faults reader.old) (R.faults reader.new) }
 {
     loop {

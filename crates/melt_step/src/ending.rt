@@ -60,6 +60,7 @@ impl<'a> Ended<'a> {
             → EndedStands told script config shown self.entry → HasRun told script config shown done.0 done.1) }
         ensures lost { IfOk result (λ done. lost_in done.0 ≡ losses self.entry.states.items) }
         ensures halt { IfOk result (λ done. done.0.halt ≡ self.entry.halt) }
+        ensures journal { IfOk result (λ done. done.0.journal ≡ self.entry.journal.items) }
     {
         let mut threads = Vec::with_capacity(alloc, self.states.len())?;
         for state in self.states {

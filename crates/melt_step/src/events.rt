@@ -7,6 +7,7 @@ ghost use Rattle.std.specs.Prelude.{◌≡◌, ◌<◌, ◌≤◌, length, vec_c
 ghost use Rattle.melt_scion.specs.Heaps.{OnDisk};
 ghost use Rattle.melt_core.specs.Views.{Standing, call_of, view};
 ghost use Rattle.melt_core.specs.declared.answer.Refusal.{Refusal};
+ghost use Rattle.melt_step.specs.Made.{MakesInUse};
 ghost use Rattle.melt_step.specs.Threads.{CountsLoss, DropsIfEnded, DueBy, IsReady, MayGo, SetsStop, TakesReply};
 ghost use Rattle.melt_step.specs.Threads.{TakesTurn, mode_for};
 
@@ -46,6 +47,7 @@ pub fn make_event<R: RecordReader>(
     ensures stop { SetsStop (view core.old) (view core.new) state.new }
     ensures due { DueBy every state.old state.new }
     ensures image { R.image reader.new ≡ R.image reader.old }
+    ensures makes { MakesInUse end (R.image reader.old) (view core.old) (view core.new) }
     ensures lost { CountsLoss state.old state.new (R.faults reader.old) (R.faults reader.new) }
 {
     match (state.mode, state.op) {

@@ -3,18 +3,19 @@
 //! A run is a row of epochs. In an epoch the threads take their events, over the disk as it was when a reader was lent;
 //! it is over when no thread can go on. Between two epochs no call is in flight, so that heap and registers are all there
 //! is, and collections are made there.
-ghost use Rattle.std.specs.Prelude.{◌≡◌, ◌≢◌, ◌⊎◌, ℕ, ◌+◌, ◌<◌, ◌≤◌, length, slice_get, Some, None, Ok, Err, IsSome, IfSome};
-ghost use Rattle.std.specs.Prelude.{true, false, Bool, IfOk, IfErr, IsErrOf};
-ghost use Rattle.melt_io.specs.Outside.{Rose};
+ghost use Rattle.std.specs.Prelude.{◌≡◌, ◌≢◌, ◌⊎◌, ℕ, ◌+◌, ◌<◌, ◌≤◌, [], length, slice_get, Some, None, Ok, Err};
+ghost use Rattle.std.specs.Prelude.{IsSome, IfSome, true, false, Bool, IfOk, IfErr, IsErrOf};
+ghost use Rattle.melt_io.specs.Outside.{Rose, counted};
 ghost use Rattle.melt_model.specs.Config.{InRanges};
 ghost use Rattle.melt_model.specs.declared.config.Config.{Config};
 ghost use Rattle.melt_trace.specs.Script.{Script};
 ghost use Rattle.melt_core.specs.Views.{IsQuiet, view};
 ghost use Rattle.melt_step.specs.declared.thread.ThreadState.{ThreadState};
 ghost use Rattle.melt_step.specs.Endings.{AllEnded, EndedStands, StopsSo};
-ghost use Rattle.melt_step.specs.Run.{CountsFaults, HasRun};
+ghost use Rattle.melt_step.specs.Run.{CountsFaults, CountsLends, HasNoOperations, HasRun};
 ghost use Rattle.melt_step.specs.Safepoints.{CountsOpen, IsNearer, KeepsRun, LentOf, RunStands, SomeStands, StopCounts};
-ghost use Rattle.melt_step.specs.Safepoints.{StopsRun, open_faults};
+ghost use Rattle.melt_step.specs.Safepoints.{LendsFew, LendsTwice, StandsBut, StopLends, StopTwice, StopsBut, StopsRun};
+ghost use Rattle.melt_step.specs.Safepoints.{journal_of, open_faults};
 ghost use Rattle.melt_step.specs.Shown.{Shown, shown_by};
 ghost use Rattle.melt_step.specs.Threads.{AllWait, AreNewThreads, CountsLosses, KnowsStop, SomeGoesOn};
 ghost use Rattle.melt_step.specs.Threads.{losses};
@@ -65,6 +66,7 @@ impl<'a> Run<'a> {
         ensures image { R.image reader.new ≡ R.image reader.old }
         ensures lost { CountsLosses self.old.states.items self.new.states.items (R.faults reader.old)
             (R.faults reader.new) }
+        ensures collector { self.new.collector ≡ self.old.collector }
     {
         let Some(thread) = turns.next(trace, &self.states) else {
             return None;
@@ -92,6 +94,7 @@ impl<'a> Run<'a> {
         ensures nearer { (self.new ≡ self.old) ⊎ IsNearer self.old self.new }
         ensures lost { CountsLosses self.old.states.items self.new.states.items (R.faults reader.old)
             (R.faults reader.new) }
+        ensures collector { self.new.collector ≡ self.old.collector }
     {
         while self.take_turn(turns, trace, end, reader).is_some() {}
     }
@@ -117,6 +120,7 @@ impl<'a> Run<'a> {
             → RunStands told script config shown self.entry → EndedStands told script config shown result }
         ensures states { result.states.items ≡ self.entry.states.items }
         ensures halt { result.halt ≡ None }
+        ensures journal { result.journal ≡ self.entry.collector.journal }
     {
         let (heap, rest) = self.core.finish();
         Ended {
@@ -131,10 +135,11 @@ impl<'a> Run<'a> {
     /// What is left when the disk failed: each thread that has not ended is halted, and the heap is given up.
     fn give_up(mut self) -> Ended<'a>
         requires quiet { IsQuiet (view self.core) }
-        ensures stands { (told : Bool) (script : Script) (config : Config) (shown : Shown)
-            → RunStands told script config shown self.entry → EndedStands told script config shown result }
+        ensures stands { (told : Bool) (script : Script) (config : Config) (unpaid : ℕ) (shown : Shown)
+            → StandsBut unpaid told script config shown self.entry → EndedStands told script config shown result }
         ensures lost { (faults : ℕ) → CountsLosses self.entry.states.items result.states.items faults faults }
         ensures halt { result.halt ≡ Some Halt.DiskFault }
+        ensures journal { result.journal ≡ self.entry.collector.journal }
     {
         let (_, rest) = self.core.finish();
         halt_all(&mut self.states);
@@ -158,12 +163,15 @@ impl<'a> Run<'a> {
         ensures image { IfOk result (λ done. D.Reader.image done.1 ≡ D.image space.old.disk.now) }
         ensures no_fault_yet { IfOk result (λ done. D.Reader.faults done.1 ≡ 0) }
         ensures shown { shown_by D.image space.new ≡ shown_by D.image space.old }
-        ensures stopped { IfErr result (StopsRun (shown_by D.image space.old) (shown_by D.image space.new) self.entry) }
+        ensures stopped { IfErr result (StopsBut (shown_by D.image space.old) (shown_by D.image space.new) self.entry) }
         ensures same_disk { space.new.disk.ghost_name ≡ space.old.disk.ghost_name }
         ensures count { D.faults space.old.disk.now ≤ D.faults space.new.disk.now }
         ensures read_faults { D.read_faults space.new.disk.now ≡ D.read_faults space.old.disk.now }
         ensures stop_counts { IfErr result (λ stop. StopCounts stop self.entry.states.items (D.faults space.old.disk.now)
             (D.faults space.new.disk.now) (D.read_faults space.old.disk.now) (D.read_faults space.new.disk.now)) }
+        ensures lends { D.lends space.new.disk.now ≡ counted (D.lends space.old.disk.now) 1 }
+        ensures stop_lends { IfErr result (StopLends 1 (D.lends space.old.disk.now) (D.lends space.new.disk.now)
+            (journal_of self.entry)) }
     {
         match space.lend(alloc) {
             Ok(reader) => Ok((self, reader)),
@@ -185,13 +193,17 @@ impl<'a> Run<'a> {
         ensures image { IfOk result (λ done. D.Reader.image done.1 ≡ D.image space.old.disk.now) }
         ensures faults { IfOk result (λ done. D.Reader.faults done.1 ≡ open_faults D.Reader.faults lent) }
         ensures shown { shown_by D.image space.new ≡ shown_by D.image space.old }
-        ensures stopped { IfErr result (StopsRun (shown_by D.image space.old) (shown_by D.image space.new) self.entry) }
+        ensures stopped { IfErr result (StopsBut (shown_by D.image space.old) (shown_by D.image space.new) self.entry) }
         ensures same_disk { space.new.disk.ghost_name ≡ space.old.disk.ghost_name }
         ensures count { D.faults space.old.disk.now ≤ D.faults space.new.disk.now }
         ensures read_faults { D.read_faults space.new.disk.now ≡ D.read_faults space.old.disk.now }
         ensures stop_counts { IfErr result (λ stop. (lent ≡ None) × StopCounts stop self.entry.states.items
             (D.faults space.old.disk.now) (D.faults space.new.disk.now) (D.read_faults space.old.disk.now)
             (D.read_faults space.new.disk.now)) }
+        ensures lends { IfOk result (λ done. LendsFew 1 (D.lends space.old.disk.now) (D.lends space.new.disk.now)
+            (journal_of self.entry) (journal_of self.entry)) }
+        ensures stop_lends { IfErr result (StopLends 1 (D.lends space.old.disk.now) (D.lends space.new.disk.now)
+            (journal_of self.entry)) }
     {
         match lent {
             Some(reader) => Ok((self, reader)),
@@ -222,6 +234,12 @@ impl<'a> Run<'a> {
         ensures stopped { IfErr result (StopsRun (shown_by D.image space.old) (shown_by D.image space.new) self.entry) }
         ensures stop_counts { IfErr result (λ stop. StopCounts stop self.entry.states.items (D.faults space.old.disk.now)
             (D.faults space.new.disk.now) (D.read_faults space.old.disk.now) (D.read_faults space.new.disk.now)) }
+        ensures more { IfOk result (λ done. (length (journal_of self.entry) < length (journal_of done.0))
+            ⊎ AllEnded done.0.states.items) }
+        ensures lends { IfOk result (λ done. LendsFew 0 (D.lends space.old.disk.now) (D.lends space.new.disk.now)
+            (journal_of self.entry) (journal_of done.0)) }
+        ensures stop_lends { IfErr result (StopLends 0 (D.lends space.old.disk.now) (D.lends space.new.disk.now)
+            (journal_of self.entry)) }
     {
         if self.has_ended() {
             return Ok((self, None));
@@ -250,6 +268,11 @@ impl<'a> Run<'a> {
         ensures count { D.faults space.old.disk.now ≤ D.faults space.new.disk.now }
         ensures stop_counts { IfErr result (λ stop. StopCounts stop self.entry.states.items (D.faults space.old.disk.now)
             (D.faults space.new.disk.now) (D.read_faults space.old.disk.now) (D.read_faults space.new.disk.now)) }
+        ensures lends { IfOk result (λ ended. LendsTwice (D.lends space.old.disk.now) (D.lends space.new.disk.now)
+            (journal_of self.entry) ended.journal.items) }
+        ensures stop_lends { IfErr result (StopTwice (D.lends space.old.disk.now) (D.lends space.new.disk.now)
+            (journal_of self.entry)) }
+        ensures idle { AllEnded self.entry.states.items → D.lends space.new.disk.now ≡ D.lends space.old.disk.now }
     {
         let mut run = self;
         let mut turns = Turns::new();
@@ -289,6 +312,8 @@ pub fn new_run<'a>(alloc: Global, trace: &'a Trace, config: Config) -> Result<Ru
     ensures stop { IfOk result (λ run. KnowsStop (view run.core) run.states.items) }
     ensures quiet { IfOk result (λ run. IsQuiet (view run.core)) }
     ensures none_lost { IfOk result (λ run. losses run.states.items ≡ 0) }
+    ensures none_made { IfOk result (λ run. journal_of run ≡ []) }
+    ensures idle { IfOk result (λ run. HasNoOperations trace.now → AllEnded run.states.items) }
 {
     let (states, entries) = new_states(alloc, trace)?;
     let heap = Heap::new(alloc, config.heap, trace.globals(), config.forward, true)?;
@@ -322,6 +347,8 @@ pub fn run_schedule<D: StaleDisk>(
     ensures same_disk { space.new.disk.ghost_name ≡ space.old.disk.ghost_name }
     ensures counts { IfOk result (λ done. CountsFaults done.0 (D.faults space.old.disk.now)
         (D.faults space.new.disk.now) (D.read_faults space.old.disk.now) (D.read_faults space.new.disk.now)) }
+    ensures lends { IfOk result (λ done. CountsLends trace.now done.0 (D.lends space.old.disk.now)
+        (D.lends space.new.disk.now)) }
 {
     let run = new_run(alloc, trace, config)?;
     let ended = match run.run_all(alloc, trace, space) {

@@ -3,8 +3,8 @@
 //! First the collections are made for which threads wait. Then the first thread that lacked room makes its call alone,
 //! and where it lacks room still, a Move is forced: what no register holds is stale after one and on disk after two.
 //! Whatever the thread needs has room then, or has none beside what registers hold.
-ghost use Rattle.std.specs.Prelude.{◌≡◌, ◌≢◌, ℕ, ◌+◌, ◌<◌, ◌≤◌, ◌↔◌, length, slice_get, Some, None, Bool, true, false};
-ghost use Rattle.std.specs.Prelude.{IsTrue, IfOk, IfErr, IfSome, IfNone};
+ghost use Rattle.std.specs.Prelude.{◌≡◌, ◌≢◌, ℕ, suc, ◌+◌, ◌<◌, ◌≤◌, ◌↔◌, length, slice_get, Some, None, Bool, true};
+ghost use Rattle.std.specs.Prelude.{false, IsTrue, IfOk, IfErr, IfSome, IfNone};
 ghost use Rattle.melt_model.specs.Alive.{Held, words_of, CostsSum};
 ghost use Rattle.melt_model.specs.declared.config.Config.{Config};
 ghost use Rattle.melt_trace.specs.Script.{Script};
@@ -16,13 +16,17 @@ ghost use Rattle.melt_step.specs.declared.thread.ThreadState.{ThreadState};
 ghost use Rattle.melt_step.specs.Collections.{MayCollect};
 ghost use Rattle.melt_step.specs.Lone.{NoneForwarded};
 ghost use Rattle.melt_step.specs.Safepoints.{Attempted, Awaited, AwaitsCall, CalledAt, CountsOpen, Forced, KeepsRun};
-ghost use Rattle.melt_step.specs.Safepoints.{Lacked, LackedWords, LacksWords, LentOf, MadeCall, MakesCollection, MakesFor, MakesForAll};
-ghost use Rattle.melt_step.specs.Safepoints.{NoRoom, SomeAwaits, SomeLacksWords, SomeStands, StopCounts, StopsForced};
-ghost use Rattle.melt_step.specs.Safepoints.{RunStands, StopsRun, open_faults};
+ghost use Rattle.melt_step.specs.Safepoints.{Lacked, LackedWords, LacksWords, LentOf, MadeCall, MakesCollection};
+ghost use Rattle.melt_step.specs.Safepoints.{MakesFor, MakesForAll, MayForce, NoRoom, SomeAwaits, SomeLacksWords};
+ghost use Rattle.melt_step.specs.Safepoints.{SomeStands, StopCounts, LendsFew, RunStands, StopLends, StopsBut};
+ghost use Rattle.melt_step.specs.Safepoints.{StopsForced, StopsFrom, StopsRun, journal_of, open_faults};
+ghost use Rattle.melt_step.specs.Makes.{EndsForRoom, MakesCall, MakesCollections, MakesRoom, MovesFew, MovesOnce};
+ghost use Rattle.melt_step.specs.Makes.{words_lacked};
+ghost use Rattle.melt_io.specs.Outside.{counted};
 ghost use Rattle.melt_step.specs.Shown.{Shown, shown_by};
 ghost use Rattle.melt_step.specs.Threads.{AllWait, CollectedAll, CollectedAt, CountsLosses, ForCollection, KnowsStop};
 ghost use Rattle.melt_step.specs.Threads.{NoneBelow, Passed, Resumed, SomeGoesOn, losses};
-ghost use Rattle.melt_step.specs.Endings.{AreHalted, StopsSo};
+ghost use Rattle.melt_step.specs.Endings.{AreHalted};
 
 use crate::alone::call_alone;
 use crate::collector::CollectRefusal;
@@ -102,6 +106,9 @@ impl<'a> Run<'a> {
         ensures stop_counts { IfErr result (λ stop. StopCounts stop self.entry.states.items
             (D.faults space.old.disk.now) (D.faults space.new.disk.now) (D.read_faults space.old.disk.now)
             (D.read_faults space.new.disk.now)) }
+        ensures lends { D.lends space.new.disk.now ≡ D.lends space.old.disk.now }
+        ensures stop_lends { IfErr result (StopLends 0 (D.lends space.old.disk.now) (D.lends space.new.disk.now)
+            (journal_of self.entry)) }
     {
         let core = self.core;
         match self.collector.collect(alloc, core, space, force) {
@@ -141,7 +148,7 @@ impl<'a> Run<'a> {
         ensures quiet { IfOk result (λ run. IsQuiet (view run.core)) }
         ensures only { IfOk result (λ run. CollectedAt self.entry.states.items run.states.items thread) }
         ensures made { IfOk result (λ run. (s : ThreadState) → slice_get self.entry.states.items thread ≡ Some s
-            → MakesFor s self.entry run) }
+            → MakesFor s (shown_by D.image space.old) self.entry run) }
         ensures lost { IfOk result (λ run. losses run.states.items ≡ losses self.entry.states.items) }
         ensures stopped { IfErr result (StopsRun (shown_by D.image space.old) (shown_by D.image space.new) self.entry) }
         ensures same_disk { space.new.disk.ghost_name ≡ space.old.disk.ghost_name }
@@ -150,6 +157,9 @@ impl<'a> Run<'a> {
         ensures stop_counts { IfErr result (λ stop. StopCounts stop self.entry.states.items
             (D.faults space.old.disk.now) (D.faults space.new.disk.now) (D.read_faults space.old.disk.now)
             (D.read_faults space.new.disk.now)) }
+        ensures lends { D.lends space.new.disk.now ≡ D.lends space.old.disk.now }
+        ensures stop_lends { IfErr result (StopLends 0 (D.lends space.old.disk.now) (D.lends space.new.disk.now)
+            (journal_of self.entry)) }
     {
         match self.states[thread as usize].mode {
             Mode::Collecting | Mode::Silent => {}
@@ -175,7 +185,7 @@ impl<'a> Run<'a> {
         ensures keeps { IfOk result (KeepsRun (shown_by D.image space.old) (shown_by D.image space.new) self.entry) }
         ensures quiet { IfOk result (λ run. IsQuiet (view run.core)) }
         ensures all { IfOk result (λ run. CollectedAll self.entry.states.items run.states.items) }
-        ensures made { IfOk result (MakesForAll self.entry) }
+        ensures made { IfOk result (MakesForAll (shown_by D.image space.old) self.entry) }
         ensures lost { IfOk result (λ run. losses run.states.items ≡ losses self.entry.states.items) }
         ensures stopped { IfErr result (StopsRun (shown_by D.image space.old) (shown_by D.image space.new) self.entry) }
         ensures same_disk { space.new.disk.ghost_name ≡ space.old.disk.ghost_name }
@@ -184,6 +194,9 @@ impl<'a> Run<'a> {
         ensures stop_counts { IfErr result (λ stop. StopCounts stop self.entry.states.items
             (D.faults space.old.disk.now) (D.faults space.new.disk.now) (D.read_faults space.old.disk.now)
             (D.read_faults space.new.disk.now)) }
+        ensures lends { D.lends space.new.disk.now ≡ D.lends space.old.disk.now }
+        ensures stop_lends { IfErr result (StopLends 0 (D.lends space.old.disk.now) (D.lends space.new.disk.now)
+            (journal_of self.entry)) }
     {
         let mut run = self;
         for t in 0..run.states.len() as u32 {
@@ -221,6 +234,8 @@ impl<'a> Run<'a> {
         ensures image { R.image reader.new ≡ R.image reader.old }
         ensures lost { CountsLosses self.old.states.items self.new.states.items (R.faults reader.old)
             (R.faults reader.new) }
+        ensures alone { (shown : Shown) → shown.end ≡ end → shown.image ≡ R.image reader.old
+            → MakesCall shown self.old self.new thread result }
     {
         let state = &mut self.states[thread as usize];
         let Some(op) = state.op else {
@@ -242,12 +257,17 @@ impl<'a> Run<'a> {
             (λ forced told script config. AwaitsCall told script config (shown_by D.image space.old) forced self.entry
             thread) (shown_by D.image space.new) self.entry done.0 thread (D.read_faults space.old.disk.now)
             (D.read_faults space.new.disk.now) done.1) }
-        ensures stopped { IfErr result (StopsRun (shown_by D.image space.old) (shown_by D.image space.new) self.entry) }
+        ensures stopped { IfErr result (StopsBut (shown_by D.image space.old) (shown_by D.image space.new) self.entry) }
         ensures same_disk { space.new.disk.ghost_name ≡ space.old.disk.ghost_name }
         ensures count { D.faults space.old.disk.now ≤ D.faults space.new.disk.now }
         ensures stop_counts { IfErr result (λ stop. StopCounts stop self.entry.states.items
             (D.faults space.old.disk.now) (D.faults space.new.disk.now) (D.read_faults space.old.disk.now)
             (D.read_faults space.new.disk.now)) }
+        ensures alone { IfOk result (λ done. MakesCall (shown_by D.image space.old) self.entry done.0 thread
+            (words_lacked done.1)) }
+        ensures lends { D.lends space.new.disk.now ≡ counted (D.lends space.old.disk.now) 1 }
+        ensures stop_lends { IfErr result (StopLends 1 (D.lends space.old.disk.now) (D.lends space.new.disk.now)
+            (journal_of self.entry)) }
     {
         let (mut run, mut reader) = self.lend(alloc, space)?;
         match run.call(thread, space.end(), &mut reader) {
@@ -270,18 +290,23 @@ impl<'a> Run<'a> {
         requires lacks { (forced : ℕ) × (forced < 2)
             × SomeLacksWords (shown_by D.image space.old) forced self thread need }
         ensures attempted { IfOk result (λ done. Attempted D.Reader.image D.Reader.faults
-            (λ told script config. (forced : ℕ) × (forced < 2)
-            × LacksWords told script config (shown_by D.image space.old) forced self.entry thread need)
-            (Forced (shown_by D.image space.old) self.entry thread need)
-            (shown_by D.image space.new) self.entry done.0 thread (D.read_faults space.old.disk.now)
-            (D.read_faults space.new.disk.now) done.1) }
-        ensures stopped { IfErr result (StopsForced true (shown_by D.image space.old) (shown_by D.image space.new)
-            self.entry) }
+            (MayForce (shown_by D.image space.old) self.entry thread need)
+            (Forced (shown_by D.image space.old) self.entry thread need) (shown_by D.image space.new) self.entry done.0
+            thread (D.read_faults space.old.disk.now) (D.read_faults space.new.disk.now) done.1) }
+        ensures stopped { IfErr result (StopsFrom (MayForce (shown_by D.image space.old) self.entry thread need)
+            (shown_by D.image space.new)) }
         ensures same_disk { space.new.disk.ghost_name ≡ space.old.disk.ghost_name }
         ensures count { D.faults space.old.disk.now ≤ D.faults space.new.disk.now }
         ensures stop_counts { IfErr result (λ stop. StopCounts stop self.entry.states.items
             (D.faults space.old.disk.now) (D.faults space.new.disk.now) (D.read_faults space.old.disk.now)
             (D.read_faults space.new.disk.now)) }
+        ensures moves { IfOk result (λ done. (told : Bool) (script : Script) (config : Config) (forced : ℕ) → forced < 2
+            → LacksWords told script config (shown_by D.image space.old) forced self.entry thread need
+            → MovesOnce told script config (suc forced) self.entry done.0 thread (words_lacked done.1)) }
+        ensures lends { IfOk result (λ done. LendsFew 0 (D.lends space.old.disk.now) (D.lends space.new.disk.now)
+            (journal_of self.entry) (journal_of done.0)) }
+        ensures stop_lends { IfErr result (StopLends 0 (D.lends space.old.disk.now) (D.lends space.new.disk.now)
+            (journal_of self.entry)) }
     {
         let run = self.collect(alloc, space, true)?;
         run.attempt(alloc, space, thread)
@@ -304,6 +329,7 @@ impl<'a> Run<'a> {
             × LacksWords told script config shown forced self.entry thread need
             × (told ≡ true → NoRoom config (view self.entry.core) need)) shown self.entry result thread }
         ensures lost { losses result.states.items ≡ losses self.entry.states.items }
+        ensures gone { EndsForRoom self.entry result thread need }
     {
         let held = self.core.held();
         let state = &mut self.states[thread as usize];
@@ -331,14 +357,21 @@ impl<'a> Run<'a> {
         ensures lost { IfOk result (λ done. CountsOpen self.entry.states.items done.0.states.items
             (D.read_faults space.old.disk.now) (D.read_faults space.new.disk.now)
             (open_faults D.Reader.faults done.1)) }
-        ensures stopped { IfErr result (λ stop. (told : Bool) (script : Script) (config : Config)
-            → LacksWords told script config (shown_by D.image space.old) 1 self.entry thread need
-            → StopsSo told script config (shown_by D.image space.new) stop) }
+        ensures stopped { IfErr result (StopsFrom
+            (λ told script config. LacksWords told script config (shown_by D.image space.old) 1 self.entry thread need)
+            (shown_by D.image space.new)) }
         ensures same_disk { space.new.disk.ghost_name ≡ space.old.disk.ghost_name }
         ensures count { D.faults space.old.disk.now ≤ D.faults space.new.disk.now }
         ensures stop_counts { IfErr result (λ stop. StopCounts stop self.entry.states.items
             (D.faults space.old.disk.now) (D.faults space.new.disk.now) (D.read_faults space.old.disk.now)
             (D.read_faults space.new.disk.now)) }
+        ensures moves { IfOk result (λ done. (told : Bool) (script : Script) (config : Config)
+            → LacksWords told script config (shown_by D.image space.old) 1 self.entry thread need
+            → MovesFew told script config 1 1 self.entry done.0 thread need) }
+        ensures lends { IfOk result (λ done. LendsFew 0 (D.lends space.old.disk.now) (D.lends space.new.disk.now)
+            (journal_of self.entry) (journal_of done.0)) }
+        ensures stop_lends { IfErr result (StopLends 0 (D.lends space.old.disk.now) (D.lends space.new.disk.now)
+            (journal_of self.entry)) }
     {
         if !self.may_fit(need) {
             return Ok((self.out_of_heap(thread, need), None));
@@ -367,14 +400,21 @@ impl<'a> Run<'a> {
         ensures lost { IfOk result (λ done. CountsOpen self.entry.states.items done.0.states.items
             (D.read_faults space.old.disk.now) (D.read_faults space.new.disk.now)
             (open_faults D.Reader.faults done.1)) }
-        ensures stopped { IfErr result (λ stop. (told : Bool) (script : Script) (config : Config)
-            → LacksWords told script config (shown_by D.image space.old) 0 self.entry thread need
-            → StopsSo told script config (shown_by D.image space.new) stop) }
+        ensures stopped { IfErr result (StopsFrom
+            (λ told script config. LacksWords told script config (shown_by D.image space.old) 0 self.entry thread need)
+            (shown_by D.image space.new)) }
         ensures same_disk { space.new.disk.ghost_name ≡ space.old.disk.ghost_name }
         ensures count { D.faults space.old.disk.now ≤ D.faults space.new.disk.now }
         ensures stop_counts { IfErr result (λ stop. StopCounts stop self.entry.states.items
             (D.faults space.old.disk.now) (D.faults space.new.disk.now) (D.read_faults space.old.disk.now)
             (D.read_faults space.new.disk.now)) }
+        ensures moves { IfOk result (λ done. (told : Bool) (script : Script) (config : Config)
+            → LacksWords told script config (shown_by D.image space.old) 0 self.entry thread need
+            → MovesFew told script config 0 2 self.entry done.0 thread need) }
+        ensures lends { IfOk result (λ done. LendsFew 0 (D.lends space.old.disk.now) (D.lends space.new.disk.now)
+            (journal_of self.entry) (journal_of done.0)) }
+        ensures stop_lends { IfErr result (StopLends 0 (D.lends space.old.disk.now) (D.lends space.new.disk.now)
+            (journal_of self.entry)) }
     {
         if !self.may_fit(need) {
             return Ok((self.out_of_heap(thread, need), None));
@@ -402,14 +442,21 @@ impl<'a> Run<'a> {
         ensures lost { IfOk result (λ done. CountsOpen self.entry.states.items done.0.states.items
             (D.read_faults space.old.disk.now) (D.read_faults space.new.disk.now)
             (open_faults D.Reader.faults done.1)) }
-        ensures stopped { IfErr result (λ stop. (told : Bool) (script : Script) (config : Config)
-            → AwaitsCall told script config (shown_by D.image space.old) 0 self.entry thread
-            → StopsSo told script config (shown_by D.image space.new) stop) }
+        ensures stopped { IfErr result (StopsFrom
+            (λ told script config. AwaitsCall told script config (shown_by D.image space.old) 0 self.entry thread)
+            (shown_by D.image space.new)) }
         ensures same_disk { space.new.disk.ghost_name ≡ space.old.disk.ghost_name }
         ensures count { D.faults space.old.disk.now ≤ D.faults space.new.disk.now }
         ensures stop_counts { IfErr result (λ stop. StopCounts stop self.entry.states.items
             (D.faults space.old.disk.now) (D.faults space.new.disk.now) (D.read_faults space.old.disk.now)
             (D.read_faults space.new.disk.now)) }
+        ensures makes { IfOk result (λ done. (told : Bool) (script : Script) (config : Config)
+            → AwaitsCall told script config (shown_by D.image space.old) 0 self.entry thread
+            → MakesRoom told script config (shown_by D.image space.old) self.entry done.0 thread) }
+        ensures lends { IfOk result (λ done. LendsFew 1 (D.lends space.old.disk.now) (D.lends space.new.disk.now)
+            (journal_of self.entry) (journal_of done.0)) }
+        ensures stop_lends { IfErr result (StopLends 1 (D.lends space.old.disk.now) (D.lends space.new.disk.now)
+            (journal_of self.entry)) }
     {
         let (run, attempt) = self.attempt(alloc, space, thread)?;
         match attempt {
@@ -430,6 +477,7 @@ impl<'a> Run<'a> {
         ensures stop { KnowsStop (view result.core) result.states.items }
         ensures resumed { Resumed self.entry.states.items result.states.items }
         ensures lost { losses result.states.items ≡ losses self.entry.states.items }
+        ensures collector { result.collector ≡ self.entry.collector }
     {
         for state in self.states.iter_mut() {
             state.make_again();
@@ -449,8 +497,8 @@ impl<'a> Run<'a> {
         requires waits { AllWait self.states.items }
         requires stop { KnowsStop (view self.core) self.states.items }
         requires some { SomeGoesOn self.states.items }
-        ensures keeps { IfOk result (λ done. KeepsRun (shown_by D.image space.old) (shown_by D.image space.new) self.entry
-            done.0) }
+        ensures keeps { IfOk result (λ done. KeepsRun (shown_by D.image space.old) (shown_by D.image space.new)
+            self.entry done.0) }
         ensures quiet { IfOk result (λ done. IsQuiet (view done.0.core)) }
         ensures stop { IfOk result (λ done. KnowsStop (view done.0.core) done.0.states.items) }
         ensures passed { IfOk result (λ done. Passed self.entry.states.items done.0.states.items) }
@@ -461,8 +509,17 @@ impl<'a> Run<'a> {
         ensures stopped { IfErr result (StopsRun (shown_by D.image space.old) (shown_by D.image space.new) self.entry) }
         ensures same_disk { space.new.disk.ghost_name ≡ space.old.disk.ghost_name }
         ensures count { D.faults space.old.disk.now ≤ D.faults space.new.disk.now }
-        ensures stop_counts { IfErr result (λ stop. StopCounts stop self.entry.states.items (D.faults space.old.disk.now)
-            (D.faults space.new.disk.now) (D.read_faults space.old.disk.now) (D.read_faults space.new.disk.now)) }
+        ensures stop_counts { IfErr result (λ stop. StopCounts stop self.entry.states.items
+            (D.faults space.old.disk.now) (D.faults space.new.disk.now) (D.read_faults space.old.disk.now)
+            (D.read_faults space.new.disk.now)) }
+        ensures made { IfOk result (λ done. (told : Bool) (script : Script) (config : Config)
+            → RunStands told script config (shown_by D.image space.old) self.entry
+            → MakesCollections told script config self.entry done.0) }
+        ensures more { IfOk result (λ done. length (journal_of self.entry) < length (journal_of done.0)) }
+        ensures lends { IfOk result (λ done. LendsFew 0 (D.lends space.old.disk.now) (D.lends space.new.disk.now)
+            (journal_of self.entry) (journal_of done.0)) }
+        ensures stop_lends { IfErr result (StopLends 0 (D.lends space.old.disk.now) (D.lends space.new.disk.now)
+            (journal_of self.entry)) }
     {
         let run = self.collect_for_all(alloc, space)?;
         let Some(thread) = run.lacking() else {

@@ -6,6 +6,7 @@ use super::moved::{
     TWO_RETURN, TWO_RETURN_JOURNAL, TWO_RETURN_REPLIES,
 };
 use melt_io::MemDisk;
+use melt_model::Reply::{Done, Num, Ref};
 use melt_model::{Halt, Journal, Phase, Reply, ThreadEnd};
 use std::alloc::Global;
 use std::process::Abort;
@@ -70,15 +71,7 @@ const SLOT: Story<'static> = Story {
     text: b"melt 1\nthreads 1\nglobals 1\nthread 0\nnew 0 1 0\ngstore 0 0\ndrop 0\ncollect\ncollect\ncollect\n\
             gload 0 0\ndone\n",
     forward: 16,
-    replies: &[
-        Reply::Done,
-        Reply::Done,
-        Reply::Done,
-        Reply::Done,
-        Reply::Done,
-        Reply::Done,
-        Reply::Ref,
-    ],
+    replies: &[Done, Done, Done, Done, Done, Done, Ref],
     journal: &JOURNAL_OF_THREE,
 };
 
@@ -225,7 +218,7 @@ fn words_that_are_no_record_are_told(rt: HostRuntime) -> Result<(), Fail> {
 fn a_number_that_is_a_lie_is_not_found_out(rt: HostRuntime) -> Result<(), Fail> {
     let mut story = RETURN;
     let mut replies = MOVE_AND_RETURN_REPLIES;
-    replies[8] = Reply::Num(8);
+    replies[8] = Num(8);
     story.replies = &replies;
     expect_case(&rt, &story, &passes(&[Flaw::Lie(4, 3, 8)], 9, 3))
 }
@@ -255,15 +248,14 @@ fn a_read_fails_for_one_thread_alone(rt: HostRuntime) -> Result<(), Fail> {
     let alloc = rt.alloc();
     let mut disk = flawed(alloc, &[Flaw::Read(4, 3)])?;
     let (report, left) = run_over(alloc, TWO_LOAD, leaving(16, 1024), &mut disk)?;
-    let mut replies = [Reply::Done; 9];
-    replies[8] = Reply::Ref;
-    let last = emptied(2, 7);
+    let mut replies = [Done; 9];
+    replies[8] = Ref;
     let wanted = Wanted {
         threads: &[(&replies, ThreadEnd::Done), (&[], ThreadEnd::DiskFault)],
         journal: &[
             copied(Phase::Inactive, 0, 6),
             copied(Phase::Mark, 0, 6),
-            last,
+            emptied(2, 7),
         ],
         halt: None,
     };

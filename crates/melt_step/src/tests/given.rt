@@ -13,7 +13,7 @@ use std::test::Fail;
 
 /// A collection of a run over a disk without homes. Of the words that are in use behind it so many are those of objects
 /// that registers hold.
-pub const fn copied(phase: Phase, held: u32, live: u32) -> Journal {
+pub(super) const fn copied(phase: Phase, held: u32, live: u32) -> Journal {
     Journal {
         phase,
         held,
@@ -25,7 +25,7 @@ pub const fn copied(phase: Phase, held: u32, live: u32) -> Journal {
 }
 
 /// A Move behind which nothing is in use: it wrote so many Bodies, and the homes end before `end`.
-pub const fn emptied(bodies: u32, end: u32) -> Journal {
+pub(super) const fn emptied(bodies: u32, end: u32) -> Journal {
     Journal {
         phase: Phase::Move,
         held: 0,
@@ -38,7 +38,7 @@ pub const fn emptied(bodies: u32, end: u32) -> Journal {
 
 /// The numbers of a run over so many words, in which objects leave once three quarters of them are in use. A silent
 /// collection comes behind each operation whose number is a multiple of `every`, which is 0 for none.
-pub fn usual(heap: u32, every: u32) -> Config
+pub(super) fn usual(heap: u32, every: u32) -> Config
     requires least { 16 ≤ heap }
     requires most { heap ≤ 4194304 }
     requires every { every ≤ 1048576 }
@@ -55,7 +55,7 @@ pub fn usual(heap: u32, every: u32) -> Config
 }
 
 /// The numbers of a run over 16 words in which objects leave at the third collection.
-pub fn leaving(forward: u32, disk: u32) -> Config
+pub(super) fn leaving(forward: u32, disk: u32) -> Config
     requires forward_least { 1 ≤ forward }
     requires forward_most { forward ≤ 65536 }
     requires disk_least { 2 ≤ disk }
@@ -74,14 +74,14 @@ pub fn leaving(forward: u32, disk: u32) -> Config
 
 /// What a run is to answer: the replies to each thread and how it ends, the collections, and why the run was halted.
 #[derive(Clone, Copy)]
-pub struct Wanted<'a> {
+pub(super) struct Wanted<'a> {
     pub threads: &'a [(&'a [Reply], ThreadEnd)],
     pub journal: &'a [Journal],
     pub halt: Option<Halt>,
 }
 
 /// Runs a trace over a disk.
-pub fn run_over<D: StaleDisk>(
+pub(super) fn run_over<D: StaleDisk>(
     alloc: Global,
     text: &[u8],
     config: Config,
@@ -95,7 +95,7 @@ pub fn run_over<D: StaleDisk>(
 }
 
 /// Compares what a run answered. The heap is lost where the disk failed, and nowhere else.
-pub fn compare<R: Abort>(rt: &R, report: &Report, left: &Option<Heap>, wanted: &Wanted<'_>) {
+pub(super) fn compare<R: Abort>(rt: &R, report: &Report, left: &Option<Heap>, wanted: &Wanted<'_>) {
     assert_eq!(rt; report.threads.items.len(), wanted.threads.len());
     for (thread, (replies, end)) in report.threads.items.iter().zip(wanted.threads) {
         assert_eq!(rt; thread.replies.items.as_slice(), *replies);
@@ -107,7 +107,7 @@ pub fn compare<R: Abort>(rt: &R, report: &Report, left: &Option<Heap>, wanted: &
 }
 
 /// Runs a trace over a disk that does not fail, and compares what it answers.
-pub fn expect<R: Abort + AllocGlobal>(
+pub(super) fn expect<R: Abort + AllocGlobal>(
     rt: &R,
     text: &[u8],
     config: Config,

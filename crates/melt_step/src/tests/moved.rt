@@ -1,54 +1,35 @@
 use super::given::{Wanted, compare, copied, emptied, expect, leaving, run_over};
 use melt_io::SteadyDisk;
+use melt_model::Reply::{Done, No, Num, Ref, Yes};
 use melt_model::{Halt, Journal, Phase, Reply, ThreadEnd};
 use std::test::Fail;
 
 /// An object leaves at the third collection, and comes back with its number.
-pub const MOVE_AND_RETURN: &[u8] =
+pub(super) const MOVE_AND_RETURN: &[u8] =
     b"melt 1\nthreads 1\nglobals 1\nthread 0\nnew 0 0 1\nput 0 0 7\ngstore 0 0\ndrop 0\n\
       collect\ncollect\ncollect\ngload 0 0\nget 0 0\ndone\n";
 
-pub const MOVE_AND_RETURN_REPLIES: [Reply; 9] = [
-    Reply::Done,
-    Reply::Done,
-    Reply::Done,
-    Reply::Done,
-    Reply::Done,
-    Reply::Done,
-    Reply::Done,
-    Reply::Ref,
-    Reply::Num(7),
+const SEVEN: Reply = Num(7);
+
+pub(super) const MOVE_AND_RETURN_REPLIES: [Reply; 9] = [
+    Done, Done, Done, Done, Done, Done, Done, Ref, SEVEN,
 ];
 
 /// An object leaves twice, and comes back by each of its globals. They name one object.
-pub const SAME_HOME: &[u8] =
+pub(super) const SAME_HOME: &[u8] =
     b"melt 1\nthreads 1\nglobals 3\nthread 0\nnew 0 0 1\nput 0 0 9\ngstore 0 0\ngstore 1 0\ngstore 2 0\ndrop 0\n\
       collect\ncollect\ncollect\ngload 0 0\nput 0 0 10\ndrop 0\ncollect\ncollect\n\
       gload 0 2\nget 0 0\ngload 1 1\nsame 0 1\ndone\n";
 
-pub const SAME_HOME_REPLIES: [Reply; 18] = [
-    Reply::Done,
-    Reply::Done,
-    Reply::Done,
-    Reply::Done,
-    Reply::Done,
-    Reply::Done,
-    Reply::Done,
-    Reply::Done,
-    Reply::Done,
-    Reply::Ref,
-    Reply::Done,
-    Reply::Done,
-    Reply::Done,
-    Reply::Done,
-    Reply::Ref,
-    Reply::Num(10),
-    Reply::Ref,
-    Reply::Yes,
+const TEN: Reply = Num(10);
+
+pub(super) const SAME_HOME_REPLIES: [Reply; 18] = [
+    Done, Done, Done, Done, Done, Done, Done, Done, Done, Ref, Done, Done, Done, Done, Ref, TEN,
+    Ref, Yes,
 ];
 
 /// The collections of a run in which an object of three words leaves, comes back and leaves again.
-pub const JOURNAL_OF_THREE: [Journal; 5] = [
+pub(super) const JOURNAL_OF_THREE: [Journal; 5] = [
     Journal {
         phase: Phase::Inactive,
         held: 0,
@@ -103,25 +84,16 @@ const CYCLES: &[u8] =
       gload 0 0\nload 1 0 0\nsame 0 1\ngload 2 1\nload 3 2 0\nload 4 3 0\nsame 2 4\nsame 2 3\ndone\n";
 
 /// Two objects come back in one epoch.
-pub const TWO_RETURN: &[u8] =
+pub(super) const TWO_RETURN: &[u8] =
     b"melt 1\nthreads 1\nglobals 2\nthread 0\nnew 0 0 0\ngstore 0 0\nnew 0 0 1\ngstore 1 0\ndrop 0\n\
       collect\ncollect\ncollect\ngload 0 0\ngload 1 1\ndone\n";
 
-pub const TWO_RETURN_REPLIES: [Reply; 10] = [
-    Reply::Done,
-    Reply::Done,
-    Reply::Done,
-    Reply::Done,
-    Reply::Done,
-    Reply::Done,
-    Reply::Done,
-    Reply::Done,
-    Reply::Ref,
-    Reply::Ref,
+pub(super) const TWO_RETURN_REPLIES: [Reply; 10] = [
+    Done, Done, Done, Done, Done, Done, Done, Done, Ref, Ref,
 ];
 
 /// The collections where there is a word for the forwarding of one object only: the last one makes room for the other.
-pub const TWO_RETURN_JOURNAL: [Journal; 4] = [
+pub(super) const TWO_RETURN_JOURNAL: [Journal; 4] = [
     Journal {
         phase: Phase::Inactive,
         held: 0,
@@ -195,18 +167,7 @@ fn an_object_that_leaves_again_has_the_same_home(rt: HostRuntime) -> Result<(), 
 #[test]
 fn a_home_that_became_a_stub_names_the_same_object(rt: HostRuntime) -> Result<(), Fail> {
     let replies = [
-        Reply::Done,
-        Reply::Done,
-        Reply::Done,
-        Reply::Done,
-        Reply::Done,
-        Reply::Done,
-        Reply::Done,
-        Reply::Done,
-        Reply::Ref,
-        Reply::Done,
-        Reply::Ref,
-        Reply::Yes,
+        Done, Done, Done, Done, Done, Done, Done, Done, Ref, Done, Ref, Yes,
     ];
     let [first, second, third, ..] = JOURNAL_OF_THREE;
     let settling = Journal {
@@ -227,25 +188,15 @@ fn a_home_that_became_a_stub_names_the_same_object(rt: HostRuntime) -> Result<()
 
 #[test]
 fn cycles_come_back_as_they_were(rt: HostRuntime) -> Result<(), Fail> {
-    let mut replies = [Reply::Done; 22];
-    let told = [
-        Reply::Ref,
-        Reply::Ref,
-        Reply::Yes,
-        Reply::Ref,
-        Reply::Ref,
-        Reply::Ref,
-        Reply::Yes,
-        Reply::No,
-    ];
+    let mut replies = [Done; 22];
+    let told = [Ref, Ref, Yes, Ref, Ref, Ref, Yes, No];
     replies[14..].copy_from_slice(&told);
-    let last = emptied(3, 10);
     let wanted = Wanted {
         threads: &[(&replies, ThreadEnd::Done)],
         journal: &[
             copied(Phase::Inactive, 0, 9),
             copied(Phase::Mark, 0, 9),
-            last,
+            emptied(3, 10),
         ],
         halt: None,
     };
@@ -272,7 +223,7 @@ fn a_disk_without_room_halts_the_run(rt: HostRuntime) -> Result<(), Fail> {
         limit: 8,
     };
     let wanted = Wanted {
-        threads: &[(&[Reply::Done; 5], ThreadEnd::Halted)],
+        threads: &[(&[Done; 5], ThreadEnd::Halted)],
         journal: &[copied(Phase::Inactive, 0, 8), copied(Phase::Mark, 0, 8)],
         halt: Some(full),
     };
@@ -281,13 +232,12 @@ fn a_disk_without_room_halts_the_run(rt: HostRuntime) -> Result<(), Fail> {
 
 #[test]
 fn an_object_fills_the_disk(rt: HostRuntime) -> Result<(), Fail> {
-    let last = emptied(1, 9);
     let wanted = Wanted {
-        threads: &[(&[Reply::Done; 6], ThreadEnd::Done)],
+        threads: &[(&[Done; 6], ThreadEnd::Done)],
         journal: &[
             copied(Phase::Inactive, 0, 8),
             copied(Phase::Mark, 0, 8),
-            last,
+            emptied(1, 9),
         ],
         halt: None,
     };

@@ -1,13 +1,17 @@
 -- Each event goes on with the call, or ends it.
-use Rattle.std.proofs.Common.{◌≡◌, ◌∙◌, rules, true, false, sym, ap, subst}
+use Rattle.std.proofs.Common.{◌≡◌, ◌∙◌, rules, true, false, refl, sym, ap, subst}
 use Rattle.std.specs.Prelude.{ℕ, List, Option, None, Some}
 use Rattle.melt_record.specs.declared.damage.Damaged.{Damaged as Damage}
 use Rattle.melt_core.specs.Advances.{AdvancesWhere, IsDamage, TellsDisk}
-use Rattle.melt_core.specs.Views.{view}
+use Rattle.melt_core.specs.Views.{View, Standing, view}
 use Rattle.melt_core.specs.declared.answer.Refusal.{Refusal}
 use Rattle.melt_core.specs.declared.answer.Refusal.TheVariants.{Damaged}
+use Rattle.melt_core.specs.declared.answer.StepResult.{StepResult}
 use Rattle.melt_core.specs.declared.answer.StepResult.TheVariants.{Refused}
+use Rattle.melt_model.specs.declared.operations.Op.{Op}
+use Rattle.melt_scion.specs.Heaps.{OnDisk}
 use Rattle.melt_step.specs.Lone.{CalledOver}
+use Rattle.melt_step.specs.Made.{MakesInUse}
 use Rattle.melt_step.specs.Shown.{Underlies}
 use Rattle.melt_step.specs.Threads.{DropsIfEnded}
 use Rattle.melt_step.specs.declared.thread.Mode.{Mode}
@@ -15,7 +19,19 @@ use Rattle.melt_step.specs.declared.thread.ThreadState.{ThreadState}
 use Rattle.melt_step.proofs.Calling.{KeepsOthers_both, goes_nearer, refused_call, thread_there, under_untold}
 use Rattle.melt_step.proofs.LoneCalls.{call_asks, call_goes, call_lacks, call_lost, call_reads, call_told}
 use Rattle.melt_step.proofs.LoneCalls.{few_still, lacks_space, never_pauses}
+use Rattle.melt_step.proofs.WordsMade.{made_ended}
 use Rattle.melt_step.proofs.alone.call_alone.Goals as goal
+
+-- an event of the call makes what comes into use, also behind those before it
+event_makes : {image before : Option (List ℕ)} {finish : ℕ} {u v w : View} {t : ℕ} {o : Op} {result : StepResult}
+    → before ≡ image → MakesInUse finish image u v
+    → ((disk : OnDisk) → Underlies true finish image disk → Standing true disk u → Standing true disk v)
+    → ((disk : OnDisk) → disk.end ≡ finish → AdvancesWhere (TellsDisk before disk) disk v w t o result)
+    → MakesInUse finish image u w
+event_makes {image} {before} {finish} {u} {v} {w} {t} {o} {result} same makes keeps event disk under stands past had =
+    (event disk under.ends).makes
+    (subst (λ (x : Option (List ℕ)). TellsDisk x disk) (sym same) (under.tells refl)) (keeps disk under stands) past
+    (makes disk under stands past had)
 
 pub advance-requires : goal.advance-requires
 advance-requires g c =
@@ -42,6 +58,8 @@ loop-reply-preserved g c = record {
       (c.in-Going.ensures.advances.over disk under.ends).keeps told
       (subst (λ (image : Option (List ℕ)). told ≡ true → TellsDisk image disk) (sym c.loop-reply.invariant.image)
       under.tells) (c.loop-reply.invariant.stands told disk under stands);
+  makes = event_makes c.loop-reply.invariant.image c.loop-reply.invariant.makes (c.loop-reply.invariant.stands true)
+      c.in-Going.ensures.advances.over;
   state = c.loop-reply.invariant.state;
   image = c.in-Going.ensures.image ∙ c.loop-reply.invariant.image;
   faults = search rules;
@@ -121,3 +139,22 @@ returns-in-None-clause-called g c told disk under stands =
     (c.loop-reply.invariant.stands told disk under stands) damage) event
     (subst (λ (m : Mode). DropsIfEnded (view c.advance.new.self) (view c.drop_if_ended.new.core) c.args.thread m)
     c.mode_after-state.ensures c.drop_if_ended.ensures)))
+
+pub returns-in-Answered-clause-makes : goal.returns-in-Answered-clause-makes
+returns-in-Answered-clause-makes g c disk under stands past had =
+    made_ended (view c.advance.new.self) (view c.answered.new.core) c.args.thread c.answered.new.state.mode
+    c.answered.ensures.drops past
+    (event_makes c.loop-reply.invariant.image c.loop-reply.invariant.makes (c.loop-reply.invariant.stands true)
+    c.in-Answered.ensures.advances.over disk under stands past had)
+
+pub returns-in-Some-clause-makes : goal.returns-in-Some-clause-makes
+returns-in-Some-clause-makes g c =
+    event_makes c.loop-reply.invariant.image c.loop-reply.invariant.makes (c.loop-reply.invariant.stands true)
+    c.in-Refused.ensures.advances.over
+
+pub returns-in-None-clause-makes : goal.returns-in-None-clause-makes
+returns-in-None-clause-makes g c disk under stands past had =
+    made_ended (view c.advance.new.self) (view c.drop_if_ended.new.core) c.args.thread c.mode_after-state.result
+    c.drop_if_ended.ensures past
+    (event_makes c.loop-reply.invariant.image c.loop-reply.invariant.makes (c.loop-reply.invariant.stands true)
+    c.in-Refused.ensures.advances.over disk under stands past had)

@@ -4,6 +4,7 @@ use Rattle.std.specs.Prelude.{Bool}
 use Rattle.melt_scion.specs.Heaps.{OnDisk}
 use Rattle.melt_core.specs.Views.{Standing, call_of, stage_in, view}
 use Rattle.melt_core.specs.Stages.{events_left}
+use Rattle.melt_step.specs.Made.{MakesInUse}
 use Rattle.melt_step.specs.Shown.{Underlies}
 use Rattle.melt_step.specs.Threads.{most_forwards}
 use Rattle.melt_step.proofs.LoneCalls.{OnCall}
@@ -14,6 +15,7 @@ invariant-loop-reply g l = record {
   on : OnCall (view l.initial.core) (view l.core) l.thread l.op;
   stands : (told : Bool) (disk : OnDisk) → Underlies told l.end (g.R.RecordReader.image l.initial.reader) disk
       → Standing told disk (view l.initial.core) → Standing told disk (view l.core);
+  makes : MakesInUse l.end (g.R.RecordReader.image l.initial.reader) (view l.initial.core) (view l.core);
   state : l.state ≡ l.initial.state;
   image : g.R.RecordReader.image l.reader ≡ g.R.RecordReader.image l.initial.reader;
   faults : g.R.RecordReader.faults l.initial.reader ≤ g.R.RecordReader.faults l.reader;

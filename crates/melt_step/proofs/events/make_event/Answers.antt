@@ -11,12 +11,17 @@ use Rattle.melt_step.specs.declared.thread.Mode.{Mode}
 use Rattle.melt_step.proofs.Calling.{begins_ready, counts_none, goes_sets, goes_step, refused_call, refused_counts}
 use Rattle.melt_step.proofs.Calling.{refused_sets, refused_step, thread_there, told_kept, told_sets, told_step}
 use Rattle.melt_step.proofs.Calling.{waits_step}
+use Rattle.melt_step.proofs.WordsMade.{made_ended, made_stopped}
 use Rattle.melt_step.proofs.events.make_event.Goals as goal
 
 pub returns-in-Running-Some-Collect-clause-step : goal.returns-in-Running-Some-Collect-clause-step
 returns-in-Running-Some-Collect-clause-step g c told disk under stands =
     waits_step told disk (view c.args.core.now) (view c.ask.new.self) c.args.thread c.args.state.now _ stands
     c.ask.ensures (inl (c.in-Running-Some-Collect.is-0, search rules, refl))
+
+pub returns-in-Running-Some-Collect-clause-makes : goal.returns-in-Running-Some-Collect-clause-makes
+returns-in-Running-Some-Collect-clause-makes g c disk under stands =
+    made_stopped (view c.args.core.now) (view c.ask.new.self) c.ask.ensures
 
 pub answered-requires : goal.answered-requires
 answered-requires g c = record {
@@ -47,6 +52,7 @@ returns-in-Going g c = record {
       (c.in-Going.ensures.advances.over c.requires.ready.disk c.requires.ready.ends).outcome.stop;
   due = λ other. absurd (other refl);
   image = search rules;
+  makes = λ disk under. (c.in-Going.ensures.advances.over disk under.ends).makes (under.tells refl);
   lost = counts_none c.args.state.now c.args.state.now _ _ (search rules) (search rules);
 }
 
@@ -65,6 +71,10 @@ returns-in-Answered g c = record {
       c.answered.ensures.takes c.answered.ensures.drops;
   due = c.answered.ensures.due;
   image = search rules;
+  makes = λ disk under stands past had.
+      made_ended (view c.advance.new.self) (view c.answered.new.core) c.args.thread c.answered.new.state.mode
+      c.answered.ensures.drops past
+      ((c.in-Answered.ensures.advances.over disk under.ends).makes (under.tells refl) stands past had);
   lost =
       counts_none c.args.state.now c.answered.new.state _ _
       (told_kept c.args.state.now c.answered.new.state c.in-Answered.reply c.answered.ensures.takes) (search rules);
@@ -99,6 +109,9 @@ returns-in-Refused g c =
           (c.in-Refused.ensures.advances.over c.requires.ready.disk c.requires.ready.ends).outcome drops);
       due = λ other. absurd (other refl);
       image = search rules;
+      makes = λ disk under stands past had.
+          made_ended (view c.advance.new.self) (view c.drop_if_ended.new.core) c.args.thread _ drops past
+          ((c.in-Refused.ensures.advances.over disk under.ends).makes (under.tells refl) stands past had);
       lost =
           subst (λ (m : Mode). CountsLoss c.args.state.now (record c.args.state.now { mode = m })
           (g.R.RecordReader.faults c.args.reader.now) (g.R.RecordReader.faults c.advance.new.reader))
@@ -112,3 +125,7 @@ returns-in_default-clause-step g c told disk under stands =
     waits_step told disk (view c.args.core.now)
     (view c.ask-in_default.new.self) c.args.thread c.args.state.now _ stands c.ask-in_default.ensures
     (search rules)
+
+pub returns-in_default-clause-makes : goal.returns-in_default-clause-makes
+returns-in_default-clause-makes g c disk under stands =
+    made_stopped (view c.args.core.now) (view c.ask-in_default.new.self) c.ask-in_default.ensures

@@ -5,6 +5,7 @@ use Rattle.melt_core.specs.declared.machine.Core.{Core}
 use Rattle.melt_step.specs.Threads.{KnowsStop}
 use Rattle.melt_step.proofs.Starting.{stop_new, losses_new}
 use Rattle.melt_step.proofs.Reporting.{Run_new}
+use Rattle.melt_step.proofs.Lends.{idle_new}
 use Rattle.melt_step.proofs.run.new_run.Goals as goal
 
 pub returns-clause-stands : goal.returns-clause-stands
@@ -31,3 +32,7 @@ returns-clause-stop c =
 pub returns-clause-none_lost : goal.returns-clause-none_lost
 returns-clause-none_lost c =
     losses_new c.args.trace.now c.in_ok-states.entries c.in_ok-states.states.items c.in_ok-states.ensures
+
+pub returns-clause-idle : goal.returns-clause-idle
+returns-clause-idle c = λ none.
+    idle_new c.args.trace.now c.in_ok-states.entries c.in_ok-states.states.items c.in_ok-states.ensures none

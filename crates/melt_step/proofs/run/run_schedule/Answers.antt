@@ -3,11 +3,12 @@ use Rattle.std.proofs.Common.{◌≡◌, true, false, Some, None, sym, ◌∙◌
 use Rattle.std.proofs.lemmas.Result.{IfOk-weaker}
 use Rattle.std.specs.Prelude.{Bool, IsSome}
 use Rattle.melt_model.specs.declared.reports.Halt.TheVariants as halt
-use Rattle.melt_step.specs.Safepoints.{RunStands, StopCounts, StopsRun}
+use Rattle.melt_step.specs.Safepoints.{LendsTwice, RunStands, StopCounts, StopTwice, StopsRun, journal_of}
 use Rattle.melt_step.specs.Shown.{shown_by}
 use Rattle.melt_step.specs.declared.ending.Ended.{Ended}
 use Rattle.melt_step.specs.declared.ending.Stop.{Stop}
 use Rattle.melt_step.specs.declared.ending.Stop.TheVariants.{Halted}
+use Rattle.melt_step.proofs.Lends.{counts_lends}
 use Rattle.melt_step.proofs.Remaining.{counts_faults, both_ok}
 use Rattle.melt_step.proofs.run.run_schedule.Given.{Over}
 use Rattle.melt_step.proofs.run.run_schedule.Goals as goal
@@ -76,3 +77,23 @@ returns-clause-counts g c =
     (λ done lost halts. counts_faults c.in_ok-run.run'.states.items c.match-run_all.ended done.0 _ _ _ _
     c.in_ok-run.ensures.none_lost c.run_all.ensures.count (counted g at) lost halts)
     c.report.ensures.lost c.report.ensures.halt
+
+-- how often readers were lent
+lent : (g : Over) (c : Joined-run_all g) → LendsTwice (g.D.StaleDisk.lends c.args.space.now.disk.now)
+    (g.D.StaleDisk.lends c.run_all.new.space.disk.now) (journal_of c.in_ok-run.run') c.match-run_all.ended.journal.items
+lent g c =
+    let Lends : Stop → Type 0 = StopTwice (g.D.StaleDisk.lends c.args.space.now.disk.now)
+    (g.D.StaleDisk.lends c.run_all.new.space.disk.now) (journal_of c.in_ok-run.run') in
+    elim c.match-run_all.branch [
+      | in-Ok w ↦ subst (λ (e : Ended). Lends (Halted e)) (sym w.ended-is) w.in-Ok.ensures.lends
+      | in-Err-Halted w ↦ subst (λ (e : Ended). Lends (Halted e)) (sym w.ended-is)
+          (subst Lends w.in-Err-Halted.field-0-is w.in-Err-Halted.ensures.stop_lends)
+    ]
+
+pub returns-clause-lends : goal.returns-clause-lends
+returns-clause-lends g c =
+    let at = (goal.at.returns-clause-lends g c).Joined-run_all in
+    IfOk-weaker c.report.result _ _
+    (λ done journal. counts_lends c.args.trace.now done.0 _ _ (journal_of c.in_ok-run.run')
+    c.match-run_all.ended.journal.items c.in_ok-run.ensures.none_made journal (lent g at)
+    (λ none. c.run_all.ensures.idle (c.in_ok-run.ensures.idle none))) c.report.ensures.journal

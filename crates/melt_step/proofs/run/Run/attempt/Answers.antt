@@ -1,6 +1,8 @@
 -- The call over a reader that was lent anew is made, or lacks words.
 use Rattle.std.proofs.Common.{◌≡◌, ℕ, sym, ◌∙◌, ap, subst}
+use Rattle.std.specs.Prelude.{Option}
 use Rattle.melt_step.specs.Safepoints.{Awaited, AwaitsCall, LackedWords, MadeCall}
+use Rattle.melt_step.specs.Makes.{MakesCall}
 use Rattle.melt_step.specs.Shown.{Shown, shown_by}
 use Rattle.melt_step.specs.declared.run.Run.{Run}
 use Rattle.melt_step.proofs.TwoMoves.{same_shown, fresh_counts, risen_back}
@@ -53,3 +55,24 @@ returns-in-Some-clause-attempted g c =
           (g.D.StaleDisk.read_faults c.give_back.new.self.disk.now)
           (g.D.Reader.RecordReader.faults c.call.new.reader) c.give_back.ensures.read_faults is.read_faults,
     )
+
+-- the call was made alone of the run that was lent a reader, which is the same
+alone_so : {old run new : Run} {t : ℕ} {lacks more : Option ℕ} (shown : Shown) → run ≡ old → lacks ≡ more
+    → MakesCall shown run new t lacks → MakesCall shown old new t more
+alone_so {old} {run} {new} {t} {lacks} {more} shown same is call =
+    subst (λ (r : Run). MakesCall shown r new t more) same
+    (subst (λ (o : Option ℕ). MakesCall shown run new t o) is call)
+
+pub returns-in-None-clause-alone : goal.returns-in-None-clause-alone
+returns-in-None-clause-alone g c =
+    let shown : Shown = shown_by g.D.StaleDisk.image c.args.space.now in
+    let is = c.in_ok-run.ensures in
+    alone_so shown is.same c.in-None.is
+    (c.call.ensures.alone shown (sym (ap (λ (x : Shown). x.end) is.shown) ∙ sym c.end.ensures) (sym is.image))
+
+pub returns-in-Some-clause-alone : goal.returns-in-Some-clause-alone
+returns-in-Some-clause-alone g c =
+    let shown : Shown = shown_by g.D.StaleDisk.image c.args.space.now in
+    let is = c.in_ok-run.ensures in
+    alone_so shown is.same c.in-Some.is
+    (c.call.ensures.alone shown (sym (ap (λ (x : Shown). x.end) is.shown) ∙ sym c.end.ensures) (sym is.image))

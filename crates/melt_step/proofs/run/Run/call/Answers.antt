@@ -6,8 +6,9 @@ use Rattle.melt_step.specs.Lone.{IsAloneReady}
 use Rattle.melt_step.specs.Shown.{Shown}
 use Rattle.melt_step.specs.declared.run.Run.{Run}
 use Rattle.melt_step.proofs.Counting.{counts_set}
-use Rattle.melt_step.proofs.First.{IsLacking, MakesCall, if_none, if_some, lacking_here, has_next, alone_ready}
-use Rattle.melt_step.proofs.First.{call_lacked, call_made, called_by}
+use Rattle.melt_step.specs.Makes.{IsLacking, MakesCall}
+use Rattle.melt_step.proofs.First.{if_none, if_some, lacking_here, has_next, alone_ready}
+use Rattle.melt_step.proofs.First.{call_lacked, call_made, called_by, makes_by}
 use Rattle.melt_step.proofs.run.Run.call.Given.{Over}
 use Rattle.melt_step.proofs.run.Run.call.Goals as goal
 use Rattle.melt_step.proofs.run.Run.call.Goals.{After-call_alone, After-index_mut-state}
@@ -59,6 +60,8 @@ makes g c shown ends shows = record {
       (view c.call_alone.new.core) c.args.thread c.index_mut-state.result.now c.call_alone.new.state c.in-Some.op
       c.call_alone.result ends shows c.call_alone.ensures.called;
   due = c.call_alone.ensures.due;
+  makes = makes_by shown c.args.end (g.R.RecordReader.image c.args.reader.now) (view c.args.self.now.core)
+      (view c.call_alone.new.core) ends shows c.call_alone.ensures.makes;
   states = refl;
   collector = refl;
   words = refl;
@@ -80,6 +83,11 @@ returns-clause-lacks g c =
     if_some c.call_alone.result _ (λ need is shown ends shows.
     call_lacked need c.requires.awaits.3.1 (makes g here c.requires.awaits.0 c.requires.awaits.1 c.requires.awaits.2)
     (makes g here shown ends shows) is)
+
+pub returns-clause-alone : goal.returns-clause-alone
+unfolding behind
+returns-clause-alone g c = λ shown ends shows.
+    makes g (goal.at.returns-clause-alone g c).After-call_alone shown ends shows
 
 pub returns-clause-lost : goal.returns-clause-lost
 returns-clause-lost g c =

@@ -1,13 +1,20 @@
 -- Where a collection was refused, the run is halted.
+use Rattle.std.proofs.Common.{◌≡◌, List, Vec, Global, length, ◌∙◌, ap, arith}
+use Rattle.melt_model.specs.declared.reports.Journal.{Journal}
 use Rattle.melt_move.specs.Planned.{phase_done}
 use Rattle.melt_core.specs.Views.{view}
 use Rattle.melt_step.proofs.Journals.{halted_counts, refused_failed, refused_full, stands_failed, stands_full}
+use Rattle.melt_step.proofs.Lends.{lends_none}
 use Rattle.melt_step.proofs.run.Run.collect.Goals as goal
 
+-- the journal of a run that is halted is that of before
+halted_journal : {a b : Vec Journal Global} {js : List Journal} → a ≡ b → b.items ≡ js → a.items ≡ js
+halted_journal {a} {b} {js} same stays = ap (λ (v : Vec Journal Global). v.items) same ∙ stays
+
 pub returns-in-Err-DiskFull-clause-stopped : goal.returns-in-Err-DiskFull-clause-stopped
-returns-in-Err-DiskFull-clause-stopped g c = λ told script config stands tight.
+returns-in-Err-DiskFull-clause-stopped g c = λ told script config before.
     stands_full told script config c.args.force _ _ c.args.self c.in-Err-DiskFull.heap c.in-Err-DiskFull.rest
-    c.in-Err-DiskFull.full c.halt_run.result stands tight
+    c.in-Err-DiskFull.full c.halt_run.result before.0.1 before.1
     (refused_full _ _ _ _ _ _ _ _ c.in-Err-DiskFull.field-0-is c.in-Err-DiskFull.ensures.refused) (record {
       heap_is = c.halt_run.ensures.heap;
       rest_is = c.halt_run.ensures.rest;
@@ -23,10 +30,25 @@ returns-in-Err-DiskFull-clause-stop_counts g c = (
       c.collect.ensures.keeps.read_faults,
 )
 
+pub returns-in-Err-DiskFull-clause-stop_lends : goal.returns-in-Err-DiskFull-clause-stop_lends
+returns-in-Err-DiskFull-clause-stop_lends g c =
+    lends_none _ _ c.args.self.collector.journal.items c.halt_run.result.journal.items c.collect.ensures.keeps.lends
+    (omega (arith, ap length (halted_journal c.halt_run.ensures.journal c.in-Err-DiskFull.ensures.journal_stays)))
+
+pub returns-clause-stop_lends : goal.returns-clause-stop_lends
+returns-clause-stop_lends g c =
+    lends_none _ _ c.args.self.collector.journal.items c.halt_run-in-Err-DiskFault.result.journal.items
+    c.collect.ensures.keeps.lends
+    (omega (
+      arith,
+      ap length
+          (halted_journal c.halt_run-in-Err-DiskFault.ensures.journal c.in-Err-DiskFault.ensures.journal_stays),
+    ))
+
 pub returns-clause-stopped : goal.returns-clause-stopped
-returns-clause-stopped g c = λ told script config stands tight.
-    stands_failed told script config _ _ c.args.self c.in-Err-DiskFault.rest c.halt_run-in-Err-DiskFault.result stands
-    (refused_failed (phase_done c.args.force c.args.self.collector.plan.next) _ _ (view c.args.self.core) _ _
+returns-clause-stopped g c = λ told script config before.
+    stands_failed told script config _ _ c.args.self c.in-Err-DiskFault.rest c.halt_run-in-Err-DiskFault.result
+    before.0.1 (refused_failed (phase_done c.args.force c.args.self.collector.plan.next) _ _ (view c.args.self.core) _ _
     c.in-Err-DiskFault.field-0-is c.in-Err-DiskFault.ensures.refused) (record {
       heap_is = c.halt_run-in-Err-DiskFault.ensures.heap;
       rest_is = c.halt_run-in-Err-DiskFault.ensures.rest;

@@ -9,6 +9,7 @@ use Rattle.melt_step.specs.declared.run.Run.{Run}
 use Rattle.melt_step.specs.declared.thread.Mode.TheVariants.{Collecting}
 use Rattle.melt_step.specs.declared.thread.ThreadState.{ThreadState}
 use Rattle.melt_step.specs.Safepoints.{MakesFor}
+use Rattle.melt_step.specs.Shown.{shown_by}
 use Rattle.melt_step.specs.Threads.{CollectedFor, ForCollection}
 use Rattle.melt_step.proofs.Collections.{SameEpoch, WasCollected, collected_thread, collecting_op, collecting_room}
 use Rattle.melt_step.proofs.Collections.{drops_same, keeps_taken, made_for, made_none, other_stays, same_quiet}
@@ -37,14 +38,18 @@ returns-in_default g c =
         sym (set_got c.args.self.states.items c.args.thread s at),
         subst (λ (y : ThreadState). CollectedFor y s) (same_Some s x (sym at ∙ there)) (other_stays s never),
       );
-      made = λ x there. subst (λ (y : ThreadState). MakesFor y c.args.self c.args.self) (same_Some s x (sym at ∙ there))
-          (made_none c.args.self s never);
+      made = λ x there.
+          subst
+          (λ (y : ThreadState). MakesFor y (shown_by g.D.StaleDisk.image c.args.space.now) c.args.self c.args.self)
+          (same_Some s x (sym at ∙ there)) (made_none _ c.args.self s never);
       lost = refl;
       stopped = tt;
       same_disk = refl;
       count = omega arith;
       read_faults = refl;
       stop_counts = tt;
+      lends = refl;
+      stop_lends = tt;
     }
 
 pub returns-in_err-run-clause-stopped : goal.returns-in_err-run-clause-stopped

@@ -1,5 +1,5 @@
 -- The run stands between the collections, so each may be made.
-use Rattle.std.proofs.Common.{◌≡◌, ◌<◌, false, List, length, refl, ◌∙◌, arith}
+use Rattle.std.proofs.Common.{◌≡◌, ◌+◌, ◌<◌, false, List, length, refl, ◌∙◌, arith}
 use Rattle.std.proofs.lemmas.Result.{err_from_is_err_and}
 use Rattle.std.specs.Prelude.{Some, slice_get}
 use Rattle.melt_step.specs.declared.thread.ThreadState.{ThreadState}
@@ -8,6 +8,8 @@ use Rattle.melt_step.proofs.Counting.{counts_same}
 use Rattle.melt_step.proofs.Outcomes.{state_at}
 use Rattle.melt_step.proofs.Passing.{CollectedBelow, collected_none, collected_more, collected_all}
 use Rattle.melt_step.proofs.Safepoints.{below_none, below_more, below_all, none_below}
+use Rattle.melt_step.specs.Safepoints.{journal_of}
+use Rattle.melt_step.proofs.Lends.{planned_longer, stop_after}
 use Rattle.melt_step.proofs.run.Run.collect_for_all.Goals as goal
 
 pub collect_for-requires-clause-stands : goal.collect_for-requires-clause-stands
@@ -27,10 +29,11 @@ loop-t-init g c =
       keeps = λ told script config stands. stands;
       quiet = c.requires.quiet;
       below = collected_none c.args.self.states.items;
-      made = below_none c.args.self;
+      made = below_none _ c.args.self;
       lost = refl;
       count = omega arith;
       same_disk = refl;
+      lends = refl;
       read_faults = refl;
     }
 
@@ -48,11 +51,13 @@ loop-t-preserved g c =
       quiet = c.in_ok-run.ensures.quiet;
       below = collected_more states c.loop-t.run.states.items c.in_ok-run.run'.states.items c.loop-t.t below within
           c.in_ok-run.ensures.only;
-      made = below_more c.args.self c.loop-t.run c.in_ok-run.run' c.loop-t.t state.0 c.loop-t.invariant.made state.1
+      made = below_more _ _ c.args.self c.loop-t.run c.in_ok-run.run' c.loop-t.t state.0 c.loop-t.invariant.made state.1
+          c.loop-t.invariant.keeps
           (c.in_ok-run.ensures.made state.0 (below.rest c.loop-t.t (omega arith) ∙ state.1));
       lost = c.in_ok-run.ensures.lost ∙ c.loop-t.invariant.lost;
       count = omega (arith, c.in_ok-run.ensures.count, c.loop-t.invariant.count);
       same_disk = c.in_ok-run.ensures.same_disk ∙ c.loop-t.invariant.same_disk;
+      lends = c.in_ok-run.ensures.lends ∙ c.loop-t.invariant.lends;
       read_faults = c.in_ok-run.ensures.read_faults ∙ c.loop-t.invariant.read_faults;
     }
 
@@ -70,6 +75,16 @@ returns-in_err-run-clause-stop_counts g c =
     c.in_err-run.ensures.count (counts_same c.args.self.states.items c.loop-t.run.states.items _ _
     c.loop-t.invariant.lost (omega (arith, c.loop-t.invariant.read_faults))) c.in_err-run.ensures.stop_counts)
 
+pub returns-in_err-run-clause-stop_lends : goal.returns-in_err-run-clause-stop_lends
+returns-in_err-run-clause-stop_lends g c =
+    let exit = err_from_is_err_and c.from_residual.result c.from_residual.ensures.1 in
+    let longer : length (journal_of c.loop-t.run) ≡ length (journal_of c.args.self) + _ =
+    planned_longer c.requires.stands.1 _ (journal_of c.args.self) (journal_of c.loop-t.run)
+    (c.loop-t.invariant.made.planned false c.requires.stands.0 c.requires.stands.1 c.requires.stands.2) in
+    rw (exit.1, exit.2)
+    (stop_after 0 _ _ _ (journal_of c.args.self) (journal_of c.loop-t.run) _ c.loop-t.invariant.lends
+    (omega (arith, longer)) c.in_err-run.ensures.stop_lends)
+
 pub returns-clause-all : goal.returns-clause-all
 returns-clause-all g c =
     collected_all c.args.self.states.items c.loop-t.run.states.items c.loop-t.t c.loop-t.invariant.below
@@ -77,5 +92,5 @@ returns-clause-all g c =
 
 pub returns-clause-made : goal.returns-clause-made
 returns-clause-made g c =
-    below_all c.args.self c.loop-t.run c.loop-t.t c.loop-t.invariant.made
+    below_all _ c.args.self c.loop-t.run c.loop-t.t c.loop-t.invariant.made
     (omega (arith, c.loop-t-test.false, c.len-t-end.ensures, c.args.self.states.ok.0))

@@ -1,5 +1,10 @@
-use Rattle.std.proofs.Common.{sym, ap, ℕ, subst, Err}
+use Rattle.std.proofs.Common.{◌≡◌, sym, ap, ℕ, subst, Err, Vec, Global}
+use Rattle.melt_model.specs.declared.reports.Journal.{Journal}
 use Rattle.melt_step.specs.Threads.{CountsLosses}
+use Rattle.melt_step.proofs.Lends.{lends_one}
+use Rattle.melt_step.specs.Endings.{EndedStands}
+use Rattle.melt_step.specs.Shown.{Shown, shown_by}
+use Rattle.melt_step.proofs.TwoMoves.{same_shown}
 use Rattle.melt_step.proofs.run.Run.lend.Goals as goal
 
 pub returns-clause-stop_counts : goal.returns-clause-stop_counts
@@ -9,3 +14,15 @@ returns-clause-stop_counts g c = (
       (g.D.StaleDisk.read_faults c.args.space.now.disk.now) n) (sym c.lend.ensures.read_faults)
       (c.give_up.ensures.lost (g.D.StaleDisk.read_faults c.args.space.now.disk.now)),
 )
+
+pub returns-clause-stop_lends : goal.returns-clause-stop_lends
+returns-clause-stop_lends g c =
+    lends_one _ _ c.args.self.collector.journal.items c.give_up.result.journal.items c.lend.ensures.lends
+    (ap (λ (v : Vec Journal Global). v.items) c.give_up.ensures.journal)
+
+pub returns-clause-stopped : goal.returns-clause-stopped
+returns-clause-stopped g c = λ told script config before.
+    let same : shown_by g.D.StaleDisk.image c.lend.new.self ≡ shown_by g.D.StaleDisk.image c.args.space.now =
+    same_shown _ _ c.lend.ensures.end c.lend.ensures.limit c.lend.ensures.image in
+    subst (λ (shown : Shown). EndedStands told script config shown c.give_up.result) (sym same)
+    (c.give_up.ensures.stands told script config before.0 (shown_by g.D.StaleDisk.image c.args.space.now) before.1)

@@ -50,6 +50,20 @@ pub returns-clause-made : goal.returns-clause-made
 unfolding behind
 returns-clause-made c = λ shown. gone_made c.requires.lacks.1.1 (ends c) c.renew.ensures.stop
 
+pub returns-clause-gone : goal.returns-clause-gone
+unfolding behind
+returns-clause-gone c =
+    let e = ends c in record {
+      s = e.s;
+      held = c.held-held.result;
+      dropped = view c.drop_all.new.self;
+      was = e.was;
+      drops = e.drops;
+      finished = e.finished;
+      states = e.states;
+      collector = e.collector;
+    }
+
 pub returns-clause-lost : goal.returns-clause-lost
 unfolding behind
 returns-clause-lost c = gone_lost (ends c)

@@ -28,6 +28,7 @@ returns c =
       keeps = λ shown. resumed_keeps shown c.args.self _ c.loop-state.state-index looped c.requires.quiet refl refl refl
           refl;
       core = refl;
+      collector = refl;
       stop = again_knows c.args.self.states.items _ c.loop-state.state-index (view c.args.self.core) looped over
           c.requires.collected c.requires.stop;
       resumed = again_resumed c.args.self.states.items _ c.loop-state.state-index looped over c.requires.collected;

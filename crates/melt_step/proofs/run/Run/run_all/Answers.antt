@@ -1,22 +1,28 @@
 -- An epoch and a safepoint make a round, and less is to do behind it.
-use Rattle.std.proofs.Common.{◌≡◌, ◌≤◌, ◌⊎◌, false, refl, sym, ◌∙◌, ap, subst, arith}
+use Rattle.std.proofs.Common.{◌≡◌, ℕ, ◌≤◌, ◌⊎◌, false, List, Vec, Global, refl, sym, ◌∙◌, ap, subst, arith}
 use Rattle.std.proofs.lemmas.Result.{err_from_is_err_and}
-use Rattle.melt_step.specs.Safepoints.{IsNearer, KeepsRun}
+use Rattle.melt_step.specs.Safepoints.{IsNearer, KeepsRun, LendsTwice, journal_of}
 use Rattle.melt_step.specs.Shown.{Shown, shown_by}
-use Rattle.melt_step.specs.Threads.{CountsLosses}
+use Rattle.melt_step.specs.Threads.{CountsLosses, SomeGoesOn}
 use Rattle.melt_step.specs.declared.run.Run.{Run}
 use Rattle.melt_step.proofs.Composing.{counts_closed, epoch_counts, keeps_on, keeps_same, round_nearer, shown_is}
-use Rattle.melt_step.proofs.Composing.{stop_counts_then, stops_then}
-use Rattle.melt_step.proofs.Counting.{counts_then}
+use Rattle.melt_step.proofs.Composing.{stop_counts_then, stops_paid, stops_then}
+use Rattle.melt_step.proofs.Counting.{counts_same, counts_then}
+use Rattle.melt_model.specs.declared.reports.Journal.{Journal}
+use Rattle.melt_step.specs.declared.collector.Collector.{Collector}
+use Rattle.melt_step.specs.Endings.{AllEnded}
+use Rattle.melt_step.proofs.Lends.{all_not_some, lends_epoch, lends_first, lends_over, lends_passed, stop_epoch}
+use Rattle.melt_step.proofs.Lends.{stop_passed}
 use Rattle.melt_step.proofs.run.Run.run_all.Given.{Over}
 use Rattle.melt_step.proofs.run.Run.run_all.Goals as goal
-use Rattle.melt_step.proofs.run.Run.run_all.Goals.{In_ok-next, After-give_back, in-Some, in_default}
+use Rattle.melt_step.proofs.run.Run.run_all.Goals.{In_ok-next, After-give_back, Joined-lent, in-Some, in_default}
 
 pub returns-in_err-next-clause-stopped : goal.returns-in_err-next-clause-stopped
 returns-in_err-next-clause-stopped g c =
     let exit = err_from_is_err_and c.from_residual.result c.from_residual.ensures.1 in
     rw (exit.1, exit.2)
-    (stops_then _ _ _ c.args.self c.loop-alloc.run _ c.loop-alloc.invariant.keeps c.in_err-next.ensures.stopped)
+    (stops_then _ _ _ c.args.self c.loop-alloc.run _ c.loop-alloc.invariant.keeps
+    (stops_paid _ _ c.loop-alloc.run _ c.in_err-next.ensures.stopped))
 
 pub returns-in_err-next-clause-stop_counts : goal.returns-in_err-next-clause-stop_counts
 returns-in_err-next-clause-stop_counts g c =
@@ -89,6 +95,80 @@ rises g c = omega (
   c.give_back.ensures.count,
 )
 
+-- how often a reader was lent by then
+epoch_lends : (g : Over) (c : After-give_back g) → LendsTwice (g.D.StaleDisk.lends c.args.space.now.disk.now)
+    (g.D.StaleDisk.lends c.give_back.new.self.disk.now) (journal_of c.args.self) (journal_of c.run_epoch.new.self)
+epoch_lends g c =
+    let now : List Journal = journal_of c.loop-alloc.run in
+    let same : journal_of c.run_epoch.new.self ≡ now =
+    ap (λ (x : Collector). x.journal.items) c.run_epoch.ensures.collector ∙ ap journal_of c.in_ok-next.ensures.same in
+    subst (LendsTwice _ _ (journal_of c.args.self)) (sym same)
+    (subst (λ (n : ℕ). LendsTwice (g.D.StaleDisk.lends c.args.space.now.disk.now) n (journal_of c.args.self) now)
+    (sym c.give_back.ensures.lends)
+    (lends_epoch _ _ _ (journal_of c.args.self) now c.loop-alloc.run.states.items c.loop-alloc.invariant.lends
+    (c.has_ended.ensures.goes c.loop-alloc-test.true) c.in_ok-next.ensures.lends))
+
+pub returns-in_err-next-clause-stop_lends : goal.returns-in_err-next-clause-stop_lends
+returns-in_err-next-clause-stop_lends g c =
+    let exit = err_from_is_err_and c.from_residual.result c.from_residual.ensures.1 in
+    rw (exit.1, exit.2)
+    (stop_epoch _ _ _ (journal_of c.args.self) (journal_of c.loop-alloc.run) c.loop-alloc.run.states.items _
+    c.loop-alloc.invariant.lends (c.has_ended.ensures.goes c.loop-alloc-test.true) c.in_err-next.ensures.stop_lends)
+
+pub returns-in_err-run-clause-stop_lends : goal.returns-in_err-run-clause-stop_lends
+returns-in_err-run-clause-stop_lends g c =
+    let at = (goal.at.returns-in_err-run-clause-stop_lends g c).After-give_back in
+    let exit = err_from_is_err_and c.from_residual-in_err-run.result c.from_residual-in_err-run.ensures.1 in
+    rw (exit.1, exit.2)
+    (stop_passed _ _ _ (journal_of c.args.self) (journal_of c.run_epoch.new.self) _ (epoch_lends g at)
+    c.in_err-run.ensures.stop_lends)
+
+-- a run goes on only where not all threads had ended
+goes_not : {self run : Run} {P : Type 0} → (AllEnded self.states.items → (run ≡ self) × P)
+    → SomeGoesOn run.states.items → AllEnded self.states.items → ⊥
+goes_not {self} {run} {P} idle some all =
+    all_not_some run.states.items some (subst (λ (r : Run). AllEnded r.states.items) (sym (idle all).0) all)
+
+pub returns-in_err-next-clause-idle : goal.returns-in_err-next-clause-idle
+returns-in_err-next-clause-idle g c = λ all.
+    absurd (goes_not c.loop-alloc.invariant.idle (c.has_ended.ensures.goes c.loop-alloc-test.true) all)
+
+pub returns-in_err-run-clause-idle : goal.returns-in_err-run-clause-idle
+returns-in_err-run-clause-idle g c = λ all.
+    absurd (goes_not c.loop-alloc.invariant.idle (c.has_ended.ensures.goes c.loop-alloc-test.true) all)
+
+pub loop-alloc-init : goal.loop-alloc-init
+loop-alloc-init g c = record {
+  keeps = λ told script config stands. stands;
+  stop = c.requires.stop;
+  quiet = c.requires.quiet;
+  lent = tt;
+  count = omega arith;
+  lends = lends_first _ (journal_of c.args.self) c.args.self.states.items;
+  idle = λ all. (refl, refl);
+  same_disk = refl;
+  lost = counts_same c.args.self.states.items c.args.self.states.items _ _ refl (omega arith);
+}
+
+-- as often as before the last reader was given back
+last_lends : (g : Over) (c : Joined-lent g)
+    → g.D.StaleDisk.lends c.match-lent.space.disk.now ≡ g.D.StaleDisk.lends c.loop-alloc.space.disk.now
+last_lends g c = elim c.match-lent.branch [
+  | in-Some w ↦ rw w.space-is w.give_back-in-Some.ensures.lends
+  | in_default w ↦ rw w.space-is refl
+]
+
+pub returns-clause-lends : goal.returns-clause-lends
+returns-clause-lends g c =
+    lends_over _ _ _ (journal_of c.args.self) (journal_of c.loop-alloc.run) c.end-2.result.journal.items
+    c.loop-alloc.run.states.items c.loop-alloc.invariant.lends
+    (last_lends g (goal.at.returns-clause-lends g c).Joined-lent)
+    (ap (λ (v : Vec Journal Global). v.items) c.end-2.ensures.journal)
+
+pub returns-clause-idle : goal.returns-clause-idle
+returns-clause-idle g c = λ all.
+    last_lends g (goal.at.returns-clause-idle g c).Joined-lent ∙ (c.loop-alloc.invariant.idle all).1
+
 pub returns-in_err-run-clause-stopped : goal.returns-in_err-run-clause-stopped
 returns-in_err-run-clause-stopped g c =
     let at = (goal.at.returns-in_err-run-clause-stopped g c).After-give_back in
@@ -123,6 +203,11 @@ loop-alloc-preserved g c =
       quiet = c.in_ok-run.ensures.quiet;
       lent = c.in_ok-run.ensures.lent;
       count = omega (arith, so_far, c.in_ok-run.ensures.count);
+      lends = lends_passed _ _ _ (journal_of c.args.self) (journal_of c.run_epoch.new.self)
+          (journal_of c.in_ok-run.field-0-0) c.in_ok-run.field-0-0.states.items (epoch_lends g at)
+          c.in_ok-run.ensures.lends c.in_ok-run.ensures.more;
+      idle = λ all.
+          absurd (goes_not c.loop-alloc.invariant.idle (c.has_ended.ensures.goes c.loop-alloc-test.true) all);
       same_disk = c.in_ok-run.ensures.same_disk ∙ c.give_back.ensures.same_disk ∙ c.in_ok-next.ensures.same_disk
           ∙ c.loop-alloc.invariant.same_disk;
       lost = counts_then c.args.self.states.items c.run_epoch.new.self.states.items c.in_ok-run.field-0-0.states.items

@@ -14,6 +14,7 @@ invariant-loop g l = record {
   keeps : (shown : Shown) → shown.end ≡ l.fn.end → shown.image ≡ g.R.RecordReader.image l.fn.reader
       → KeepsRun shown shown l.fn.self l.self;
   stop : KnowsStop (view l.self.core) l.self.states.items;
+  collector : l.self.collector ≡ l.fn.self.collector;
   nearer : (l.self ≡ l.fn.self) ⊎ IsNearer l.fn.self l.self;
   image : g.R.RecordReader.image l.reader ≡ g.R.RecordReader.image l.fn.reader;
   lost : CountsLosses l.fn.self.states.items l.self.states.items (g.R.RecordReader.faults l.fn.reader)

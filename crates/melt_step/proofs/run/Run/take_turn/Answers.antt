@@ -61,7 +61,7 @@ returns g c =
     let stands = c.requires.stands in
     record {
       keeps = step_keeps c.args.end _ c.args.self.now _ c.in-Some.thread s after borrowed.0 borrowed.1
-          c.make_event.ensures.step refl c.make_event.ensures.due refl refl refl;
+          c.make_event.ensures.step refl c.make_event.ensures.due c.make_event.ensures.makes refl refl refl;
       stop = stop_known (view c.args.self.now.core)
           (view c.make_event.new.core) states c.in-Some.thread s after c.requires.stop borrowed.0 borrowed.1
           c.make_event.ensures.stop;
@@ -73,6 +73,7 @@ returns g c =
           c.make_event.ensures.step;
       waits = λ none. absurd (cc);
       image = c.make_event.ensures.image;
+      collector = refl;
       lost = counts_set states c.in-Some.thread s after _ _ borrowed.0 c.make_event.ensures.lost;
     }
 
@@ -84,5 +85,6 @@ returns-in_default g c = record {
   nearer = λ some. absurd (let wrong : false ≡ true = some in cc);
   waits = λ none. (refl, subst AllWait c.deref.ensures.value c.in_default.ensures.none);
   image = refl;
+  collector = refl;
   lost = counts_same c.args.self.now.states.items c.args.self.now.states.items _ _ refl (omega arith);
 }

@@ -1,0 +1,21 @@
+-- How the words that a run makes are bounded by its collections.
+use Rattle.std.specs.Prelude.{ℕ, ◌+◌, ◌*◌, ◌≤◌, true, List, length, Option}
+use Rattle.melt_model.specs.declared.config.Config.{Config}
+use Rattle.melt_model.specs.declared.history.Entry.{Entry}
+use Rattle.melt_model.specs.declared.reports.Journal.{Journal}
+use Rattle.melt_scion.specs.Heaps.{OnDisk}
+use Rattle.melt_core.specs.Made.{made_words, HasMade, KeepsMade}
+use Rattle.melt_core.specs.Views.{View, Standing}
+use Rattle.melt_step.specs.Shown.{Underlies}
+
+-- Before the first collection, and behind each, no more words were made than the heap has.
+abbrev pub MakesWithin : Config → List Entry → List Journal → Type 0
+MakesWithin config log journal = made_words log ≤ config.heap * (length journal + 1)
+
+-- and of those that were made behind the last collection, all are in use
+abbrev pub MadeSoFar : Config → View → List Journal → Type 0
+MadeSoFar config v journal = HasMade (config.heap * length journal) v
+
+-- over each disk that is seen so, and tells its words, whatever was made in between came into use
+abbrev pub MakesInUse : ℕ → Option (List ℕ) → View → View → Type 0
+MakesInUse finish image v w = (disk : OnDisk) → Underlies true finish image disk → Standing true disk v → KeepsMade v w
