@@ -593,8 +593,8 @@ module _ (title : Text) (names : Names) where
       go (Some p) e = known p.0 p.1 e (is_among names.options p.0) (is_among names.flags p.0) refl refl
 
   -- a word that is no flag is the value that is waited for
-  taken_value : (word : Text) (given : Given) (name : Text) → is_dashes word ≡ false → is_among names.options name ≡ true
-      → long_of word ≡ None → short_of word ≡ None
+  taken_value : (word : Text) (given : Given) (name : Text) → is_dashes word ≡ false
+      → is_among names.options name ≡ true → long_of word ≡ None → short_of word ≡ None
       → (turn_fault shape [] (walk_at (option name) (rows_for names given) (Some (name, []))) word ≡ [])
       × (walked rules [] (walk_at (option name) (rows_for names given) (Some (name, []))) word ≡ walk_at idle
       (rows_for names given) (Some (name, word ∷ [])))
@@ -619,18 +619,19 @@ module _ (title : Text) (names : Names) where
           let twice = has_row-for names given name ∙ e in
           let bad = subst Fails (sym (pending_fault (rows_for names given) name (word ∷ []) known))
           (use_again name word (rows_for names given) twice) in
-          rw (no_long, no_short, e) (next_words (walk_at (option name) (rows_for names given) (Some (name, []))) word words
-          (walk_at idle (rows_for names given) (Some (name, word ∷ []))) None taken.0 taken.1
+          rw (no_long, no_short, e) (next_words (walk_at (option name) (rows_for names given) (Some (name, []))) word
+          words (walk_at idle (rows_for names given) (Some (name, word ∷ []))) None taken.0 taken.1
           (bad_fails (rows_for names given) (Some (name, word ∷ [])) words all bad))
       value given name known no_long no_short false e taken =
           let once = has_row-for names given name ∙ e in
-          both_take (walk_at (option name) (rows_for names given) (Some (name, []))) word words (reading_at given (Some name))
-          (walk_at idle (rows_for names given) (Some (name, word ∷ []))) (reading_at (given ++ (name, word) ∷ []) None)
+          both_take (walk_at (option name) (rows_for names given) (Some (name, []))) word words
+          (reading_at given (Some name)) (walk_at idle (rows_for names given) (Some (name, word ∷ [])))
+          (reading_at (given ++ (name, word) ∷ []) None)
           (rw (no_long, no_short, e) refl) taken.0 taken.1
           (rest (rows_for names given) (Some (name, word ∷ [])) (given ++ (name, word) ∷ [])
           (pending_fault (rows_for names given) name (word ∷ []) known ∙ use_once name word (rows_for names given) once)
-          (pending_used (rows_for names given) name (word ∷ []) known ∙ one_more names name word (rows_for names given) known once
-          ∙ sym (rows_for-more names given name word)))
+          (pending_used (rows_for names given) name (word ∷ []) known
+          ∙ one_more names name word (rows_for names given) known once ∙ sym (rows_for-more names given name word)))
 
       short : (given : Given) (name : Text) → is_among names.options name ≡ true → long_of word ≡ None →
           (o : Option Text) → short_of word ≡ o

@@ -14,8 +14,8 @@ use Rattle.clap.specs.declared.parser.matches.ArgMatches.{ArgMatches}
 use Rattle.clap.specs.declared.parser.matches.ValueSource.TheVariants.{DefaultValue}
 use Rattle.melt_top.specs.Parses.{Has}
 use Rattle.melt_top.specs.Words.{Given, Names, is_among, is_given, value_of}
-use Rattle.melt_top.proofs.Clapping.{at_row-missing, filled_rows, flag_for, has_row-for, option_default, row_for, row_with}
-use Rattle.melt_top.proofs.Clapping.{rows_for, rule_for, text_for}
+use Rattle.melt_top.proofs.Clapping.{at_row-missing, filled_rows, flag_for, has_row-for, option_default, row_for}
+use Rattle.melt_top.proofs.Clapping.{row_with, rows_for, rule_for, text_for}
 
 -- the text of a flag that is not given
 abbrev missing : Text
@@ -68,7 +68,8 @@ module _ (get : Row → Option Text) (on_given : (name value : Text) → get (ro
     where
       go : (b : Bool) → got id (rows ++ default_row name ∷ []) ≡ cond (has_row id rows) (got id rows) (if_named name id)
           → option_and_then get (cond b (Some r) (find (λ q. bytes_eq q.id id) (rows ++ default_row name ∷ [])))
-          ≡ cond (b || has_row id rows) (option_and_then get (cond b (Some r) (find (λ q. bytes_eq q.id id) rows))) (if_named name id)
+          ≡ cond (b || has_row id rows) (option_and_then get (cond b (Some r) (find (λ q. bytes_eq q.id id) rows)))
+          (if_named name id)
       go true rest = refl
       go false rest = rest
 
@@ -112,19 +113,22 @@ module _ (get : Row → Option Text) (on_given : (name value : Text) → get (ro
   behind_flags [] rows id = alone id rows
   behind_flags (n ∷ flags) rows id = go (has_row n rows) refl (behind_flags flags (with_default rows (flag_for n)) id)
     where
-      same : (b : Bool) → bytes_eq n id ≡ b → has_row n rows ≡ true → Reads flags rows id (text_after (n ∷ flags) rows id)
-          → text_after (n ∷ flags) rows id ≡ cond (has_row id rows) (got id rows) (cond (b || is_among flags id) (Some missing) None)
+      same : (b : Bool) → bytes_eq n id ≡ b → has_row n rows ≡ true
+          → Reads flags rows id (text_after (n ∷ flags) rows id) → text_after (n ∷ flags) rows id
+          ≡ cond (has_row id rows) (got id rows) (cond (b || is_among flags id) (Some missing) None)
       same false e there rest = rest
       same true e there rest =
           let here : has_row id rows ≡ true = ap (λ (t : Text). has_row t rows) (sym ((bytes_eq-Decides n id).0 e))
           ∙ there in
           rest ∙ rw here refl
 
-      go : (b : Bool) → has_row n rows ≡ b → Reads flags (with_default rows (flag_for n)) id (text_after (n ∷ flags) rows id)
+      go : (b : Bool) → has_row n rows ≡ b
+          → Reads flags (with_default rows (flag_for n)) id (text_after (n ∷ flags) rows id)
           → Reads (n ∷ flags) rows id (text_after (n ∷ flags) rows id)
       go true there rest =
           let now : with_default rows (flag_for n) ≡ rows = flag_default rows n ∙ rw there refl in
-          same (bytes_eq n id) refl there (subst (λ (r : List Row). Reads flags r id (text_after (n ∷ flags) rows id)) now rest)
+          same (bytes_eq n id) refl there
+          (subst (λ (r : List Row). Reads flags r id (text_after (n ∷ flags) rows id)) now rest)
       go false there rest =
           let now : with_default rows (flag_for n) ≡ rows ++ default_row n ∷ [] = flag_default rows n
           ∙ rw there refl in
@@ -192,7 +196,8 @@ pub has : (names : Names) (matches : ArgMatches) (given : Given)
     → rows_of (found_of matches) ≡ filled_rows names given → Has names matches given
 has names matches given rows = record {
   values = λ name is. first_value-rows (found_of matches) name
-      ∙ ap (λ (rs : List Row). option_and_then (λ (r : Row). slice_get r.values 0) (find (λ r. bytes_eq r.id name) rs)) rows
+      ∙ ap (λ (rs : List Row). option_and_then (λ (r : Row). slice_get r.values 0) (find (λ r. bytes_eq r.id name) rs))
+      rows
       ∙ reads (λ (r : Row). slice_get r.values 0) (λ n v. refl) (λ n. refl) names given name
       ∙ rw (is.1) (value_read names given name is.0);
   flags = λ name is. one_text-rows (found_of matches) name

@@ -55,7 +55,8 @@ pub options_agree : (v : Verb) (app : App) (all : List (List ℕ)) → app ≡ a
     → AllByRecursion IsWord (drop 1 all) → Comes (names_of v) (fault_of app all) (matches_of app all)
     (given_of (names_of v) (drop 1 all))
 options_agree v app all is none each =
-    subst (Comes (names_of v) (fault_of app all) (matches_of app all)) (sym (given_without_dashes (names_of v) (drop 1 all) none))
+    subst (Comes (names_of v) (fault_of app all) (matches_of app all))
+    (sym (given_without_dashes (names_of v) (drop 1 all) none))
     (parser_agrees (title_of v) (names_of v) (drop 1 all) all app (ap built is ∙ asked_built v)
     (ap (λ (a : App). argument_words a all) is ∙ words_behind_the_first v all) each)
 
@@ -75,7 +76,8 @@ nothing_given : (names : Names) (read : Option Given) (faults : Kinds) (rows : L
 nothing_given names None faults rows k comes among = refl
 nothing_given names (Some given) faults rows k comes among = absurd (subst (IsAmong k) comes.0 among)
 
-refused_so : (names : Names) (words : List (List ℕ)) (r : WordsRefusal) → given_of names words ≡ None → Parses names words (Err r)
+refused_so : (names : Names) (words : List (List ℕ)) (r : WordsRefusal) → given_of names words ≡ None
+    → Parses names words (Err r)
 refused_so names words refusal.Usage none = none
 refused_so names words refusal.NoMemory none = tt
 

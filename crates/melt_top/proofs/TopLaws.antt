@@ -1,6 +1,6 @@
 -- Laws of what is due, and of what was written.
-use Rattle.std.proofs.Common.{◌≡◌, ℕ, zero, suc, ◌+◌, ◌<◌, ◌≤◌, Bool, true, false, List, [], ◌∷◌, ◌++◌, length, take, refl}
-use Rattle.std.proofs.Common.{sym, ◌∙◌, ap, subst, arith, inl, inr}
+use Rattle.std.proofs.Common.{◌≡◌, ℕ, zero, suc, ◌+◌, ◌<◌, ◌≤◌, Bool, true, false, List, [], ◌∷◌, ◌++◌, length, take}
+use Rattle.std.proofs.Common.{refl, sym, ◌∙◌, ap, subst, arith, inl, inr}
 use Rattle.std.proofs.lemmas.Bool.{cases_Bool, cond-false, lt-leb}
 use Rattle.std.proofs.lemmas.List.Sums.{sum_by-cons}
 use Rattle.std.proofs.lemmas.Option.{same_Some}
@@ -36,7 +36,8 @@ taken : (old new : Option (List ℕ)) (n : ℕ) → TakesCount old n new
     → (bytes : List ℕ) × (length bytes ≡ n) × TakesFront old bytes new
 taken None None n count = (replicate n 0, length-replicate n 0, tt)
 taken (Some old) (Some new) n count =
-    (take n old, length-take-le n old count.0, sym (ap (λ (rest : List ℕ). take n old ++ rest) count.1 ∙ take-append-drop n old))
+    let whole = ap (λ (rest : List ℕ). take n old ++ rest) count.1 ∙ take-append-drop n old in
+    (take n old, length-take-le n old count.0, sym whole)
 taken None (Some new) n count = absurd count
 taken (Some old) None n count = absurd count
 
@@ -52,22 +53,87 @@ pub read_failed : (run : Run) (input : Change) (disk : DiskChange) (n : ℕ) (du
     → IsUnused disk → due ≡ status.ReadFault → output ≡ read_fault_text → StepDue run input disk due output
 read_failed run input disk n due output few count rose unused is told =
     let t = taken input.before input.after n count in
-    inl (record { bytes = t.0; front = t.2; no_more = omega (arith, t.1); fault = rose; disk_stays = unused; status = is; told = told })
+    inl (record {
+      bytes = t.0;
+      front = t.2;
+      no_more = omega (arith, t.1);
+      fault = rose;
+      disk_stays = unused;
+      status = is;
+      told = told;
+    })
 
 -- more bytes than a trace may have
 long_refused : (bytes : List ℕ) → max_bytes < length bytes → script_of bytes ≡ Err (0, 1)
 long_refused bytes long = cond-false (nat_le (length bytes) max_bytes) _ _ (lt-leb (length bytes) max_bytes long)
 
-pub too_long : (run : Run) (input : Change) (disk : DiskChange) (n : ℕ) (due : Status) (output : List ℕ) → n ≡ max_bytes + 1
-    → TakesCount input.before n input.after → IsUnused disk → due ≡ status.Trace → output ≡ refused_text 0 1
-    → StepDue run input disk due output
+pub too_long : (run : Run) (input : Change) (disk : DiskChange) (n : ℕ) (due : Status) (output : List ℕ)
+    → n ≡ max_bytes + 1 → TakesCount input.before n input.after → IsUnused disk → due ≡ status.Trace
+    → output ≡ refused_text 0 1 → StepDue run input disk due output
 too_long run input disk n due output long count unused is told =
     let t = taken input.before input.after n count in
     inr (record {
       bytes = t.0;
-      read = record { front = t.2; whole = λ short. absurd (omega (arith, t.1, long)); no_more = omega (arith, t.1, long) };
-      trace = inl (record { line = 0; reason = 1; first_bad = long_refused t.0 (omega (arith, t.1, long)); disk_stays = unused; status = is; told = told });
+      read = record {
+        front = t.2;
+        whole = λ short. absurd (omega (arith, t.1, long));
+        no_more = omega (arith, t.1, long);
+      };
+      trace = inl (record {
+        line = 0;
+        reason = 1;
+        first_bad = long_refused t.0 (omega (arith, t.1, long));
+        disk_stays = unused;
+        status = is;
+        told = told;
+      });
     })
+
+-- ---- statuses of a report
+
+-- the status of a report by what decides it
+abbrev first_of : (a b c d : Bool) → Status
+first_of a b c d =
+    if a then status.DiskFault
+    else if b then status.Damaged
+    else if c then status.DiskFull
+    else if d then status.OutOfHeap
+    else status.Done
+
+-- what holds of each of these five holds of the one that applies
+first_so : (P : Status → Type 0) → P status.DiskFault → P status.Damaged → P status.DiskFull → P status.OutOfHeap
+    → P status.Done → (a b c d : Bool) → P (first_of a b c d)
+first_so P fault damage full room done true b c d = fault
+first_so P fault damage full room done false true c d = damage
+first_so P fault damage full room done false false true d = full
+first_so P fault damage full room done false false false true = room
+first_so P fault damage full room done false false false false = done
+
+report_so : (P : Status → Type 0) → P status.DiskFault → P status.Damaged → P status.DiskFull → P status.OutOfHeap
+    → P status.Done → (report : Report) → P (status_of report)
+report_so P fault damage full room done report =
+    first_so P fault damage full room done (ended is_disk_fault report || halted_by_fault report.halt)
+    (ended is_damaged report) (halted_by_full report.halt) (ended is_out_of_heap report)
+
+-- the statuses that reports have
+abbrev IsOfReport : Status → Type 0
+IsOfReport status.Done = Unit {0}
+IsOfReport status.Usage = ⊥
+IsOfReport status.Trace = ⊥
+IsOfReport status.ReadFault = ⊥
+IsOfReport status.DiskFault = Unit {0}
+IsOfReport status.OutOfHeap = Unit {0}
+IsOfReport status.DiskFull = Unit {0}
+IsOfReport status.WriteFault = ⊥
+IsOfReport status.NoMemory = ⊥
+IsOfReport status.Damaged = Unit {0}
+IsOfReport status.BadDump = ⊥
+IsOfReport status.Illegal = ⊥
+
+of_report : (report : Report) → IsOfReport (status_of report)
+of_report report = report_so IsOfReport tt tt tt tt tt report
+
+-- ---- statuses that are due
 
 -- the statuses that may be due
 abbrev MayBeDue : Status → Type 0
@@ -84,26 +150,12 @@ MayBeDue status.Damaged = Unit {0}
 MayBeDue status.BadDump = ⊥
 MayBeDue status.Illegal = ⊥
 
-chosen : (a b c d : Bool)
-    → MayBeDue (if a then status.DiskFault else if b then status.Damaged else if c then status.DiskFull else if d then status.OutOfHeap else status.Done)
-chosen true b c d = tt
-chosen false true c d = tt
-chosen false false true d = tt
-chosen false false false true = tt
-chosen false false false false = tt
-
--- the status of a run
-ran_status : (report : Report) → MayBeDue (status_of report)
-ran_status report =
-    chosen (ended is_disk_fault report || halted_by_fault report.halt) (ended is_damaged report) (halted_by_full report.halt)
-    (ended is_out_of_heap report)
-
-step_due : (run : Run) (input : Change) (disk : DiskChange) (due : Status) (output : List ℕ) → StepDue run input disk due output
-    → MayBeDue due
+step_due : (run : Run) (input : Change) (disk : DiskChange) (due : Status) (output : List ℕ)
+    → StepDue run input disk due output → MayBeDue due
 step_due run input disk due output (inl failed) = subst MayBeDue (sym failed.status) tt
 step_due run input disk due output (inr read) = elim read.trace [
   | inl refused ↦ subst MayBeDue (sym refused.status) tt
-  | inr ran ↦ subst MayBeDue (sym ran.ran.status) (ran_status ran.ran.report)
+  | inr ran ↦ subst MayBeDue (sym ran.ran.status) (report_so MayBeDue tt tt tt tt tt ran.ran.report)
 ]
 
 is_due : (command : Option Command) (input : Change) (disk : DiskChange) (due : Status) (output : List ℕ)
@@ -135,8 +187,8 @@ pub due_built : (command : Option Command) (input : Change) (disk : DiskChange) 
 due_built command input disk due output is = built due (is_due command input disk due output is)
 
 -- what was done, where all was written that may be due
-outcome : (command : Option Command) (input : Change) (disk : DiskChange) (out : Change) (due : Status) → MayBeDue due
-    → WroteAll command input disk out due → Outcome command input disk out due
+outcome : (command : Option Command) (input : Change) (disk : DiskChange) (out : Change) (due : Status)
+    → MayBeDue due → WroteAll command input disk out due → Outcome command input disk out due
 outcome command input disk out status.Done may wrote = wrote
 outcome command input disk out status.Usage may wrote = wrote
 outcome command input disk out status.Trace may wrote = wrote
@@ -151,59 +203,42 @@ outcome command input disk out status.BadDump may wrote = wrote
 outcome command input disk out status.Illegal may wrote = wrote
 
 -- everything that was due was written
-pub wrote_all : (command : Option Command) (input : Change) (disk : DiskChange) (out : Change) (due : Status) (output bytes : List ℕ)
-    → Due command input disk due output → bytes ≡ output → Appends out.before bytes out.after
+pub wrote_all : (command : Option Command) (input : Change) (disk : DiskChange) (out : Change) (due : Status)
+    (output bytes : List ℕ) → Due command input disk due output → bytes ≡ output → Appends out.before bytes out.after
     → Outcome command input disk out due
 wrote_all command input disk out due output bytes is same written =
+    let appended = subst (λ (xs : List ℕ). Appends out.before xs out.after) same written in
     outcome command input disk out due (is_due command input disk due output is)
-    (record { output = output; due = is; written = subst (λ (xs : List ℕ). Appends out.before xs out.after) same written })
+    (record { output = output; due = is; written = appended })
 
 -- ---- words that are refused
 
-abbrev NotUsage : Status → Type 0
-NotUsage status.Done = Unit {0}
-NotUsage status.Usage = ⊥
-NotUsage status.Trace = Unit {0}
-NotUsage status.ReadFault = Unit {0}
-NotUsage status.DiskFault = Unit {0}
-NotUsage status.OutOfHeap = Unit {0}
-NotUsage status.DiskFull = Unit {0}
-NotUsage status.WriteFault = Unit {0}
-NotUsage status.NoMemory = Unit {0}
-NotUsage status.Damaged = Unit {0}
-NotUsage status.BadDump = Unit {0}
-NotUsage status.Illegal = Unit {0}
-
-no_usage_of : (a b c d : Bool)
-    → NotUsage (if a then status.DiskFault else if b then status.Damaged else if c then status.DiskFull else if d then status.OutOfHeap else status.Done)
-no_usage_of true b c d = tt
-no_usage_of false true c d = tt
-no_usage_of false false true d = tt
-no_usage_of false false false true = tt
-no_usage_of false false false false = tt
-
-no_usage : (run : Run) (input : Change) (disk : DiskChange) (due : Status) (output : List ℕ) → StepDue run input disk due output
-    → NotUsage due
-no_usage run input disk due output (inl failed) = subst NotUsage (sym failed.status) tt
-no_usage run input disk due output (inr read) = elim read.trace [
-  | inl refused ↦ subst NotUsage (sym refused.status) tt
-  | inr ran ↦
-      let report = ran.ran.report in
-      subst NotUsage (sym ran.ran.status)
-      (no_usage_of (ended is_disk_fault report || halted_by_fault report.halt) (ended is_damaged report) (halted_by_full report.halt) (ended is_out_of_heap report))
+no_usage : (run : Run) (input : Change) (disk : DiskChange) (due : Status) (output : List ℕ)
+    → StepDue run input disk due output → due ≡ status.Usage → ⊥
+no_usage run input disk due output (inl failed) e = omega (arith, ap number_of failed.status, ap number_of e)
+no_usage run input disk due output (inr read) e = elim read.trace [
+  | inl refused ↦ omega (arith, ap number_of refused.status, ap number_of e)
+  | inr ran ↦ subst IsOfReport (sym ran.ran.status ∙ e) (of_report ran.ran.report)
 ]
 
 -- Usage is due only where the words are refused
 pub refused_words : (command : Option Command) (input : Change) (disk : DiskChange) (due : Status) (output : List ℕ)
-    → Due command input disk due output → due ≡ status.Usage
-    → IsRefused command
-refused_words None input disk due output is usage = tt
-refused_words (Some (Step run)) input disk due output is usage = subst NotUsage usage (no_usage run input disk due output is)
-refused_words (Some (Gen recipe)) input disk due output is usage = elim is.done [
+    → Due command input disk due output → due ≡ status.Usage → IsRefused command
+refused_words None input disk due output is e = tt
+refused_words (Some (Step run)) input disk due output is e = no_usage run input disk due output is e
+refused_words (Some (Gen recipe)) input disk due output is e = elim is.done [
   | inl none ↦ none.many
-  | inr trace ↦
-      let done : NotUsage status.Done = tt in
-      absurd (subst NotUsage (sym trace.status ∙ usage) done)
+  | inr trace ↦ absurd (omega (arith, ap number_of trace.status, ap number_of e))
+]
+
+-- and nothing else is due there
+pub usage_due : (command : Option Command) (input : Change) (disk : DiskChange) (due : Status) (output : List ℕ)
+    → Due command input disk due output → IsRefused command → due ≡ status.Usage
+usage_due None input disk due output is refused = is.status
+usage_due (Some (Step run)) input disk due output is refused = absurd refused
+usage_due (Some (Gen recipe)) input disk due output is long = elim is.done [
+  | inl none ↦ none.status
+  | inr trace ↦ absurd (trace.few long)
 ]
 
 -- ---- nothing was read
@@ -224,15 +259,6 @@ read_nothing (Some (Gen recipe)) input is = is
 
 -- ---- causes
 
-not_read_fault : (a b c d : Bool)
-    → number_of (if a then status.DiskFault else if b then status.Damaged else if c then status.DiskFull else if d then status.OutOfHeap else status.Done) ≡ 3
-    → ⊥
-not_read_fault true b c d e = omega (arith, e)
-not_read_fault false true c d e = omega (arith, e)
-not_read_fault false false true d e = omega (arith, e)
-not_read_fault false false false true e = omega (arith, e)
-not_read_fault false false false false e = omega (arith, e)
-
 -- a reading fault is due only where the source's count of faults rose
 pub read_fault_rose : (command : Option Command) (input : Change) (disk : DiskChange) (due : Status) (output : List ℕ)
     → Due command input disk due output → due ≡ status.ReadFault
@@ -241,10 +267,7 @@ read_fault_rose None input disk due output is e = absurd (omega (arith, ap numbe
 read_fault_rose (Some (Step run)) input disk due output (inl failed) e = failed.fault
 read_fault_rose (Some (Step run)) input disk due output (inr read) e = elim read.trace [
   | inl refused ↦ absurd (omega (arith, ap number_of refused.status, ap number_of e))
-  | inr ran ↦
-      let report = ran.ran.report in
-      absurd (not_read_fault (ended is_disk_fault report || halted_by_fault report.halt) (ended is_damaged report) (halted_by_full report.halt)
-      (ended is_out_of_heap report) (ap number_of (sym ran.ran.status ∙ e)))
+  | inr ran ↦ absurd (subst IsOfReport (sym ran.ran.status ∙ e) (of_report ran.ran.report))
 ]
 read_fault_rose (Some (Gen recipe)) input disk due output is e = elim is.done [
   | inl none ↦ absurd (omega (arith, ap number_of none.status, ap number_of e))
@@ -272,9 +295,7 @@ refused_trace run bytes disk due output line reason bad unused is told = inl (re
 })
 
 -- what decides the status of a report, where it is that of a fault of the disk
-fault_cases : (a b c d e : Bool)
-    → (if a || b then status.DiskFault else if c then status.Damaged else if d then status.DiskFull else if e then status.OutOfHeap else status.Done)
-    ≡ status.DiskFault → (a ≡ true) ⊎ (b ≡ true)
+fault_cases : (a b c d e : Bool) → first_of (a || b) c d e ≡ status.DiskFault → (a ≡ true) ⊎ (b ≡ true)
 fault_cases true b c d e is = inl refl
 fault_cases false true c d e is = inr refl
 fault_cases false false true d e is = absurd (omega (arith, ap number_of is))
@@ -283,9 +304,7 @@ fault_cases false false false false true is = absurd (omega (arith, ap number_of
 fault_cases false false false false false is = absurd (omega (arith, ap number_of is))
 
 -- and where it is that of damage
-damage_case : (a b c d : Bool)
-    → (if a then status.DiskFault else if b then status.Damaged else if c then status.DiskFull else if d then status.OutOfHeap else status.Done)
-    ≡ status.Damaged → b ≡ true
+damage_case : (a b c d : Bool) → first_of a b c d ≡ status.Damaged → b ≡ true
 damage_case true b c d is = absurd (omega (arith, ap number_of is))
 damage_case false true c d is = refl
 damage_case false false true d is = absurd (omega (arith, ap number_of is))
@@ -381,8 +400,9 @@ never_damaged (Some (Step run)) input disk due output (inr read) e tells = elim 
   | inl refused ↦ omega (arith, ap number_of refused.status, ap number_of e)
   | inr ran ↦
       let report = ran.ran.report in
-      let found = some_ended is_damaged report.threads (damage_case (ended is_disk_fault report || halted_by_fault report.halt)
-      (ended is_damaged report) (halted_by_full report.halt) (ended is_out_of_heap report) (sym ran.ran.status ∙ e)) in
+      let found = some_ended is_damaged report.threads
+      (damage_case (ended is_disk_fault report || halted_by_fault report.halt) (ended is_damaged report)
+      (halted_by_full report.halt) (ended is_out_of_heap report) (sym ran.ran.status ∙ e)) in
       let reported = (ran.ran.has_run true (λ told. tells)).reported in
       damaged_untold ran.script run.config report found.0 found.1.0.end (reported.ends found.0 found.1.0 found.1.1)
       found.1.2

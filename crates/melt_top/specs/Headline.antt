@@ -26,8 +26,18 @@ pub record Change : Type 0 where
   pub faults_before : ℕ
   pub faults_after : ℕ
 
--- What the disk had before a call and after it: its words, where it tells them, the failures of its writes and lends, and
--- those of the reads of readers that were given back.
+-- what happened to a source or a sink, of which these say its bytes and its faults
+abbrev pub change : {Outside : Type 0} → (Outside → Option (List ℕ)) → (faults : Outside → ℕ) → (old new : Outside)
+    → Change
+change bytes faults old new = record {
+  before = bytes old;
+  after = bytes new;
+  faults_before = faults old;
+  faults_after = faults new;
+}
+
+-- What the disk had before a call and after it: its words, where it tells them, the failures of its writes and lends,
+-- and those of the reads of readers that were given back.
 pub record DiskChange : Type 0 where
   pub before : Option (List ℕ)
   pub after : Option (List ℕ)
@@ -80,10 +90,10 @@ pub record TraceRefused (bytes : List ℕ) (disk : DiskChange) (due : Status) (o
   pub status : due ≡ status.Trace
   pub told : output ≡ refused_text line reason
 
--- The output is the text of a report of a run of the script. Where the disk tells its words, the replies are those of one
--- legal history: the one that the report stores, and of which each entry is written where that is asked; and what the
--- run left of its heap stands for this history, over the words that the disk has then. The disk's counts tell of each
--- thread that could not read it, and of a run that it halted by a fault.
+-- The output is the text of a report of a run of the script. Where the disk tells its words, the replies are those of
+-- one legal history: the one that the report stores, and of which each entry is written where that is asked; and what
+-- the run left of its heap stands for this history, over the words that the disk has then. The disk's counts tell of
+-- each thread that could not read it, and of a run that it halted by a fault.
 pub record RunDue (script : Script) (run : Run) (disk : DiskChange) (due : Status) (output : List ℕ) : Type 0 where
   pub report : Report
   pub heap : Option Heap
@@ -146,8 +156,9 @@ pub record MadeNone (recipe : Recipe) (due : Status) (output : List ℕ) : Type 
   pub status : due ≡ status.Usage
   pub told : output ≡ usage_text
 
--- the trace is written
+-- any other trace is written
 pub record MadeTrace (recipe : Recipe) (due : Status) (output : List ℕ) : Type 0 where
+  pub few : IsTooLong recipe → ⊥
   pub status : due ≡ status.Done
   pub told : output ≡ canonical (made recipe)
 

@@ -1,4 +1,5 @@
--- How the words behind a command are read: options in any order, each once at most. An option has a value, or is a flag.
+-- How the words behind a command are read: options in any order, each once at most. An option has a value, or is a
+-- flag.
 use Rattle.std.specs.Prelude.{ℕ, Bool, not, ◌||◌, if◌then◌else◌, List, [], ◌∷◌, ◌++◌, find, Option, None}
 use Rattle.std.specs.Prelude.{Some, option_and_then, option_map, codes}
 use Rattle.std.specs.List.{list_any}

@@ -3,8 +3,8 @@ ghost use Rattle.std.specs.Prelude.{◌≡◌, ◌<◌, ◌≤◌, ◌⊎◌, dr
 ghost use Rattle.std.specs.Prelude.{map, option_and_then, option_map, string_bytes, IfOk, IfSome};
 ghost use Rattle.melt_model.specs.Config.{InRanges};
 ghost use Rattle.melt_trace.specs.Language.{number_of};
-ghost use Rattle.melt_top.specs.Command.{HasRanges, between, config_of, kind_named, meant, number_or, recipe_of, run_of};
-ghost use Rattle.melt_top.specs.Command.{texts_of};
+ghost use Rattle.melt_top.specs.Command.{HasRanges, between, config_of, kind_named, meant, number_or, recipe_of};
+ghost use Rattle.melt_top.specs.Command.{run_of, texts_of};
 ghost use Rattle.melt_top.specs.Words.{Given, given_of};
 ghost use Rattle.melt_top.specs.Parses.{Has, gen_names, step_names};
 

@@ -23,24 +23,25 @@ const REPLIES: Texts = Texts {
 
 const TRACE: &[u8] = b"melt 1\nthreads 1\nglobals 0\nthread 0\nnew 0 1 0\nsame 0 0\ndone\n";
 
-fn strings(alloc: Global, words: &[&str]) -> Result<Vec<String>, Fail> {
-    let mut owned = Vec::new(alloc);
-    for word in words {
-        owned.push(String::from_str(alloc, word)?)?;
+/// The words of a command line.
+fn words_of(alloc: Global, line: &str) -> Result<Vec<String>, Fail> {
+    let mut words = Vec::new(alloc);
+    for word in line.split_whitespace() {
+        words.push(String::from_str(alloc, word)?)?;
     }
-    Ok(owned)
+    Ok(words)
 }
 
 fn call<R: Threads + Sync + AllocGlobal, S: Source, K: Sink>(
     rt: &R,
-    words: &[&str],
+    line: &str,
     input: &mut S,
     out: &mut K,
 ) -> Result<Status, Fail> {
     let alloc = rt.alloc();
-    let owned = strings(alloc, words)?;
+    let words = words_of(alloc, line)?;
     let mut disk = SteadyDisk::new(alloc);
-    Ok(melt(rt, alloc, &owned, input, out, &mut disk, &OpenGate))
+    Ok(melt(rt, alloc, &words, input, out, &mut disk, &OpenGate))
 }
 
 fn report(
@@ -79,7 +80,8 @@ fn step_writes_each_reply(rt: HostRuntime) -> Result<(), Fail> {
             b"thread 0\nok\nnil\nrange\nnull\nyes\nend done\n",
         ),
         (
-            b"melt 1\nthreads 1\nglobals 1\nthread 0\nnew 0 1 0\nstore 0 0 0\nload 1 0 0\nsame 1 0\ngload 2 0\ngstore 0 1\ngload 2 0\nsame 2 3\ndone\n",
+            b"melt 1\nthreads 1\nglobals 1\nthread 0\nnew 0 1 0\nstore 0 0 0\nload 1 0 0\nsame 1 0\n\
+            gload 2 0\ngstore 0 1\ngload 2 0\nsame 2 3\ndone\n",
             b"thread 0\nok\nok\nref\nyes\nnull\nok\nref\nno\nend done\n",
         ),
         (
@@ -87,37 +89,38 @@ fn step_writes_each_reply(rt: HostRuntime) -> Result<(), Fail> {
             b"thread 0\nend done\n",
         ),
         (
-            b"melt 1\nthreads 2\nglobals 1\norder 1 6\nthread 0\ngload 0 0\ndone\nthread 1\nnew 0 0 0\ngstore 0 0\ndone\n",
+            b"melt 1\nthreads 2\nglobals 1\norder 1 6\nthread 0\ngload 0 0\ndone\n\
+            thread 1\nnew 0 0 0\ngstore 0 0\ndone\n",
             b"thread 0\nref\nend done\nthread 1\nok\nok\nend done\n",
         ),
     ];
     for (trace, text) in cases {
         let mut source = SteadySource::new(trace.to_vec(rt.alloc())?);
         let mut sink = SteadySink::new(rt.alloc());
-        let status = call(&rt, &["step"], &mut source, &mut sink)?;
+        let status = call(&rt, "step", &mut source, &mut sink)?;
         assert_eq!(rt; sink.bytes.as_slice(), text);
         assert_eq!(rt; status, Status::Done);
     }
     Ok(())
 }
 
-/// The bytes that the words write, of a trace that is run to its end.
+/// The bytes that a command writes, of a trace that is run to its end.
 fn written<R: Threads + Sync + AllocGlobal + Abort>(
     rt: &R,
-    words: &[&str],
+    line: &str,
     trace: &[u8],
 ) -> Result<Vec<u8>, Fail> {
     let mut source = MemSource::new(trace.to_vec(rt.alloc())?);
     let mut sink = MemSink::new(rt.alloc());
-    let status = call(rt, words, &mut source, &mut sink)?;
+    let status = call(rt, line, &mut source, &mut sink)?;
     assert_eq!(rt; status, Status::Done);
     Ok(sink.bytes)
 }
 
 /// What a `step` with these words is given.
-fn configured<R: AllocGlobal>(rt: &R, words: &[&str]) -> Result<Option<Config>, Fail> {
-    let owned = strings(rt.alloc(), words)?;
-    match command_of(rt.alloc(), &owned)? {
+fn configured<R: AllocGlobal>(rt: &R, line: &str) -> Result<Option<Config>, Fail> {
+    let words = words_of(rt.alloc(), line)?;
+    match command_of(rt.alloc(), &words)? {
         Some(Command::Step(Run { config, .. })) => Ok(Some(config)),
         Some(Command::Gen(_)) | None => Ok(None),
     }
@@ -133,19 +136,8 @@ fn each_number_of_a_run_is_its_own_option(rt: HostRuntime) -> Result<(), Fail> {
         move_: 80,
         every: 0,
     };
-    assert_eq!(rt; configured(&rt, &["step"])?, Some(plain));
-    let words = [
-        "step",
-        "--disk=12",
-        "--every",
-        "3",
-        "--forward",
-        "2",
-        "--heap=100",
-        "--mark",
-        "0",
-        "--move=1",
-    ];
+    assert_eq!(rt; configured(&rt, "step")?, Some(plain));
+    let line = "step --disk=12 --every 3 --forward 2 --heap=100 --mark 0 --move=1";
     let given = Config {
         heap: 100,
         forward: 2,
@@ -154,19 +146,18 @@ fn each_number_of_a_run_is_its_own_option(rt: HostRuntime) -> Result<(), Fail> {
         move_: 1,
         every: 3,
     };
-    assert_eq!(rt; configured(&rt, &words)?, Some(given));
+    assert_eq!(rt; configured(&rt, line)?, Some(given));
     Ok(())
 }
 
 #[test]
 fn a_run_has_the_least_and_the_largest_disk(rt: HostRuntime) -> Result<(), Fail> {
-    let cases = [
-        ["step", "--disk", "2", "--forward=1"],
-        ["step", "--forward", "65536", "--disk=268435456"],
-    ];
-    for words in cases {
+    for line in [
+        "step --disk 2 --forward=1",
+        "step --forward 65536 --disk=268435456",
+    ] {
         let text = b"thread 0\nok\nyes\nend done\n".as_slice();
-        assert_eq!(rt; written(&rt, &words, TRACE)?.as_slice(), text);
+        assert_eq!(rt; written(&rt, line, TRACE)?.as_slice(), text);
     }
     Ok(())
 }
@@ -174,40 +165,32 @@ fn a_run_has_the_least_and_the_largest_disk(rt: HostRuntime) -> Result<(), Fail>
 #[test]
 fn sums_stand_in_the_place_of_replies(rt: HostRuntime) -> Result<(), Fail> {
     let trace =
-        b"melt 1\nthreads 2\nglobals 0\nthread 0\nnew 0 0 2\nput 0 0 18446744073709551615\nput 0 1 3\nget 0 0\nget 0 1\n\
-        get 0 0\nget 1 0\ndone\nthread 1\ndone\n";
+        b"melt 1\nthreads 2\nglobals 0\nthread 0\nnew 0 0 2\nput 0 0 18446744073709551615\nput 0 1 3\n\
+        get 0 0\nget 0 1\nget 0 0\nget 1 0\ndone\nthread 1\ndone\n";
     let text =
         b"thread 0\nreplies 7\nsum 1\nend done\nthread 1\nreplies 0\nsum 0\nend done\n".as_slice();
-    assert_eq!(rt; written(&rt, &["step", "--quiet"], trace)?.as_slice(), text);
+    assert_eq!(rt; written(&rt, "step --quiet", trace)?.as_slice(), text);
     Ok(())
 }
 
 #[test]
 fn a_table_follows_the_replies(rt: HostRuntime) -> Result<(), Fail> {
-    let words = [
-        "step",
-        "--heap=16",
-        "--table",
-        "--mark",
-        "0",
-        "--move",
-        "100",
-    ];
+    let line = "step --heap=16 --table --mark 0 --move 100";
     let trace =
         b"melt 1\nthreads 1\nglobals 1\nthread 0\nnew 0 0 1\nput 0 0 7\ngstore 0 0\ndrop 0\n\
         collect\ncollect\ngload 0 0\nget 0 0\ncollect\ndone\n";
     let text = b"thread 0\nok\nok\nok\nok\nok\nok\nref\n7\nok\nend done\n\
         number,phase,held,live,bodies,stubs,end\n1,inactive,0,3,0,0,1\n2,mark,0,3,0,0,1\n3,mark,3,3,0,0,1\n";
-    assert_eq!(rt; written(&rt, &words, trace)?.as_slice(), text.as_slice());
+    assert_eq!(rt; written(&rt, line, trace)?.as_slice(), text.as_slice());
     Ok(())
 }
 
 #[test]
 fn silent_collections_stand_in_the_table(rt: HostRuntime) -> Result<(), Fail> {
-    let words = ["step", "--heap", "16", "--every", "1", "--table"];
+    let line = "step --heap 16 --every 1 --table";
     let text = b"thread 0\nok\nyes\nend done\n\
         number,phase,held,live,bodies,stubs,end\n1,inactive,3,3,0,0,1\n2,inactive,3,3,0,0,1\n";
-    assert_eq!(rt; written(&rt, &words, TRACE)?.as_slice(), text.as_slice());
+    assert_eq!(rt; written(&rt, line, TRACE)?.as_slice(), text.as_slice());
     Ok(())
 }
 
@@ -239,61 +222,46 @@ fn a_log_has_each_entry(rt: HostRuntime) -> Result<(), Fail> {
         ),
     ];
     for (trace, text) in cases {
-        assert_eq!(rt; written(&rt, &["step", "--log"], trace)?.as_slice(), text);
+        assert_eq!(rt; written(&rt, "step --log", trace)?.as_slice(), text);
     }
     Ok(())
 }
 
 #[test]
 fn all_three_texts_stand_in_their_order(rt: HostRuntime) -> Result<(), Fail> {
-    let words = ["step", "--log", "--quiet", "--every=2", "--table"];
+    let line = "step --log --quiet --every=2 --table";
     let text = b"thread 0\nreplies 2\nsum 0\nend done\n\
         number,phase,held,live,bodies,stubs,end\n1,inactive,3,3,0,0,1\nlog 1\nmake 0 0 1 0\n";
-    assert_eq!(rt; written(&rt, &words, TRACE)?.as_slice(), text.as_slice());
+    assert_eq!(rt; written(&rt, line, TRACE)?.as_slice(), text.as_slice());
     Ok(())
-}
-
-/// The trace that the words of `gen` write.
-fn made<R: Threads + Sync + AllocGlobal + Abort>(
-    rt: &R,
-    kind: &str,
-    seed: &str,
-    size: &str,
-) -> Result<Vec<u8>, Fail> {
-    let words = [
-        "gen",
-        "--kind",
-        kind,
-        "--seed",
-        seed,
-        "--size",
-        size,
-        "--threads",
-        "2",
-    ];
-    written(rt, &words, b"")
 }
 
 #[test]
 fn a_long_list_is_summed(rt: HostRuntime) -> Result<(), Fail> {
-    let trace = made(&rt, "list", "1", "10000")?;
+    let trace = written(
+        &rt,
+        "gen --kind list --seed 1 --size 10000 --threads 2",
+        b"",
+    )?;
     let text = b"thread 0\nreplies 70018\nsum 50074964\nend done\n\
         thread 1\nreplies 70018\nsum 50074964\nend done\n";
-    let words = ["step", "--heap", "131072", "--quiet"];
-    assert_eq!(rt; written(&rt, &words, &trace)?.as_slice(), text.as_slice());
+    let line = "step --heap 131072 --quiet";
+    assert_eq!(rt; written(&rt, line, &trace)?.as_slice(), text.as_slice());
     Ok(())
 }
 
 #[test]
 fn the_heap_is_not_seen_in_sums(rt: HostRuntime) -> Result<(), Fail> {
-    for kind in ["list", "queue", "table", "tree"] {
-        let trace = made(&rt, kind, "7", "500")?;
-        let large = written(&rt, &["step", "--quiet"], &trace)?;
-        let small = written(
-            &rt,
-            &["step", "--quiet", "--every", "50", "--heap=8192"],
-            &trace,
-        )?;
+    let traces = [
+        "gen --kind list --seed 7 --size 500 --threads 2",
+        "gen --kind queue --seed 7 --size 500 --threads 2",
+        "gen --kind table --seed 7 --size 500 --threads 2",
+        "gen --kind tree --seed 7 --size 500 --threads 2",
+    ];
+    for made in traces {
+        let trace = written(&rt, made, b"")?;
+        let large = written(&rt, "step --quiet", &trace)?;
+        let small = written(&rt, "step --quiet --every 50 --heap=8192", &trace)?;
         assert_eq!(rt; large.as_slice(), small.as_slice());
     }
     Ok(())
@@ -306,7 +274,7 @@ fn a_sink_that_fails_has_nothing(rt: HostRuntime) -> Result<(), Fail> {
         let mut sink = MemSink::new(rt.alloc());
         sink.fail.push(1)?;
         assert_eq!(rt;
-            call(&rt, &[word], &mut source, &mut sink)?,
+            call(&rt, word, &mut source, &mut sink)?,
             Status::WriteFault
         );
         assert_eq!(rt; sink.bytes.len(), 0);
@@ -321,7 +289,7 @@ fn a_source_that_fails_is_told(rt: HostRuntime) -> Result<(), Fail> {
     source.fail.push(1)?;
     let mut sink = MemSink::new(rt.alloc());
     assert_eq!(rt;
-        call(&rt, &["step"], &mut source, &mut sink)?,
+        call(&rt, "step", &mut source, &mut sink)?,
         Status::ReadFault
     );
     assert_eq!(rt; sink.bytes.as_slice(), b"error read\n".as_slice());
@@ -331,46 +299,36 @@ fn a_source_that_fails_is_told(rt: HostRuntime) -> Result<(), Fail> {
 
 #[test]
 fn words_that_mean_nothing_read_nothing(rt: HostRuntime) -> Result<(), Fail> {
-    let cases = [
-        [].as_slice(),
-        &["run"],
-        &["step", "x"],
-        &["step", "--mark", "90"],
-        &["step", "--"],
-        &["step", "--help"],
-        &["step", "--heap", "16", "--heap=16"],
-        &["step", "--seed", "1"],
-        &["step", "--quiet", "--quiet"],
-        &["step", "--log", "--table", "--log"],
-        &["step", "--table="],
-        &["step", "--quiet=true"],
-        &["step", "--quiet", "true"],
-        &["step", "--heap", "--quiet"],
-        &["step", "--forward", "0"],
-        &["step", "--forward=65537"],
-        &["step", "--forward", "1", "--forward", "2"],
-        &["step", "--disk", "1"],
-        &["step", "--disk=268435457"],
-        &["step", "--disk"],
-        &["step", "--qui"],
-        &["gen", "--quiet"],
-        &["gen", "--kind", "tree", "--seed", "7", "--size", "2"],
-        &[
-            "gen",
-            "--kind",
-            "list",
-            "--seed",
-            "1",
-            "--size",
-            "100000",
-            "--threads",
-            "2",
-        ],
+    let lines = [
+        "",
+        "run",
+        "step x",
+        "step --mark 90",
+        "step --",
+        "step --help",
+        "step --heap 16 --heap=16",
+        "step --seed 1",
+        "step --quiet --quiet",
+        "step --log --table --log",
+        "step --table=",
+        "step --quiet=true",
+        "step --quiet true",
+        "step --heap --quiet",
+        "step --forward 0",
+        "step --forward=65537",
+        "step --forward 1 --forward 2",
+        "step --disk 1",
+        "step --disk=268435457",
+        "step --disk",
+        "step --qui",
+        "gen --quiet",
+        "gen --kind tree --seed 7 --size 2",
+        "gen --kind list --seed 1 --size 100000 --threads 2",
     ];
-    for words in cases {
+    for line in lines {
         let mut source = MemSource::new(TRACE.to_vec(rt.alloc())?);
         let mut sink = MemSink::new(rt.alloc());
-        assert_eq!(rt; call(&rt, words, &mut source, &mut sink)?, Status::Usage);
+        assert_eq!(rt; call(&rt, line, &mut source, &mut sink)?, Status::Usage);
         assert_eq!(rt; sink.bytes.as_slice(), b"error usage\n".as_slice());
         assert_eq!(rt; (source.pos, source.calls), (0, 0));
     }
@@ -379,19 +337,10 @@ fn words_that_mean_nothing_read_nothing(rt: HostRuntime) -> Result<(), Fail> {
 
 #[test]
 fn gen_writes_a_trace_and_reads_nothing(rt: HostRuntime) -> Result<(), Fail> {
-    let words = [
-        "gen",
-        "--threads",
-        "1",
-        "--kind",
-        "tree",
-        "--seed=7",
-        "--size",
-        "2",
-    ];
+    let line = "gen --threads 1 --kind tree --seed=7 --size 2";
     let mut source = MemSource::new(TRACE.to_vec(rt.alloc())?);
     let mut sink = MemSink::new(rt.alloc());
-    assert_eq!(rt; call(&rt, &words, &mut source, &mut sink)?, Status::Done);
+    assert_eq!(rt; call(&rt, line, &mut source, &mut sink)?, Status::Done);
     let text =
         b"melt 1\nthreads 1\nglobals 1\nthread 0\nnew 0 2 1\nput 0 0 7191089600892374487\ngstore 0 0\n\
         gload 0 0\nnew 1 2 1\nput 1 0 309689372594955804\nstore 0 0 1\ndrop 0\ndrop 1\ndone\n";
@@ -402,23 +351,13 @@ fn gen_writes_a_trace_and_reads_nothing(rt: HostRuntime) -> Result<(), Fail> {
 
 #[test]
 fn a_trace_that_was_made_runs(rt: HostRuntime) -> Result<(), Fail> {
-    let words = [
-        "gen",
-        "--kind",
-        "list",
-        "--seed",
-        "1",
-        "--size",
-        "10",
-        "--threads",
-        "1",
-    ];
+    let line = "gen --kind list --seed 1 --size 10 --threads 1";
     let mut nothing = MemSource::new(Vec::new(rt.alloc()));
     let mut trace = MemSink::new(rt.alloc());
-    assert_eq!(rt; call(&rt, &words, &mut nothing, &mut trace)?, Status::Done);
+    assert_eq!(rt; call(&rt, line, &mut nothing, &mut trace)?, Status::Done);
     let mut source = MemSource::new(trace.bytes);
     let mut sink = MemSink::new(rt.alloc());
-    let status = call(&rt, &["step", "--heap=64"], &mut source, &mut sink)?;
+    let status = call(&rt, "step --heap=64", &mut source, &mut sink)?;
     assert_eq!(rt; status, Status::Done);
     let end = b"ref\n9\nref\n8\nref\n7\nref\n6\nref\n5\nref\n4\nref\n3\nref\n2\nok\nok\nend done\n";
     assert!(rt; sink.bytes.as_slice().ends_with(end));
@@ -446,7 +385,9 @@ fn a_report_has_each_reply_end_and_halt(rt: HostRuntime) -> Result<(), Fail> {
     let whole = report(rt.alloc(), &replies, &[end], Some(full))?;
     assert_eq!(rt;
         report_text(rt.alloc(), &whole, REPLIES)?.as_slice(),
-        b"thread 0\nok\nnull\nref\n18446744073709551615\nyes\nno\nnil\nrange\nend done\nhalt disk-full 7 0 12\n".as_slice()
+        b"thread 0\nok\nnull\nref\n18446744073709551615\nyes\nno\nnil\nrange\nend done\n\
+        halt disk-full 7 0 12\n"
+            .as_slice()
     );
     let ends = [
         ThreadEnd::OutOfHeap { held: 3, need: 64 },
@@ -461,7 +402,9 @@ fn a_report_has_each_reply_end_and_halt(rt: HostRuntime) -> Result<(), Fail> {
     let broken = report(rt.alloc(), &[], &ends, Some(Halt::DiskFault))?;
     assert_eq!(rt;
         report_text(rt.alloc(), &broken, REPLIES)?.as_slice(),
-        b"thread 0\nend out-of-heap 3 64\nthread 1\nend disk-fault\nthread 2\nend damaged 2 0 9\nthread 3\nend halted\nhalt disk-fault\n".as_slice()
+        b"thread 0\nend out-of-heap 3 64\nthread 1\nend disk-fault\nthread 2\nend damaged 2 0 9\n\
+        thread 3\nend halted\nhalt disk-fault\n"
+            .as_slice()
     );
     Ok(())
 }

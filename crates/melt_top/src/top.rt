@@ -6,7 +6,7 @@ ghost use Rattle.melt_trace.specs.Grammar.{line};
 ghost use Rattle.melt_top.specs.Command.{HasRanges, meant};
 ghost use Rattle.melt_top.specs.Text.{refused_text};
 ghost use Rattle.melt_top.specs.Headline.{ReadAFront, RunDue, TraceDue, StepDue, MadeNone, MadeTrace, Due, IsRefused};
-ghost use Rattle.melt_top.specs.Headline.{ReadAtMost, Outcome, IsBuilt, disk_change};
+ghost use Rattle.melt_top.specs.Headline.{ReadAtMost, Outcome, IsBuilt, change, disk_change};
 
 use crate::command::{Command, Recipe, Run, command_of};
 use crate::status::{Status, status_for};
@@ -38,7 +38,8 @@ impl Answer {
     }
 
     fn refused(alloc: Global, error: TraceError) -> Result<Answer, NoMemory>
-        ensures { IfOk result (λ answer. (answer.status ≡ Status.Trace) × (answer.text.items ≡ refused_text error.line error.reason)) }
+        ensures { IfOk result (λ answer. (answer.status ≡ Status.Trace)
+            × (answer.text.items ≡ refused_text error.line error.reason)) }
     {
         let numbers = [u64::from(error.line), u64::from(error.reason)];
         Answer::line(alloc, Status::Trace, b"error trace", &numbers)
@@ -96,11 +97,11 @@ fn step_answer<S: Source, D: StaleDisk>(
 ) -> Result<Answer, NoMemory>
     requires { InRanges run.config }
     ensures due { IfOk result (λ answer. StepDue run
-        (record { before = S.left input.old; after = S.left input.new; faults_before = S.faults input.old; faults_after = S.faults input.new })
+        (change S.left S.faults input.old input.new)
         (disk_change D.image D.faults D.read_faults disk.old disk.new)
         answer.status answer.text.items) }
     ensures read { ReadAFront
-        (record { before = S.left input.old; after = S.left input.new; faults_before = S.faults input.old; faults_after = S.faults input.new }) }
+        (change S.left S.faults input.old input.new) }
 {
     match read_all(alloc, input, MAX_BYTES) {
         Ok(bytes) => trace_answer(alloc, run, &bytes, disk),
@@ -113,7 +114,8 @@ fn step_answer<S: Source, D: StaleDisk>(
 /// What is due for a recipe. Its trace is written in the canonical form.
 fn gen_answer(alloc: Global, recipe: Recipe) -> Result<Answer, NoMemory>
     requires { HasRanges (Command.Gen recipe) }
-    ensures { IfOk result (λ answer. MadeNone recipe answer.status answer.text.items ⊎ MadeTrace recipe answer.status answer.text.items) }
+    ensures { IfOk result (λ answer. MadeNone recipe answer.status answer.text.items
+        ⊎ MadeTrace recipe answer.status answer.text.items) }
 {
     match generate(alloc, recipe.kind, recipe.seed, recipe.size, recipe.threads) {
         Ok(trace) => Ok(Answer {
@@ -133,11 +135,11 @@ fn answer_to<S: Source, D: StaleDisk>(
     disk: &mut D,
 ) -> Result<Answer, NoMemory>
     ensures due { IfOk result (λ answer. Due (meant (map string_bytes words.now))
-        (record { before = S.left input.old; after = S.left input.new; faults_before = S.faults input.old; faults_after = S.faults input.new })
+        (change S.left S.faults input.old input.new)
         (disk_change D.image D.faults D.read_faults disk.old disk.new)
         answer.status answer.text.items) }
     ensures read { OnErr result (ReadAtMost (meant (map string_bytes words.now))
-        (record { before = S.left input.old; after = S.left input.new; faults_before = S.faults input.old; faults_after = S.faults input.new })) }
+        (change S.left S.faults input.old input.new)) }
 {
     match command_of(alloc, words)? {
         None => Answer::line(alloc, Status::Usage, b"error usage", &[]),
@@ -158,12 +160,14 @@ pub fn melt<X: Threads + Sync, S: Source, K: Sink, D: StaleDisk, G: Gate + Sync>
     _gate: &G,
 ) -> Status
     ensures headline { Outcome (meant (map string_bytes words.now))
-        (record { before = S.left input.old; after = S.left input.new; faults_before = S.faults input.old; faults_after = S.faults input.new })
+        (change S.left S.faults input.old input.new)
         (disk_change D.image D.faults D.read_faults disk.old disk.new)
-        (record { before = K.written out.old; after = K.written out.new; faults_before = K.faults out.old; faults_after = K.faults out.new })
+        (change K.written K.faults out.old out.new)
         result }
     // Each answer by itself. Want of memory alone has no cause.
     ensures usage { result ≡ Status.Usage → IsRefused (meant (map string_bytes words.now)) }
+    ensures refused { IsRefused (meant (map string_bytes words.now)) →
+        (result ≡ Status.Usage) ⊎ (result ≡ Status.WriteFault) ⊎ (result ≡ Status.NoMemory) }
     ensures read_fault { result ≡ Status.ReadFault → Rose (S.faults input.old) (S.faults input.new) }
     ensures write_fault { result ≡ Status.WriteFault → Rose (K.faults out.old) (K.faults out.new) }
     ensures disk_fault { result ≡ Status.DiskFault → Rose (D.faults disk.old) (D.faults disk.new)

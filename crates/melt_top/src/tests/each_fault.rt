@@ -46,24 +46,23 @@ fn count_faults(disk: &MemDisk) -> u64 {
 }
 
 /// Runs a story over a disk of which one call fails, and answers whether it came to that call. It writes what it writes
-/// over a steady disk, or, where the call failed, a front of that and the last lines.
+/// over a disk without flaws, or, where the call failed, a front of that and the last lines.
 fn fails<R: Threads + Sync + AllocGlobal + Abort>(
     rt: &R,
     story: &Story<'_>,
-    steady: &[u8],
     calls: Calls,
     number: u64,
 ) -> Result<bool, Fail> {
     let mut disk = flawed(rt.alloc(), &[calls.nth(number)])?;
     let (text, status) = run_over(rt, story, &mut disk)?;
     if count_faults(&disk) == 0 {
-        assert_eq!(rt; text.as_slice(), steady);
+        assert_eq!(rt; text.as_slice(), story.text);
         assert_eq!(rt; status, Status::Done);
         return Ok(false);
     }
     assert_eq!(rt; count_faults(&disk), 1);
     let front = text.as_slice().strip_suffix(calls.last_lines());
-    assert!(rt; front.is_some_and(|front| steady.starts_with(front)));
+    assert!(rt; front.is_some_and(|front| story.text.starts_with(front)));
     assert_eq!(rt; status, Status::DiskFault);
     Ok(true)
 }
@@ -72,11 +71,10 @@ fn fails<R: Threads + Sync + AllocGlobal + Abort>(
 fn fail_each<R: Threads + Sync + AllocGlobal + Abort>(
     rt: &R,
     story: &Story<'_>,
-    steady: &[u8],
     calls: Calls,
 ) -> Result<u64, Fail> {
     for number in 1..CALLS {
-        if !fails(rt, story, steady, calls, number)? {
+        if !fails(rt, story, calls, number)? {
             return Ok(number - 1);
         }
     }
@@ -87,12 +85,11 @@ fn fail_each<R: Threads + Sync + AllocGlobal + Abort>(
 fn fail_each_read<R: Threads + Sync + AllocGlobal + Abort>(
     rt: &R,
     story: &Story<'_>,
-    steady: &[u8],
     lends: u64,
 ) -> Result<u64, Fail> {
     let mut reads = 0u64;
     for lend in 1..=lends {
-        let more = fail_each(rt, story, steady, Calls::Reads(lend))?;
+        let more = fail_each(rt, story, Calls::Reads(lend))?;
         reads = reads.saturating_add(more);
     }
     Ok(reads)
@@ -105,12 +102,11 @@ fn expect_each<R: Threads + Sync + AllocGlobal + Abort>(
     wanted: (u64, u64, u64),
 ) -> Result<(), Fail> {
     let mut disk = flawed(rt.alloc(), &[])?;
-    let (steady, status) = run_over(rt, story, &mut disk)?;
+    let (_text, status) = run_over(rt, story, &mut disk)?;
     assert_eq!(rt; status, Status::Done);
-    let text = steady.as_slice();
-    let writes = fail_each(rt, story, text, Calls::Writes)?;
-    let lends = fail_each(rt, story, text, Calls::Lends)?;
-    let reads = fail_each_read(rt, story, text, lends)?;
+    let writes = fail_each(rt, story, Calls::Writes)?;
+    let lends = fail_each(rt, story, Calls::Lends)?;
+    let reads = fail_each_read(rt, story, lends)?;
     assert_eq!(rt; (disk.writes, disk.lends), (writes, lends));
     assert_eq!(rt; (writes, lends, reads), wanted);
     Ok(())

@@ -1,201 +1,179 @@
 use super::given::{AGAIN, Flaw, LEAVING, RETURN, Story, TWO, flawed, run_over};
 use crate::status::Status;
+use std::alloc::Global;
 use std::process::Abort;
 use std::test::Fail;
 use std::thread::Threads;
 
-/// What a story writes over a disk with these flaws, and how it ends.
+/// How a story ends over a disk with flaws: behind so many of its replies these lines are written.
 #[derive(Clone, Copy)]
-struct Row<'a> {
+struct Ending<'a> {
     flaws: &'a [Flaw],
-    text: &'a [u8],
+    replies: u8,
+    last: &'a [u8],
     status: Status,
 }
 
 /// An object with a slot leaves, and comes back.
 const SLOT: Story<'static> = Story {
-    words: &LEAVING,
+    words: LEAVING,
     trace: b"melt 1\nthreads 1\nglobals 1\nthread 0\nnew 0 1 0\ngstore 0 0\ndrop 0\ncollect\ncollect\ncollect\n\
         gload 0 0\ndone\n",
+    text: b"thread 0\nok\nok\nok\nok\nok\nok\nref\nend done\n",
 };
 
 /// Both objects have left when thread 1 loads the first, and so does thread 0.
 const TWO_LOAD: Story<'static> = Story {
-    words: &LEAVING,
+    words: LEAVING,
     trace: b"melt 1\nthreads 2\nglobals 2\norder 0 16\norder 1 1\norder 0 1\norder 1 1\norder 0 1\norder 1 1\n\
         order 0 20\nthread 0\nnew 0 0 1\ngstore 0 0\nnew 0 0 1\ngstore 1 0\ndrop 0\ncollect\ncollect\ncollect\n\
         gload 0 0\ndone\nthread 1\ngload 0 1\ndone\n",
+    text: b"thread 0\nok\nok\nok\nok\nok\nok\nok\nok\nref\nend done\nthread 1\nref\nend done\n",
 };
 
-const RETURN_LOST: &[u8] = b"thread 0\nok\nok\nok\nok\nok\nok\nok\nend disk-fault\n";
-
 /// A write or a lend fails.
-const fn halts<'a>(flaws: &'a [Flaw], text: &'a [u8]) -> Row<'a> {
-    Row {
+const fn halts(flaws: &[Flaw], replies: u8) -> Ending<'_> {
+    Ending {
         flaws,
-        text,
+        replies,
+        last: b"end halted\nhalt disk-fault\n",
         status: Status::DiskFault,
     }
 }
 
 /// A word of a record is none that may stand there.
-const fn damages<'a>(flaws: &'a [Flaw], text: &'a [u8]) -> Row<'a> {
-    Row {
+const fn damages<'a>(flaws: &'a [Flaw], replies: u8, last: &'a [u8]) -> Ending<'a> {
+    Ending {
         flaws,
-        text,
+        replies,
+        last,
         status: Status::Damaged,
     }
 }
 
 /// A read fails.
-const fn loses<'a>(flaws: &'a [Flaw], text: &'a [u8]) -> Row<'a> {
-    Row {
+const fn loses<'a>(flaws: &'a [Flaw], replies: u8, last: &'a [u8]) -> Ending<'a> {
+    Ending {
         flaws,
-        text,
+        replies,
+        last,
         status: Status::DiskFault,
     }
 }
 
 /// What is wrong never comes, or is not found out.
-const fn passes<'a>(flaws: &'a [Flaw], text: &'a [u8]) -> Row<'a> {
-    Row {
+const fn passes<'a>(flaws: &'a [Flaw], replies: u8, last: &'a [u8]) -> Ending<'a> {
+    Ending {
         flaws,
-        text,
+        replies,
+        last,
         status: Status::Done,
     }
 }
 
-fn expect_rows<R: Threads + Sync + AllocGlobal + Abort>(
+/// What a story writes up to so many replies of its first thread, and then other last lines.
+fn cut_text(alloc: Global, story: &Story<'_>, replies: u8, last: &[u8]) -> Result<Vec<u8>, Fail> {
+    let lines = usize::from(replies) + 1;
+    let mut text = Vec::new(alloc);
+    for line in story
+        .text
+        .split_inclusive(|byte| *byte == b'\n')
+        .take(lines)
+    {
+        text.extend_from_slice(line)?;
+    }
+    text.extend_from_slice(last)?;
+    Ok(text)
+}
+
+fn expect_endings<R: Threads + Sync + AllocGlobal + Abort>(
     rt: &R,
     story: &Story<'_>,
-    rows: &[Row<'_>],
+    endings: &[Ending<'_>],
 ) -> Result<(), Fail> {
-    for row in rows {
-        let mut disk = flawed(rt.alloc(), row.flaws)?;
+    for ending in endings {
+        let mut disk = flawed(rt.alloc(), ending.flaws)?;
         let (text, status) = run_over(rt, story, &mut disk)?;
-        assert_eq!(rt; text.as_slice(), row.text, "{:?}", row.flaws);
-        assert_eq!(rt; status, row.status, "{:?}", row.flaws);
+        let wanted = cut_text(rt.alloc(), story, ending.replies, ending.last)?;
+        assert_eq!(rt; text.as_slice(), wanted.as_slice(), "{:?}", ending.flaws);
+        assert_eq!(rt; status, ending.status, "{:?}", ending.flaws);
     }
     Ok(())
 }
 
 #[test]
 fn faults_of_a_disk_end_a_run(rt: HostRuntime) -> Result<(), Fail> {
-    let rows = [
-        halts(
-            &[Flaw::Write(1)],
-            b"thread 0\nok\nok\nok\nok\nok\nok\nend halted\nhalt disk-fault\n",
-        ),
-        halts(&[Flaw::Lend(1)], b"thread 0\nend halted\nhalt disk-fault\n"),
-        halts(
-            &[Flaw::Lend(4)],
-            b"thread 0\nok\nok\nok\nok\nok\nok\nok\nend halted\nhalt disk-fault\n",
-        ),
-        loses(&[Flaw::Read(4, 1)], RETURN_LOST),
-        loses(&[Flaw::Read(4, 2)], RETURN_LOST),
-        passes(
-            &[Flaw::Read(1, 1)],
-            b"thread 0\nok\nok\nok\nok\nok\nok\nok\nref\n7\nend done\n",
-        ),
+    let endings = [
+        halts(&[Flaw::Write(1)], 6),
+        halts(&[Flaw::Lend(1)], 0),
+        halts(&[Flaw::Lend(4)], 7),
+        loses(&[Flaw::Read(4, 1)], 7, b"end disk-fault\n"),
+        loses(&[Flaw::Read(4, 2)], 7, b"end disk-fault\n"),
+        passes(&[Flaw::Read(1, 1)], 9, b"end done\n"),
     ];
-    expect_rows(&rt, &RETURN, &rows)
+    expect_endings(&rt, &RETURN, &endings)
 }
 
 #[test]
 fn words_that_are_no_record_end_a_run(rt: HostRuntime) -> Result<(), Fail> {
-    let rows = [
+    let two = [Flaw::Lie(4, 1, 4_295_032_834), Flaw::Lie(4, 2, 1)];
+    let endings = [
         damages(
             &[Flaw::Lie(4, 1, 8_590_000_129)],
-            b"thread 0\nok\nok\nok\nok\nok\nok\nok\nend damaged 1 0 8590000129\n",
+            7,
+            b"end damaged 1 0 8590000129\n",
         ),
-        damages(
-            &[Flaw::Lie(4, 1, 0)],
-            b"thread 0\nok\nok\nok\nok\nok\nok\nok\nend damaged 1 0 0\n",
-        ),
+        damages(&[Flaw::Lie(4, 1, 0)], 7, b"end damaged 1 0 0\n"),
         damages(
             &[Flaw::Lie(4, 1, 4_295_032_835)],
-            b"thread 0\nok\nok\nok\nok\nok\nok\nok\nend damaged 1 0 4295032835\n",
+            7,
+            b"end damaged 1 0 4295032835\n",
         ),
         damages(
             &[Flaw::Lie(4, 1, 4_295_048_961)],
-            b"thread 0\nok\nok\nok\nok\nok\nok\nok\nend damaged 1 0 4295048961\n",
+            7,
+            b"end damaged 1 0 4295048961\n",
         ),
         damages(
             &[Flaw::Lie(4, 1, 4_295_098_369)],
-            b"thread 0\nok\nok\nok\nok\nok\nok\nok\nend damaged 1 0 4295098369\n",
+            7,
+            b"end damaged 1 0 4295098369\n",
         ),
-        damages(
-            &[Flaw::Lie(4, 2, 5)],
-            b"thread 0\nok\nok\nok\nok\nok\nok\nok\nend damaged 1 1 5\n",
-        ),
-        damages(
-            &[Flaw::Lie(4, 1, 4_295_032_834)],
-            b"thread 0\nok\nok\nok\nok\nok\nok\nok\nend damaged 1 1 0\n",
-        ),
-        damages(
-            &[Flaw::Lie(4, 1, 4_295_032_834), Flaw::Lie(4, 2, 1)],
-            b"thread 0\nok\nok\nok\nok\nok\nok\nok\nend damaged 1 1 1\n",
-        ),
-        passes(
-            &[Flaw::Lie(4, 3, 8)],
-            b"thread 0\nok\nok\nok\nok\nok\nok\nok\nref\n8\nend done\n",
-        ),
+        damages(&[Flaw::Lie(4, 2, 5)], 7, b"end damaged 1 1 5\n"),
+        damages(&[Flaw::Lie(4, 1, 4_295_032_834)], 7, b"end damaged 1 1 0\n"),
+        damages(&two, 7, b"end damaged 1 1 1\n"),
+        passes(&[Flaw::Lie(4, 3, 8)], 8, b"8\nend done\n"),
     ];
-    expect_rows(&rt, &RETURN, &rows)
+    expect_endings(&rt, &RETURN, &endings)
 }
 
 #[test]
 fn slots_that_are_no_homes_end_a_run(rt: HostRuntime) -> Result<(), Fail> {
-    let rows = [
-        damages(
-            &[Flaw::Lie(4, 3, 4)],
-            b"thread 0\nok\nok\nok\nok\nok\nok\nend damaged 1 2 4\n",
-        ),
-        damages(
-            &[Flaw::Lie(4, 3, 19)],
-            b"thread 0\nok\nok\nok\nok\nok\nok\nend damaged 1 2 19\n",
-        ),
+    let endings = [
+        damages(&[Flaw::Lie(4, 3, 4)], 6, b"end damaged 1 2 4\n"),
+        damages(&[Flaw::Lie(4, 3, 19)], 6, b"end damaged 1 2 19\n"),
     ];
-    expect_rows(&rt, &SLOT, &rows)
+    expect_endings(&rt, &SLOT, &endings)
 }
 
 #[test]
 fn each_write_of_a_second_leaving_may_fail(rt: HostRuntime) -> Result<(), Fail> {
-    let rows = [
-        halts(
-            &[Flaw::Write(1)],
-            b"thread 0\nok\nok\nok\nok\nok\nok\nok\nok\nend halted\nhalt disk-fault\n",
-        ),
-        halts(
-            &[Flaw::Write(2)],
-            b"thread 0\nok\nok\nok\nok\nok\nok\nok\nok\nok\nref\nok\nok\nend halted\nhalt disk-fault\n",
-        ),
-        halts(
-            &[Flaw::Write(3)],
-            b"thread 0\nok\nok\nok\nok\nok\nok\nok\nok\nok\nref\nok\nok\nok\nend halted\nhalt disk-fault\n",
-        ),
-        passes(
-            &[Flaw::Write(4)],
-            b"thread 0\nok\nok\nok\nok\nok\nok\nok\nok\nok\nref\nok\nok\nok\nok\nref\n10\nref\nyes\nend done\n",
-        ),
+    let endings = [
+        halts(&[Flaw::Write(1)], 8),
+        halts(&[Flaw::Write(2)], 12),
+        halts(&[Flaw::Write(3)], 13),
+        passes(&[Flaw::Write(4)], 18, b"end done\n"),
     ];
-    expect_rows(&rt, &AGAIN, &rows)
+    expect_endings(&rt, &AGAIN, &endings)
 }
 
 #[test]
 fn a_stub_that_is_not_written_ends_a_run(rt: HostRuntime) -> Result<(), Fail> {
-    let rows = [halts(
-        &[Flaw::Write(3)],
-        b"thread 0\nok\nok\nok\nok\nok\nok\nok\nok\nref\nend halted\nhalt disk-fault\n",
-    )];
-    expect_rows(&rt, &TWO, &rows)
+    expect_endings(&rt, &TWO, &[halts(&[Flaw::Write(3)], 9)])
 }
 
 #[test]
 fn a_read_that_fails_ends_one_thread_alone(rt: HostRuntime) -> Result<(), Fail> {
-    let rows = [loses(
-        &[Flaw::Read(4, 3)],
-        b"thread 0\nok\nok\nok\nok\nok\nok\nok\nok\nref\nend done\nthread 1\nend disk-fault\n",
-    )];
-    expect_rows(&rt, &TWO_LOAD, &rows)
+    let last = b"end done\nthread 1\nend disk-fault\n";
+    expect_endings(&rt, &TWO_LOAD, &[loses(&[Flaw::Read(4, 3)], 9, last)])
 }
