@@ -1,8 +1,8 @@
 -- Each kind of step keeps the rule, and tells what it tells.
-use Rattle.std.proofs.Common.{◌≡◌, ℕ, ◌+◌, ◌*◌, ◌<◌, ◌≤◌, true, List, length, get_or, refl, sym, ◌∙◌, ap, subst}
+use Rattle.std.proofs.Common.{◌≡◌, ℕ, ◌+◌, ◌*◌, ◌<◌, ◌≤◌, Bool, true, false, List, length, get_or, refl, sym, ◌∙◌, ap, subst}
 use Rattle.std.proofs.Common.{arith, inl, inr}
-use Rattle.std.proofs.Math.ListN.{set, length-set}
-use Rattle.std.proofs.lemmas.List.{set-get_or, get_or-set_other}
+use Rattle.std.proofs.Math.ListN.{set}
+use Rattle.std.proofs.lemmas.List.{set-get_or}
 use Rattle.std.specs.Prelude.{None, Some}
 use lib.ListN.{get_elem?}
 use mathlib.Core.Option.{some, none}
@@ -25,11 +25,12 @@ use Rattle.melt_core.specs.declared.call.Place.TheVariants.{Field, Global}
 use Rattle.melt_rule.proofs.Keeping.{IsStep}
 use Rattle.melt_rule.proofs.Loads.{read, reaches, stops, looks, numbers}
 use Rattle.melt_rule.proofs.Showing.{word_is, global_is, word_changes, global_changes}
-use Rattle.melt_rule.proofs.Stores.{OnlyObjects, wrote, stores, puts}
+use Rattle.melt_rule.proofs.Leaving.{OnlyObjects, only_global, only_space}
+use Rattle.melt_rule.proofs.Stores.{wrote, stores, puts}
 use Rattle.melt_rule.proofs.Within.{allowed, within, headed_fits}
 use Rattle.melt_rule.specs.Plays.{PollPlay, HeadPlay, LookPlay, GlobalLookPlay, NumberPlay, StorePlay, GlobalStorePlay}
 use Rattle.melt_rule.specs.Plays.{NumberStorePlay, FindsHeader, FindsReference}
-use Rattle.melt_rule.specs.Rule.{Has, Kept, Rule}
+use Rattle.melt_rule.specs.Rule.{Has, Kept, Rule, has_cause, is_lacking}
 use Rattle.melt_rule.specs.Shown.{shows, word_place, Knows}
 use Rattle.melt_rule.specs.Tells.{FitsIn, behind, Names, Ends}
 use Rattle.melt_rule.specs.declared.began.Began.{Began}
@@ -45,19 +46,28 @@ pub loaded : (start : Start) (words : List ℕ) (views : List View) (kept : Kept
 loaded start words views kept id v at live w i s =
     subst (λ (after : List ℕ). IsStep start words after views kept id v at live w) (sym (set-get_or words i 0)) s
 
-pub polls : (start : Start) (slots id : ℕ) (me : Me ℕ View) → 0 < me.0.parts
+-- where the stop word is not set, a seat that goes on has no cause to stop
+no_cause : (start : Start) (words : List ℕ) (views : List View) (kept : Kept start words views) (id : ℕ) (v : View)
+    → get_elem? views id ≡ some v → is_lacking v.doing ≡ false → get_or words 0 0 ≡ 0 → has_cause v ≡ false
+no_cause start words views kept id v at goes_on off = go (has_cause v) refl
+  where
+    go : (b : Bool) → has_cause v ≡ b → b ≡ false
+    go false is = refl
+    go true is = let on = kept.stop.sets id v at is goes_on in absurd (let e : 0 ≡ 1 = sym off ∙ on in omega arith)
+
+pub polls : (start : Start) (slots id : ℕ) (me : Me ℕ View) → 0 < me.0.parts → is_lacking me.0.doing ≡ false
     → Allows (Rule start) slots id me 0 (λ n. n) (PollPlay (step slots 0 0 0 none) me)
-polls start slots id me live = allowed start slots id 0 me (λ n. n) (PollPlay (step slots 0 0 0 none) me) live
+polls start slots id me live goes_on = allowed start slots id 0 me (λ n. n) (PollPlay (step slots 0 0 0 none) me) live
     (λ words views kept at alive small. elim kept.stop.bit [
       | inl zero ↦
-          let r = reaches start words views kept id me.0 at alive (Some Polled) tt refl in
+          let r = reaches start words views kept id me.0 at alive goes_on (Some Polled) tt refl in
           let w : View = behind me.0 kept.history me.0.known (Some Polled) in (
             w,
             loaded start words views kept id me.0 at alive w 0 r.0,
-            λ inside. ((refl, inside), inl (zero, r.1)),
+            λ inside. ((refl, inside), inl (zero, (r.1, no_cause start words views kept id me.0 at goes_on zero))),
           )
       | inr one ↦
-          let r = stops start words views kept id me.0 at alive one in
+          let r = stops start words views kept id me.0 at alive goes_on one in
           let w : View = record (behind me.0 kept.history me.0.known None) { stopped = true } in (
             w,
             loaded start words views kept id me.0 at alive w 0 r.0,
@@ -73,9 +83,9 @@ one_object start words views kept id v at live a n m x y =
     let e : Some n ≡ Some m = sym (stood.known a n x) ∙ stood.known a m y in
     cc
 
-pub heads : (start : Start) (slots id i a n : ℕ) (me : Me ℕ View) → 0 < me.0.parts → Has me.0.known a n
-    → i ≡ word_place me.0.began a → Allows (Rule start) slots id me i (λ n. n) (HeadPlay (step slots i 0 0 none) me)
-heads start slots id i a n me live has at_i =
+pub heads : (start : Start) (slots id i a n : ℕ) (me : Me ℕ View) → 0 < me.0.parts → is_lacking me.0.doing ≡ false
+    → Has me.0.known a n → i ≡ word_place me.0.began a → Allows (Rule start) slots id me i (λ n. n) (HeadPlay (step slots i 0 0 none) me)
+heads start slots id i a n me live goes_on has at_i =
     allowed start slots id i me (λ n. n) (HeadPlay (step slots i 0 0 none) me) live
     (λ words views kept at alive small.
     let stood = kept.seats id me.0 at alive in
@@ -86,7 +96,7 @@ heads start slots id i a n me live has at_i =
     let found : ℕ = get_or words i 0 in
     let there : IsObjectAt kept.maps now a header.shape =
     record { number = n; named = named; header = header; starts = object.1.starts; shape_is = refl } in
-    let r = reaches start words views kept id me.0 at alive (Some (Headed a header.shape)) there refl in
+    let r = reaches start words views kept id me.0 at alive goes_on (Some (Headed a header.shape)) there refl in
     let w : View = behind me.0 kept.history me.0.known (Some (Headed a header.shape)) in
     let word : found ≡ header_word header =
     ap (λ (k : ℕ). get_or words k 0) at_i
@@ -138,12 +148,12 @@ module _ (start : Start) (words : List ℕ) (views : List View) (kept : Kept sta
       )
 
   -- the step behind a look at a place
-  look_step : (i : ℕ) (place : Place) (at_slot : Slot) → IsPlace kept.maps now place → SlotAt kept.maps place at_slot
+  look_step : is_lacking v.doing ≡ false → (i : ℕ) (place : Place) (at_slot : Slot) → IsPlace kept.maps now place → SlotAt kept.maps place at_slot
       → IsReferenceWord kept.maps now (word_in now place) → get_or words i 0 ≡ word_in now place
       → (w : View) × IsStep start words (set words i (get_or words i 0)) views kept id v at live w
       × FindsReference v w at_slot place (get_or words i 0)
-  look_step i place at_slot there is_slot reference word =
-      let r = looks start words views kept id v at live place at_slot reference.reference there is_slot
+  look_step goes_on i place at_slot there is_slot reference word =
+      let r = looks start words views kept id v at live goes_on place at_slot reference.reference there is_slot
       reference.in_range reference.is reference.stands in (
         r.0,
         loaded start words views kept id v at live r.0 i r.1,
@@ -168,7 +178,7 @@ looks_at start slots id at_i a n i z me live has headed below place_is =
     ap (λ (k : ℕ). get_or words k 0) place_is
     ∙ (ap (λ (b : Began). get_or words (word_place b (a + 2 + i)) 0) stood.began
     ∙ sym (word_is start.began words (a + 2 + i) (omega arith))) in
-    let r = look_step start words views kept id me.0 at alive at_i (Field a i) (slot.Field n i) s.0 s.1 s.2 word in (
+    let r = look_step start words views kept id me.0 at alive (ap is_lacking headed) at_i (Field a i) (slot.Field n i) s.0 s.1 s.2 word in (
       r.0,
       r.1,
       λ inside. (
@@ -185,14 +195,15 @@ looks_at start slots id at_i a n i z me live has headed below place_is =
       ),
     ))
 
-pub global_looks : (start : Start) (slots id g : ℕ) (me : Me ℕ View) → 0 < me.0.parts → g < me.0.began.globals
+pub global_looks : (start : Start) (slots id g : ℕ) (me : Me ℕ View) → 0 < me.0.parts
+    → is_lacking me.0.doing ≡ false → g < me.0.began.globals
     → Allows (Rule start) slots id me (2 + g) (λ n. n) (GlobalLookPlay (step slots (2 + g) 0 0 none) me)
-global_looks start slots id g me live below =
+global_looks start slots id g me live goes_on below =
     allowed start slots id (2 + g) me (λ n. n) (GlobalLookPlay (step slots (2 + g) 0 0 none) me) live
     (λ words views kept at alive small.
     let stood = kept.seats id me.0 at alive in
     let here : g < start.began.globals = subst (λ (b : Began). g < b.globals) stood.began below in
-    let r = look_step start words views kept id me.0 at alive (2 + g) (Global g) (slot.Global g) here refl
+    let r = look_step start words views kept id me.0 at alive goes_on (2 + g) (Global g) (slot.Global g) here refl
     (kept.holds.formed.globals g here)
     (sym (global_is start.began words g here)) in (
       r.0,
@@ -232,14 +243,14 @@ numbers_at start slots id i a n j z me live has headed below place_is =
     (λ words views kept at alive small.
     let now : State = shows start.began words in
     let object = number_word start words views kept id me.0 at alive a n j z headed has below in
-    let r = numbers start words views kept id me.0 at alive a n j z object in
+    let r = numbers start words views kept id me.0 at alive (ap is_lacking headed) a n j z object in
     let word : now.word (number_place a z j) ≡ get_or words i 0 =
     sym (space_word start words views kept id me.0 at alive i (number_place a z j) (omega arith) place_is) in
-    let w : View = read start words views kept id me.0 at alive (slot.Cell n j) (Num (get_or words i 0)) me.0.known in
+    let w : View = read start words views kept id me.0 at alive (ap is_lacking headed) (slot.Cell n j) (Num (get_or words i 0)) me.0.known in
     let both : IsStep start words words views kept id me.0 at alive w × Ends me.0 w (Read (slot.Cell n j) (Num
     (get_or words i 0))) =
     subst (λ (x : ℕ).
-    let u : View = read start words views kept id me.0 at alive (slot.Cell n j) (Num x) me.0.known in
+    let u : View = read start words views kept id me.0 at alive (ap is_lacking headed) (slot.Cell n j) (Num x) me.0.known in
     IsStep start words words views kept id me.0 at alive u × Ends me.0 u (Read (slot.Cell n j) (Num x))) word r in (
       w,
       loaded start words views kept id me.0 at alive w i both.0,
@@ -270,19 +281,6 @@ one_value start words views kept id v at live held x y (inr a) (inl b) =
     absurd (let zero_ : held ≡ 0 = b.0 in let first : 1 ≤ held = some_.0 in omega arith)
 one_value start words views kept id v at live held x y (inr a) (inr b) =
     a.1 ∙ (ap Ref (one_object start words views kept id v at live held a.0 b.0 a.2 b.2) ∙ sym b.1)
-
--- a store in the space changes no word before it
-pub only_space : (start : Start) (words : List ℕ) (address x : ℕ) → 1 ≤ address
-    → word_place start.began address < length words
-    → OnlyObjects start words (set words (word_place start.began address) x)
-only_space start words address x first within_ =
-    let changes = word_changes start.began words address x first within_ in
-    record {
-      size = length-set words (word_place start.began address) x;
-      stop = get_or-set_other words (word_place start.began address) 0 x 0 (λ same. omega arith);
-      free = changes.free;
-      forward = changes.forward;
-    }
 
 -- the table has the word of an address of the space
 in_table : (start : Start) (words : List ℕ) (views : List View) (kept : Kept start words views) (address : ℕ)
@@ -315,9 +313,9 @@ stores_at start slots id i a n k held x z value me live has headed below place_i
     subst (λ (y : ℕ). WordChanges now (shows start.began (set words i x)) (a + 2 + k) y) word
     (subst (λ (p : ℕ). WordChanges now (shows start.began (set words p x)) (a + 2 + k) x) (sym place)
     (word_changes start.began words (a + 2 + k) x (omega arith) in_words)) in
-    let r = stores start words (set words i x) views kept id me.0 at alive only (Field a k) (slot.Field n k) held value
+    let r = stores start words (set words i x) views kept id me.0 at alive (ap is_lacking headed) only (Field a k) (slot.Field n k) held value
     s.0 s.1 names changes in
-    let w : View = wrote start words (set words i x) views kept id me.0 at alive only (Write (slot.Field n k) value) in (
+    let w : View = wrote start words (set words i x) views kept id me.0 at alive (ap is_lacking headed) only (Write (slot.Field n k) value) in (
       w,
       r.0,
       λ within_. (
@@ -338,9 +336,9 @@ stores_at start slots id i a n k held x z value me live has headed below place_i
     ))
 
 pub global_stores : (start : Start) (slots id g held x : ℕ) (value : Value) (me : Me ℕ View) → 0 < me.0.parts
-    → g < me.0.began.globals → Names me.0.known held value → x ≡ 4 * held
+    → is_lacking me.0.doing ≡ false → g < me.0.began.globals → Names me.0.known held value → x ≡ 4 * held
     → Allows (Rule start) slots id me (2 + g) (λ _. x) (λ found. GlobalStorePlay (step slots (2 + g) x 0 none) me x)
-global_stores start slots id g held x value me live below names word =
+global_stores start slots id g held x value me live goes_on below names word =
     allowed start slots id (2 + g) me (λ _. x) (λ found. GlobalStorePlay (step slots (2 + g) x 0 none) me x) live
     (λ words views kept at alive small.
     let stood = kept.seats id me.0 at alive in
@@ -348,16 +346,11 @@ global_stores start slots id g held x value me live below names word =
     let here : g < start.began.globals = subst (λ (b : Began). g < b.globals) stood.began below in
     let in_words : 2 + g < length words = let size = kept.size in omega arith in
     let changes = global_changes start.began words g x here in_words in
-    let only : OnlyObjects start words (set words (2 + g) x) = record {
-      size = length-set words (2 + g) x;
-      stop = get_or-set_other words (2 + g) 0 x 0 (λ same. omega arith);
-      free = changes.free;
-      forward = changes.forward;
-    } in
-    let r = stores start words (set words (2 + g) x) views kept id me.0 at alive only (Global g) (slot.Global g) held
+    let only : OnlyObjects start words (set words (2 + g) x) = only_global start words g x here in_words in
+    let r = stores start words (set words (2 + g) x) views kept id me.0 at alive goes_on only (Global g) (slot.Global g) held
     value here refl names
     (subst (λ (y : ℕ). GlobalChanges now (shows start.began (set words (2 + g) x)) g y) word changes) in
-    let w : View = wrote start words (set words (2 + g) x) views kept id me.0 at alive only
+    let w : View = wrote start words (set words (2 + g) x) views kept id me.0 at alive goes_on only
     (Write (slot.Global g) value) in (
       w,
       r.0,
@@ -397,8 +390,8 @@ number_stores start slots id i a n j x z me live has headed below place_is =
     let changes : WordChanges now (shows start.began (set words i x)) at_word x =
     subst (λ (p : ℕ). WordChanges now (shows start.began (set words p x)) at_word x) (sym place)
     (word_changes start.began words at_word x (omega arith) in_words) in
-    let r = puts start words (set words i x) views kept id me.0 at alive only a n j x z object changes in
-    let w : View = wrote start words (set words i x) views kept id me.0 at alive only
+    let r = puts start words (set words i x) views kept id me.0 at alive (ap is_lacking headed) only a n j x z object changes in
+    let w : View = wrote start words (set words i x) views kept id me.0 at alive (ap is_lacking headed) only
     (Write (slot.Cell n j) (Num x)) in (
       w,
       r.0,

@@ -1,15 +1,22 @@
 -- The rule holds where an epoch begins.
 use Rattle.std.proofs.Common.{◌≡◌, ◌≢◌, ℕ, zero, suc, ◌+◌, ◌<◌, ◌≤◌, List, [], ◌∷◌, length, map, get_or}
-use Rattle.std.proofs.Common.{refl, sym, ◌∙◌, ap, subst, arith, inl, inr, true}
+use Rattle.std.proofs.Common.{refl, sym, ◌∙◌, ap, subst, arith, inl, inr, true, false}
 use Rattle.std.proofs.lemmas.Bool.{false≢true, cases_lt}
 use Rattle.std.proofs.lemmas.List.Sums.{sum_by-cons}
 use Rattle.std.specs.List.{sum_by}
+use Rattle.std.specs.Prelude.{Some}
 use lib.ListN.{get_elem?}
 use mathlib.Core.Option.{some, some-injective, some-ne-none}
 use Rattle.atomic_table.specs.Seated.{TableId}
 use Rattle.atomic_table.specs.Table.{Me, opening}
 use Rattle.atomic_table.specs.declared.shared.Seat.{Seat}
+use Rattle.melt_model.specs.History.{shape}
 use Rattle.melt_model.specs.declared.history.Entry.{Entry}
+use Rattle.melt_word.specs.declared.header.Shape.{Shape}
+use Rattle.melt_record.proofs.Heads.{same_head}
+use Rattle.melt_record.specs.declared.head.Head.{Head}
+use Rattle.melt_record.specs.declared.head.Kind.TheVariants.{Body, Stub}
+use Rattle.melt_forward.proofs.Pairs.{forward_word-filled}
 use Rattle.melt_scion.specs.Scions.{EachOnce}
 use Rattle.melt_scion.specs.State.{State}
 use Rattle.melt_rule.proofs.Pieces.{read_at}
@@ -17,8 +24,8 @@ use Rattle.melt_rule.proofs.Views.{in_range, begins_self, saw_all}
 use Rattle.melt_rule.proofs.Within.{within}
 use Rattle.melt_rule.specs.Beginning.{maps_of, MayBegin}
 use Rattle.melt_rule.specs.Giving.{spent_view}
-use Rattle.melt_rule.specs.Rule.{Saw, SeatStands, threads_of, filled, filled_one, Kept, Rule}
-use Rattle.melt_rule.specs.Rule.{first_or_0, others_of, first_view}
+use Rattle.melt_rule.specs.Rule.{Saw, SeatStands, threads_of, filled, filled_one, BodiesTell, Kept, Rule}
+use Rattle.melt_rule.specs.Rule.{first_or_0, others_of, first_view, has_cause, is_lacking}
 use Rattle.melt_rule.specs.Seats.{IsSeat, knows_of}
 use Rattle.melt_rule.specs.Shown.{shows}
 use Rattle.melt_rule.specs.Tells.{IsWithin}
@@ -77,21 +84,21 @@ module _ (start : Start) (words : List ℕ) (may : MayBegin start words) where
   each : (P : View → Type 0) → P first → (i : ℕ) (u : View) → get_elem? (first ∷ []) i ≡ some u → P u
   each P of_first i u e = subst P (only i u e).1 of_first
 
-  threads : threads_of first ≡ start.threads
-  threads = all_threads start.history start.threads may.some_thread
+  threads : threads_of first ≡ start.began.threads
+  threads = all_threads start.began.history start.began.threads may.some_thread
 
-  first_stands : SeatStands start.began (maps_of start.began) now start.history first
+  first_stands : SeatStands start.began (maps_of start.began) now start.began.history first
   first_stands = record {
     began = refl;
-    seen = saw_all start.history first.thread start.history refl;
-    mine = saw_all start.history first.thread start.history refl;
+    seen = saw_all start.began.history first.thread start.began.history refl;
+    mine = saw_all start.began.history first.thread start.began.history refl;
     known = may.held;
     fresh = may.fresh;
     doing = tt;
   }
 
   speaks : (i p t : ℕ) (u : View) → get_elem? (first ∷ []) i ≡ some u → get_elem? (threads_of u) p ≡ some t
-      → get_elem? start.threads p ≡ some t
+      → get_elem? start.began.threads p ≡ some t
   speaks i p t u e has =
       ap (λ (l : List ℕ). get_elem? l p) (sym threads)
       ∙ (ap (λ (z : View). get_elem? (threads_of z) p) (only i u e).1 ∙ has)
@@ -99,28 +106,55 @@ module _ (start : Start) (words : List ℕ) (may : MayBegin start words) where
   sum_one : (f : View → ℕ) → sum_by f (first ∷ []) ≡ f first
   sum_one f = let s = sum_by-cons f first [] in omega arith
 
+  -- no home is forwarded yet, so that the record of each is that of its object
+  bodies : start.began.told ≡ true → BodiesTell start.began
+  bodies told home n z is head =
+      let stands = (may.holds.tells told).homes home n is in
+      let reserved : Shape = stands.reserved_for in
+      let body_head : Head = record { shape = z; kind = Body } in
+      elim stands.is [
+        | inl body ↦
+            let one = (same_head home now.base.end home now.base.end (now.base.image home) (now.base.image (home + 1))
+            (record { shape = reserved; kind = Body }) body_head body.head head).1 in
+            subst (λ (y : Shape). shape start.began.history n ≡ Some (record { refs = y.refs; nums = y.nums }))
+            (ap (λ (x : Head). x.shape) one)
+            stands.shape_is
+        | inr (inl stub) ↦ absurd (
+            let one = (same_head home now.base.end home now.base.end (now.base.image home) (now.base.image (home + 1))
+            (record { shape = reserved; kind = Stub stub.scion }) body_head stub.head head).1 in
+            let kinds : Stub stub.scion ≡ Body = ap (λ (x : Head). x.kind) one in
+            cc
+            )
+        | inr (inr forwarded) ↦ absurd (
+            forward_word-filled home forwarded.address forwarded.forwards.sends.home_in_range
+            (sym forwarded.forwards.sends.is ∙ may.unfilled forwarded.forwards.place forwarded.forwards.within)
+            )
+      ]
+
   pub begins : Kept start words (first ∷ [])
   begins = record {
-    history = start.history;
+    history = start.began.history;
     maps = maps_of start.began;
     size = may.size;
     legal = may.legal;
     holds = may.holds;
     first = may.first;
     few = may.few;
+    bodies = bodies;
     maps_stand = record { homes = λ home. refl; begun = λ a n is. is; only = λ a n is. inl is };
-    seats = λ i u e alive. each (SeatStands start.began (maps_of start.began) now start.history) first_stands i u e;
-    away = λ i p u a e alive has. away_saw start.history (others_of start.threads) p a
+    seats = λ i u e alive. each (SeatStands start.began (maps_of start.began) now start.began.history) first_stands i u e;
+    away = λ i p u a e alive has. away_saw start.began.history (others_of start.began.threads) p a
         (ap (λ (z : View). get_elem? z.away p) (only i u e).1 ∙ has);
     spent = each (λ (u : View). u.parts ≡ 0 → u ≡ spent_view)
         (λ none. absurd (let some_ = may.some_thread in omega arith));
     distinct = λ i j p q t x y ex ey lx ly hp hq. (
       (only i x ex).0 ∙ sym (only j y ey).0,
-      one_place start.threads p q t may.each_once (speaks i p t x ex hp) (speaks j q t y ey hq),
+      one_place start.began.threads p q t may.each_once (speaks i p t x ex hp) (speaks j q t y ey hq),
     );
     apart = λ i j x y ne ex ey lx ly. absurd (ne ((only i x ex).0 ∙ sym (only j y ey).0));
     whole = record { seat = 0; view = first; at = refl; live = may.some_thread; seen = refl };
-    since = begins_self start.history;
+    members = λ i p t u e alive has. (p, speaks i p t u e has);
+    since = begins_self start.began.history;
     strangers = λ t none. refl;
     sums = record {
       parts = sum_one (λ (u : View). u.parts);
@@ -135,6 +169,8 @@ module _ (start : Start) (words : List ℕ) (may : MayBegin start words) where
       stopped = each (λ (u : View). u.stopped ≡ true → get_or words 0 0 ≡ 1) (λ is. absurd (false≢true is));
       spaced = each (λ (u : View). u.spaced ≡ true → start.began.size + 1 < now.free) (λ is. absurd (false≢true is));
       lacks = each (λ (u : View). u.over ≢ 0 → u.spaced ≡ true) (λ some_. absurd (some_ refl));
+      sets = each (λ (u : View). has_cause u ≡ true → is_lacking u.doing ≡ false → get_or words 0 0 ≡ 1)
+          (λ cause. absurd (false≢true cause));
       forwarded = each (λ (u : View). u.forwarded ≡ true → (p : ℕ) → p < start.began.forwards → now.forward p ≢ 0)
           (λ is. absurd (false≢true is));
     };

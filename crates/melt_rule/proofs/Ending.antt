@@ -79,7 +79,7 @@ has_none pairs a n none has =
     (sym (ap (λ (l : List Pair). get_elem? l has.0) (sym none) ∙ has.1))
 
 module _ (start : Start) (words : List ℕ) (views : List View) (kept : Kept start words views) (id : ℕ) (v : View)
-    (at : get_elem? views id ≡ some v) (live : 0 < v.parts) (all : v.parts ≡ length start.threads) where
+    (at : get_elem? views id ≡ some v) (live : 0 < v.parts) (all : v.parts ≡ length start.began.threads) where
   abbrev now : State
   now = shows start.began words
 
@@ -131,7 +131,7 @@ module _ (start : Start) (words : List ℕ) (views : List View) (kept : Kept sta
   history_ends : HistoryEnds start v
   history_ends = record {
     legal = λ told. subst (λ (h : List Entry). Legal h start.began.globals) (sym whole) (kept.legal told);
-    since = subst (Begins start.history) (sym whole) kept.since;
+    since = subst (Begins start.began.history) (sym whole) kept.since;
     mine = saw v.thread v.mine stood.mine;
     away = λ p a has. saw a.thread a.seen (kept.away id p v a at live has);
     strangers = λ t none.
@@ -149,6 +149,7 @@ module _ (start : Start) (words : List ℕ) (views : List View) (kept : Kept sta
     bit = kept.stop.bit;
     stopped = kept.stop.stopped id v at;
     caused = caused;
+    sets = kept.stop.sets id v at;
   }
 
   pub ends : HasEnded start words v
@@ -172,7 +173,7 @@ module _ (start : Start) (words : List ℕ) (views : List View) (kept : Kept sta
 
 -- the words of a table that was closed with such a seat
 pub closes : (start : Start) (id : ℕ) (v : View) (words slots : List ℕ) → Final (Seen (Rule start) id v) words slots
-    → 0 < v.parts → v.parts ≡ length start.threads → HasEnded start words v
+    → 0 < v.parts → v.parts ≡ length start.began.threads → HasEnded start words v
 closes start id v words slots final live all =
     let kept : Kept start words final.0.views =
     subst (λ (l : List ℕ). Kept start l final.0.views) final.2 final.1.0 in

@@ -1,6 +1,6 @@
 -- The rule holds behind a seat that was given.
 use Rattle.std.proofs.Common.{◌≡◌, ◌≢◌, ℕ, zero, suc, ◌+◌, ◌<◌, ◌≤◌, List, [], ◌∷◌, ◌++◌, length, map, get_or}
-use Rattle.std.proofs.Common.{refl, sym, ◌∙◌, ap, subst, arith, inl, inr, true}
+use Rattle.std.proofs.Common.{refl, sym, ◌∙◌, ap, subst, arith, inl, inr, true, false}
 use Rattle.std.proofs.Math.ListN.{set, length-set}
 use Rattle.std.proofs.lemmas.Bool.{false≢true}
 use Rattle.std.proofs.lemmas.List.Sums.{sum_by-cons, sum_by-append}
@@ -18,7 +18,7 @@ use Rattle.melt_rule.proofs.Pieces.{at_end}
 use Rattle.melt_rule.proofs.Views.{in_range, sum_set}
 use Rattle.melt_rule.specs.Giving.{first_away, others_away, giver_view, given_view, spent_view}
 use Rattle.melt_rule.specs.Rule.{Has, Knowing, Saw, SeatStands, threads_of, Whole, SumsStand}
-use Rattle.melt_rule.specs.Rule.{has_cause, StopStands, Kept, Rule}
+use Rattle.melt_rule.specs.Rule.{has_cause, is_lacking, StopStands, Kept, Rule}
 use Rattle.melt_rule.specs.Seats.{EpochWords, IsSeat, knows_of}
 use Rattle.melt_rule.specs.Shown.{shows, owned}
 use Rattle.melt_rule.specs.Tells.{IsWithin}
@@ -287,7 +287,7 @@ module _ (start : Start) (words : List ℕ) (views : List View) (kept : Kept sta
       let last = sum_by-cons f right [] in
       omega arith
 
-  sums_kept : SumsStand start.began (length start.threads) now after
+  sums_kept : SumsStand start.began (length start.began.threads) now after
   sums_kept = record {
     parts = let s = sum_kept (λ (u : View). u.parts) in let o = kept.sums.parts in omega arith;
     free = let s = sum_kept (λ (u : View). u.claimed) in let o = kept.sums.free in omega arith;
@@ -316,6 +316,10 @@ module _ (start : Start) (words : List ℕ) (views : List View) (kept : Kept sta
         kept.stop.spaced;
     lacks = each (λ (u : View). u.over ≢ 0 → u.spaced ≡ true) (kept.stop.lacks id v at) (λ some_. absurd (some_ refl))
         kept.stop.lacks;
+    sets = each (λ (u : View). has_cause u ≡ true → is_lacking u.doing ≡ false → get_or words 0 0 ≡ 1)
+        (kept.stop.sets id v at)
+        (λ cause. absurd (false≢true cause))
+        kept.stop.sets;
     forwarded = each (λ (u : View). u.forwarded ≡ true → (p : ℕ) → p < start.began.forwards → now.forward p ≢ 0)
         (kept.stop.forwarded id v at)
         (λ is. absurd (false≢true is))
@@ -331,6 +335,7 @@ module _ (start : Start) (words : List ℕ) (views : List View) (kept : Kept sta
     holds = kept.holds;
     first = kept.first;
     few = kept.few;
+    bodies = kept.bodies;
     maps_stand = record {
       homes = kept.maps_stand.homes;
       begun = kept.maps_stand.begun;
@@ -352,6 +357,11 @@ module _ (start : Start) (words : List ℕ) (views : List View) (kept : Kept sta
         one_origin i p j q t (origin i p t x ex lx hp) (origin j q t y ey ly hq);
     apart = apart_kept;
     whole = whole_kept;
+    members = λ i p t u e alive has. elim (origin i p t u e alive has) [
+      | from_left q a b c d ↦ kept.members id q t v at live d
+      | from_right a b c ↦ kept.members id 1 t v at live c
+      | from_before x a b c d ↦ kept.members i p t x b c d
+    ];
     since = kept.since;
     strangers = λ t none. kept.strangers t (λ i p u e alive has. let x = speaks i p t u e alive has in
         none x.seat x.place x.view x.is x.alive x.has);
@@ -380,7 +390,12 @@ giver_seat words old new seat two table is =
       none = ap (λ (m : Me ℕ View). m.1) is ∙ seat.none;
       live = subst (λ (v : View). 0 < v.parts) (sym knows) (omega arith);
       began = ap (λ (v : View). v.began) knows ∙ seat.began;
-      within = subst IsWithin (sym knows) (record { known = seat.within.known; doing = seat.within.doing });
+      within = subst IsWithin (sym knows) (record {
+        known = seat.within.known;
+        one_object = seat.within.one_object;
+        one_address = seat.within.one_address;
+        doing = seat.within.doing;
+      });
     }
 
 -- and the seat that was given
@@ -393,5 +408,10 @@ given_seat words old new seat table is =
       none = ap (λ (m : Me ℕ View). m.1) is;
       live = subst (λ (v : View). 0 < v.parts) (sym knows) (omega arith);
       began = ap (λ (v : View). v.began) knows ∙ seat.began;
-      within = subst IsWithin (sym knows) (record { known = seat.within.known; doing = tt });
+      within = subst IsWithin (sym knows) (record {
+        known = seat.within.known;
+        one_object = seat.within.one_object;
+        one_address = seat.within.one_address;
+        doing = tt;
+      });
     }

@@ -1,6 +1,6 @@
 -- A step of one seat keeps the rule, where it is an event of the core and shows what is asked of its own view.
 use Rattle.std.proofs.Common.{◌≡◌, ◌≢◌, ◌⊎◌, ℕ, suc, ◌+◌, ◌*◌, ◌<◌, ◌≤◌, List, [], ◌∷◌, ◌++◌, length, map, get_or}
-use Rattle.std.proofs.Common.{refl, sym, ◌∙◌, ap, subst, arith, inl, inr, Bool, true}
+use Rattle.std.proofs.Common.{refl, sym, ◌∙◌, ap, subst, arith, inl, inr, Bool, true, false}
 use Rattle.std.proofs.Math.ListN.{set}
 use Rattle.std.specs.Prelude.{Option, None, Some}
 use lib.ListN.{get_elem?}
@@ -23,9 +23,9 @@ use Rattle.melt_core.specs.Events.{Event, Keeps}
 use Rattle.melt_core.specs.Known.{Evolves, RegionStays}
 use Rattle.melt_rule.proofs.Views.{in_range, sum_set, begins_on, own_other, saw_other, saw_all}
 use Rattle.melt_rule.specs.Rule.{Has, Knowing, Saw, SeatStands, threads_of, MapsStand, filled, SumsStand}
-use Rattle.melt_rule.specs.Rule.{has_cause, StopStands, Kept}
+use Rattle.melt_rule.specs.Rule.{has_cause, is_lacking, StopStands, Kept}
 use Rattle.melt_rule.specs.Shown.{shows, Knows, owned, stage_of}
-use Rattle.melt_rule.specs.Tells.{Sees, Adds}
+use Rattle.melt_rule.specs.Tells.{Since, Sees, Adds}
 use Rattle.melt_rule.specs.declared.began.Began.{Began}
 use Rattle.melt_rule.specs.declared.began.Start.{Start}
 use Rattle.melt_rule.specs.declared.view.Away.{Away}
@@ -56,6 +56,7 @@ module _ (start : Start) (words after : List ℕ) (views : List View) (kept : Ke
     pub stopped : w.stopped ≡ true → get_or after 0 0 ≡ 1
     pub spaced : w.spaced ≡ true → start.began.size + 1 < new.free
     pub lacks : w.over ≢ 0 → w.spaced ≡ true
+    pub sets : has_cause w ≡ true → is_lacking w.doing ≡ false → get_or after 0 0 ≡ 1
     pub forwarded : w.forwarded ≡ true → (p : ℕ) → p < start.began.forwards → new.forward p ≢ 0
 
   -- what it counts
@@ -246,7 +247,7 @@ module _ (start : Start) (words after : List ℕ) (views : List View) (kept : Ke
       ];
     }
 
-    sums_kept : SumsStand start.began (length start.threads) new (set views id w)
+    sums_kept : SumsStand start.began (length start.began.threads) new (set views id w)
     sums_kept = record {
       parts =
           let a = sum_set (λ (u : View). u.parts) views id v w at in
@@ -307,6 +308,8 @@ module _ (start : Start) (words after : List ℕ) (views : List View) (kept : Ke
       spaced = each (λ (u : View). u.spaced ≡ true → start.began.size + 1 < new.free) s.stops.spaced
           (λ i u e is. let a = kept.stop.spaced i u e is in let b : old.free ≤ new.free = keeps.evolves.free in omega arith);
       lacks = each (λ (u : View). u.over ≢ 0 → u.spaced ≡ true) s.stops.lacks kept.stop.lacks;
+      sets = each (λ (u : View). has_cause u ≡ true → is_lacking u.doing ≡ false → get_or after 0 0 ≡ 1) s.stops.sets
+          (λ i u e cause goes. set_still (kept.stop.sets i u e cause goes));
       forwarded = each
           (λ (u : View). u.forwarded ≡ true → (p : ℕ) → p < start.began.forwards → new.forward p ≢ 0)
           s.stops.forwarded
@@ -324,6 +327,7 @@ module _ (start : Start) (words after : List ℕ) (views : List View) (kept : Ke
       holds = keeps.holds;
       first = kept.first;
       few = kept.few;
+      bodies = kept.bodies;
       maps_stand = maps_kept;
       seats = λ i u e alive. elim (cases w i u e) [
         | inl x ↦ subst (SeatStands start.began s.maps new later) x.1 own_seat
@@ -340,7 +344,10 @@ module _ (start : Start) (words after : List ℕ) (views : List View) (kept : Ke
           kept.distinct i j p q t a.view b.view a.is b.is a.alive b.alive a.has b.has;
       apart = apart_kept;
       whole = record { seat = id; view = w; at = here w; live = alive_still; seen = s.seen };
-      since = begins_on v.thread start.history kept.history s.act kept.since;
+      members = λ i p t u e alive has.
+          let x = spoke i p t u e alive has in
+          kept.members i p t x.view x.is x.alive x.has;
+      since = begins_on v.thread start.began.history kept.history s.act kept.since;
       strangers = λ t none.
           own_other v.thread t kept.history s.act (λ same. none id 0 w (here w) alive_still (ap some (s.thread ∙ same)))
           ∙ kept.strangers t (λ i p u e alive has. let x = speaks i p t u e alive has in
@@ -357,6 +364,16 @@ module _ (start : Start) (words after : List ℕ) (views : List View) (kept : Ke
         (subst (λ (b : Began). Legal later b.globals) (sym began)
         (keeps.legal (sym (ap (λ (b : Began). b.told) began) ∙ told)))
 
+    -- its entries since the beginning are of threads that take part
+    since_seen : Since v.began w.seen
+    unfolding keep
+    since_seen =
+        let began : v.began ≡ start.began = (kept.seats id v at live).began in
+        subst (λ (h : List Entry). Since v.began h) (sym s.seen) (subst (λ (b : Began). Since b later) (sym began) (record {
+          begins = keep.since;
+          strangers = λ t none. keep.strangers t (λ i p u e alive has. none (keep.members i p t u e alive has));
+        }))
+
     -- what the step tells of the history, where it had no entry
     pub sees : s.act ≡ None → Sees v w.seen
     sees none =
@@ -364,6 +381,7 @@ module _ (start : Start) (words after : List ℕ) (views : List View) (kept : Ke
         let whole : w.seen ≡ kept.history = s.seen ∙ ap (with_entry v.thread kept.history) none in
         record {
           begins = (stood.seen.begins.0, stood.seen.begins.1 ∙ sym whole);
+          since = since_seen;
           legal = legal_seen;
           own_same = ap (λ (z : List Entry). own z v.thread) whole ∙ stood.seen.own_same;
         }
@@ -379,6 +397,7 @@ module _ (start : Start) (words after : List ℕ) (views : List View) (kept : Ke
         record {
           between = more.0;
           seen = whole ∙ ap (λ (z : List Entry). z ++ entry v.thread act ∷ []) e;
+          since = since_seen;
           legal = legal_seen;
           own_grows = ap (λ (z : List Entry). own z v.thread) whole
               ∙ (own-push_own kept.history (entry v.thread act) v.thread refl

@@ -2,6 +2,7 @@ pub mod Views
 pub mod Keeping
 pub mod Showing
 pub mod Within
+pub mod Leaving
 pub mod Loads
 pub mod Stores
 pub mod Allowed
@@ -17,4 +18,8 @@ pub mod Beginning
 pub mod Ending
 pub mod Clearing
 pub mod Untagging
+pub mod Probing
+pub mod Forwards
 pub mod Laying
+pub mod Copying
+pub mod Committing

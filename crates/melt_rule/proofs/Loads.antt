@@ -1,5 +1,5 @@
 -- A load keeps the rule: the words stay, and the seat learns what it found.
-use Rattle.std.proofs.Common.{◌≡◌, ◌⊎◌, ℕ, zero, suc, ◌<◌, Bool, true, List, [], ◌∷◌, ◌++◌, get_or}
+use Rattle.std.proofs.Common.{◌≡◌, ◌⊎◌, ℕ, zero, suc, ◌<◌, Bool, true, false, List, [], ◌∷◌, ◌++◌, get_or}
 use Rattle.std.proofs.Common.{refl, sym, ◌∙◌, ap, subst, arith, inl, inr}
 use Rattle.std.specs.Prelude.{Option, None, Some}
 use Rattle.std.specs.Option.{option_map}
@@ -19,6 +19,7 @@ use Rattle.melt_word.specs.declared.header.Shape.{Shape}
 use Rattle.melt_word.specs.declared.reference.Ref as word
 use Rattle.melt_word.specs.declared.reference.Ref.TheVariants.{Null, Clean, Stale, Disk}
 use Rattle.melt_scion.specs.Changes.{SameWords}
+use Rattle.melt_scion.specs.GhostMaps.{named}
 use Rattle.melt_scion.specs.Placed.{MayStand, value_of}
 use Rattle.melt_scion.specs.Regions.{Region, no_region, Apart}
 use Rattle.melt_scion.specs.State.{State, IsFresh}
@@ -29,10 +30,12 @@ use Rattle.melt_core.specs.Events.{Event, LastAt, IsNumberWord, number_place}
 use Rattle.melt_core.specs.Events.Event.{quiet, reads_place, reads_number}
 use Rattle.melt_core.specs.Known.{IsPlace, SlotAt, IsTagged, HasTag, HasLooked, word_in}
 use Rattle.melt_core.specs.declared.call.Place.{Place}
+use Rattle.melt_core.specs.declared.call.Search.{Search}
 use Rattle.melt_rule.proofs.Keeping.{IsStep, sees, adds}
-use Rattle.melt_rule.specs.Rule.{Has, SeatStands, Kept}
+use Rattle.melt_rule.specs.Rule.{Has, SeatStands, Kept, is_lacking}
 use Rattle.melt_rule.specs.Shown.{shows, Knows, owned}
-use Rattle.melt_rule.specs.Tells.{HasAll, Adds, behind, Reaches, Looks, Ends, Polls}
+use Rattle.melt_rule.specs.Tells.{HasAll, Adds, behind, Reaches, Looks, Ends, Polls, search_for}
+use Rattle.melt_rule.specs.declared.began.Began.{Began}
 use Rattle.melt_rule.specs.declared.began.Pair.{Pair}
 use Rattle.melt_rule.specs.declared.began.Start.{Start}
 use Rattle.melt_rule.specs.declared.view.Doing.{Doing}
@@ -48,9 +51,10 @@ no_tag r found range is none tagged =
     none (subst HasTag (same_ref tagged.reference r tagged.in_range range (sym tagged.is ∙ is)) tagged.tag)
 
 -- a home that stands for a value has an object
-home_object : (home : Option ℕ) (value : Value) → option_map Ref home ≡ Some value → (n : ℕ) × (home ≡ Some n)
+home_object : (home : Option ℕ) (value : Value) → option_map Ref home ≡ Some value
+    → (n : ℕ) × (home ≡ Some n) × (value ≡ Ref n)
 home_object None value is = absurd (cc)
-home_object (Some n) value is = (n, refl)
+home_object (Some n) value is = (n, refl, (let e : Some (Ref n) ≡ Some value = is in cc))
 
 -- a pair more
 pub snoc_old : (l : List Pair) (x : Pair) → HasAll l (l ++ x ∷ [])
@@ -68,7 +72,7 @@ snoc_here [] x = (0, refl)
 snoc_here (y ∷ l) x = let t = snoc_here l x in (suc t.0, t.1)
 
 module _ (start : Start) (words : List ℕ) (views : List View) (kept : Kept start words views) (id : ℕ) (v : View)
-    (at : get_elem? views id ≡ some v) (live : 0 < v.parts) where
+    (at : get_elem? views id ≡ some v) (live : 0 < v.parts) (goes_on : is_lacking v.doing ≡ false) where
   abbrev pub now : State
   now = shows start.began words
 
@@ -129,6 +133,7 @@ module _ (start : Start) (words : List ℕ) (views : List View) (kept : Kept sta
       stopped = set_;
       spaced = kept.stop.spaced id v at;
       lacks = kept.stop.lacks id v at;
+      sets = λ cause goes. kept.stop.sets id v at cause goes_on;
       forwarded = kept.stop.forwarded id v at;
     };
   }
@@ -194,6 +199,16 @@ module _ (start : Start) (words : List ℕ) (views : List View) (kept : Kept sta
       let stands = place_stands kept.history kept.maps now place slot (kept.holds.tells told) there is_slot in
       let one : stands.reference ≡ r = same_ref stands.reference r stands.in_range range (sym stands.is ∙ is) in
       subst (λ (x : word.Ref). value_of kept.maps x ≡ Some (last kept.history slot)) one stands.stands_for
+
+  -- the object of a home that a slot held
+  home_held : (home : ℕ) (slot : Slot) → option_map Ref (kept.maps.home home) ≡ Some (last kept.history slot)
+      → (n : ℕ) × (named v.began.maps.homes home ≡ Some n) × (last kept.history slot ≡ Ref n)
+  home_held home slot held =
+      let n = home_object (kept.maps.home home) (last kept.history slot) held in (
+        n.0,
+        ap (λ (b : Began). named b.maps.homes home) stood.began ∙ (sym (kept.maps_stand.homes home) ∙ n.1),
+        n.2,
+      )
 
   -- what a look at a place finds
   pub looks : (place : Place) (slot : Slot) (r : word.Ref) → IsPlace kept.maps now place → SlotAt kept.maps place slot
@@ -263,10 +278,18 @@ module _ (start : Start) (words : List ℕ) (views : List View) (kept : Kept sta
         may_stand = may;
         unless_clean = λ tagged. is;
       } in
-      let r = reaches (Some (Searching place home 0)) (record {
+      let search : Search = search_for place home in
+      let held : start.began.told ≡ true → option_map Ref (kept.maps.home home) ≡ Some (last kept.history slot) =
+      stands_at place slot (Disk home) there is_slot range is in
+      let r = reaches (Some (Searching search)) (record {
         looked = looked;
         probed = record { few = omega arith; others = λ i less. absurd (omega arith) };
-        object = λ told. home_object (kept.maps.home home) (last kept.history slot)
-            (stands_at place slot (Disk home) there is_slot range is told);
-      }) refl in
-      (behind v kept.history v.known (Some (Searching place home 0)), r.0, r.1)
+        object = λ told. let n = home_object (kept.maps.home home) (last kept.history slot) (held told) in (n.0, n.1);
+      }) refl in (
+        behind v kept.history v.known (Some (Searching search)),
+        r.0,
+        record {
+          reaches = r.1;
+          held = λ told. home_held home slot (held (sym (ap (λ (b : Began). b.told) stood.began) ∙ told));
+        },
+      )

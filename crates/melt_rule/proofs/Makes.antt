@@ -31,17 +31,17 @@ use Rattle.melt_core.specs.Events.Event.{claims, stores, publishes}
 use Rattle.melt_core.specs.Known.{Evolves, region}
 use Rattle.melt_rule.proofs.Keeping.{IsStep, sees, adds}
 use Rattle.melt_rule.proofs.Loads.{snoc_old, snoc_new, snoc_here}
+use Rattle.melt_rule.proofs.Leaving.{OnlyObjects, leaves, leaves_same, only_space}
 use Rattle.melt_rule.proofs.Showing.{free_moves, word_changes, filled_same}
-use Rattle.melt_rule.proofs.Stores.{OnlyObjects}
 use Rattle.melt_rule.specs.Making.{Claims, Lacks, Makes}
-use Rattle.melt_rule.specs.Rule.{Has, SeatStands, Kept, has_cause}
+use Rattle.melt_rule.specs.Rule.{Has, SeatStands, Kept, has_cause, is_lacking}
 use Rattle.melt_rule.specs.Shown.{shows, Knows, owned, word_place}
-use Rattle.melt_rule.specs.Tells.{HasAll, Adds, behind, Reaches}
+use Rattle.melt_rule.specs.Tells.{Adds, behind, Reaches}
 use Rattle.melt_rule.specs.declared.began.Began.{Began}
 use Rattle.melt_rule.specs.declared.began.Pair.{Pair}
 use Rattle.melt_rule.specs.declared.began.Start.{Start}
 use Rattle.melt_rule.specs.declared.view.Doing.{Doing}
-use Rattle.melt_rule.specs.declared.view.Doing.TheVariants.{Claimed, Lacking}
+use Rattle.melt_rule.specs.declared.view.Doing.TheVariants.{Claimed, Lacking, Copying, Copied, Retrying}
 use Rattle.melt_rule.specs.declared.view.View.{View}
 
 -- some shape has the cost
@@ -72,12 +72,22 @@ apart_none : (r : Region) → Apart r no_region
 apart_none r = apart_sym no_region r (no_region_apart r)
 
 -- words from the first free place on are apart from those that a call owns
-free_apart : (told : Bool) (maps : Maps) (s : State) (rest : List ℕ) (words : ℕ) (doing : Option Doing)
+free_apart_from : (maps : Maps) (s : State) (words : ℕ) (r : Region) → Owns maps s r
+    → Apart (record { at = s.free; words = words }) r
+free_apart_from maps s words r owns =
+    apart_sym r (record { at = s.free; words = words }) (claimed_apart maps s words r owns)
+
+pub free_apart : (told : Bool) (maps : Maps) (s : State) (rest : List ℕ) (words : ℕ) (doing : Option Doing)
     → Knows told maps s rest doing → Apart (record { at = s.free; words = words }) (owned doing)
 free_apart told maps s rest words None knows = apart_none (record { at = s.free; words = words })
 free_apart told maps s rest words (Some (Claimed address shape stored)) knows =
-    apart_sym (region address shape) (record { at = s.free; words = words })
-    (claimed_apart maps s words (region address shape) knows.1.owns)
+    free_apart_from maps s words (region address shape) knows.1.owns
+free_apart told maps s rest words (Some (Copying a stored)) knows = free_apart_from maps s words (region a.address a.shape)
+    knows.1.owns
+free_apart told maps s rest words (Some (Copied a)) knows = free_apart_from maps s words (region a.address a.shape)
+    knows.0.copy.owns
+free_apart told maps s rest words (Some (Retrying a)) knows = free_apart_from maps s words (region a.address a.shape)
+    knows.copy.owns
 free_apart told maps s rest words (Some doing) knows = apart_none (record { at = s.free; words = words })
 
 -- the view behind the entry of a new object
@@ -96,7 +106,7 @@ told_makes v h address z told =
     record { adds = told; is = ap view (ap made front) }
 
 -- a thread owns its words behind a change of another word
-owns_still : (maps : Maps) (s t : State) (r : Region) → FormedWords maps s → Evolves maps maps s t 0 → Owns maps s r
+pub owns_still : (maps : Maps) (s t : State) (r : Region) → FormedWords maps s → Evolves maps maps s t 0 → Owns maps s r
     → Owns maps t r
 owns_still maps s t r formed evolves owns = record {
   first = owns.first;
@@ -118,10 +128,10 @@ module _ (start : Start) (words : List ℕ) (views : List View) (kept : Kept sta
   stood : SeatStands start.began kept.maps old kept.history v
   stood = kept.seats id v at live
 
-  abbrev free : ℕ
+  abbrev pub free : ℕ
   free = get_or words 1 0
 
-  sizes : length words ≡ 2 + start.began.globals + start.began.forwards + start.began.size
+  pub sizes : length words ≡ 2 + start.began.globals + start.began.forwards + start.began.size
   sizes = kept.size
 
   -- the first free place stays so small that no claim wraps
@@ -131,8 +141,8 @@ module _ (start : Start) (words : List ℕ) (views : List View) (kept : Kept sta
       let bound : free ≤ start.began.size + 1 + 126 * sum_by (λ (u : View). u.over) views = kept.sums.bound in
       let over : sum_by (λ (u : View). u.over) views ≤ sum_by (λ (u : View). u.parts) views =
       sum_below (λ (u : View). u.over) (λ (u : View). u.parts) views kept.sums.over in
-      let parts : sum_by (λ (u : View). u.parts) views ≡ length start.threads = kept.sums.parts in
-      let few : length start.threads ≤ 8 = kept.few in
+      let parts : sum_by (λ (u : View). u.parts) views ≡ length start.began.threads = kept.sums.parts in
+      let few : length start.began.threads ≤ 8 = kept.few in
       let wide : free + cost < 18446744073709551616 = omega arith in
       wide
 
@@ -143,107 +153,167 @@ module _ (start : Start) (words : List ℕ) (views : List View) (kept : Kept sta
   moves : (cost : ℕ) → FreeMoves old (shows start.began (claimed_words cost)) (free + cost)
   moves cost = free_moves start.began words (free + cost) (let size = sizes in omega arith)
 
-  -- the view behind a claim of so many words
-  abbrev pub claimed : ℕ → ℕ → Bool → Doing → View
-  claimed cost over spaced doing = record (behind v kept.history v.known (Some doing)) {
+  -- so an event it is to claim so many words
+  pub claim_evolves : (cost : ℕ) → Evolves kept.maps kept.maps old (shows start.began (claimed_words cost)) 0
+  claim_evolves cost =
+      evolves_event start.began.told kept.history kept.maps kept.maps old (shows start.began (claimed_words cost))
+      no_region 0 None kept.holds.formed
+      (claims cost refl (moves cost))
+
+  -- the view behind a claim of so many words, by a call that knows these words of a record
+  abbrev pub claimed : List ℕ → ℕ → ℕ → Bool → Doing → View
+  claimed rest cost over spaced doing = record (behind v kept.history v.known (Some doing)) {
+    rest = rest;
     claimed = v.claimed + cost;
     over = over;
     spaced = spaced;
   }
 
   -- What a claim shows of its call and its counts.
-  record Counts (cost over : ℕ) (lacked : Bool) (doing : Doing) : Type 0 where
-    pub knows : Knows start.began.told kept.maps (shows start.began (claimed_words cost)) v.rest (Some doing)
+  pub record Counts (rest : List ℕ) (cost over : ℕ) (lacked : Bool) (doing : Doing) : Type 0 where
+    pub knows : Knows start.began.told kept.maps (shows start.began (claimed_words cost)) rest (Some doing)
     pub apart : (i : ℕ) (u : View) → i ≢ id → get_elem? views i ≡ some u → 0 < u.parts
         → Apart (owned (Some doing)) (owned u.doing)
     pub below : over ≤ v.parts
     pub bound : (free + cost + 126 * v.over ≤ free + 126 * over) ⊎ (free + cost ≤ start.began.size + 1)
     pub spaced : lacked ≡ true → start.began.size + 1 < free + cost
     pub lacks : over ≢ 0 → lacked ≡ true
+    pub caused : (is_lacking (Some doing) ≡ true) ⊎ (lacked ≡ v.spaced)
 
-  moved : (cost over : ℕ) (spaced : Bool) (doing : Doing) → has_cause v ≡ false → Counts cost over spaced doing
-      → IsStep start words (claimed_words cost) views kept id v at live (claimed cost over spaced doing)
-  moved cost over spaced doing no_cause counts =
+  pub moved : (rest : List ℕ) (cost over : ℕ) (spaced : Bool) (doing : Doing) → has_cause v ≡ false
+      → Counts rest cost over spaced doing
+      → (step : IsStep start words (claimed_words cost) views kept id v at live (claimed rest cost over spaced doing))
+      × (step.act ≡ None)
+  moved rest cost over spaced doing no_cause counts =
       let new : State = shows start.began (claimed_words cost) in
       let moves : FreeMoves old new (free + cost) = moves cost in
       let is : new.free ≡ free + cost = moves.is in
       let event : Event start.began.told kept.history kept.maps kept.maps old new no_region 0 None =
       claims cost refl moves in
-      let evolves : Evolves kept.maps kept.maps old new 0 =
-      evolves_event start.began.told kept.history kept.maps kept.maps old new no_region 0 None kept.holds.formed
-      event in
+      let evolves : Evolves kept.maps kept.maps old new 0 = claim_evolves cost in
       let stop : get_or (claimed_words cost) 0 0 ≡ get_or words 0 0 =
-      get_or-set_other words 1 0 (free + cost) 0 (λ same. omega arith) in
-      record {
-        maps = kept.maps;
-        mine = no_region;
-        cleared = 0;
-        act = None;
-        event = event;
-        mine_apart = λ i u other is alive. no_region_apart (owned u.doing);
-        size = length-set words 1 (free + cost);
-        names = λ a n named. inl named;
-        parts = refl;
-        thread = refl;
-        began = refl;
-        away = refl;
-        seen = refl;
-        own_seen = refl;
-        more = λ a n has. has;
-        known = stood.known;
-        fresh = λ a n has. fresh_stays kept.maps kept.maps old new 0 kept.holds.formed evolves a
-            (n, stood.known a n has)
-            (stood.fresh a n has);
-        doing = counts.knows;
-        apart = counts.apart;
-        sums = record {
-          free = omega arith;
-          bound = elim counts.bound [ inl few ↦ inl (omega arith) | inr fits ↦ inr (omega arith) ];
-          over = counts.below;
-          won = ap (λ (k : ℕ). k + v.won)
-              (filled_same old.forward new.forward start.began.forwards (λ p below. moves.forward p));
-        };
-        stops = record {
-          bit = inl stop;
-          causes = λ cause. let e : false ≡ true = sym no_cause ∙ cause in absurd (cc);
-          stopped = λ found. stop ∙ kept.stop.stopped id v at found;
-          spaced = λ lacks. let past = counts.spaced lacks in omega arith;
-          lacks = counts.lacks;
-          forwarded = λ found p below empty. kept.stop.forwarded id v at found p below (sym (moves.forward p) ∙ empty);
-        };
-      }
+      get_or-set_other words 1 0 (free + cost) 0 (λ same. omega arith) in (
+        record {
+          maps = kept.maps;
+          mine = no_region;
+          cleared = 0;
+          act = None;
+          event = event;
+          mine_apart = λ i u other is alive. no_region_apart (owned u.doing);
+          size = length-set words 1 (free + cost);
+          names = λ a n named. inl named;
+          parts = refl;
+          thread = refl;
+          began = refl;
+          away = refl;
+          seen = refl;
+          own_seen = refl;
+          more = λ a n has. has;
+          known = stood.known;
+          fresh = λ a n has. fresh_stays kept.maps kept.maps old new 0 kept.holds.formed evolves a
+              (n, stood.known a n has)
+              (stood.fresh a n has);
+          doing = counts.knows;
+          apart = counts.apart;
+          sums = record {
+            free = omega arith;
+            bound = elim counts.bound [ inl few ↦ inl (omega arith) | inr fits ↦ inr (omega arith) ];
+            over = counts.below;
+            won = ap (λ (k : ℕ). k + v.won)
+                (filled_same old.forward new.forward start.began.forwards (λ p below. moves.forward p));
+          };
+          stops = record {
+            bit = inl stop;
+            causes = λ cause. let e : false ≡ true = sym no_cause ∙ cause in absurd (cc);
+            stopped = λ found. stop ∙ kept.stop.stopped id v at found;
+            spaced = λ lacks. let past = counts.spaced lacks in omega arith;
+            lacks = counts.lacks;
+            sets = λ cause goes. elim counts.caused [
+              | inl lacking ↦ let e : false ≡ true = sym goes ∙ lacking in absurd (cc)
+              | inr same ↦
+                  let e : false ≡ true = sym no_cause
+                  ∙ (ap (λ (b : Bool). v.asked || (b || v.forwarded)) (sym same) ∙ cause) in
+                  absurd (cc)
+            ];
+            forwarded = λ found p below empty. kept.stop.forwarded id v at found p below (sym (moves.forward p) ∙ empty);
+          };
+        },
+        refl,
+      )
 
-  began_size : v.began.size ≡ start.began.size
+  pub began_size : v.began.size ≡ start.began.size
   began_size = ap (λ (b : Began). b.size) stood.began
 
-  -- words are claimed that lie within the space
-  pub claiming : (z : Shape) → IsShape z → has_cause v ≡ false → free + cost_of z ≤ start.began.size + 1
-      → let w : View = claimed (cost_of z) v.over v.spaced (Claimed free z 0) in
-      IsStep start words (claimed_words (cost_of z)) views kept id v at live w × Claims v w free (cost_of z)
-  unfolding moved
-  claiming z small no_cause fits =
-      let w : View = claimed (cost_of z) v.over v.spaced (Claimed free z 0) in
-      let new : State = shows start.began (claimed_words (cost_of z)) in
-      let moves : FreeMoves old new (free + cost_of z) = moves (cost_of z) in
+  -- the words of an object, claimed within the space
+  claimed_region : (z : Shape) → free + cost_of z ≤ start.began.size + 1
+      → Owns kept.maps (shows start.began (claimed_words (cost_of z))) (region free z)
+  claimed_region z fits =
       let first : 1 ≤ free =
       let begun = kept.first in
       let sum = kept.sums.free in
       omega arith in
-      let owns : Owns kept.maps new (region free z) =
-      claimed_owned kept.maps old new (cost_of z) kept.holds.formed first fits moves in
-      let step : IsStep start words (claimed_words (cost_of z)) views kept id v at live w =
-      moved (cost_of z) v.over v.spaced (Claimed free z 0) no_cause (record {
-        knows = (small, none_stored kept.maps new free z (λ k. 0) owns);
-        apart = λ i u other is alive. free_apart start.began.told kept.maps old u.rest (cost_of z) u.doing
-            (kept.seats i u is alive).doing;
-        below = kept.sums.over id v at;
-        bound = inr fits;
-        spaced = λ is. let past = kept.stop.spaced id v at is in omega arith;
-        lacks = kept.stop.lacks id v at;
-      }) in (
-        step,
+      claimed_owned kept.maps old (shows start.began (claimed_words (cost_of z))) (cost_of z) kept.holds.formed first
+      fits
+      (moves (cost_of z))
+
+  -- what such a claim shows, where the call has those words from then on
+  pub claim_fits : (rest : List ℕ) (z : Shape) (doing : Doing) → free + cost_of z ≤ start.began.size + 1
+      → owned (Some doing) ≡ region free z
+      → (Owns kept.maps (shows start.began (claimed_words (cost_of z))) (region free z)
+      → Knows start.began.told kept.maps (shows start.began (claimed_words (cost_of z))) rest (Some doing))
+      → Counts rest (cost_of z) v.over v.spaced doing
+  claim_fits rest z doing fits is knows = record {
+    knows = knows (claimed_region z fits);
+    apart = λ i u other there alive. subst (λ (r : Region). Apart r (owned u.doing)) (sym is)
+        (free_apart start.began.told kept.maps old u.rest (cost_of z) u.doing (kept.seats i u there alive).doing);
+    below = kept.sums.over id v at;
+    bound = inr fits;
+    spaced = λ found. let past = kept.stop.spaced id v at found in omega arith;
+    lacks = kept.stop.lacks id v at;
+    caused = inr refl;
+  }
+
+  -- and one that ends past the last word
+  pub claim_lacks : (rest : List ℕ) (cost : ℕ) (doing : Doing) → has_cause v ≡ false
+      → start.began.size + 1 < free + cost
+      → is_lacking (Some doing) ≡ true → owned (Some doing) ≡ no_region
+      → (start.began.size + 1 < (shows start.began (claimed_words cost)).free
+      → Knows start.began.told kept.maps (shows start.began (claimed_words cost)) rest (Some doing))
+      → cost ≤ 126 → Counts rest cost (v.over + 1) true doing
+  claim_lacks rest cost doing no_cause past lacks none knows small =
+      let moves : FreeMoves old (shows start.began (claimed_words cost)) (free + cost) = moves cost in
+      let over : v.over ≡ 0 = elim (cases_eq v.over 0) [
+        | inl none ↦ none
+        | inr few ↦
+            let cause : has_cause v ≡ true =
+            spaced_causes v.asked v.spaced v.forwarded (kept.stop.lacks id v at few) in
+            let e : false ≡ true = sym no_cause ∙ cause in
+            absurd (cc)
+      ] in
+      record {
+        knows = knows (let is = moves.is in omega arith);
+        apart = λ i u other there alive. subst (λ (r : Region). Apart r (owned u.doing)) (sym none)
+            (no_region_apart (owned u.doing));
+        below = omega arith;
+        bound = inl (omega arith);
+        spaced = λ is. past;
+        lacks = λ some. refl;
+        caused = inl lacks;
+      }
+
+  -- words are claimed that lie within the space
+  pub claiming : (z : Shape) → IsShape z → has_cause v ≡ false → free + cost_of z ≤ start.began.size + 1
+      → let w : View = claimed v.rest (cost_of z) v.over v.spaced (Claimed free z 0) in
+      IsStep start words (claimed_words (cost_of z)) views kept id v at live w × Claims v w free (cost_of z)
+  claiming z small no_cause fits =
+      let w : View = claimed v.rest (cost_of z) v.over v.spaced (Claimed free z 0) in
+      let new : State = shows start.began (claimed_words (cost_of z)) in
+      let step = moved v.rest (cost_of z) v.over v.spaced (Claimed free z 0) no_cause
+      (claim_fits v.rest z (Claimed free z 0) fits refl
+      (λ owns. (small, none_stored kept.maps new free z (λ k. 0) owns))) in (
+        step.0,
         record {
-          sees = sees start words (claimed_words (cost_of z)) views kept id v at live w step (refl {a = None});
+          sees = sees start words (claimed_words (cost_of z)) views kept id v at live w step.0 step.1;
           fits = let size = began_size in omega arith;
           shape = z;
           small = small;
@@ -254,32 +324,17 @@ module _ (start : Start) (words : List ℕ) (views : List View) (kept : Kept sta
 
   -- and they end past its last word
   pub lacking : (cost : ℕ) → cost ≤ 126 → has_cause v ≡ false → start.began.size + 1 < free + cost
-      → let w : View = claimed cost (v.over + 1) true (Lacking cost) in
+      → let w : View = claimed v.rest cost (v.over + 1) true (Lacking cost) in
       IsStep start words (claimed_words cost) views kept id v at live w × Lacks v w cost
-  unfolding moved
   lacking cost small no_cause past =
-      let w : View = claimed cost (v.over + 1) true (Lacking cost) in
-      let moves : FreeMoves old (shows start.began (claimed_words cost)) (free + cost) = moves cost in
-      let none : v.over ≡ 0 = elim (cases_eq v.over 0) [
-        | inl none ↦ none
-        | inr few ↦
-            let cause : has_cause v ≡ true =
-            spaced_causes v.asked v.spaced v.forwarded (kept.stop.lacks id v at few) in
-            let e : false ≡ true = sym no_cause ∙ cause in
-            absurd (cc)
-      ] in
-      let step : IsStep start words (claimed_words cost) views kept id v at live w =
-      moved cost (v.over + 1) true (Lacking cost) no_cause (record {
-        knows = let is = moves.is in omega arith;
-        apart = λ i u other is alive. no_region_apart (owned u.doing);
-        below = omega arith;
-        bound = inl (omega arith);
-        spaced = λ is. past;
-        lacks = λ some. refl;
-      }) in (
-        step,
+      let w : View = claimed v.rest cost (v.over + 1) true (Lacking cost) in
+      let step = moved v.rest cost (v.over + 1) true (Lacking cost) no_cause
+      (claim_lacks v.rest cost (Lacking cost) no_cause past refl refl (λ above. above) small) in (
+        step.0,
         record {
-          sees = sees start words (claimed_words cost) views kept id v at live w step (refl {a = None});
+          sees = sees start words (claimed_words cost) views kept id v at live w step.0 step.1;
+          found = free;
+          past = let size = began_size in omega arith;
           is = refl;
         },
       )
@@ -288,76 +343,12 @@ module _ (start : Start) (words : List ℕ) (views : List View) (kept : Kept sta
   abbrev pub with_word : ℕ → ℕ → List ℕ
   with_word address word = set words (word_place start.began address) word
 
-  only_word : (address word : ℕ) → 1 ≤ address → address ≤ start.began.size
+  pub only_word : (address word : ℕ) → 1 ≤ address → address ≤ start.began.size
       → OnlyObjects start words (with_word address word)
-  only_word address word first last =
-      let changes = word_changes start.began words address word first (let size = sizes in omega arith) in
-      record {
-        size = length-set words (word_place start.began address) word;
-        stop = get_or-set_other words (word_place start.began address) 0 word 0 (λ same. omega arith);
-        free = changes.free;
-        forward = changes.forward;
-      }
+  only_word address word first last = only_space start words address word first (let size = sizes in omega arith)
 
-  -- What a store into the own region shows of the view behind it.
-  record Stores (after : List ℕ) (maps : Maps) (mine : Region) (act : Option Act) (known : List Pair)
-      (doing : Option Doing) : Type 0 where
-    pub event : Event start.began.told kept.history kept.maps maps old (shows start.began after) mine 0 act
-    pub only : OnlyObjects start words after
-    pub apart : (i : ℕ) (u : View) → i ≢ id → get_elem? views i ≡ some u → 0 < u.parts → Apart mine (owned u.doing)
-    pub owns : (owned doing ≡ mine) ⊎ (owned doing ≡ no_region)
-    pub names : (a n : ℕ) → maps.address a ≡ Some n → (kept.maps.address a ≡ Some n) ⊎ Has known a n
-    pub more : HasAll v.known known
-    pub named : (a n : ℕ) → Has known a n → maps.address a ≡ Some n
-    pub fresh : (a n : ℕ) → Has known a n → IsFresh (shows start.began after) a
-    pub knows : Knows start.began.told maps (shows start.began after) v.rest doing
-
-  stored : (after : List ℕ) (maps : Maps) (mine : Region) (act : Option Act) (known : List Pair) (doing : Option Doing)
-      → Stores after maps mine act known doing
-      → IsStep start words after views kept id v at live
-      (behind v (with_entry v.thread kept.history act) known doing)
-  stored after maps mine act known doing is =
-      let new : State = shows start.began after in
-      record {
-        maps = maps;
-        mine = mine;
-        cleared = 0;
-        act = act;
-        event = is.event;
-        mine_apart = is.apart;
-        size = is.only.size;
-        names = is.names;
-        parts = refl;
-        thread = refl;
-        began = refl;
-        away = refl;
-        seen = refl;
-        own_seen = refl;
-        more = is.more;
-        known = is.named;
-        fresh = is.fresh;
-        doing = is.knows;
-        apart = λ i u other there alive. elim is.owns [
-          | inl same ↦ subst (λ (r : Region). Apart r (owned u.doing)) (sym same) (is.apart i u other there alive)
-          | inr none ↦ subst (λ (r : Region). Apart r (owned u.doing)) (sym none) (no_region_apart (owned u.doing))
-        ];
-        sums = record {
-          free = ap (λ (k : ℕ). k + v.claimed) is.only.free;
-          bound = inl (let e = is.only.free in omega arith);
-          over = kept.sums.over id v at;
-          won = ap (λ (k : ℕ). k + v.won)
-              (filled_same old.forward new.forward start.began.forwards (λ p below. is.only.forward p));
-        };
-        stops = record {
-          bit = inl is.only.stop;
-          causes = λ has. has;
-          stopped = λ found. is.only.stop ∙ kept.stop.stopped id v at found;
-          spaced = λ found. let e = is.only.free in let past = kept.stop.spaced id v at found in omega arith;
-          lacks = kept.stop.lacks id v at;
-          forwarded = λ found p below empty. kept.stop.forwarded id v at found p below
-              (sym (is.only.forward p) ∙ empty);
-        };
-      }
+  claimed_goes_on : (address k : ℕ) (z : Shape) → v.doing ≡ Some (Claimed address z k) → is_lacking v.doing ≡ false
+  claimed_goes_on address k z is = ap is_lacking is
 
   -- the region of the call
   mine_is : (address k : ℕ) (z : Shape) → v.doing ≡ Some (Claimed address z k)
@@ -375,7 +366,6 @@ module _ (start : Start) (words : List ℕ) (views : List View) (kept : Kept sta
       → let doing : Option Doing = Some (Claimed address z (k + 1)) in
       let w : View = behind v kept.history v.known doing in
       IsStep start words (with_word (address + 1 + k) 0) views kept id v at live w × Reaches v w doing
-  unfolding stored
   filling address k z is few =
       let doing : Option Doing = Some (Claimed address z (k + 1)) in
       let w : View = behind v kept.history v.known doing in
@@ -392,36 +382,32 @@ module _ (start : Start) (words : List ℕ) (views : List View) (kept : Kept sta
       let evolves : Evolves kept.maps kept.maps old new 0 =
       evolves_event start.began.told kept.history kept.maps kept.maps old new (region address z) 0 None
       kept.holds.formed event in
-      let step : IsStep start words after views kept id v at live w =
-      stored after kept.maps (region address z) None v.known doing (record {
-        event = event;
-        only = only_word place 0 (omega arith) (omega arith);
-        apart = mine_apart address k z is;
-        owns = inl refl;
-        names = λ a n named. inl named;
-        more = λ a n has. has;
-        named = stood.known;
-        fresh = λ a n has. fresh_stays kept.maps kept.maps old new 0 kept.holds.formed evolves a
-            (n, stood.known a n has)
-            (stood.fresh a n has);
-        knows = (
-          mine.0,
-          stored_more kept.maps old new (region address z) (λ i. 0) k place 0 mine.1
-              (owns_still kept.maps old new (region address z) kept.holds.formed evolves mine.1.owns)
-              (omega arith)
-              refl few changes,
-        );
-      }) in
-      (step, record { sees = sees start words after views kept id v at live w step (refl {a = None}); is = refl })
+      let step =
+      leaves_same start words after views kept id v at live (claimed_goes_on address k z is)
+      (only_word place 0 (omega arith) (omega arith))
+      (region address z)
+      0
+      None
+      doing
+      event
+      (mine_apart address k z is)
+      (inl (let mine_is : owned v.doing ≡ region address z = ap owned is in sym mine_is)) (
+        mine.0,
+        stored_more kept.maps old new (region address z) (λ i. 0) k place 0 mine.1
+            (owns_still kept.maps old new (region address z) kept.holds.formed evolves mine.1.owns)
+            (omega arith)
+            refl few changes,
+      ) in
+      (step.0, record { sees = sees start words after views kept id v at live w step.0 step.1; is = refl })
 
   -- the maps with one address more
-  abbrev with_name : ℕ → ℕ → Maps
+  abbrev pub with_name : ℕ → ℕ → Maps
   with_name address n = record {
     address = λ a. if a == address then Some n else kept.maps.address a;
     home = kept.maps.home;
   }
 
-  appears : (address n : ℕ) → NameAppears kept.maps (with_name address n) address n
+  pub appears : (address n : ℕ) → NameAppears kept.maps (with_name address n) address n
   appears address n = record {
     here = rw (eq-eqb address address refl) refl;
     others = λ a other. rw (ne_eqb a address other) refl;
@@ -438,7 +424,6 @@ module _ (start : Start) (words : List ℕ) (views : List View) (kept : Kept sta
       → let word : ℕ = header_word (record { shape = z; stale = false }) in
       let w : View = made_view v kept.history address z in
       IsStep start words (with_word address word) views kept id v at live w × Makes v w address z
-  unfolding stored
   publishing address k y z is all cost small =
       let header : Header = record { shape = z; stale = false } in
       let word : ℕ = header_word header in
@@ -465,10 +450,17 @@ module _ (start : Start) (words : List ℕ) (views : List View) (kept : Kept sta
       let fresh_here : IsFresh new address =
       λ other starts. ap (λ (h : Header). h.stale)
       (one_header new address other header starts (record { in_range = small; word = changes.here })) in
-      let step : IsStep start words after views kept id v at live w =
-      stored after maps (region address z) (Some act) known None (record {
+      let step =
+      leaves start words after views kept id v at live (claimed_goes_on address k y is)
+      (only_word address word first (omega arith))
+      maps
+      (region address z)
+      0
+      (Some act)
+      known
+      None
+      (record {
         event = event;
-        only = only_word address word first (omega arith);
         apart = λ i u other there alive. subst (λ (r : Region). Apart r (owned u.doing)) (region_by address y z cost)
             (mine_apart address k y is i u other there alive);
         owns = inr refl;
@@ -493,7 +485,6 @@ module _ (start : Start) (words : List ℕ) (views : List View) (kept : Kept sta
         ];
         knows = tt;
       }) in (
-        step,
-        told_makes v kept.history address z
-            (adds start words after views kept id v at live w step act (refl {a = Some act})),
+        step.0,
+        told_makes v kept.history address z (adds start words after views kept id v at live w step.0 act step.1),
       )

@@ -34,7 +34,7 @@ claims start slots id cost me live no_cause low high =
     let size : me.0.began.size ≡ start.began.size = ap (λ (b : Began). b.size) (kept.seats id me.0 at alive).began in
     elim (cases_lt (start.began.size + 1) (free + cost)) [
       | inl past ↦
-          let w : View = claimed start words views kept id me.0 at alive cost (me.0.over + 1) true (Lacking cost) in
+          let w : View = claimed start words views kept id me.0 at alive me.0.rest cost (me.0.over + 1) true (Lacking cost) in
           let r : IsStep start words (set words 1 (free + cost)) views kept id me.0 at alive w × Lacks me.0 w cost =
           lacking start words views kept id me.0 at alive cost high no_cause past in (
             w,
@@ -44,7 +44,7 @@ claims start slots id cost me live no_cause low high =
       | inr fits ↦
           let z = shape_of_cost cost low high in
           let w : ℕ → View =
-          λ n. claimed start words views kept id me.0 at alive n me.0.over me.0.spaced (Claimed free z.0 0) in
+          λ n. claimed start words views kept id me.0 at alive me.0.rest n me.0.over me.0.spaced (Claimed free z.0 0) in
           let r : IsStep start words (set words 1 (free + cost)) views kept id me.0 at alive (w cost)
           × Claims me.0 (w cost) free cost =
           subst (λ (n : ℕ). IsStep start words (set words 1 (free + n)) views kept id me.0 at alive (w n)

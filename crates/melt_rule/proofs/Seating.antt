@@ -48,7 +48,8 @@ seated_behind words old new h known doing seat table stays is =
 pub seated_polled : (words : EpochWords) (old new : Seat ℕ View) (set_ : Bool) → IsSeat words old
     → new.table_id ≡ old.table_id → Stays old.me new.me → Polls (knows_of old) (knows_of new) set_ → IsSeat words new
 seated_polled words old new false seat table stays polls =
-    seated words old new seat table stays (ap (λ (v : View). v.parts) polls.is) (ap (λ (v : View). v.began) polls.is)
+    seated words old new seat table stays (ap (λ (v : View). v.parts) polls.0.is)
+    (ap (λ (v : View). v.began) polls.0.is)
 seated_polled words old new true seat table stays polls =
     seated words old new seat table stays (ap (λ (v : View). v.parts) polls.1) (ap (λ (v : View). v.began) polls.1)
 
@@ -63,19 +64,20 @@ seated_looked words old new at place (Clean a) seat table stays looks =
 seated_looked words old new at place (Stale a) seat table stays looks =
     seated words old new seat table stays (ap (λ (v : View). v.parts) looks.is) (ap (λ (v : View). v.began) looks.is)
 seated_looked words old new at place (Disk home) seat table stays looks =
-    seated words old new seat table stays (ap (λ (v : View). v.parts) looks.is) (ap (λ (v : View). v.began) looks.is)
+    seated words old new seat table stays (ap (λ (v : View). v.parts) looks.reaches.is)
+    (ap (λ (v : View). v.began) looks.reaches.is)
 
 -- where the word of an address stands, for a seat at a table
-pub placed_at : (id : TableId) (start : Start) (before : ℕ) (seat : Seat ℕ View) (a : ℕ) → IsTable id start before
-    → IsSeat (record { id = id; start = start }) seat → before + a ≡ word_place (knows_of seat).began a
-placed_at id start before seat a table is_seat =
+pub placed_at : (id : TableId) (start : Start) (before forwards_at : ℕ) (seat : Seat ℕ View) (a : ℕ)
+    → IsTable id start before forwards_at → IsSeat (record { id = id; start = start }) seat → before + a ≡ word_place (knows_of seat).began a
+placed_at id start before forwards_at seat a table is_seat =
     let b = table.before_is in
     subst (λ (x : Began). before + a ≡ word_place x a) (sym is_seat.began) (omega arith)
 
 -- the table has it
-pub has_word : (id : TableId) (start : Start) (before : ℕ) (seat : Seat ℕ View) (a : ℕ) → IsTable id start before
-    → IsSeat (record { id = id; start = start }) seat → a ≤ (knows_of seat).began.size → before + a < id.words
-has_word id start before seat a table is_seat within =
+pub has_word : (id : TableId) (start : Start) (before forwards_at : ℕ) (seat : Seat ℕ View) (a : ℕ)
+    → IsTable id start before forwards_at → IsSeat (record { id = id; start = start }) seat → a ≤ (knows_of seat).began.size → before + a < id.words
+has_word id start before forwards_at seat a table is_seat within =
     let b = table.before_is in
     let w = table.words in
     let size : (knows_of seat).began.size ≡ start.began.size = ap (λ (x : Began). x.size) is_seat.began in

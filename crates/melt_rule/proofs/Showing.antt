@@ -2,12 +2,12 @@
 use Rattle.std.proofs.Common.{◌≡◌, ◌≢◌, ℕ, zero, suc, ◌+◌, ◌<◌, ◌≤◌, List, [], ◌∷◌, length, get_or, take, drop}
 use Rattle.std.proofs.Common.{refl, sym, ◌∙◌, ap, arith, inl, inr, zero-add}
 use Rattle.std.proofs.Math.ListN.{set}
-use Rattle.std.proofs.lemmas.Bool.{cases_lt}
+use Rattle.std.proofs.lemmas.Bool.{cases_lt, cases_eq}
 use Rattle.std.proofs.lemmas.List.{get_or-set_same, get_or-set_other}
 use Rattle.melt_space.specs.Space.{word_at}
-use Rattle.melt_scion.specs.Changes.{SameWords, WordChanges, GlobalChanges, FreeMoves}
+use Rattle.melt_scion.specs.Changes.{SameWords, WordChanges, GlobalChanges, ForwardChanges, FreeMoves}
 use Rattle.melt_rule.specs.Rule.{filled, filled_one}
-use Rattle.melt_rule.specs.Shown.{shows, globals_in, space_in, global_place, word_place}
+use Rattle.melt_rule.specs.Shown.{shows, forwards_in, globals_in, space_in, forward_place, global_place, word_place}
 use Rattle.melt_rule.specs.declared.began.Began.{Began}
 
 -- a number of a list behind so many others
@@ -63,6 +63,9 @@ module _ (b : Began) (words : List ℕ) where
   pub global_is : (g : ℕ) → g < b.globals → get_or (globals_in b words) g 0 ≡ get_or words (global_place g) 0
   global_is g below = get_take b.globals (drop 2 words) g below ∙ get_drop 2 words g
 
+  pub forward_is : (p : ℕ) → p < b.forwards → get_or (forwards_in b words) p 0 ≡ get_or words (forward_place b p) 0
+  forward_is p below = get_take b.forwards (drop (2 + b.globals) words) p below ∙ get_drop (2 + b.globals) words p
+
   -- a word of the space stays where another is set
   space_other : (at x address : ℕ) → (1 ≤ address → word_place b address ≢ at)
       → word_at (space_in b (set words at x)) address ≡ word_at (space_in b words) address
@@ -105,6 +108,19 @@ module _ (b : Began) (words : List ℕ) where
     forward = λ p. stretch_other (2 + b.globals) b.forwards words (global_place g) x p (λ under same. omega arith);
   }
 
+  -- a forwarding word is set
+  pub forward_changes : (p x : ℕ) → p < b.forwards → forward_place b p < length words
+      → ForwardChanges (shows b words) (shows b (set words (forward_place b p) x)) p x
+  forward_changes p x below within = record {
+    base = refl;
+    free = get_or-set_other words (forward_place b p) 1 x 0 (λ same. omega arith);
+    word_stays = λ k. space_other (forward_place b p) x k (λ from same. omega arith);
+    global = λ g. stretch_other 2 b.globals words (forward_place b p) x g (λ under same. omega arith);
+    here = stretch_here (2 + b.globals) b.forwards words x p below within;
+    others = λ k other. stretch_other (2 + b.globals) b.forwards words (forward_place b p) x k
+        (λ under same. other (omega arith));
+  }
+
   -- the stop word is set, which the state does not show
   pub stop_sets : (x : ℕ) → SameWords (shows b words) (shows b (set words 0 x))
   stop_sets x = record {
@@ -131,3 +147,24 @@ filled_same old new zero same = refl
 filled_same old new (suc n) same =
     ap (λ (k : ℕ). k + filled_one (new n)) (filled_same old new n (λ p below. same p (omega arith)))
     ∙ ap (λ (k : ℕ). filled old n + filled_one k) (same n (omega arith))
+
+filled_some : (word : ℕ) → word ≢ 0 → filled_one word ≡ 1
+filled_some zero some = absurd (some refl)
+filled_some (suc word) some = refl
+
+-- one word more is filled where one of them was empty, and alone is set
+pub filled_more : (old new : ℕ → ℕ) (n at : ℕ) → at < n → old at ≡ 0 → new at ≢ 0
+    → ((p : ℕ) → p ≢ at → new p ≡ old p) → filled new n ≡ filled old n + 1
+filled_more old new zero at below empty some same = absurd (omega arith)
+filled_more old new (suc n) at below empty some same = elim (cases_eq at n) [
+  | inl last ↦
+      let before : filled new n ≡ filled old n = filled_same old new n (λ p less. same p (λ is. omega arith)) in
+      let was : filled_one (old n) ≡ 0 = ap (λ (p : ℕ). filled_one (old p)) (sym last) ∙ ap filled_one empty in
+      let now : filled_one (new n) ≡ 1 =
+      ap (λ (p : ℕ). filled_one (new p)) (sym last) ∙ filled_some (new at) some in
+      omega arith
+  | inr other ↦
+      let before : filled new n ≡ filled old n + 1 = filled_more old new n at (omega arith) empty some same in
+      let last : filled_one (new n) ≡ filled_one (old n) = ap filled_one (same n (λ is. other (sym is))) in
+      omega arith
+]

@@ -18,11 +18,9 @@ use Rattle.melt_rule.proofs.Pieces.{at_append, at_behind}
 use Rattle.melt_rule.proofs.Views.{in_range, sum_set}
 use Rattle.melt_rule.specs.Giving.{joined_view, spent_view}
 use Rattle.melt_rule.specs.Rule.{Has, Knowing, Saw, SeatStands, threads_of, Whole, SumsStand}
-use Rattle.melt_rule.specs.Rule.{has_cause, StopStands, Kept, Rule}
-use Rattle.melt_rule.specs.Seats.{EpochWords, IsSeat, knows_of}
+use Rattle.melt_rule.specs.Rule.{has_cause, is_lacking, StopStands, Kept, Rule}
+use Rattle.melt_rule.specs.Seats.{EpochWords, Sits, knows_of}
 use Rattle.melt_rule.specs.Shown.{shows, owned}
-use Rattle.melt_rule.specs.Tells.{IsWithin}
-use Rattle.melt_rule.specs.declared.began.Began.{Began}
 use Rattle.melt_rule.specs.declared.began.Pair.{Pair}
 use Rattle.melt_rule.specs.declared.began.Start.{Start}
 use Rattle.melt_rule.specs.declared.view.Away.{Away}
@@ -69,13 +67,33 @@ joined_cause v w (inr theirs) = elim (or_either w.asked (w.spaced || w.forwarded
   ])
 ]
 
+-- and where the one has a cause, one of the two had it
+either_cause : (v w : View) → has_cause (joined_view v w) ≡ true → (has_cause v ≡ true) ⊎ (has_cause w ≡ true)
+either_cause v w both = elim (or_either (v.asked || w.asked) _ both) [
+  | inl asked ↦ elim (or_either v.asked w.asked asked) [
+    | inl a ↦ inl (or_left v.asked _ a)
+    | inr b ↦ inr (or_left w.asked _ b)
+  ]
+  | inr lack ↦ elim (or_either (v.spaced || w.spaced) _ lack) [
+    | inl spaced ↦ elim (or_either v.spaced w.spaced spaced) [
+      | inl a ↦ inl (or_right v.asked _ (or_left v.spaced v.forwarded a))
+      | inr b ↦ inr (or_right w.asked _ (or_left w.spaced w.forwarded b))
+    ]
+    | inr forwarded ↦ elim (or_either v.forwarded w.forwarded forwarded) [
+      | inl a ↦ inl (or_right v.asked _ (or_right v.spaced v.forwarded a))
+      | inr b ↦ inr (or_right w.asked _ (or_right w.spaced w.forwarded b))
+    ]
+  ]
+]
+
 cases_zero : (n : ℕ) → (n ≡ 0) ⊎ (n ≢ 0)
 cases_zero zero = inl refl
 cases_zero (suc n) = inr (λ e. omega arith)
 
 module _ (start : Start) (words : List ℕ) (views : List View) (kept : Kept start words views) (id other : ℕ)
     (v w : View) (at : get_elem? views id ≡ some v) (there : get_elem? views other ≡ some w) (differ : other ≢ id)
-    (live : 0 < v.parts) (live_w : 0 < w.parts) where
+    (live : 0 < v.parts) (live_w : 0 < w.parts) (goes_on : is_lacking v.doing ≡ false)
+    (other_goes_on : is_lacking w.doing ≡ false) where
   abbrev both : View
   both = joined_view v w
 
@@ -327,7 +345,7 @@ module _ (start : Start) (words : List ℕ) (views : List View) (kept : Kept sta
       let two = sum_set f (set views id both) other w spent_view (set_else views id other both differ ∙ there) in
       omega arith
 
-  sums_kept : SumsStand start.began (length start.threads) now after
+  sums_kept : SumsStand start.began (length start.began.threads) now after
   sums_kept = record {
     parts = let s = sum_kept (λ (u : View). u.parts) in let o = kept.sums.parts in omega arith;
     free = let s = sum_kept (λ (u : View). u.claimed) in let o = kept.sums.free in omega arith;
@@ -380,6 +398,13 @@ module _ (start : Start) (words : List ℕ) (views : List View) (kept : Kept sta
         (λ is. absurd (false≢true is))
         kept.stop.spaced;
     lacks = each (λ (u : View). u.over ≢ 0 → u.spaced ≡ true) lacks_both (λ some_. absurd (some_ refl)) kept.stop.lacks;
+    sets = each (λ (u : View). has_cause u ≡ true → is_lacking u.doing ≡ false → get_or words 0 0 ≡ 1)
+        (λ cause goes. elim (either_cause v w cause) [
+          | inl a ↦ kept.stop.sets id v at a goes_on
+          | inr b ↦ kept.stop.sets other w there b other_goes_on
+        ])
+        (λ cause. absurd (false≢true cause))
+        kept.stop.sets;
     forwarded = each (λ (u : View). u.forwarded ≡ true → (p : ℕ) → p < start.began.forwards → now.forward p ≢ 0)
         (λ is. elim (or_either v.forwarded w.forwarded is) [
           | inl a ↦ kept.stop.forwarded id v at a
@@ -398,6 +423,7 @@ module _ (start : Start) (words : List ℕ) (views : List View) (kept : Kept sta
     holds = kept.holds;
     first = kept.first;
     few = kept.few;
+    bodies = kept.bodies;
     maps_stand = record {
       homes = kept.maps_stand.homes;
       begun = kept.maps_stand.begun;
@@ -416,6 +442,11 @@ module _ (start : Start) (words : List ℕ) (views : List View) (kept : Kept sta
         one_origin i p j q t (origin i p t x ex lx hp) (origin j q t y ey ly hq);
     apart = apart_kept;
     whole = whole_kept;
+    members = λ i p t u e alive has. elim (origin i p t u e alive has) [
+      | from_own a b ↦ kept.members id p t v at live b
+      | from_other q a b c ↦ kept.members other q t w there live_w c
+      | from_before x a b c d e' ↦ kept.members i p t x c d e'
+    ];
     since = kept.since;
     strangers = λ t none. kept.strangers t (λ i p u e alive has. let x = speaks i p t u e alive has in
         none x.seat x.place x.view x.is x.alive x.has);
@@ -423,33 +454,21 @@ module _ (start : Start) (words : List ℕ) (views : List View) (kept : Kept sta
     stop = stop_kept;
   }
 
-pub takes : (start : Start) (id other : ℕ) (v w : View) → 0 < v.parts → 0 < w.parts
-    → Joins (Rule start) id v other w (joined_view v w) spent_view
-takes start id other v w live live_w s kept at differ there =
+pub takes : (start : Start) (id other : ℕ) (v w : View) → 0 < v.parts → 0 < w.parts → is_lacking v.doing ≡ false
+    → is_lacking w.doing ≡ false → Joins (Rule start) id v other w (joined_view v w) spent_view
+takes start id other v w live live_w goes_on other_goes_on s kept at differ there =
     take_in start s.words s.views kept id other v w at
     (sym (set_else s.views id other (joined_view v w) differ) ∙ there)
-    differ live live_w
+    differ live live_w goes_on other_goes_on
 
 -- the seat that took in the other
-pub taker_seat : (words : EpochWords) (old other new : Seat ℕ View) → IsSeat words old → IsSeat words other
-    → new.table_id ≡ old.table_id → new.me ≡ (joined_view (knows_of old) (knows_of other), old.me.1) → IsSeat words new
-taker_seat words old other new seat taken table is =
-    let v : View = knows_of old in
-    let w : View = knows_of other in
-    let knows : knows_of new ≡ joined_view v w = ap (λ (m : Me ℕ View). m.0) is in
-    let size : w.began.size ≡ v.began.size = ap (λ (b : Began). b.size) (taken.began ∙ sym seat.began) in
+pub taker_seat : (words : EpochWords) (old other new : Seat ℕ View) → Sits words old → new.table_id ≡ old.table_id
+    → new.me ≡ (joined_view (knows_of old) (knows_of other), old.me.1) → Sits words new
+taker_seat words old other new seat table is =
+    let knows : knows_of new ≡ joined_view (knows_of old) (knows_of other) = ap (λ (m : Me ℕ View). m.0) is in
     record {
       same = table ∙ seat.same;
       none = ap (λ (m : Me ℕ View). m.1) is ∙ seat.none;
       live = subst (λ (u : View). 0 < u.parts) (sym knows) (let live = seat.live in omega arith);
       began = ap (λ (u : View). u.began) knows ∙ seat.began;
-      within = subst IsWithin (sym knows) (record {
-        known = λ a n x. elim (has_either v.known w.known a n x) [
-          | inl y ↦ seat.within.known a n y
-          | inr y ↦
-              let inside = taken.within.known a n y in
-              (inside.0, (let below : a ≤ w.began.size = inside.1 in omega arith))
-        ];
-        doing = seat.within.doing;
-      });
     }

@@ -1,9 +1,8 @@
 -- The tag of a reference is taken away by one compare-exchange on its word, and the rule stays, whether it won or lost.
-use Rattle.std.proofs.Common.{◌≡◌, ◌≢◌, ◌⊎◌, ℕ, zero, suc, ◌+◌, ◌*◌, ◌<◌, ◌≤◌, Bool, true, false, List, [], ◌∷◌, ◌++◌}
-use Rattle.std.proofs.Common.{length, get_or, refl, sym, ◌∙◌, ap, subst, arith, inl, inr, eqb, eq-eqb, ne_eqb}
-use Rattle.std.proofs.Math.ListN.{set, length-set}
+use Rattle.std.proofs.Common.{◌≡◌, ◌≢◌, ℕ, ◌+◌, ◌*◌, ◌<◌, ◌≤◌, true, List, [], ◌∷◌, ◌++◌}
+use Rattle.std.proofs.Common.{length, get_or, refl, sym, ◌∙◌, ap, subst, arith, inl, inr, eq-eqb, ne_eqb}
+use Rattle.std.proofs.Math.ListN.{set}
 use Rattle.std.proofs.lemmas.Bool.Decides.{eqb_tells}
-use Rattle.std.proofs.lemmas.List.{set-get_or, get_or-set_other}
 use Rattle.std.specs.Prelude.{Option, None, Some, ◌==◌}
 use lib.ListN.{get_elem?}
 use mathlib.Core.Option.{some, none}
@@ -15,14 +14,12 @@ use Rattle.melt_model.specs.declared.history.Act.TheVariants.{Read}
 use Rattle.melt_model.specs.declared.history.Slot.{Slot}
 use Rattle.melt_model.specs.declared.history.Slot.TheVariants as slot
 use Rattle.melt_model.specs.declared.history.Value.TheVariants.{Ref as Object}
-use Rattle.melt_word.specs.Words.{IsRef, cost_of, ref_word}
-use Rattle.melt_word.specs.declared.header.Header.{Header}
+use Rattle.melt_word.specs.Words.{IsRef, ref_word}
 use Rattle.melt_word.specs.declared.header.Shape.{Shape}
 use Rattle.melt_word.specs.declared.reference.Ref.{Ref}
 use Rattle.melt_word.specs.declared.reference.Ref.TheVariants.{Null, Clean, Stale, Disk}
-use Rattle.melt_scion.proofs.Geometry.{one_header}
 use Rattle.melt_scion.specs.Changes.{WordChanges, GlobalChanges}
-use Rattle.melt_scion.specs.Placed.{IsNamed, IsReferenceWord, MayStand, value_of}
+use Rattle.melt_scion.specs.Placed.{IsNamed, IsReferenceWord, MayStand}
 use Rattle.melt_scion.specs.Regions.{no_region}
 use Rattle.melt_scion.specs.State.{State, IsFresh}
 use Rattle.std.specs.Option.{option_map}
@@ -30,25 +27,24 @@ use Rattle.melt_core.proofs.Keeping.{event_keeps}
 use Rattle.melt_core.proofs.Regions.{no_region_apart}
 use Rattle.melt_core.proofs.Staying.{fresh_stays}
 use Rattle.melt_core.specs.Answering.{with_entry}
-use Rattle.melt_core.specs.Events.{Event, Keeps, PlaceChanges, LastAt}
+use Rattle.melt_core.specs.Events.{Event, PlaceChanges, LastAt}
 use Rattle.melt_core.specs.Events.Event.{untags}
-use Rattle.melt_core.specs.Known.{Known, HasLooked, Leads, IsPlace, SlotAt, word_in}
+use Rattle.melt_core.specs.Known.{Known, SlotAt, word_in}
 use Rattle.melt_core.specs.declared.call.Place.{Place}
 use Rattle.melt_core.specs.declared.call.Place.TheVariants.{Field, Global}
-use Rattle.melt_rule.proofs.Allowed.{loaded, one_object, only_space}
+use Rattle.melt_rule.proofs.Allowed.{loaded, one_object}
 use Rattle.melt_rule.proofs.Keeping.{IsStep, adds}
 use Rattle.melt_rule.proofs.Loads.{looks, snoc_old, snoc_new, snoc_here, stands_at}
-use Rattle.melt_rule.proofs.Showing.{word_is, global_is, word_changes, global_changes, filled_same}
-use Rattle.melt_rule.proofs.Stores.{OnlyObjects}
+use Rattle.melt_rule.proofs.Showing.{word_is, global_is, word_changes, global_changes}
+use Rattle.melt_rule.proofs.Leaving.{OnlyObjects, leaves, only_global, only_space}
 use Rattle.melt_rule.proofs.Within.{allowed, within}
 use Rattle.melt_rule.specs.Barriers.{Untags, UntagPlay, GlobalUntagPlay}
-use Rattle.melt_rule.specs.Rule.{Has, SeatStands, Kept, Rule}
+use Rattle.melt_rule.specs.Rule.{Has, SeatStands, Kept, Rule, is_lacking}
 use Rattle.melt_rule.specs.Shown.{shows, owned, word_place, Knows, stage_of}
-use Rattle.melt_rule.specs.Tells.{Adds, FitsIn, behind, Exchanged, Reads}
+use Rattle.melt_rule.specs.Tells.{FitsIn, behind, Reads}
 use Rattle.melt_rule.specs.declared.began.Began.{Began}
 use Rattle.melt_rule.specs.declared.began.Pair.{Pair}
 use Rattle.melt_rule.specs.declared.began.Start.{Start}
-use Rattle.melt_rule.specs.declared.view.Doing.{Doing}
 use Rattle.melt_rule.specs.declared.view.Doing.TheVariants.{Cleared}
 use Rattle.melt_rule.specs.declared.view.View.{View}
 
@@ -76,13 +72,13 @@ module _ (start : Start) (words : List ℕ) (views : List View) (kept : Kept sta
           → (w : View) × IsStep start words words views kept id v at live w
           × ((answer : ℕ) × (word_in old place ≡ 4 * answer) × Reads v w slot_ answer)
       go Null is =
-          let r = looks start words views kept id v at live place slot_ Null knows.0.at is_slot
+          let r = looks start words views kept id v at live (ap is_lacking cleared) place slot_ Null knows.0.at is_slot
           (subst IsRef is reference.in_range)
           (reference.is ∙ ap ref_word is)
           (subst (MayStand kept.maps old) is reference.stands) in
           (r.0, r.1, (0, reference.is ∙ ap ref_word is, r.2))
       go (Clean a) is =
-          let r = looks start words views kept id v at live place slot_ (Clean a) knows.0.at is_slot
+          let r = looks start words views kept id v at live (ap is_lacking cleared) place slot_ (Clean a) knows.0.at is_slot
           (subst IsRef is reference.in_range)
           (reference.is ∙ ap ref_word is)
           (subst (MayStand kept.maps old) is reference.stands) in
@@ -124,7 +120,7 @@ module _ (start : Start) (words : List ℕ) (views : List View) (kept : Kept sta
                 let e : Some (Object n) ≡ Some (last kept.history slot_) =
                 ap (option_map Object) (sym named)
                 ∙ (sym (knows.1.same told)
-                ∙ stands_at start words views kept id v at live place slot_ found knows.0.at is_slot
+                ∙ stands_at start words views kept id v at live (ap is_lacking cleared) place slot_ found knows.0.at is_slot
                 knows.0.in_range
                 same
                 told) in
@@ -138,23 +134,17 @@ module _ (start : Start) (words : List ℕ) (views : List View) (kept : Kept sta
           let w : View = won slot_ in
           let still : (a : ℕ) → IsNamed kept.maps a → IsFresh old a → IsFresh new a =
           fresh_stays kept.maps kept.maps old new 0 kept.holds.formed keeps.evolves in
-          let is_step : IsStep start words after views kept id v at live w = record {
-            maps = kept.maps;
-            mine = no_region;
-            cleared = 0;
-            act = act;
+          let is_step =
+          leaves start words after views kept id v at live (ap is_lacking cleared) only kept.maps no_region 0 act
+          (v.known ++ pair ∷ [])
+          None
+          (record {
             event = event;
-            mine_apart = λ i u other is alive. no_region_apart (owned u.doing);
-            size = only.size;
+            apart = λ i u other is alive. no_region_apart (owned u.doing);
+            owns = inr refl;
             names = λ a m is. inl is;
-            parts = refl;
-            thread = refl;
-            began = refl;
-            away = refl;
-            seen = refl;
-            own_seen = refl;
             more = snoc_old v.known pair;
-            known = λ a m has. elim (snoc_new v.known pair a m has) [
+            named = λ a m has. elim (snoc_new v.known pair a m has) [
               | inl before ↦ stood.known a m before
               | inr this ↦ subst (λ (x : Pair). kept.maps.address x.address ≡ Some x.object) this named
             ];
@@ -162,28 +152,12 @@ module _ (start : Start) (words : List ℕ) (views : List View) (kept : Kept sta
               | inl before ↦ still a (m, stood.known a m before) (stood.fresh a m before)
               | inr this ↦ subst (λ (x : Pair). IsFresh new x.address) this (still target (n, named) knows.2)
             ];
-            doing = tt;
-            apart = λ i u other is alive. no_region_apart (owned u.doing);
-            sums = record {
-              free = ap (λ (k : ℕ). k + v.claimed) only.free;
-              bound = inl (let e = only.free in omega arith);
-              over = kept.sums.over id v at;
-              won = ap (λ (k : ℕ). k + v.won)
-                  (filled_same old.forward new.forward start.began.forwards (λ p below. only.forward p));
-            };
-            stops = record {
-              bit = inl only.stop;
-              causes = λ has. has;
-              stopped = λ is. only.stop ∙ kept.stop.stopped id v at is;
-              spaced = λ is. let e = only.free in let past = kept.stop.spaced id v at is in omega arith;
-              lacks = kept.stop.lacks id v at;
-              forwarded = λ is p below empty. kept.stop.forwarded id v at is p below (sym (only.forward p) ∙ empty);
-            };
-          } in (
-            is_step,
+            knows = tt;
+          }) in (
+            is_step.0,
             record {
               value = Object n;
-              adds = adds start words after views kept id v at live w is_step (Read slot_ (Object n)) refl;
+              adds = adds start words after views kept id v at live w is_step.0 (Read slot_ (Object n)) is_step.1;
               names = inr (n, refl, snoc_here v.known pair);
               more = snoc_old v.known pair;
               is = refl;
@@ -191,10 +165,10 @@ module _ (start : Start) (words : List ℕ) (views : List View) (kept : Kept sta
           )
 
 -- a compare-exchange by whether it won
-either_yes : (x a b : ℕ) → x ≡ a → either (x == a) b x ≡ b
+pub either_yes : (x a b : ℕ) → x ≡ a → either (x == a) b x ≡ b
 either_yes x a b e = rw (eq-eqb x a e) refl
 
-either_no : (x a b : ℕ) → x ≢ a → either (x == a) b x ≡ x
+pub either_no : (x a b : ℕ) → x ≢ a → either (x == a) b x ≡ x
 either_no x a b differ = rw (ne_eqb x a differ) refl
 
 -- the exchange at a place
@@ -325,12 +299,7 @@ global_untags start slots id g target before_ after_ found me live cleared from 
     before_ after_ from
     (kept.holds.formed.globals g below)
     (sym (global_is start.began words g below))
-    (record {
-      size = length-set words (2 + g) after_;
-      stop = get_or-set_other words (2 + g) 0 after_ 0 (λ same. omega arith);
-      free = changes.free;
-      forward = changes.forward;
-    })
+    (only_global start words g after_ below in_words)
     (subst (λ (z : ℕ). GlobalChanges s (shows start.began after) g z) to changes) in (
       r.0,
       r.1,

@@ -1,9 +1,8 @@
 -- What the steps of the read barrier tell their thread, by the word on which they were made and the word that they found.
-use Rattle.std.specs.Prelude.{◌≡◌, ℕ, ◌+◌, ◌*◌, ◌<◌, Some}
+use Rattle.std.specs.Prelude.{◌≡◌, ℕ, ◌+◌, Some}
 use Rattle.atomic_table.specs.Table.{Me, Step}
 use Rattle.melt_model.specs.declared.history.Slot.{Slot}
 use Rattle.melt_model.specs.declared.history.Slot.TheVariants as slot
-use Rattle.melt_word.specs.Words.{ref_word}
 use Rattle.melt_word.specs.declared.reference.Ref.{Ref}
 use Rattle.melt_core.specs.declared.call.Place.{Place}
 use Rattle.melt_core.specs.declared.call.Place.TheVariants.{Field, Global}

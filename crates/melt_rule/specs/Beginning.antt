@@ -20,8 +20,8 @@ maps_of b = record { address = named b.maps.addresses; home = named b.maps.homes
 pub record MayBegin (start : Start) (words : List ℕ) : Type 0 where
   pub size : length words ≡ 2 + start.began.globals + start.began.forwards + start.began.size
   pub few_words : length words ≤ 2 ^ 32
-  pub legal : start.began.told ≡ true → Legal start.history start.began.globals
-  pub holds : Holds start.began.told start.history (maps_of start.began) (shows start.began words)
+  pub legal : start.began.told ≡ true → Legal start.began.history start.began.globals
+  pub holds : Holds start.began.told start.began.history (maps_of start.began) (shows start.began words)
   pub first : 1 ≤ start.began.free
   pub free : slice_index words 1 ≡ start.began.free
   pub room : start.began.free ≤ start.began.size + 1
@@ -29,6 +29,6 @@ pub record MayBegin (start : Start) (words : List ℕ) : Type 0 where
   pub goes_on : slice_index words 0 ≡ 0
   pub held : (address n : ℕ) → Has start.held address n → named start.began.maps.addresses address ≡ Some n
   pub fresh : (address n : ℕ) → Has start.held address n → IsFresh (shows start.began words) address
-  pub some_thread : 1 ≤ length start.threads
-  pub few : length start.threads ≤ 8
-  pub each_once : EachOnce start.threads
+  pub some_thread : 1 ≤ length start.began.threads
+  pub few : length start.began.threads ≤ 8
+  pub each_once : EachOnce start.began.threads

@@ -1,5 +1,5 @@
 -- What is so where an epoch has ended: of its words, and of the view of the seat that took in all others.
-use Rattle.std.specs.Prelude.{◌≡◌, ◌≢◌, ◌⊎◌, ℕ, ◌+◌, ◌<◌, true, List, length, Some, slice_index}
+use Rattle.std.specs.Prelude.{◌≡◌, ◌≢◌, ◌⊎◌, ℕ, ◌+◌, ◌<◌, true, false, List, length, Some, slice_index}
 use mathlib.Core.Option.{some}
 use lib.ListN.{get_elem?}
 use Rattle.melt_model.specs.History.{Legal}
@@ -7,7 +7,7 @@ use Rattle.melt_model.specs.Thread.{own}
 use Rattle.melt_scion.specs.GhostMaps.{named}
 use Rattle.melt_scion.specs.Placed.{Maps, Holds}
 use Rattle.melt_scion.specs.State.{State, IsFresh}
-use Rattle.melt_rule.specs.Rule.{Has, Begins, Saw, threads_of, filled, has_cause}
+use Rattle.melt_rule.specs.Rule.{Has, Begins, Saw, threads_of, filled, has_cause, is_lacking}
 use Rattle.melt_rule.specs.Shown.{shows}
 use Rattle.melt_rule.specs.declared.began.Began.{Began}
 use Rattle.melt_rule.specs.declared.began.Start.{Start}
@@ -18,10 +18,10 @@ use Rattle.melt_rule.specs.declared.view.View.{View}
 -- thread had seen a beginning of it with all its own entries; and other threads have no entry since.
 pub record HistoryEnds (start : Start) (v : View) : Type 0 where
   pub legal : start.began.told ≡ true → Legal v.seen start.began.globals
-  pub since : Begins start.history v.seen
+  pub since : Begins start.began.history v.seen
   pub mine : Saw v.seen v.thread v.mine
   pub away : (p : ℕ) (a : Away) → get_elem? v.away p ≡ some a → Saw v.seen a.thread a.seen
-  pub strangers : (t : ℕ) → ((p : ℕ) → get_elem? (threads_of v) p ≡ some t → ⊥) → own v.seen t ≡ own start.history t
+  pub strangers : (t : ℕ) → ((p : ℕ) → get_elem? (threads_of v) p ≡ some t → ⊥) → own v.seen t ≡ own start.began.history t
 
 -- The maps have what they had at the beginning and what the view knows, and no more. What it knows has no stale bit.
 pub record MapsEnd (b : Began) (maps : Maps) (s : State) (v : View) : Type 0 where
@@ -41,6 +41,7 @@ pub record CountsEnd (b : Began) (stop : ℕ) (s : State) (v : View) : Type 0 wh
   pub bit : (stop ≡ 0) ⊎ (stop ≡ 1)
   pub stopped : v.stopped ≡ true → stop ≡ 1
   pub caused : stop ≡ 1 → has_cause v ≡ true
+  pub sets : has_cause v ≡ true → is_lacking v.doing ≡ false → stop ≡ 1
 
 -- The words stand for the history that the view has seen.
 pub record HasEnded (start : Start) (words : List ℕ) (v : View) : Type 0 where

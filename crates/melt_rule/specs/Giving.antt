@@ -64,6 +64,8 @@ joined_view v w = record v {
 
 abbrev pub no_beginning : Began
 no_beginning = record {
+  history = [];
+  threads = [];
   told = false;
   size = 0;
   globals = 0;

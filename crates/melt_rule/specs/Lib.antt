@@ -8,3 +8,4 @@ pub mod Giving
 pub mod Beginning
 pub mod Ending
 pub mod Barriers
+pub mod Coming

@@ -23,6 +23,8 @@ pub record Claims (v w : View) (address cost : ℕ) : Type 0 where
 -- They end past the last word, which is a cause to stop.
 pub record Lacks (v w : View) (cost : ℕ) : Type 0 where
   pub sees : Sees v w.seen
+  pub found : ℕ
+  pub past : v.began.size + 1 < found + cost
   pub is : w ≡ record (behind v w.seen v.known (Some (Lacking cost))) {
     claimed = v.claimed + cost;
     over = v.over + 1;

@@ -1,23 +1,27 @@
 -- The rule: what holds of the words of an epoch and of the views of its seats between any two steps.
 use Rattle.std.specs.Prelude.{◌≡◌, ◌≢◌, ◌⊎◌, ℕ, zero, suc, ◌+◌, ◌*◌, ◌<◌, ◌≤◌, ◌||◌, Bool, true, false}
-use Rattle.std.specs.Prelude.{List, [], ◌∷◌, ◌++◌, length, map, None, Some, slice_index}
+use Rattle.std.specs.Prelude.{List, [], ◌∷◌, ◌++◌, length, map, Option, None, Some, slice_index}
 use Rattle.std.specs.List.{sum_by}
 use mathlib.Core.Option.{some}
 use lib.ListN.{get_elem?}
 use Rattle.atomic_table.specs.Table.{State as Table}
-use Rattle.melt_model.specs.History.{Legal}
+use Rattle.melt_model.specs.History.{Legal, shape}
 use Rattle.melt_model.specs.Thread.{own}
 use Rattle.melt_model.specs.declared.history.Entry.{Entry}
+use Rattle.melt_word.specs.declared.header.Shape.{Shape}
+use Rattle.melt_record.specs.declared.head.Kind.TheVariants.{Body}
 use Rattle.melt_scion.specs.GhostMaps.{named}
-use Rattle.melt_scion.specs.Placed.{Maps, Holds}
+use Rattle.melt_scion.specs.Placed.{Maps, Holds, HeadIs}
 use Rattle.melt_scion.specs.Regions.{Apart}
 use Rattle.melt_scion.specs.State.{State, IsFresh}
 use Rattle.melt_rule.specs.Giving.{spent_view}
-use Rattle.melt_rule.specs.Shown.{shows, Knows, owned}
+use Rattle.melt_rule.specs.Shown.{base_of, shows, Knows, owned}
 use Rattle.melt_rule.specs.declared.began.Began.{Began}
 use Rattle.melt_rule.specs.declared.began.Pair.{Pair}
 use Rattle.melt_rule.specs.declared.began.Start.{Start}
 use Rattle.melt_rule.specs.declared.view.Away.{Away}
+use Rattle.melt_rule.specs.declared.view.Doing.{Doing}
+use Rattle.melt_rule.specs.declared.view.Doing.TheVariants.{Lacking, LackingCopy}
 use Rattle.melt_rule.specs.declared.view.View.{View}
 
 -- the list has the pair
@@ -54,6 +58,10 @@ pub record SeatStands (b : Began) (maps : Maps) (s : State) (h : List Entry) (v 
 abbrev pub threads_of : View → List ℕ
 threads_of v = v.thread ∷ map (λ (a : Away). a.thread) v.away
 
+-- the thread takes part in the epoch
+abbrev pub TakesPart : Began → ℕ → Type 0
+TakesPart b t = (p : ℕ) × (get_elem? b.threads p ≡ some t)
+
 -- some seat has seen the whole history
 pub record Whole (h : List Entry) (views : List View) : Type 0 where
   pub seat : ℕ
@@ -68,6 +76,12 @@ pub record MapsStand (b : Began) (maps : Maps) (views : List View) : Type 0 wher
   pub begun : (address n : ℕ) → named b.maps.addresses address ≡ Some n → maps.address address ≡ Some n
   pub only : (address n : ℕ) → maps.address address ≡ Some n
       → (named b.maps.addresses address ≡ Some n) ⊎ Knowing views address n
+
+-- The object of a home has the shape of the Body that stands there on disk, if one does.
+abbrev pub BodiesTell : Began → Type 0
+BodiesTell b = (home n : ℕ) (z : Shape) → named b.maps.homes home ≡ Some n
+    → HeadIs (base_of b) home (record { shape = z; kind = Body })
+    → shape b.history n ≡ Some (record { refs = z.refs; nums = z.nums })
 
 -- 1 for a word that is filled
 abbrev pub filled_one : ℕ → ℕ
@@ -92,10 +106,19 @@ pub record SumsStand (b : Began) (threads : ℕ) (s : State) (views : List View)
 abbrev pub has_cause : View → Bool
 has_cause v = v.asked || (v.spaced || v.forwarded)
 
--- The stop word is set only where some seat has a cause. What a cause and a word that was found set say is so.
+-- The call claimed words that end past the last one: its next step sets the stop word.
+abbrev pub is_lacking : Option Doing → Bool
+is_lacking (Some (Lacking need)) = true
+is_lacking (Some (LackingCopy search shape)) = true
+is_lacking doing = false
+
+-- The stop word is set where a seat has a cause, once the call that found it has set it, and only where some seat has one.
+-- What a cause and a word that was found set say is so.
 pub record StopStands (b : Began) (stop : ℕ) (s : State) (views : List View) : Type 0 where
   pub bit : (stop ≡ 0) ⊎ (stop ≡ 1)
   pub caused : stop ≡ 1 → (id : ℕ) × (v : View) × (get_elem? views id ≡ some v) × (has_cause v ≡ true)
+  pub sets : (id : ℕ) (v : View) → get_elem? views id ≡ some v → has_cause v ≡ true → is_lacking v.doing ≡ false
+      → stop ≡ 1
   pub stopped : (id : ℕ) (v : View) → get_elem? views id ≡ some v → v.stopped ≡ true → stop ≡ 1
   pub spaced : (id : ℕ) (v : View) → get_elem? views id ≡ some v → v.spaced ≡ true → b.size + 1 < s.free
   pub lacks : (id : ℕ) (v : View) → get_elem? views id ≡ some v → v.over ≢ 0 → v.spaced ≡ true
@@ -104,7 +127,8 @@ pub record StopStands (b : Began) (stop : ℕ) (s : State) (views : List View) :
 
 -- There is one history. It is legal, and the words stand for it. Each seat that is not spent knows what is so, and one
 -- that is spent knows and counts nothing; no thread has two seats; no word belongs to two calls. No thread but those
--- that take part has an entry since the beginning.
+-- that take part has an entry since the beginning. What a Body on disk says of the shape of its object stays so where
+-- the object comes back.
 pub record Kept (start : Start) (words : List ℕ) (views : List View) : Type 0 where
   pub history : List Entry
   pub maps : Maps
@@ -112,7 +136,8 @@ pub record Kept (start : Start) (words : List ℕ) (views : List View) : Type 0 
   pub legal : start.began.told ≡ true → Legal history start.began.globals
   pub holds : Holds start.began.told history maps (shows start.began words)
   pub first : 1 ≤ start.began.free
-  pub few : length start.threads ≤ 8
+  pub few : length start.began.threads ≤ 8
+  pub bodies : start.began.told ≡ true → BodiesTell start.began
   pub maps_stand : MapsStand start.began maps views
   pub seats : (id : ℕ) (v : View) → get_elem? views id ≡ some v → 0 < v.parts
       → SeatStands start.began maps (shows start.began words) history v
@@ -124,10 +149,12 @@ pub record Kept (start : Start) (words : List ℕ) (views : List View) : Type 0 
   pub apart : (i j : ℕ) (v w : View) → i ≢ j → get_elem? views i ≡ some v → get_elem? views j ≡ some w → 0 < v.parts
       → 0 < w.parts → Apart (owned v.doing) (owned w.doing)
   pub whole : Whole history views
-  pub since : Begins start.history history
+  pub members : (id p t : ℕ) (v : View) → get_elem? views id ≡ some v → 0 < v.parts
+      → get_elem? (threads_of v) p ≡ some t → TakesPart start.began t
+  pub since : Begins start.began.history history
   pub strangers : (t : ℕ) → ((id p : ℕ) (v : View) → get_elem? views id ≡ some v → 0 < v.parts
-      → get_elem? (threads_of v) p ≡ some t → ⊥) → own history t ≡ own start.history t
-  pub sums : SumsStand start.began (length start.threads) (shows start.began words) views
+      → get_elem? (threads_of v) p ≡ some t → ⊥) → own history t ≡ own start.began.history t
+  pub sums : SumsStand start.began (length start.began.threads) (shows start.began words) views
   pub stop : StopStands start.began (slice_index words 0) (shows start.began words) views
 
 abbrev pub Rule : Start → Table ℕ View → Type 0
@@ -144,11 +171,11 @@ others_of (t ∷ ts) = ts
 -- the view of the first seat: it speaks for all threads, of which all but the first are away
 abbrev pub first_view : Start → View
 first_view start = record {
-  parts = length start.threads;
-  thread = first_or_0 start.threads;
+  parts = length start.began.threads;
+  thread = first_or_0 start.began.threads;
   began = start.began;
-  seen = start.history;
-  mine = start.history;
+  seen = start.began.history;
+  mine = start.began.history;
   known = start.held;
   doing = None;
   rest = [];
@@ -156,7 +183,7 @@ first_view start = record {
   over = 0;
   won = 0;
   steps = 0;
-  away = map (λ t. record { thread = t; seen = start.history }) (others_of start.threads);
+  away = map (λ t. record { thread = t; seen = start.began.history }) (others_of start.began.threads);
   stopped = false;
   asked = false;
   spaced = false;

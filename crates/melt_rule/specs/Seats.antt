@@ -1,9 +1,9 @@
 -- Seats at the words of an epoch, as their threads see them.
-use Rattle.std.specs.Prelude.{◌≡◌, ℕ, ◌+◌, ◌^◌, ◌<◌, [], Some}
+use Rattle.std.specs.Prelude.{◌≡◌, ℕ, ◌+◌, ◌^◌, ◌<◌, [], false, Some}
 use Rattle.atomic_table.specs.Seated.{TableId}
 use Rattle.atomic_table.specs.declared.shared.Seat.{Seat}
 use Rattle.melt_word.specs.declared.header.Shape.{Shape}
-use Rattle.melt_rule.specs.Rule.{Has}
+use Rattle.melt_rule.specs.Rule.{Has, is_lacking}
 use Rattle.melt_rule.specs.Tells.{IsWithin}
 use Rattle.melt_rule.specs.declared.began.Start.{Start}
 use Rattle.melt_rule.specs.declared.view.Doing.TheVariants.{Headed}
@@ -15,10 +15,11 @@ pub record EpochWords : Type 0 where
   pub start : Start
 
 -- a table of as many words as an epoch has, and no slots
-pub record IsTable (id : TableId) (start : Start) (before : ℕ) : Type 0 where
+pub record IsTable (id : TableId) (start : Start) (before forwards_at : ℕ) : Type 0 where
   pub none : id.slots ≡ 0
   pub words : id.words ≡ 2 + start.began.globals + start.began.forwards + start.began.size
   pub before_is : before ≡ 1 + start.began.globals + start.began.forwards
+  pub forwards_is : forwards_at ≡ 2 + start.began.globals
   pub few : before + start.began.size < 2 ^ 32
   pub small : start.began.size < 2 ^ 30
 
@@ -27,12 +28,23 @@ abbrev pub knows_of : Seat ℕ View → View
 knows_of seat = seat.me.0
 
 -- A seat at these words, which is not spent.
+pub record Sits (words : EpochWords) (seat : Seat ℕ View) : Type 0 where
+  pub same : seat.table_id ≡ words.id
+  pub none : seat.me.1 ≡ []
+  pub live : 0 < (knows_of seat).parts
+  pub began : (knows_of seat).began ≡ words.start.began
+
+-- And one that may step: what it knows lies within the space.
 pub record IsSeat (words : EpochWords) (seat : Seat ℕ View) : Type 0 where
   pub same : seat.table_id ≡ words.id
   pub none : seat.me.1 ≡ []
   pub live : 0 < (knows_of seat).parts
   pub began : (knows_of seat).began ≡ words.start.began
   pub within : IsWithin (knows_of seat)
+
+-- the call has not claimed words past the last one
+abbrev pub MayGoOn : View → Type 0
+MayGoOn v = is_lacking v.doing ≡ false
 
 -- the object at the address is known
 abbrev pub HasName : View → ℕ → Type 0

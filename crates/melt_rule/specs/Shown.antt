@@ -13,7 +13,8 @@ use Rattle.melt_core.specs.declared.call.Stage.TheVariants as stage
 use Rattle.melt_core.specs.declared.call.Task.TheVariants.{LoadGlobal}
 use Rattle.melt_rule.specs.declared.began.Began.{Began}
 use Rattle.melt_rule.specs.declared.view.Doing.{Doing}
-use Rattle.melt_rule.specs.declared.view.Doing.TheVariants.{Polled, Headed, Looked, Cleared, Claimed, Lacking, Searching}
+use Rattle.melt_rule.specs.declared.view.Doing.TheVariants.{Polled, Headed, Looked, Cleared, Claimed, Lacking}
+use Rattle.melt_rule.specs.declared.view.Doing.TheVariants.{Searching, Missed, Copying, Copied, Retrying, LackingCopy}
 
 abbrev pub home_of : ℕ × Shape → Home
 home_of home = record { at = home.0; shape = home.1 }
@@ -42,9 +43,12 @@ forwards_in b words = take b.forwards (drop (2 + b.globals) words)
 abbrev pub space_in : Began → List ℕ → SpaceWords
 space_in b words = record { list = drop (2 + b.globals + b.forwards) words; used = 0 }
 
--- where the word of a global stands, and that of an address, which begin at 1
+-- where the word of a global stands, a forwarding word, and the word of an address, which begin at 1
 abbrev pub global_place : ℕ → ℕ
 global_place g = 2 + g
+
+abbrev pub forward_place : Began → ℕ → ℕ
+forward_place b p = 2 + b.globals + p
 
 abbrev pub word_place : Began → ℕ → ℕ
 word_place b address = 1 + b.globals + b.forwards + address
@@ -68,7 +72,12 @@ stage_of (Looked place found target) = stage.Looked place found target 0
 stage_of (Cleared place found target) = stage.Cleared place found target 0
 stage_of (Claimed address shape stored) = stage.Claimed address shape stored 0
 stage_of (Lacking need) = stage.Lacking need
-stage_of (Searching place home tried) = stage.Searching (record { place = place; home = home; tried = tried; dst = 0 })
+stage_of (Searching search) = stage.Searching search
+stage_of (Missed search) = stage.Missed search
+stage_of (Copying a stored) = stage.Copying a stored
+stage_of (Copied a) = stage.Copied a
+stage_of (Retrying a) = stage.Retrying a
+stage_of (LackingCopy search shape) = stage.LackingCopy search shape
 
 -- what is known of a call, and the words that it owns
 abbrev pub Knows : Bool → Maps → State → List ℕ → Option Doing → Type 0

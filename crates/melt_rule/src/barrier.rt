@@ -17,7 +17,7 @@ use atomic_table::Play;
 use melt_word::{Ref, decode_ref, encode_ref};
 
 /// All bits of a word but the stale bit of a header.
-const ALL_BUT_STALE: u64 = !2;
+pub(crate) const ALL_BUT_STALE: u64 = !2;
 
 /// The tag is taken from the reference in a slot, where it is still the same.
 pub(crate) struct UntagSlot;

@@ -13,8 +13,11 @@ pub struct Pair {
     pub object: u64,
 }
 
-/// The state with which an epoch begins, and the disk under it. No value of it is made.
+/// What every seat of an epoch knows from its beginning: the history so far, the threads that take part, the state of the
+/// heap, and the disk under it. No value of it is made.
 pub struct Began {
+    pub history: LinkedList<Entry>,
+    pub threads: LinkedList<u64>,
     /// Whether the disk tells its words, and the heap stands for the history.
     pub told: bool,
     /// How many words the space has.
@@ -35,11 +38,8 @@ pub struct Began {
     pub maps: GhostMaps,
 }
 
-/// What an epoch begins with: the state, the history so far, the threads that take part, and the objects that their
-/// registers hold. No value of it is made.
+/// What an epoch begins with, and the objects that registers hold then. No value of it is made.
 pub struct Start {
     pub began: Began,
-    pub history: LinkedList<Entry>,
-    pub threads: LinkedList<u64>,
     pub held: LinkedList<Pair>,
 }

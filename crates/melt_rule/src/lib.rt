@@ -12,6 +12,7 @@
 
 mod barrier;
 pub mod began;
+mod coming;
 pub mod ended;
 mod law;
 mod making;

@@ -4,7 +4,7 @@ ghost use Rattle.melt_rule.specs.Beginning.{MayBegin};
 ghost use Rattle.melt_rule.specs.Ending.{HasEnded};
 ghost use Rattle.melt_rule.specs.Giving.{giver_view, given_view, joined_view};
 ghost use Rattle.melt_rule.specs.Rule.{first_view};
-ghost use Rattle.melt_rule.specs.Seats.{IsSeat, knows_of};
+ghost use Rattle.melt_rule.specs.Seats.{IsSeat, MayGoOn, Sits, knows_of};
 
 use crate::began::Start;
 use crate::ended::EndedWords;
@@ -38,15 +38,17 @@ impl Join<View> for Takes {
 
 impl Words {
     /// Makes words of memory those of an epoch, with a first seat that speaks for all threads. So many of them, the
-    /// last ones, are words of the space.
+    /// last ones, are words of the space, and so many are globals, behind the first two.
     pub fn begin(
         alloc: Global,
         words: &[u64],
         size: u32,
+        globals: u8,
         start: &Ghost<Start>,
     ) -> Result<(Words, Seated), NoMemory>
         requires begins { MayBegin start.now words.now }
         requires size { size ≡ start.now.began.size }
+        requires globals { globals ≡ start.now.began.globals }
         ensures words { IfOk result (λ t. t.0.start ≡ start.now) }
         ensures seat { IfOk result (λ t. IsSeat t.0 t.1) }
         ensures first { IfOk result (λ t. knows_of t.1 ≡ first_view start.now) }
@@ -57,6 +59,7 @@ impl Words {
             Words {
                 table,
                 before,
+                forwards_at: 2 + globals as usize,
                 size,
             },
             seat,
@@ -77,11 +80,13 @@ impl Words {
         self.table.shared.split_seat::<Gives>(seat)
     }
 
-    /// Takes in another seat. What it knows, has counted and found is kept.
+    /// Takes in another seat. What it knows, has counted and found is kept. It steps no more.
     pub fn take_seat(&self, seat: &mut Seated, other: Seated)
-        requires seat { IsSeat self.now seat.old }
-        requires other { IsSeat self.now other }
-        ensures seat { IsSeat self.now seat.new }
+        requires seat { Sits self.now seat.old }
+        requires goes_on { MayGoOn (knows_of seat.old) }
+        requires other { Sits self.now other }
+        requires other_goes_on { MayGoOn (knows_of other) }
+        ensures seat { Sits self.now seat.new }
         ensures takes { knows_of seat.new ≡ joined_view (knows_of seat.old) (knows_of other) }
     {
         self.table.shared.join_seat::<Takes>(seat, other);
@@ -90,13 +95,14 @@ impl Words {
     /// Ends the epoch with the seat that took in all others. Its words come out, and stand for the history that the
     /// seat has seen.
     pub fn close(self, seat: Seated) -> EndedWords
-        requires seat { IsSeat self seat }
-        requires all { (knows_of seat).parts ≡ length self.start.threads }
+        requires seat { Sits self seat }
+        requires all { (knows_of seat).parts ≡ length self.start.began.threads }
         ensures ended { HasEnded self.start result (knows_of seat) }
     {
         let Words {
             table,
             before: _,
+            forwards_at: _,
             size: _,
         } = self;
         let closed = table.close_with(seat);

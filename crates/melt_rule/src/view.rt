@@ -1,11 +1,12 @@
 //! What the thread of a seat knows. No value of these types is made: they are what proofs speak of.
 use crate::began::{Began, Pair};
-use melt_core::call::Place;
+use melt_core::call::{Activation, Place, Search};
 use melt_model::Entry;
 use melt_word::{Ref, Shape};
 use std::collections::LinkedList;
 
-/// How far a call has come, and what it knows of the words. What it is to do with them stays in the code of the call.
+/// How far a call has come, and what it knows of the words. What it is to do with them stays in the code of the call: so
+/// each search is for register 0.
 pub enum Doing {
     /// The stop word was not set.
     Polled,
@@ -36,11 +37,31 @@ pub enum Doing {
     Lacking {
         need: u64,
     },
-    /// A home was found at the place. So many forwarding words were read, and none names it.
+    /// A home was found. So many forwarding words were read, and none names it.
     Searching {
-        place: Place,
-        home: u64,
-        tried: u64,
+        search: Search,
+    },
+    /// The next forwarding word was empty, so that the record of the home is to be read.
+    Missed {
+        search: Search,
+    },
+    /// Words were claimed for a copy of its Body, and so many of those behind the header were stored.
+    Copying {
+        activation: Activation,
+        stored: u64,
+    },
+    /// All words of the copy were stored.
+    Copied {
+        activation: Activation,
+    },
+    /// The forwarding word that was empty names another home by now.
+    Retrying {
+        activation: Activation,
+    },
+    /// The words that were claimed for a copy of an object of this shape end past the last word of the space.
+    LackingCopy {
+        search: Search,
+        shape: Shape,
     },
 }
 

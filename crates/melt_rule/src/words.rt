@@ -2,15 +2,16 @@
 //!
 //! A step is one load, store, fetch-and-add or compare-exchange of one word. What it asks is what its thread has to know
 //! by then; what it tells is the history behind it and what the thread knows from then on.
-ghost use Rattle.std.specs.Prelude.{true, ◌≡◌, ℕ, ◌+◌, ◌*◌, ◌^◌, ◌<◌};
+ghost use Rattle.std.specs.Prelude.{true, ◌≡◌, ℕ, ◌+◌, ◌<◌, Some};
 ghost use Rattle.melt_model.specs.declared.history.Act.TheVariants.{Read, Write};
 ghost use Rattle.melt_model.specs.declared.history.Slot.TheVariants as slot;
 ghost use Rattle.melt_model.specs.declared.history.Value.{Value};
 ghost use Rattle.melt_model.specs.declared.history.Value.TheVariants.{Num};
 ghost use Rattle.melt_core.specs.declared.call.Place.TheVariants as place;
 ghost use Rattle.melt_rule.specs.Rule.{Has, has_cause};
-ghost use Rattle.melt_rule.specs.Seats.{IsSeat, knows_of, SpeaksOf, HasName};
+ghost use Rattle.melt_rule.specs.Seats.{IsSeat, MayGoOn, knows_of, SpeaksOf, HasName};
 ghost use Rattle.melt_rule.specs.Tells.{Asks, Ends, Heads, Looks, Names, Polls, Stops};
+ghost use Rattle.melt_rule.specs.declared.view.Doing.TheVariants.{Polled};
 
 use crate::began::Start;
 use crate::law::Law;
@@ -21,7 +22,7 @@ use crate::plays::{
 use crate::view::View;
 use atomic_table::{Seat, Table};
 use melt_model::Ghost;
-use melt_word::{Ref, Shape, decode_header, decode_ref, encode_ref};
+use melt_word::{Ref, Shape, decode_header, decode_ref, held_word};
 use std::alloc::Global;
 use std::marker::Model;
 
@@ -33,6 +34,8 @@ pub struct Words {
     pub(crate) table: Table<u64, View, Ghost<Start>, Law, Global>,
     /// How many words stand before that of address 0.
     pub(crate) before: usize,
+    /// How many stand before the forwarding words.
+    pub(crate) forwards_at: usize,
     /// How many words the space has.
     pub(crate) size: u32,
     ghost size_is: { size ≡ table.shared.key.began.size },
@@ -45,13 +48,14 @@ impl Model for Words {
 
     ghost view = { λ w. record { id = w.table.shared.table_id; start = w.table.shared.key } };
 
-    ghost invariant = { λ w. IsTable w.table.shared.table_id w.table.shared.key w.before };
+    ghost invariant = { λ w. IsTable w.table.shared.table_id w.table.shared.key w.before w.forwards_at };
 }
 
 impl Words {
     /// Reads the stop word, and says whether it is set.
     pub fn poll(&self, seat: &mut Seated) -> bool
         requires seat { IsSeat self.now seat.old }
+        requires goes_on { MayGoOn (knows_of seat.old) }
         ensures seat { IsSeat self.now seat.new }
         ensures polls { Polls (knows_of seat.old) (knows_of seat.new) result }
     {
@@ -71,6 +75,7 @@ impl Words {
     /// Sets the stop word, as the thread asks all to stop. Where the seat has a cause to stop, it keeps that one.
     pub fn ask(&self, seat: &mut Seated)
         requires seat { IsSeat self.now seat.old }
+        requires goes_on { MayGoOn (knows_of seat.old) }
         ensures seat { IsSeat self.now seat.new }
         ensures asks { Asks (knows_of seat.old) (knows_of seat.new) }
     {
@@ -80,6 +85,7 @@ impl Words {
     /// Loads the header of an object that is known, and answers its shape.
     pub fn load_header(&self, seat: &mut Seated, address: u32) -> Shape
         requires seat { IsSeat self.now seat.old }
+        requires polled { (knows_of seat.old).doing ≡ Some Polled }
         requires known { HasName (knows_of seat.old) address }
         ensures seat { IsSeat self.now seat.new }
         ensures heads { (n : ℕ) → Has (knows_of seat.old).known address n
@@ -114,6 +120,7 @@ impl Words {
     /// Looks at a global.
     pub fn load_global(&self, seat: &mut Seated, g: u8) -> Ref
         requires seat { IsSeat self.now seat.old }
+        requires polled { (knows_of seat.old).doing ≡ Some Polled }
         requires global { g < self.now.start.began.globals }
         ensures seat { IsSeat self.now seat.new }
         ensures looks { Looks (knows_of seat.old) (knows_of seat.new) (slot.Global g) (place.Global g) result }
@@ -156,6 +163,7 @@ impl Words {
     /// Stores what a register holds into a global.
     pub fn store_global(&self, seat: &mut Seated, g: u8, held: u32)
         requires seat { IsSeat self.now seat.old }
+        requires polled { (knows_of seat.old).doing ≡ Some Polled }
         requires global { g < self.now.start.began.globals }
         requires held { (value : Value) × Names (knows_of seat.old).known held value }
         ensures seat { IsSeat self.now seat.new }
@@ -177,17 +185,5 @@ impl Words {
     {
         let at = self.before + address as usize + 2 + shape.refs as usize + j as usize;
         self.table.shared.store::<StoreNumber>(seat, at, word);
-    }
-}
-
-/// The word of a clean reference to the object at an address, or of none where the address is 0.
-fn held_word(address: u32) -> u64
-    requires { address < 2 ^ 30 }
-    ensures { result ≡ 4 * address }
-{
-    if address == 0 {
-        encode_ref(Ref::Null)
-    } else {
-        encode_ref(Ref::Clean(address))
     }
 }

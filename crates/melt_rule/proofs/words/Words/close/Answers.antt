@@ -11,8 +11,8 @@ returns c =
     let closed = c.close_with-closed.result in
     let seat = c.args.seat in
     let same : c.self.inside.table.shared.key ≡ c.args.self.start = ap (λ (w : EpochWords). w.start) c.self.view_is in
-    let all : (knows_of seat).parts ≡ length c.self.inside.table.shared.key.threads =
-    c.requires.all ∙ ap (λ (s : Start). length s.threads) (sym same) in
+    let all : (knows_of seat).parts ≡ length c.self.inside.table.shared.key.began.threads =
+    c.requires.all ∙ ap (λ (s : Start). length s.began.threads) (sym same) in
     record {
       ended = subst (λ (s : Start). HasEnded s (slots_items closed.words) (knows_of seat)) same
           (closes c.self.inside.table.shared.key seat.id (knows_of seat) (slots_items closed.words)

@@ -5,6 +5,7 @@ use Rattle.melt_word.specs.declared.header.Header.{Header}
 use Rattle.melt_word.specs.declared.header.Shape.{Shape}
 use Rattle.melt_rule.proofs.Allowed.{heads}
 use Rattle.melt_rule.proofs.Seating.{inside_seat, seated_behind, placed_at, has_word}
+use Rattle.melt_rule.specs.Rule.{is_lacking}
 use Rattle.melt_rule.specs.Seats.{knows_of}
 use Rattle.melt_rule.specs.Tells.{Heads}
 use Rattle.melt_rule.specs.declared.view.Doing.TheVariants.{Headed}
@@ -18,13 +19,14 @@ load-word-requires c =
     c.requires.seat in
     let has = c.requires.known.1 in (
       seat.same,
-      has_word id start c.self.inside.before c.args.seat.now c.args.address c.self.invariant seat
+      has_word id start c.self.inside.before c.self.inside.forwards_at c.args.seat.now c.args.address c.self.invariant seat
           (seat.within.known c.args.address c.requires.known.0 has).1,
       heads start id.slots c.args.seat.now.id (c.self.inside.before + c.args.address) c.args.address c.requires.known.0
           c.args.seat.now.me
           seat.live
+          (ap is_lacking c.requires.polled)
           has
-          (placed_at id start c.self.inside.before c.args.seat.now c.args.address c.self.invariant seat),
+          (placed_at id start c.self.inside.before c.self.inside.forwards_at c.args.seat.now c.args.address c.self.invariant seat),
     )
 
 pub unreachable-requires : goal.unreachable-requires
@@ -34,7 +36,7 @@ unreachable-requires c =
     let seat = inside_seat c.args.self.now (record { id = id; start = start }) c.args.seat.now c.self.view_is
     c.requires.seat in
     let f = c.load-word.ensures.2.1 c.args.address c.requires.known.0 c.requires.known.1
-    (placed_at id start c.self.inside.before c.args.seat.now c.args.address c.self.invariant seat) in
+    (placed_at id start c.self.inside.before c.self.inside.forwards_at c.args.seat.now c.args.address c.self.invariant seat) in
     c.in_default.ensures.err f.header f.in_range f.is
 
 pub returns-clause-seat : goal.returns-clause-seat
@@ -44,7 +46,7 @@ returns-clause-seat c =
     let seat = inside_seat c.args.self.now (record { id = id; start = start }) c.args.seat.now c.self.view_is
     c.requires.seat in
     let f = c.load-word.ensures.2.1 c.args.address c.requires.known.0 c.requires.known.1
-    (placed_at id start c.self.inside.before c.args.seat.now c.args.address c.self.invariant seat) in
+    (placed_at id start c.self.inside.before c.self.inside.forwards_at c.args.seat.now c.args.address c.self.invariant seat) in
     seated_behind c.args.self.now c.args.seat.now c.load-word.new.seat (knows_of c.load-word.new.seat).seen
     (knows_of c.args.seat.now).known
     (Some (Headed c.args.address f.header.shape))
@@ -60,7 +62,7 @@ returns-clause-heads c n has =
     let seat = inside_seat c.args.self.now (record { id = id; start = start }) c.args.seat.now c.self.view_is
     c.requires.seat in
     let f = c.load-word.ensures.2.1 c.args.address n has
-    (placed_at id start c.self.inside.before c.args.seat.now c.args.address c.self.invariant seat) in
+    (placed_at id start c.self.inside.before c.self.inside.forwards_at c.args.seat.now c.args.address c.self.invariant seat) in
     let is = c.in-Ok.ensures.ok in
     let one : f.header ≡ c.in-Ok.header = same_header f.header c.in-Ok.header f.in_range is.0 (sym f.is ∙ is.1) in
     subst (λ (z : Shape). Heads (knows_of c.args.seat.now) (knows_of c.load-word.new.seat) c.args.address n z)

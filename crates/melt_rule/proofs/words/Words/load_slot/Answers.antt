@@ -25,9 +25,9 @@ load-word-requires c =
     let fits = speaks_fits (record { id = id; start = start }) c.args.seat.now c.args.address z seat headed in
     let place : c.self.inside.before + c.args.address + 2 + c.args.i
     ≡ word_place (knows_of c.args.seat.now).began (c.args.address + 2 + c.args.i) =
-    let p = placed_at id start c.self.inside.before c.args.seat.now (c.args.address + 2 + c.args.i) c.self.invariant seat in
+    let p = placed_at id start c.self.inside.before c.self.inside.forwards_at c.args.seat.now (c.args.address + 2 + c.args.i) c.self.invariant seat in
     omega arith in
-    let below = has_word id start c.self.inside.before c.args.seat.now (c.args.address + 2 + c.args.i) c.self.invariant seat
+    let below = has_word id start c.self.inside.before c.self.inside.forwards_at c.args.seat.now (c.args.address + 2 + c.args.i) c.self.invariant seat
     (omega arith) in (
       seat.same,
       omega arith,
@@ -56,7 +56,7 @@ unreachable-requires c =
     let fits = speaks_fits (record { id = id; start = start }) c.args.seat.now c.args.address z seat headed in
     let place : c.self.inside.before + c.args.address + 2 + c.args.i
     ≡ word_place (knows_of c.args.seat.now).began (c.args.address + 2 + c.args.i) =
-    let p = placed_at id start c.self.inside.before c.args.seat.now (c.args.address + 2 + c.args.i) c.self.invariant seat in
+    let p = placed_at id start c.self.inside.before c.self.inside.forwards_at c.args.seat.now (c.args.address + 2 + c.args.i) c.self.invariant seat in
     omega arith in
     let f = c.load-word.ensures.2.1 c.args.address n c.args.i z headed has holds place in
     c.in_default.ensures.err f.reference f.in_range f.is
@@ -75,7 +75,7 @@ returns-clause-seat c =
     let fits = speaks_fits (record { id = id; start = start }) c.args.seat.now c.args.address z seat headed in
     let place : c.self.inside.before + c.args.address + 2 + c.args.i
     ≡ word_place (knows_of c.args.seat.now).began (c.args.address + 2 + c.args.i) =
-    let p = placed_at id start c.self.inside.before c.args.seat.now (c.args.address + 2 + c.args.i) c.self.invariant seat in
+    let p = placed_at id start c.self.inside.before c.self.inside.forwards_at c.args.seat.now (c.args.address + 2 + c.args.i) c.self.invariant seat in
     omega arith in
     let f = c.load-word.ensures.2.1 c.args.address n c.args.i z headed has holds place in
     seated_looked c.args.self.now c.args.seat.now c.load-word.new.seat (slot.Field n c.args.i) (Field c.args.address c.args.i)
@@ -99,7 +99,7 @@ returns-clause-looks c m other =
     let fits = speaks_fits (record { id = id; start = start }) c.args.seat.now c.args.address z seat headed in
     let place : c.self.inside.before + c.args.address + 2 + c.args.i
     ≡ word_place (knows_of c.args.seat.now).began (c.args.address + 2 + c.args.i) =
-    let p = placed_at id start c.self.inside.before c.args.seat.now (c.args.address + 2 + c.args.i) c.self.invariant seat in
+    let p = placed_at id start c.self.inside.before c.self.inside.forwards_at c.args.seat.now (c.args.address + 2 + c.args.i) c.self.invariant seat in
     omega arith in
     let f = c.load-word.ensures.2.1 c.args.address m c.args.i z headed other holds place in
     let is = c.in-Ok.ensures.ok in

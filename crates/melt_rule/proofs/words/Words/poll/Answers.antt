@@ -12,7 +12,8 @@ load-requires c =
       seat.same,
       (let size = c.self.invariant.words in omega arith),
       polls c.self.inside.table.shared.key c.self.inside.table.shared.table_id.slots c.args.seat.now.id c.args.seat.now.me
-          seat.live,
+          seat.live
+          c.requires.goes_on,
     )
 
 pub returns-clause-seat : goal.returns-clause-seat

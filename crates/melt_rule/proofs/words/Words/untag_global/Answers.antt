@@ -1,14 +1,10 @@
-use Rattle.std.proofs.Common.{◌≡◌, ◌≢◌, ℕ, ◌+◌, ◌*◌, ◌≤◌, subst, sym, ◌∙◌, ap, refl, arith}
-use Rattle.std.specs.Prelude.{Some}
-use Rattle.melt_word.specs.Words.{IsRef, ref_word}
-use Rattle.melt_word.specs.declared.reference.Ref.{Ref}
-use Rattle.melt_word.specs.declared.reference.Ref.TheVariants.{Clean}
+use Rattle.std.proofs.Common.{◌≡◌, ℕ, subst, sym, ◌∙◌, ap, refl, arith}
+use Rattle.melt_word.specs.Words.{ref_word}
 use Rattle.melt_model.specs.declared.history.Slot.TheVariants as slot
 use Rattle.melt_rule.proofs.Untagging.{global_untags}
 use Rattle.melt_rule.proofs.Seating.{inside_seat, seated_read, held_small, answered}
 use Rattle.melt_rule.specs.declared.began.Began.{Began}
-use Rattle.melt_rule.specs.Seats.{EpochWords, knows_of}
-use Rattle.melt_rule.specs.Shown.{word_place}
+use Rattle.melt_rule.specs.Seats.{knows_of}
 use Rattle.melt_rule.specs.Tells.{FitsIn, Reads}
 use Rattle.melt_rule.proofs.words.Words.untag_global.Goals as goal
 

@@ -1,13 +1,10 @@
-use Rattle.std.proofs.Common.{◌≡◌, ◌≢◌, ℕ, ◌+◌, ◌*◌, ◌≤◌, subst, sym, ◌∙◌, ap, refl, arith}
-use Rattle.std.specs.Prelude.{Some}
-use Rattle.melt_word.specs.Words.{IsRef, ref_word}
-use Rattle.melt_word.specs.declared.reference.Ref.{Ref}
-use Rattle.melt_word.specs.declared.reference.Ref.TheVariants.{Clean}
+use Rattle.std.proofs.Common.{◌≡◌, ℕ, ◌+◌, subst, sym, ◌∙◌, ap, arith}
+use Rattle.melt_word.specs.Words.{ref_word}
 use Rattle.melt_model.specs.declared.history.Slot.TheVariants as slot
 use Rattle.melt_rule.proofs.Untagging.{untags_at}
 use Rattle.melt_rule.proofs.Seating.{inside_seat, placed_at, has_word, seated_read, held_small, answered}
 use Rattle.melt_rule.specs.declared.began.Began.{Began}
-use Rattle.melt_rule.specs.Seats.{EpochWords, knows_of}
+use Rattle.melt_rule.specs.Seats.{knows_of}
 use Rattle.melt_rule.specs.Shown.{word_place}
 use Rattle.melt_rule.specs.Tells.{FitsIn, Reads}
 use Rattle.melt_rule.proofs.words.Words.untag_slot.Goals as goal
@@ -21,9 +18,9 @@ compare_exchange-seen-requires c =
     let fits = subst (FitsIn (knows_of c.args.seat.now).began) c.requires.cleared seat.within.doing in
     let far : ℕ = c.args.object + 2 + c.args.i in
     let place : c.self.inside.before + c.args.object + 2 + c.args.i ≡ word_place (knows_of c.args.seat.now).began far =
-    let p = placed_at id start c.self.inside.before c.args.seat.now far c.self.invariant seat in
+    let p = placed_at id start c.self.inside.before c.self.inside.forwards_at c.args.seat.now far c.self.invariant seat in
     omega arith in
-    let below = has_word id start c.self.inside.before c.args.seat.now far c.self.invariant seat fits.3 in (
+    let below = has_word id start c.self.inside.before c.self.inside.forwards_at c.args.seat.now far c.self.invariant seat fits.3 in (
       seat.same,
       omega arith,
       untags_at start id.slots c.args.seat.now.id (c.self.inside.before + c.args.object + 2 + c.args.i) c.args.object
@@ -50,7 +47,7 @@ answer-requires c differ =
     c.requires.seat in
     let far : ℕ = c.args.object + 2 + c.args.i in
     let place : c.self.inside.before + c.args.object + 2 + c.args.i ≡ word_place (knows_of c.args.seat.now).began far =
-    let p = placed_at id start c.self.inside.before c.args.seat.now far c.self.invariant seat in
+    let p = placed_at id start c.self.inside.before c.self.inside.forwards_at c.args.seat.now far c.self.invariant seat in
     omega arith in
     let told = c.compare_exchange-seen.ensures.2.1 c.args.object c.requires.known.0 c.args.i c.args.target c.args.found
     c.requires.cleared c.requires.known.1 place in
@@ -76,7 +73,7 @@ returns-clause-seat c =
     c.requires.seat in
     let far : ℕ = c.args.object + 2 + c.args.i in
     let place : c.self.inside.before + c.args.object + 2 + c.args.i ≡ word_place (knows_of c.args.seat.now).began far =
-    let p = placed_at id start c.self.inside.before c.args.seat.now far c.self.invariant seat in
+    let p = placed_at id start c.self.inside.before c.self.inside.forwards_at c.args.seat.now far c.self.invariant seat in
     omega arith in
     let told = c.compare_exchange-seen.ensures.2.1 c.args.object c.requires.known.0 c.args.i c.args.target c.args.found
     c.requires.cleared c.requires.known.1 place in
@@ -94,7 +91,7 @@ returns-clause-reads c n has =
     c.requires.seat in
     let far : ℕ = c.args.object + 2 + c.args.i in
     let place : c.self.inside.before + c.args.object + 2 + c.args.i ≡ word_place (knows_of c.args.seat.now).began far =
-    let p = placed_at id start c.self.inside.before c.args.seat.now far c.self.invariant seat in
+    let p = placed_at id start c.self.inside.before c.self.inside.forwards_at c.args.seat.now far c.self.invariant seat in
     omega arith in
     let told = c.compare_exchange-seen.ensures.2.1 c.args.object n c.args.i c.args.target c.args.found
     c.requires.cleared has place in
