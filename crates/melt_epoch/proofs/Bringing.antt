@@ -1,0 +1,187 @@
+-- The object of a home comes into use: by a word that sends the home, by a Stub, or by a copy.
+use Rattle.std.proofs.Common.{◌≡◌, ℕ, ◌+◌, ◌*◌, ◌-◌, ◌≤◌, Bool, true, inl, inr, List, Ok, Err}
+use Rattle.std.proofs.Common.{refl, sym, ◌∙◌, ap, subst, arith}
+use Rattle.std.specs.Prelude.{Option, Some, Result}
+use Rattle.atomic_table.specs.declared.shared.Seat.{Seat}
+use Rattle.melt_word.specs.Words.{IsShape, cost_of}
+use Rattle.melt_word.specs.declared.header.Shape.{Shape}
+use Rattle.melt_scion.specs.Commits.{HasRecord}
+use Rattle.melt_scion.specs.GhostMaps.{named}
+use Rattle.melt_scion.specs.Scions.{Scions}
+use Rattle.melt_scion.specs.declared.heap.Heap.{Heap}
+use Rattle.melt_core.specs.declared.answer.Refusal.{Refusal}
+use Rattle.melt_core.specs.declared.answer.Refusal.TheVariants as refusal
+use Rattle.melt_core.specs.declared.call.Search.{Search}
+use Rattle.melt_rule.specs.Coming.{HomeHas}
+use Rattle.melt_rule.specs.Rule.{is_lacking}
+use Rattle.melt_rule.specs.Seats.{EpochWords, IsSeat, knows_of}
+use Rattle.melt_rule.specs.Shown.{base_of}
+use Rattle.melt_rule.specs.Tells.{FitsIn, Reaches}
+use Rattle.melt_rule.specs.declared.began.Began.{Began}
+use Rattle.melt_rule.specs.declared.view.Doing.{Doing}
+use Rattle.melt_rule.specs.declared.view.Doing.TheVariants.{Missed}
+use Rattle.melt_rule.specs.declared.view.View.{View}
+use Rattle.melt_epoch.proofs.Following.{counts_most}
+use Rattle.melt_epoch.proofs.Toward.{Toward, goes_then, goes_toward, toward_full, toward_goes, toward_itself, toward_lacked}
+use Rattle.melt_epoch.specs.Bringing.{Brings, Brought, Copies, IsLost, IsPaused, LacksRoom, Misses, Seeks, Stays}
+use Rattle.melt_epoch.specs.Bringing.{reached, tried_to}
+use Rattle.melt_epoch.specs.Epochs.{Fits}
+use Rattle.melt_epoch.specs.Fetching.{BodyFetched, Fetches, IsUnread, OfDisk}
+use Rattle.melt_epoch.specs.declared.fetch.Fetched.{Fetched}
+use Rattle.melt_epoch.specs.declared.fetch.Fetched.TheVariants as fetched
+use Rattle.melt_epoch.specs.declared.bring.Sought.TheVariants as sought
+
+-- what a seat knows of a home that it missed
+pub missed_fits : (words : EpochWords) (seat : Seat ℕ View) (search : Search) → IsSeat words seat
+    → (knows_of seat).doing ≡ Some (Missed search) → FitsIn words.start.began (Some (Missed search))
+missed_fits words seat search is_seat at =
+    subst (λ (b : Began). FitsIn b (Some (Missed search))) is_seat.began
+    (subst (λ (d : Option Doing). FitsIn (knows_of seat).began d) at is_seat.within.doing)
+
+-- the disk of the epoch is that of the reader
+pub of_disk : (words : EpochWords) (heap : Heap) (image : Option (List ℕ)) (end : ℕ) → Fits words heap end
+    → (words.start.began.told ≡ true → image ≡ Some words.start.began.image) → OfDisk words.start.began image end
+of_disk words heap image end fits tells = record { ends = sym fits.ends; tells = tells }
+
+-- no record is damaged where the epoch is told
+pub unread_lost : (words : EpochWords) (heap : Heap) (image : Option (List ℕ)) (end home before after : ℕ)
+    (why : Refusal) → Fits words heap end
+    → (words.start.began.told ≡ true → image ≡ Some words.start.began.image)
+    → (words.start.began.told ≡ true → HasRecord (base_of words.start.began) home)
+    → IsUnread image heap.scions end home before after why
+    → IsLost words.start.began.told image heap.scions end home before after why
+unread_lost words heap image end home before after refusal.DiskFault fits tells has rose = rose
+unread_lost words heap image end home before after (refusal.Damaged damaged) fits tells has bad = (
+  bad.breaks,
+  λ told. bad.untold words.start.began (of_disk words heap image end fits tells) (sym fits.scions) told (has told),
+)
+unread_lost words heap image end home before after (refusal.Pause pause) fits tells has none = none
+
+-- what is known behind a search was known before
+home_has_here : (v w : View) (home : ℕ) (z : Shape) (u : View) → w.began ≡ v.began → HomeHas w u.seen home z
+    → HomeHas v u.seen home z
+home_has_here v w home z u began has told n at =
+    has (ap (λ (b : Began). b.told) began ∙ told) n (ap (λ (b : Began). named b.maps.homes home) began ∙ at)
+
+pub lacks_on : (v w u : View) (search : Search) (tried m n k : ℕ) (why : Refusal) → m + n ≤ k → Toward v w 0 0 m
+    → LacksRoom w u (tried_to search tried) n why → LacksRoom v u search k why
+lacks_on v w u search tried m n k why le toward lacks = record {
+  shape = lacks.shape;
+  object = home_has_here v w search.home lacks.shape u toward.counts.began lacks.object;
+  is = lacks.is;
+  sees = toward.on u.seen lacks.sees;
+  lacked = toward_lacked v w u (cost_of lacks.shape) m n k le toward lacks.lacked;
+  over = lacks.over;
+}
+
+-- the Body that was fetched
+pub body_of : (image : Option (List ℕ)) (scions : Scions) (end home before after : ℕ) (found : Fetched) (z : Shape)
+    (rest : List ℕ) → found ≡ fetched.Body z rest → Fetches image scions end home before after (Ok found)
+    → BodyFetched image end home z rest
+body_of image scions end home before after found z rest is fetches =
+    subst (λ (f : Fetched). Fetches image scions end home before after (Ok f)) is fetches
+
+-- a Stub leads to the object
+pub stub_brings : (v w : View) (search : Search) (target most : ℕ) → 1 ≤ most
+    → Reaches v w (Some (reached search target)) → Brought v w search most target
+stub_brings v w search target most some_ clears = record {
+  words = 0;
+  wins = 0;
+  goes = toward_goes v v w 0 0 0 most (reached search target) some_ (toward_itself v) clears;
+  claims = inl (refl, refl);
+}
+
+-- or a copy does
+pub copies_miss : (told : Bool) (image : Option (List ℕ)) (scions : Scions) (end before after : ℕ) (v w : View)
+    (search : Search) (z : Shape) (forwards : ℕ) (result : Result ℕ Refusal) → IsShape z
+    → Copies v w search z forwards result
+    → Misses told image scions end before after v w search (128 + 2 * (forwards - search.tried)) result
+copies_miss told image scions end before after v w search z forwards (Ok address) small copied = record {
+  words = cost_of z;
+  wins = copied.wins;
+  goes = goes_then v v w (cost_of z) copied.wins 0 (cost_of z + 1 + 2 * (forwards - search.tried))
+      (128 + 2 * (forwards - search.tried)) (reached search address)
+      (let refs = small.refs in let nums = small.nums in omega arith) (toward_itself v) copied.goes;
+  claims = inr (z, refl, copied.one, copied.object);
+}
+copies_miss told image scions end before after v w search z forwards (Err why) small (inl full) = inl (inl (record {
+  words = cost_of z;
+  full = toward_full v v w 0 (cost_of z) (cost_of z) 0 (cost_of z + 2 + 2 * (forwards - search.tried))
+      (128 + 2 * (forwards - search.tried)) why (omega arith)
+      (let refs = small.refs in let nums = small.nums in omega arith) (toward_itself v) full.full;
+  claims = inr (z, refl, full.object);
+}))
+copies_miss told image scions end before after v w search z forwards (Err why) small (inr lacks) =
+    inl (inr (lacks_on v v w search search.tried 0 2 (128 + 2 * (forwards - search.tried)) why (omega arith) (toward_itself v) lacks))
+
+pub paused_on : (v w u : View) (search : Search) (tried m n k : ℕ) (why : Refusal) → m + n ≤ k → Toward v w 0 0 m
+    → IsPaused w u (tried_to search tried) n why → IsPaused v u search k why
+paused_on v w u search tried m n k why le toward (inl found) = inl (record {
+  words = found.words;
+  full = toward_full v w u 0 found.words found.words m n k why (omega arith) le toward found.full;
+  claims = elim found.claims [
+    | inl none ↦ inl none
+    | inr some_ ↦ inr (
+      some_.0,
+      some_.1,
+      home_has_here v w search.home some_.0 u toward.counts.began some_.2,
+    )
+  ];
+})
+paused_on v w u search tried m n k why le toward (inr lacks) =
+    inr (lacks_on v w u search tried m n k why le toward lacks)
+
+pub brought_on : (v w u : View) (search : Search) (tried m n k address : ℕ) → m + n ≤ k → Toward v w 0 0 m
+    → Brought w u (tried_to search tried) n address → Brought v u search k address
+brought_on v w u search tried m n k address le toward brought = record {
+  words = brought.words;
+  wins = brought.wins;
+  goes = goes_then v w u brought.words brought.wins m n k (reached search address) le toward brought.goes;
+  claims = elim brought.claims [
+    | inl none ↦ inl none
+    | inr some_ ↦ inr (
+      some_.0,
+      some_.1,
+      some_.2,
+      home_has_here v w search.home some_.0 u toward.counts.began some_.3,
+    )
+  ];
+}
+
+-- a home that a search missed was brought, or was not
+pub missed_brings : (told : Bool) (image : Option (List ℕ)) (scions : Scions) (end before after : ℕ) (v w u : View)
+    (search missed : Search) (forwards : ℕ) (result : Result ℕ Refusal) → search.tried ≡ 0
+    → Seeks v w search forwards (Ok (sought.Missed missed))
+    → Misses told image scions end before after w u missed (128 + 2 * (forwards - missed.tried)) result
+    → Brings told image scions end before after v u search (2 * forwards + 130) result
+missed_brings told image scions end before after v w u search missed forwards result first seeks misses =
+    brings result (subst (λ (s : Search). Misses told image scions end before after w u s most result) seeks.3 misses)
+  where
+    most : ℕ
+    most = 128 + 2 * (forwards - missed.tried)
+
+    toward : Toward v w 0 0 (missed.tried + 1 - search.tried)
+    toward = goes_toward v w 0 0 (missed.tried + 1 - search.tried) (Missed missed) seeks.0
+
+    few : (missed.tried + 1 - search.tried) + (128 + 2 * (forwards - missed.tried)) ≤ 2 * forwards + 130
+    few = let below = seeks.2 in omega arith
+
+    brings : (result : Result ℕ Refusal)
+        → Misses told image scions end before after w u (tried_to search missed.tried)
+        (128 + 2 * (forwards - missed.tried)) result
+        → Brings told image scions end before after v u search (2 * forwards + 130) result
+    brings (Ok address) brought =
+        brought_on v w u search missed.tried (missed.tried + 1 - search.tried) (128 + 2 * (forwards - missed.tried))
+        (2 * forwards + 130) address few toward brought
+    brings (Err why) (inl paused) =
+        inl (paused_on v w u search missed.tried (missed.tried + 1 - search.tried) (128 + 2 * (forwards - missed.tried))
+        (2 * forwards + 130) why few toward paused)
+    brings (Err why) (inr lost) = inr (
+      subst (λ (x : View). Stays v x (2 * forwards + 130)) (sym lost.0) (record {
+        sees = seeks.0.sees;
+        counts = counts_most v w 0 0 (missed.tried + 1 - search.tried) (2 * forwards + 130)
+            (let below = seeks.2 in omega arith) seeks.0.counts;
+        goes_on = ap is_lacking seeks.0.at;
+      }),
+      lost.1,
+    )

@@ -1,0 +1,128 @@
+-- A copy of a Body on its way into use.
+use Rattle.std.proofs.Common.{◌≡◌, ℕ, ◌+◌, ◌*◌, ◌-◌, ◌||◌, inl, Ok, Err, Bool, true, false, List, refl, sym, ◌∙◌, ap, subst, arith}
+use Rattle.std.specs.Prelude.{None, Result, Some}
+use Rattle.melt_model.specs.declared.history.Entry.{Entry}
+use Rattle.melt_word.specs.Words.{cost_of}
+use Rattle.melt_word.specs.declared.header.Shape.{Shape}
+use Rattle.melt_scion.specs.GhostMaps.{named}
+use Rattle.melt_core.specs.declared.answer.Pause.TheVariants.{Space}
+use Rattle.melt_core.specs.declared.answer.Refusal.{Refusal}
+use Rattle.melt_core.specs.declared.answer.Refusal.TheVariants.{Pause}
+use Rattle.melt_core.specs.declared.call.Activation.{Activation}
+use Rattle.melt_core.specs.declared.call.Search.{Search}
+use Rattle.melt_rule.specs.Coming.{ClaimsCopy, HomeHas, LacksCopy}
+use Rattle.melt_rule.specs.Rule.{Begins, Has, has_cause}
+use Rattle.melt_rule.specs.Tells.{Reaches, Sees}
+use Rattle.melt_rule.specs.declared.began.Began.{Began}
+use Rattle.melt_rule.specs.declared.view.Doing.TheVariants.{Copied, Copying}
+use Rattle.melt_rule.specs.declared.view.View.{View}
+use Rattle.melt_epoch.proofs.Following.{sees_on, shape_stays}
+use Rattle.melt_epoch.proofs.Toward.{Toward, goes_toward, toward_both, toward_full, toward_on, toward_then}
+use Rattle.melt_epoch.specs.Bringing.{Copies, IsFilled, LacksRoom, Settles, reached}
+
+-- the shape of a home's object stays, however the history grows
+pub home_has_on : (v w : View) (g h : List Entry) (home : ℕ) (z : Shape) → w.began ≡ v.began → Begins g h
+    → HomeHas w g home z → HomeHas v h home z
+home_has_on v w g h home z began begins has told n at =
+    shape_stays g h begins.0 n (record { refs = z.refs; nums = z.nums }) begins.1
+    (has (ap (λ (b : Began). b.told) began ∙ told) n (ap (λ (b : Began). named b.maps.homes home) began ∙ at))
+
+spaced_cause : (asked forwarded : Bool) → (asked || (true || forwarded)) ≡ true
+spaced_cause true forwarded = refl
+spaced_cause false forwarded = refl
+
+-- who lacks words has a cause to stop
+pub lacks_cause : (v w : View) (search : Search) (z : Shape) → LacksCopy v w search z → has_cause w ≡ true
+lacks_cause v w search z lacks = ap has_cause lacks.is ∙ spaced_cause v.asked v.forwarded
+
+-- and then it was refused
+pub lacks_room : (v w u : View) (search : Search) (z : Shape) → LacksCopy v w search z → Reaches w u None
+    → LacksRoom v u search 2 (Pause (Space (cost_of z)))
+lacks_room v w u search z lacks stops =
+    let is = lacks.is in
+    let then_ = stops.is in
+    let began : w.began ≡ v.began = ap (λ (x : View). x.began) is in
+    record {
+      shape = z;
+      object = home_has_on v v w.seen u.seen search.home z refl stops.sees.begins lacks.object;
+      is = refl;
+      sees = sees_on v w u.seen lacks.sees (ap (λ (x : View). x.thread) is) began stops.sees;
+      lacked = record {
+        thread = ap (λ (x : View). x.thread) then_ ∙ ap (λ (x : View). x.thread) is;
+        parts = ap (λ (x : View). x.parts) then_ ∙ ap (λ (x : View). x.parts) is;
+        away = ap (λ (x : View). x.away) then_ ∙ ap (λ (x : View). x.away) is;
+        began = ap (λ (x : View). x.began) then_ ∙ began;
+        known = λ x n has. subst (λ (y : View). Has y.known x n) (sym then_)
+            (subst (λ (y : View). Has y.known x n) (sym is) has);
+        asked = ap (λ (x : View). x.asked) then_ ∙ ap (λ (x : View). x.asked) is;
+        spaced = ap (λ (x : View). x.spaced) then_ ∙ ap (λ (x : View). x.spaced) is;
+        forwarded = ap (λ (x : View). x.forwarded) then_ ∙ ap (λ (x : View). x.forwarded) is;
+        claimed = ap (λ (x : View). x.claimed) then_ ∙ ap (λ (x : View). x.claimed) is;
+        over = ap (λ (x : View). x.over) then_ ∙ ap (λ (x : View). x.over) is;
+        won = ap (λ (x : View). x.won) then_ ∙ ap (λ (x : View). x.won) is;
+        steps = let e = ap (λ (x : View). x.steps) then_ in let s = ap (λ (x : View). x.steps) is in omega arith;
+      };
+      over = ap (λ (x : View). x.doing) then_;
+    }
+
+-- words were claimed
+pub claimed_toward : (v w : View) (search : Search) (z : Shape) (rest : List ℕ) (address : ℕ)
+    → ClaimsCopy v w search z rest address → Toward v w (cost_of z) 0 1
+claimed_toward v w search z rest address claims =
+    let is = claims.is in
+    let thread : w.thread ≡ v.thread = ap (λ (x : View). x.thread) is in
+    let began : w.began ≡ v.began = ap (λ (x : View). x.began) is in
+    record {
+      on = λ h sees. sees_on v w h claims.sees thread began sees;
+      counts = record {
+        thread = thread;
+        parts = ap (λ (x : View). x.parts) is;
+        away = ap (λ (x : View). x.away) is;
+        began = began;
+        known = λ x n has. subst (λ (y : View). Has y.known x n) (sym is) has;
+        asked = ap (λ (x : View). x.asked) is;
+        spaced = ap (λ (x : View). x.spaced) is;
+        forwarded = ap (λ (x : View). x.forwarded) is;
+        claimed = ap (λ (x : View). x.claimed) is;
+        over = ap (λ (x : View). x.over) is;
+        won = let e = ap (λ (x : View). x.won) is in omega arith;
+        steps = let e = ap (λ (x : View). x.steps) is in omega arith;
+      };
+    }
+
+-- and filled, and the copy became the object of its home, or did not
+module _ (v w u x y : View) (search : Search) (z : Shape) (rest : List ℕ) (address forwards : ℕ)
+    (claims : ClaimsCopy v w search z rest address)
+    (filled : IsFilled w u (record { search = search; address = address; shape = z }))
+    (heads : Reaches u x (Some (Copied (record { search = search; address = address; shape = z })))) where
+  abbrev copy : Activation
+  copy = record { search = search; address = address; shape = z }
+
+  behind_claim : Toward w x 0 0 (cost_of z)
+  behind_claim =
+      let all = filled.all in
+      toward_on w u x 0 0 filled.stored (cost_of z) (Copied copy) (omega arith)
+      (goes_toward w u 0 0 filled.stored (Copying copy filled.stored) filled.goes) heads
+
+  to_copy : Toward v x (cost_of z) 0 (cost_of z + 1)
+  to_copy =
+      toward_both v w x (cost_of z) 0 1 (cost_of z) (cost_of z + 1) (omega arith)
+      (claimed_toward v w search z rest address claims) behind_claim
+
+  shape_here : Sees x y.seen → HomeHas v y.seen search.home z
+  shape_here sees =
+      home_has_on v v w.seen y.seen search.home z refl (behind_claim.on y.seen sees).begins claims.object
+
+  pub copy_settles : (result : Result ℕ Refusal) → Settles x y copy forwards result → Copies v y search z forwards result
+  copy_settles (Ok found) settled = record {
+    wins = settled.wins;
+    one = settled.one;
+    object = shape_here settled.goes.sees;
+    goes = toward_then v x y (cost_of z) settled.wins (cost_of z + 1) (2 * (forwards - search.tried))
+        (cost_of z + 1 + 2 * (forwards - search.tried)) (reached search found) (omega arith) to_copy settled.goes;
+  }
+  copy_settles (Err refusal) full = inl (record {
+    object = shape_here full.sees;
+    full = toward_full v x y (cost_of z) 0 (cost_of z) (cost_of z + 1) (2 * (forwards - search.tried) + 1)
+        (cost_of z + 2 + 2 * (forwards - search.tried)) refusal (omega arith) (omega arith) to_copy full;
+  })

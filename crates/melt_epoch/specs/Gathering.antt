@@ -1,0 +1,47 @@
+-- How the words of an epoch are laid out from a heap and put back, and how seats are given to mutators and taken in.
+use Rattle.std.specs.Prelude.{◌≡◌, ℕ, ◌+◌, ◌-◌, List, [], ◌∷◌, ◌++◌, length, take, drop, min, Some, slice_index}
+use Rattle.atomic_table.specs.declared.shared.Seat.{Seat}
+use Rattle.melt_scion.specs.declared.heap.Heap.{Heap}
+use Rattle.melt_rule.specs.Giving.{joined_view, spent_view}
+use Rattle.melt_rule.specs.Rule.{first_view}
+use Rattle.melt_rule.specs.Seats.{EpochWords, IsSeat, knows_of}
+use Rattle.melt_rule.specs.declared.began.Start.{Start}
+use Rattle.melt_rule.specs.declared.view.View.{View}
+use Rattle.melt_epoch.specs.declared.mutator.Mutator.{Mutator}
+
+-- the stop word, the first free place, globals, forwarding words and the words of the space
+abbrev pub words_of : Heap → List ℕ
+words_of heap = 0 ∷ (heap.space.used + 1) ∷ (heap.globals ++ (heap.forward ++ heap.space.list))
+
+-- The words stand in the heap again, each where it came from. Those before the first free place are in use, of the
+-- words that there are.
+pub record PutsBack (old new : Heap) (words : List ℕ) : Type 0 where
+  pub globals : new.globals ≡ take (length old.globals) (drop 2 words)
+  pub forwards : new.forward ≡ take (length old.forward) (drop (2 + length old.globals) words)
+  pub space : new.space.list
+      ≡ take (length old.space.list) (drop (2 + length old.globals + length old.forward) words)
+  pub used : new.space.used ≡ min (slice_index words 1 - 1) (length old.space.list)
+  pub scions : new.scions ≡ old.scions
+  pub names : new.names ≡ old.names
+  pub maps : new.maps ≡ old.maps
+
+-- what the seat of a thread knows at the beginning
+abbrev pub fresh_view : Start → ℕ → View
+fresh_view start t = record (first_view start) { parts = 1; thread = t; away = [] }
+
+-- The mutator has such a seat.
+pub record IsGiven {R : Type 0} (words : EpochWords) (m : Mutator R) : Type 0 where
+  pub seat : Seat ℕ View
+  pub there : m.seat ≡ Some seat
+  pub is : IsSeat words seat
+  pub knows : knows_of seat ≡ fresh_view words.start m.thread
+
+-- the view of a seat that took in seats with these views, one behind the other
+abbrev pub gathered : View → List View → View
+gathered v [] = v
+gathered v (w ∷ ws) = gathered (joined_view v w) ws
+
+-- and that of the first of all seats
+abbrev pub gathered_all : List View → View
+gathered_all [] = spent_view
+gathered_all (v ∷ vs) = gathered v vs

@@ -1,0 +1,9 @@
+pub mod Mutators
+pub mod Calls
+pub mod Epochs
+pub mod Bringing
+pub mod Fetching
+pub mod Loading
+pub mod Ends
+pub mod Gathering
+pub mod Tests

@@ -1,0 +1,146 @@
+//! How an epoch begins and ends: its words are laid out from the parts of a heap and each mutator gets a seat; in the
+//! end all seats are taken back, and the words are put where they came from.
+ghost use Rattle.std.specs.Prelude.{◌≡◌, ◌+◌, ◌^◌, ◌<◌, ◌≤◌, length, map, take, drop, All, IfOk, OnErr};
+ghost use Rattle.melt_rule.specs.Rule.{first_view};
+ghost use Rattle.melt_rule.specs.Seats.{IsSeat, Sits, knows_of};
+ghost use Rattle.melt_rule.specs.declared.began.Start.{Start};
+ghost use Rattle.melt_epoch.specs.Ends.{HasEnded, HasJoined, HeapBegins, HistoryBegins, MayEnd, MutatorsBegin};
+ghost use Rattle.melt_epoch.specs.Ends.{unseated, view_of};
+ghost use Rattle.melt_epoch.specs.Gathering.{IsGiven, PutsBack, gathered_all, words_of};
+ghost use Rattle.melt_epoch.specs.Mutators.{HasReader};
+
+use crate::epoch::Epoch;
+use crate::mutator::Mutator;
+use melt_io::RecordReader;
+use melt_model::{Ghost, NoMemory};
+use melt_rule::{EndedWords, Pass, Seated, Start, Words};
+use melt_scion::{GhostMaps, Heap};
+use melt_space::Space;
+use std::alloc::Global;
+
+/// The words of a heap as those of an epoch: the stop word, the first free place, the globals, the forwarding words,
+/// and the words of the space.
+fn lay_out(alloc: Global, heap: &Heap) -> Result<Vec<u64>, NoMemory>
+    ensures { IfOk result (λ words. words.items ≡ words_of heap.now) }
+{
+    let mut words = Vec::new(alloc);
+    words.push(0)?;
+    words.push(heap.space.used() as u64 + 1)?;
+    words.extend_from_slice(&heap.globals.items)?;
+    words.extend_from_slice(&heap.forward.items)?;
+    words.extend_from_slice(heap.space.words_at(1, heap.space.words()))?;
+    Ok(words)
+}
+
+/// Copies the words from a place on into a space, as many as that has.
+fn put_words(ended: &EndedWords, from: usize, space: &mut Space)
+    requires words { from + length space.old.list ≤ length ended.now }
+    requires place { from < 2 ^ 62 }
+    ensures { space.new ≡ record space.old { list = take (length space.old.list) (drop from ended.now) } }
+{
+    for k in 0..space.words() {
+        space.set_word(k + 1, ended.word(from + k as usize));
+    }
+}
+
+/// Puts the words of an epoch that has ended back into the heap from which they came.
+fn put_back(ended: &EndedWords, heap: &mut Heap)
+    requires { length ended.now ≡ 2 + length heap.old.globals + length heap.old.forward + length heap.old.space.list }
+    ensures { PutsBack heap.old heap.new ended.now }
+{
+    let forwards_at = 2 + heap.globals.items.len();
+    let space_at = forwards_at + heap.forward.items.len();
+    ended.copy(2, &mut heap.globals.items);
+    ended.copy(forwards_at, &mut heap.forward.items);
+    put_words(ended, space_at, &mut heap.space);
+    let size = heap.space.words();
+    let used = ended.word(1).saturating_sub(1).min(size as u64);
+    heap.space.set_used(used as u32);
+}
+
+/// Gives each mutator a seat: the first has the first one, from which those of the others come.
+fn give_seats<R>(words: &Words, first: Seated, mutators: &mut [Mutator<R>])
+    requires seat { IsSeat words.now first }
+    requires first { knows_of first ≡ first_view words.now.start }
+    requires some { 1 ≤ length mutators.old }
+    requires threads { map (λ m. m.thread) mutators.old ≡ words.now.start.began.threads }
+    ensures kept { map unseated mutators.new ≡ map unseated mutators.old }
+    ensures given { All (IsGiven words.now) mutators.new }
+{
+    let mut first = first;
+    for k in 1..mutators.len() {
+        let seat = words.give_seat(&mut first);
+        mutators[k].seat = Some(seat);
+    }
+    mutators[0].seat = Some(first);
+}
+
+/// Takes all seats back: that of the first mutator takes in the others.
+fn take_seats<R>(words: &Words, mutators: &mut [Mutator<R>]) -> Seated
+    requires all { MayEnd words.now mutators.old }
+    ensures seat { Sits words.now result }
+    ensures gathers { knows_of result ≡ gathered_all (map view_of mutators.old) }
+    ensures left { mutators.new ≡ map unseated mutators.old }
+{
+    let Some(mut seat) = mutators[0].seat.take() else {
+        unreachable!();
+    };
+    for k in 1..mutators.len() {
+        let Some(other) = mutators[k].seat.take() else {
+            unreachable!();
+        };
+        words.take_seat(&mut seat, other);
+    }
+    seat
+}
+
+impl Epoch {
+    /// Begins an epoch on a heap and the history that led to it, and gives each mutator a seat.
+    pub fn begin<R: RecordReader>(
+        alloc: Global,
+        heap: Heap,
+        pass: Pass,
+        end: u32,
+        mutators: &mut [Mutator<R>],
+    ) -> Result<Epoch, NoMemory>
+        ghost start: { Start }
+        requires heap { HeapBegins start.began heap end }
+        requires history { HistoryBegins start heap pass }
+        requires mutators { MutatorsBegin R.image start mutators.old }
+        ensures start { IfOk result (λ epoch. epoch.words.start ≡ start) }
+        ensures joined { IfOk result (λ epoch. All (HasJoined epoch.words) mutators.new) }
+        ensures readers { IfOk result (λ epoch. All (HasReader R.image epoch.words) mutators.new) }
+        ensures kept { map unseated mutators.new ≡ mutators.old }
+        ensures refused { OnErr result (mutators.new ≡ mutators.old) }
+    {
+        let _ = pass;
+        let start: Ghost<Start> = Ghost::pick(&());
+        let laid = lay_out(alloc, &heap)?;
+        let globals = heap.globals.items.len() as u8;
+        let (words, seat) = Words::begin(alloc, &laid, heap.space.words(), globals, &start)?;
+        give_seats(&words, seat, mutators);
+        Ok(Epoch { words, heap, end })
+    }
+
+    /// Ends the epoch: all seats are taken back, and the words stand in the heap again, with the history that led to
+    /// them.
+    pub fn finish<R>(self, mutators: &mut [Mutator<R>]) -> (Heap, Pass)
+        requires { MayEnd self.words mutators.old }
+        ensures left { mutators.new ≡ map unseated mutators.old }
+        ensures ended { HasEnded self.words.start.began mutators.old result.0 result.1 }
+    {
+        let Epoch {
+            words,
+            mut heap,
+            end: _,
+        } = self;
+        let seat = take_seats(&words, mutators);
+        heap.maps = GhostMaps::pick(&(&words, &seat));
+        let mut pass = Pass::new();
+        pass.note(&seat);
+        let ended = words.close(seat);
+        put_back(&ended, &mut heap);
+        ended.free();
+        (heap, pass)
+    }
+}
