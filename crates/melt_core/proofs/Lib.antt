@@ -45,6 +45,7 @@ pub mod StaleBitsTying
 pub mod StaleBitsLooks
 pub mod StaleBitsHeaders
 pub mod StaleBitsStages
+pub mod StaleBitsWatching
 pub mod StaleBitsAnswers
 pub mod StaleBitsEvents
 pub mod Holdings

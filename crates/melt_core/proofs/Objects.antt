@@ -12,7 +12,7 @@ use Rattle.melt_word.specs.declared.reference.Ref.{Ref}
 use Rattle.melt_word.specs.declared.reference.Ref.TheVariants.{Null, Clean, Stale, Disk}
 use Rattle.melt_word.proofs.OneToOne.{same_ref}
 use Rattle.melt_space.specs.Space.{word_at}
-use Rattle.melt_scion.specs.Placed.{MayStand, Stands, IsReferenceWord, value_of}
+use Rattle.melt_scion.specs.Placed.{MayStand, IsReferenceWord, value_of}
 use Rattle.melt_scion.specs.Heaps.{OnDisk, register_in}
 use Rattle.melt_core.specs.declared.call.Place.{Place}
 use Rattle.melt_core.specs.declared.call.Place.TheVariants.{Field, Global}
@@ -20,6 +20,7 @@ use Rattle.melt_core.specs.Known.{IsObjectAt, IsPlace, IsTagged, HasTag, SlotAt,
 use Rattle.melt_core.specs.Changed.{HoldsRef}
 use Rattle.melt_core.specs.Views.{View, maps, state, values_of, held_value, registers_in, Standing}
 use Rattle.melt_core.proofs.Answers.{shape_of}
+use Rattle.melt_core.proofs.Places.{found_stands}
 use Rattle.melt_core.proofs.Values.{value_held, held_is, named_value}
 
 -- an object stands where a register points
@@ -82,20 +83,6 @@ place_word disk v (Field object i) s there =
     s.holds.formed.slots object there.1.number i there.1.header there.1.named there.1.starts (omega arith)
 place_word disk v (Global g) s there = s.holds.formed.globals g there
 
--- and stands for what was last written there
-pub place_stands : (disk : OnDisk) (v : View) (place : Place) (slot : Slot) → Standing true disk v
-    → IsPlace (maps v) (state disk v) place
-    → SlotAt (maps v) place slot → Stands (maps v) (word_in (state disk v) place) (last v.log slot)
-place_stands disk v (Field object i) slot s there at =
-    let refs : there.1.header.shape.refs ≡ there.0.refs = ap (λ (x : Shape). x.refs) there.1.shape_is in
-    let below : i < there.0.refs = there.2 in
-    let inside : i < there.1.header.shape.refs = omega arith in
-    subst (λ (x : Slot). Stands (maps v) (word_in (state disk v) (Field object i)) (last v.log x)) (sym at.2)
-    ((s.holds.tells refl).slots object at.0 i there.1.header at.1 there.1.starts inside)
-place_stands disk v (Global g) slot s there at =
-    subst (λ (x : Slot). Stands (maps v) (word_in (state disk v) (Global g)) (last v.log x)) (sym at)
-    ((s.holds.tells refl).globals g there)
-
 -- over a disk whose first word is past all homes, none stands anywhere
 pub place_no_home : (disk : OnDisk) (v : View) (place : Place) (home : ℕ) → disk.end ≡ 1 → Standing false disk v
     → IsPlace (maps v) (state disk v) place → HoldsRef (word_in (state disk v) place) (Disk home) → ⊥
@@ -117,13 +104,12 @@ may_stand_there disk v place r s there holds =
     subst (MayStand (maps v) (state disk v))
     (same_ref word.reference r word.in_range holds.in_range (sym word.is ∙ holds.is)) word.stands
 
+-- and what it stands for
 pub value_there : (disk : OnDisk) (v : View) (place : Place) (slot : Slot) (r : Ref) → Standing true disk v
     → IsPlace (maps v) (state disk v) place → SlotAt (maps v) place slot → HoldsRef (word_in (state disk v) place) r
     → value_of (maps v) r ≡ Some (last v.log slot)
 value_there disk v place slot r s there at holds =
-    let stands = place_stands disk v place slot s there at in
-    subst (λ (x : Ref). value_of (maps v) x ≡ Some (last v.log slot))
-    (same_ref stands.reference r stands.in_range holds.in_range (sym stands.is ∙ holds.is)) stands.stands_for
+    found_stands v.log (maps v) (state disk v) place slot r (s.holds.tells refl) there at holds.in_range holds.is
 
 -- a word with a tag, and words without
 pub tagged_is : (word : ℕ) (r : Ref) → HoldsRef word r → IsTagged word → HasTag r

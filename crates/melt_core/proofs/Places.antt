@@ -90,6 +90,15 @@ place_stands h maps s (Field object i) at tells is where_at =
 place_stands h maps s (Global g) at tells is where_at =
     subst (λ (x : Slot). Stands maps (s.global g) (last h x)) (sym where_at) (tells.globals g is)
 
+-- and so does the reference that is found there
+pub found_stands : (h : List Entry) (maps : Maps) (s : State) (place : Place) (at : Slot) (r : words.Ref) →
+    Tells h maps s → IsPlace maps s place → SlotAt maps place at → IsRef r → word_in s place ≡ ref_word r →
+    value_of maps r ≡ Some (last h at)
+found_stands h maps s place at r tells is where_at range found =
+    let stands = place_stands h maps s place at tells is where_at in
+    subst (λ (x : words.Ref). value_of maps x ≡ Some (last h at))
+    (same_ref stands.reference r stands.in_range range (sym stands.is ∙ found)) stands.stands_for
+
 -- the slot of a place is one
 pub place_is_slot : (h : List Entry) (maps : Maps) (s : State) (place : Place) (at : Slot) → Tells h maps s →
     IsPlace maps s place → SlotAt maps place at → IsSlot h s.base.globals at

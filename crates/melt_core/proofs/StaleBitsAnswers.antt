@@ -1,14 +1,13 @@
 -- What the entry of an answered call says of the objects that it gives and at which the call looked.
-use Rattle.std.proofs.Common.{◌≡◌, ℕ, ◌<◌, ◌≤◌, inl, inr, List, [], ◌∷◌, ◌++◌}
+use Rattle.std.proofs.Common.{◌≡◌, ℕ, ◌<◌, inl, inr, List, [], ◌∷◌, ◌++◌}
 use Rattle.std.proofs.Common.{length, refl, sym, ◌∙◌, ap, subst, arith}
 use Rattle.std.proofs.Math.ListN.{length-map}
 use Rattle.std.proofs.lemmas.Bool.{cond_both}
-use Rattle.std.proofs.lemmas.List.{get_or-set_same, take-append-le}
-use Rattle.std.proofs.lemmas.Option.{same_Some, slice_get_within}
-use Rattle.std.proofs.Math.Seq.{take-length}
+use Rattle.std.proofs.lemmas.List.{get_or-set_same}
+use Rattle.std.proofs.lemmas.Option.{same_Some}
 use Rattle.std.specs.Prelude.{true, nat_lt, slice_set, Option, None, Some, unwrap_or}
-use Rattle.std.specs.Option.{option_map, option_map_or}
-use Rattle.melt_model.specs.History.{Shape, shape, last, given}
+use Rattle.std.specs.Option.{option_map_or}
+use Rattle.melt_model.specs.History.{Shape, shape, given}
 use Rattle.melt_model.specs.Thread.{Deed, does, unchanged, on_part, found as reply_found, number, value_in}
 use Rattle.melt_model.specs.declared.history.Value.{Value}
 use Rattle.melt_model.specs.declared.history.Value.TheVariants.{Nil, Ref, Num}
@@ -21,25 +20,22 @@ use Rattle.melt_model.specs.declared.operations.Op.{Op}
 use Rattle.melt_model.specs.declared.operations.Op.TheVariants as op
 use Rattle.melt_model.specs.declared.operations.Reply.{Reply}
 use Rattle.melt_model.specs.declared.operations.Reply.TheVariants as reply
-use Rattle.melt_model.proofs.Histories.{slice_get-append_left, slice_get-append_seam}
-use Rattle.melt_word.specs.Words.{ref_word}
 use Rattle.melt_word.specs.declared.reference.Ref as words
-use Rattle.melt_word.specs.declared.reference.Ref.TheVariants as word
-use Rattle.melt_scion.specs.Placed.{Maps, value_of}
 use Rattle.melt_scion.specs.Heaps.{OnDisk, register_in}
 use Rattle.melt_core.specs.declared.call.Place.{Place}
 use Rattle.melt_core.specs.declared.call.Place.TheVariants.{Field, Global}
 use Rattle.melt_core.specs.Answering.{Answers, entry, gives, with_entry}
-use Rattle.melt_core.specs.Known.{HasTag, HasLooked, IsPlace, Leads, SlotAt, word_in}
+use Rattle.melt_core.specs.Known.{HasLooked, IsPlace, Leads, SlotAt}
 use Rattle.melt_core.specs.Stages.{LoadsAt}
 use Rattle.melt_core.specs.Advances.{InBounds, Sets}
-use Rattle.melt_core.specs.Views.{View, Standing, maps, state, values_of, registers_in, held_value}
-use Rattle.melt_core.specs.StaleBits.{Passed, HasNoBit, Look, Watched, sight}
+use Rattle.melt_core.specs.Views.{View, Standing, maps, stage_of, state, values_of, registers_in, held_value}
+use Rattle.melt_core.specs.StaleBits.{Passed, HasNoBit, Watched, sight}
 use Rattle.melt_core.proofs.Answers.{part_there, shape_of}
-use Rattle.melt_core.proofs.Objects.{object_shape, value_named, value_there}
+use Rattle.melt_core.proofs.Objects.{object_shape, value_named}
 use Rattle.melt_core.proofs.Tasks.{load_is, gload_is}
 use Rattle.melt_core.proofs.Values.{value_held}
 use Rattle.melt_core.proofs.StaleBitsHeaders.{no_bit_at}
+use Rattle.melt_core.proofs.StaleBitsWatching.{look_passes}
 
 -- a register that an operation sets is one of the sixteen
 sets_within : (globals : ℕ) (o : Op) (r : ℕ) → InBounds globals o → Sets o r → r < 16
@@ -146,7 +142,11 @@ held_object disk v t r n s is =
           let value : Ref holds.0.0 ≡ Ref n = sym (value_named v t r address holds.0.0 refl holds.0.1) ∙ is in
           let same : holds.0.0 ≡ n = cc in
           let named : (maps v).address address ≡ Some n = holds.0.1 ∙ ap Some same in
-          record { address = address; named = named; fresh = no_bit_at disk v address n s named holds.1 }
+          record {
+            address = address;
+            named = named;
+            fresh = no_bit_at v.log (maps v) (state disk v) (stage_of v) address n s.holds.formed named holds.1;
+          }
     ]
 
 -- The object that the entry of an answered call gives is in a register after the event, so it has no stale bit.
@@ -189,26 +189,6 @@ loads_read disk v t o (Global g) dst at x s loads there is =
     ap (λ (p : Op). (does v.log (values_of v t) p x).act) (gload_is o dst g loads)
     ∙ ap (λ (y : Slot). Some (Read y x)) (sym is)
 
--- the object that was watched is passed as the thread reads the slot
-read_passes : (v : View) (q t : ℕ) (look : Look) (x : Value) → (w : Watched q (sight v) t look)
-    → Passed (v.log ++ entry t (Read w.slot x) ∷ []) q w.number
-read_passes v q t look x w =
-    let e : Entry = entry t (Read w.slot x) in
-    inr (record {
-      place = length v.log;
-      entry = e;
-      stands = slice_get-append_seam v.log e [];
-      slot = w.slot;
-      found = x;
-      reads = refl;
-      moment = w.moment;
-      from = w.from;
-      to = w.to;
-      behind = λ k y below stands own.
-          w.behind k y (sym (slice_get-append_left v.log (e ∷ []) k below) ∙ stands) own;
-      held = ap (λ (before : List Entry). last before w.slot) (take-append-le w.moment v.log (e ∷ []) w.to) ∙ w.held;
-    })
-
 pub load_passes : (disk : OnDisk) (v w : View) (q t target dst n : ℕ) (o : Op) (r : Reply) (place : Place)
     (found : words.Ref) → Standing true disk v → HasLooked (maps v) (state disk v) place found
     → Leads true (maps v) found target → LoadsAt (register_in v.held t) o place dst
@@ -216,53 +196,10 @@ pub load_passes : (disk : OnDisk) (v w : View) (q t target dst n : ℕ) (o : Op)
     → Watched q (sight v) t (record { place = place; found = found }) → (maps v).address target ≡ Some n
     → Passed w.log q n
 load_passes disk v w q t target dst n o r place found s looked leads loads is watched named =
-    let stands : value_of (maps v) found ≡ Some (Ref n) = leads.same refl ∙ ap (option_map Ref) named in
-    let value : Ref watched.number ≡ Ref n =
-    same_Some (Ref watched.number) (Ref n) (sym watched.stands_for ∙ stands) in
-    let same : watched.number ≡ n = cc in
     let act : (does v.log (values_of v t) o is.value).act ≡ Some (Read watched.slot is.value) =
     loads_read disk v t o place dst watched.slot is.value s loads looked.at watched.at in
     let log : w.log ≡ v.log ++ entry t (Read watched.slot is.value) ∷ [] =
     is.history ∙ ap (with_entry t v.log) act in
-    subst (λ (k : ℕ). Passed w.log q k) same
-    (subst (λ (h : List Entry). Passed h q watched.number) (sym log)
-    (read_passes v q t (record { place = place; found = found }) is.value watched))
-
--- A place is a slot of the history,
-place_slot : (disk : OnDisk) (v : View) (place : Place) → IsPlace (maps v) (state disk v) place
-    → (at : Slot) × SlotAt (maps v) place at
-place_slot disk v (Field object i) is = (slot.Field is.1.number i, (is.1.number, is.1.named, refl))
-place_slot disk v (Global g) is = (slot.Global g, refl)
-
--- and a reference with a tag stands for an object.
-named_object : (name : Option ℕ) (v : Value) → option_map Ref name ≡ Some v → (n : ℕ) × (v ≡ Ref n)
-named_object None v is = absurd (cc)
-named_object (Some n) v is = (n, sym (same_Some (Ref n) v is))
-
-tag_object : (m : Maps) (r : words.Ref) (v : Value) → HasTag r → value_of m r ≡ Some v → (n : ℕ) × (v ≡ Ref n)
-tag_object m word.Null v tag is = absurd tag
-tag_object m (word.Clean a) v tag is = absurd tag
-tag_object m (word.Stale a) v tag is = named_object (m.address a) v is
-tag_object m (word.Disk home) v tag is = named_object (m.home home) v is
-
--- So a call that finds one watches the object from then on.
-pub watch_begins : (disk : OnDisk) (v : View) (q t : ℕ) (look : Look) → Standing true disk v
-    → HasLooked (maps v) (state disk v) look.place look.found
-    → word_in (state disk v) look.place ≡ ref_word look.found → q ≤ length v.log → Watched q (sight v) t look
-watch_begins disk v q t look s looked word_is since =
-    let at = place_slot disk v look.place looked.at in
-    let value : value_of (maps v) look.found ≡ Some (last v.log at.0) =
-    value_there disk v look.place at.0 look.found s looked.at at.1
-    (record { in_range = looked.in_range; is = word_is }) in
-    let object = tag_object (maps v) look.found (last v.log at.0) looked.tag value in
-    record {
-      number = object.0;
-      stands_for = value ∙ ap Some object.1;
-      slot = at.0;
-      at = at.1;
-      moment = length v.log;
-      from = since;
-      to = omega arith;
-      behind = λ k e stands own. slice_get_within v.log k e stands;
-      held = ap (λ (before : List Entry). last before at.0) (take-length v.log) ∙ object.1;
-    }
+    subst (λ (h : List Entry). Passed h q n) (sym log)
+    (look_passes q t target n (sight v) (record { place = place; found = found }) is.value (leads.same refl) named
+    watched)

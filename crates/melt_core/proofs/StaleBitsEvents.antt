@@ -1,9 +1,8 @@
 -- Each event of a core keeps the stale bit tied to the history, where the disk tells its words.
 use Rattle.std.proofs.Common.{◌≡◌, ◌≢◌, ◌⊎◌, ℕ, ◌+◌, ◌<◌, ◌≤◌, inl, inr, List, [], ◌∷◌, ◌++◌}
 use Rattle.std.proofs.Common.{length, refl, sym, ◌∙◌, ap, subst, arith}
-use Rattle.std.proofs.lemmas.Bool.Decides.{eqb_tells}
 use Rattle.std.proofs.lemmas.Option.{same_Some}
-use Rattle.std.specs.Prelude.{true, false, Option, None, Some, IfSome}
+use Rattle.std.specs.Prelude.{true, Option, None, Some, IfSome}
 use Rattle.melt_model.specs.History.{given, made}
 use Rattle.melt_model.specs.Thread.{does}
 use Rattle.melt_model.specs.declared.history.Value.TheVariants as value
@@ -41,13 +40,14 @@ use Rattle.melt_core.proofs.NoHomes.{as_told_by}
 use Rattle.melt_core.proofs.Tasks.{new_is}
 use Rattle.melt_core.proofs.Values.{named_made}
 use Rattle.melt_core.proofs.StaleBitsPassing.{used_push}
-use Rattle.melt_core.proofs.StaleBitsTying.{Touches, look_stays, tied_later}
+use Rattle.melt_core.proofs.StaleBitsTying.{look_stays, tied_later}
 use Rattle.melt_core.proofs.StaleBitsLooks.{LookGoes, none, same, looks, next_look}
-use Rattle.melt_core.proofs.StaleBitsHeaders.{fresh_stays, bit_before, stale_before, no_bit_at, not_null}
+use Rattle.melt_core.proofs.StaleBitsHeaders.{Owes, no_bit_at, touched}
 use Rattle.melt_core.proofs.StaleBitsStages.{AppearsAt, named_before, goes_appears, goes_clears, goes_not_pending}
 use Rattle.melt_core.proofs.StaleBitsStages.{pending_is, MayBeRefused, lacks_refused, searches_refused, reads_refused}
 use Rattle.melt_core.proofs.StaleBitsStages.{refused_appears, refused_clears, refused_not_pending, known_look}
-use Rattle.melt_core.proofs.StaleBitsAnswers.{Holding, given_held, load_passes, watch_begins}
+use Rattle.melt_core.proofs.StaleBitsWatching.{watch_begins}
+use Rattle.melt_core.proofs.StaleBitsAnswers.{Holding, given_held, load_passes}
 
 -- What is left to say of an event, by its outcome: its entry, and what becomes of the look of its call, of an object that
 -- it brings into use or whose bit it clears, of one whose slot it was about to read, and of one that its entry gives.
@@ -72,40 +72,26 @@ module _ (disk : OnDisk) (u v w : View) (t : ℕ) (o : Op) (result : StepResult)
       (stage_of v t) a n is.changes named
 
   -- the outcome says the rest of what an event owes
-  touched : (act : Option Act) → Outcomes disk (length u.log) t act v w
-      → Touches (length u.log) t act (sight v) (sight w)
-  touched act out = record {
+  owed : (act : Option Act) → Outcomes disk (length u.log) t act v w
+      → Owes v.log w.log (maps v) (maps w) (state disk v) (state disk w) (stage_of v) (stage_of w)
+      (cleared_by (stage_of v t)) s.holds.formed is.evolves (length u.log) t act
+  owed act out = record {
     log = out.log;
     others = λ x other. ap stage_in (is.others.calls x other);
-    names = is.evolves.names;
-    homes = is.evolves.homes;
+    one_address = (later.holds.tells refl).one_address;
     watched = out.watched;
-    fresh = fresh_stays disk v w (cleared_by (stage_of v t)) s is.evolves;
-    stale = λ n bit. stale_before disk v w (cleared_by (stage_of v t)) s is.evolves n later (λ a named.
-        elim (before a n named) [ inl old ↦ inl old | inr at ↦ inr (out.appears a n at named).0 ]) bit;
-    clears = λ n bit. elim (before bit.address n bit.named) [
-      | inr at ↦ inr (out.appears bit.address n at bit.named).1
-      | inl old ↦ elim (eqb_tells bit.address (cleared_by (stage_of v t))) [
-        | inl here ↦ inr (inr (record {
-          thread = t;
-          address = bit.address;
-          is = out.clears bit.address (not_null disk v bit.address n s old) (sym here.1);
-          named = bit.named;
-        }))
-        | inr other ↦ inl (bit_before disk v w (cleared_by (stage_of v t)) s is.evolves bit.address n bit.shape false old
-            other.1 bit.small bit.word)
-      ]
-    ];
-    in_use = λ n used. elim (before used.0 n used.1) [
-      | inl old ↦ inl (used.0, old)
-      | inr at ↦ inr (out.appears used.0 n at used.1).0
-    ];
+    appears = λ a n named. elim (before a n named) [ inl old ↦ inl old | inr at ↦ inr (out.appears a n at named) ];
+    clears = λ some. out.clears (cleared_by (stage_of v t)) some refl;
     exchanges = out.exchanges;
     gives = out.gives;
   }
 
   tied_by : (act : Option Act) → TiedTo u v → Outcomes disk (length u.log) t act v w → TiedTo u w
-  tied_by act tied out = tied_later t act (sight u) (sight v) (sight w) (touched act out) tied
+  tied_by act tied out =
+      tied_later t act (sight u) (sight v) (sight w)
+      (touched v.log w.log (maps v) (maps w) (state disk v) (state disk w) (stage_of v) (stage_of w)
+      (cleared_by (stage_of v t)) s.holds.formed is.evolves (length u.log) t act (owed act out))
+      tied
 
   -- A call that goes on:
   same_word : (place : Place) → SameWords (state disk v) (state disk w)
@@ -130,7 +116,7 @@ module _ (disk : OnDisk) (u v w : View) (t : ℕ) (o : Op) (result : StepResult)
     look_begins look at word still =
         let kept : Applies (maps v) (maps w) (state disk v) (state disk w) Nothing =
         subst (Applies (maps v) (maps w) (state disk v) (state disk w)) (still (rest_of v t)) is.changes in
-        watch_begins disk w (length u.log) t look later
+        watch_begins w.log (maps w) (state disk w) (stage_of w) (length u.log) t look (later.holds.tells refl)
         (known_look true (maps w) (state disk w) (rest_of w t) goes.stage look at known_next)
         (same_word look.place kept.1 ∙ word) log_stays
 
@@ -152,7 +138,7 @@ module _ (disk : OnDisk) (u v w : View) (t : ℕ) (o : Op) (result : StepResult)
         let known : Known true (maps w) (state disk w) (rest_of w t) (Cleared at.0 at.1 a at.2) =
         subst (Known true (maps w) (state disk w) (rest_of w t))
         (same_Some goes.stage (Cleared at.0 at.1 a at.2) at.3) known_next in
-        no_bit_at disk w a n later named known.2
+        no_bit_at w.log (maps w) (state disk w) (stage_of w) a n later.holds.formed named known.2
 
     goes_on : Outcomes disk (length u.log) t None v w
     goes_on = record {

@@ -13,6 +13,7 @@ use Rattle.melt_word.specs.declared.header.Shape.{Shape}
 use Rattle.melt_word.specs.declared.reference.Ref.{Ref}
 use Rattle.melt_word.specs.declared.reference.Ref.TheVariants.{Disk}
 use Rattle.melt_space.specs.Space.{word_at}
+use Rattle.melt_scion.specs.State.{State}
 use Rattle.melt_scion.specs.Placed.{Maps, value_of}
 use Rattle.melt_scion.specs.Heaps.{OnDisk}
 use Rattle.melt_core.specs.declared.answer.StepResult.{StepResult}
@@ -60,7 +61,11 @@ pub record Sight : Type 0 where
   pub word : ℕ → ℕ
   pub stage : ℕ → Option Stage
 
--- what a view shows of that
+-- what a state shows of that
+abbrev pub sight_of : List Entry → Maps → State → (ℕ → Option Stage) → Sight
+sight_of h maps s stage = record { log = h; maps = maps; word = s.word; stage = stage }
+
+-- and a view
 abbrev pub sight : View → Sight
 sight v = record { log = v.log; maps = maps v; word = word_at v.space; stage = stage_of v }
 

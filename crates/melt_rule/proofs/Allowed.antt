@@ -23,14 +23,14 @@ use Rattle.melt_core.specs.Known.{IsObjectAt, IsPlace, SlotAt, word_in}
 use Rattle.melt_core.specs.declared.call.Place.{Place}
 use Rattle.melt_core.specs.declared.call.Place.TheVariants.{Field, Global}
 use Rattle.melt_rule.proofs.Keeping.{IsStep}
-use Rattle.melt_rule.proofs.Loads.{read, reaches, stops, looks, numbers}
+use Rattle.melt_rule.proofs.Loads.{read, reaches, stops, looks, may_answer, numbers}
 use Rattle.melt_rule.proofs.Showing.{word_is, global_is, word_changes, global_changes}
 use Rattle.melt_rule.proofs.Leaving.{OnlyObjects, only_global, only_space}
 use Rattle.melt_rule.proofs.Stores.{wrote, stores, puts}
 use Rattle.melt_rule.proofs.Within.{allowed, within, headed_fits}
 use Rattle.melt_rule.specs.Plays.{PollPlay, HeadPlay, LookPlay, GlobalLookPlay, NumberPlay, StorePlay, GlobalStorePlay}
 use Rattle.melt_rule.specs.Plays.{NumberStorePlay, FindsHeader, FindsReference}
-use Rattle.melt_rule.specs.Rule.{Has, Kept, Rule, has_cause, is_lacking}
+use Rattle.melt_rule.specs.Rule.{Has, Kept, Rule, has_cause, is_lacking, is_reading}
 use Rattle.melt_rule.specs.Shown.{shows, word_place, Knows}
 use Rattle.melt_rule.specs.Tells.{FitsIn, behind, Names, Ends}
 use Rattle.melt_rule.specs.declared.began.Began.{Began}
@@ -56,18 +56,19 @@ no_cause start words views kept id v at goes_on off = go (has_cause v) refl
     go true is = let on = kept.stop.sets id v at is goes_on in absurd (let e : 0 ≡ 1 = sym off ∙ on in omega arith)
 
 pub polls : (start : Start) (slots id : ℕ) (me : Me ℕ View) → 0 < me.0.parts → is_lacking me.0.doing ≡ false
-    → Allows (Rule start) slots id me 0 (λ n. n) (PollPlay (step slots 0 0 0 none) me)
-polls start slots id me live goes_on = allowed start slots id 0 me (λ n. n) (PollPlay (step slots 0 0 0 none) me) live
+    → is_reading me.0.doing ≡ false → Allows (Rule start) slots id me 0 (λ n. n) (PollPlay (step slots 0 0 0 none) me)
+polls start slots id me live goes_on left =
+    allowed start slots id 0 me (λ n. n) (PollPlay (step slots 0 0 0 none) me) live
     (λ words views kept at alive small. elim kept.stop.bit [
       | inl zero ↦
-          let r = reaches start words views kept id me.0 at alive goes_on (Some Polled) tt refl in
+          let r = reaches start words views kept id me.0 at alive goes_on (Some Polled) tt refl (inl refl) left in
           let w : View = behind me.0 kept.history me.0.known (Some Polled) in (
             w,
             loaded start words views kept id me.0 at alive w 0 r.0,
             λ inside. ((refl, inside), inl (zero, (r.1, no_cause start words views kept id me.0 at goes_on zero))),
           )
       | inr one ↦
-          let r = stops start words views kept id me.0 at alive goes_on one in
+          let r = stops start words views kept id me.0 at alive goes_on one left in
           let w : View = record (behind me.0 kept.history me.0.known None) { stopped = true } in (
             w,
             loaded start words views kept id me.0 at alive w 0 r.0,
@@ -84,8 +85,9 @@ one_object start words views kept id v at live a n m x y =
     cc
 
 pub heads : (start : Start) (slots id i a n : ℕ) (me : Me ℕ View) → 0 < me.0.parts → is_lacking me.0.doing ≡ false
-    → Has me.0.known a n → i ≡ word_place me.0.began a → Allows (Rule start) slots id me i (λ n. n) (HeadPlay (step slots i 0 0 none) me)
-heads start slots id i a n me live goes_on has at_i =
+    → is_reading me.0.doing ≡ false → Has me.0.known a n → i ≡ word_place me.0.began a
+    → Allows (Rule start) slots id me i (λ n. n) (HeadPlay (step slots i 0 0 none) me)
+heads start slots id i a n me live goes_on left has at_i =
     allowed start slots id i me (λ n. n) (HeadPlay (step slots i 0 0 none) me) live
     (λ words views kept at alive small.
     let stood = kept.seats id me.0 at alive in
@@ -96,7 +98,8 @@ heads start slots id i a n me live goes_on has at_i =
     let found : ℕ = get_or words i 0 in
     let there : IsObjectAt kept.maps now a header.shape =
     record { number = n; named = named; header = header; starts = object.1.starts; shape_is = refl } in
-    let r = reaches start words views kept id me.0 at alive goes_on (Some (Headed a header.shape)) there refl in
+    let r = reaches start words views kept id me.0 at alive goes_on (Some (Headed a header.shape)) there refl (inl refl)
+    left in
     let w : View = behind me.0 kept.history me.0.known (Some (Headed a header.shape)) in
     let word : found ≡ header_word header =
     ap (λ (k : ℕ). get_or words k 0) at_i
@@ -148,13 +151,15 @@ module _ (start : Start) (words : List ℕ) (views : List View) (kept : Kept sta
       )
 
   -- the step behind a look at a place
-  look_step : is_lacking v.doing ≡ false → (i : ℕ) (place : Place) (at_slot : Slot) → IsPlace kept.maps now place → SlotAt kept.maps place at_slot
+  look_step : is_lacking v.doing ≡ false → is_reading v.doing ≡ false → (i : ℕ) (place : Place) (at_slot : Slot)
+      → IsPlace kept.maps now place → SlotAt kept.maps place at_slot
       → IsReferenceWord kept.maps now (word_in now place) → get_or words i 0 ≡ word_in now place
       → (w : View) × IsStep start words (set words i (get_or words i 0)) views kept id v at live w
       × FindsReference v w at_slot place (get_or words i 0)
-  look_step goes_on i place at_slot there is_slot reference word =
+  look_step goes_on left i place at_slot there is_slot reference word =
       let r = looks start words views kept id v at live goes_on place at_slot reference.reference there is_slot
-      reference.in_range reference.is reference.stands in (
+      reference.in_range reference.is reference.stands
+      (may_answer start words views kept id v at live goes_on at_slot reference.reference left) in (
         r.0,
         loaded start words views kept id v at live r.0 i r.1,
         record {
@@ -178,7 +183,8 @@ looks_at start slots id at_i a n i z me live has headed below place_is =
     ap (λ (k : ℕ). get_or words k 0) place_is
     ∙ (ap (λ (b : Began). get_or words (word_place b (a + 2 + i)) 0) stood.began
     ∙ sym (word_is start.began words (a + 2 + i) (omega arith))) in
-    let r = look_step start words views kept id me.0 at alive (ap is_lacking headed) at_i (Field a i) (slot.Field n i) s.0 s.1 s.2 word in (
+    let r = look_step start words views kept id me.0 at alive (ap is_lacking headed) (ap is_reading headed) at_i
+    (Field a i) (slot.Field n i) s.0 s.1 s.2 word in (
       r.0,
       r.1,
       λ inside. (
@@ -196,14 +202,14 @@ looks_at start slots id at_i a n i z me live has headed below place_is =
     ))
 
 pub global_looks : (start : Start) (slots id g : ℕ) (me : Me ℕ View) → 0 < me.0.parts
-    → is_lacking me.0.doing ≡ false → g < me.0.began.globals
+    → is_lacking me.0.doing ≡ false → is_reading me.0.doing ≡ false → g < me.0.began.globals
     → Allows (Rule start) slots id me (2 + g) (λ n. n) (GlobalLookPlay (step slots (2 + g) 0 0 none) me)
-global_looks start slots id g me live goes_on below =
+global_looks start slots id g me live goes_on left below =
     allowed start slots id (2 + g) me (λ n. n) (GlobalLookPlay (step slots (2 + g) 0 0 none) me) live
     (λ words views kept at alive small.
     let stood = kept.seats id me.0 at alive in
     let here : g < start.began.globals = subst (λ (b : Began). g < b.globals) stood.began below in
-    let r = look_step start words views kept id me.0 at alive goes_on (2 + g) (Global g) (slot.Global g) here refl
+    let r = look_step start words views kept id me.0 at alive goes_on left (2 + g) (Global g) (slot.Global g) here refl
     (kept.holds.formed.globals g here)
     (sym (global_is start.began words g here)) in (
       r.0,
@@ -243,7 +249,8 @@ numbers_at start slots id i a n j z me live has headed below place_is =
     (λ words views kept at alive small.
     let now : State = shows start.began words in
     let object = number_word start words views kept id me.0 at alive a n j z headed has below in
-    let r = numbers start words views kept id me.0 at alive (ap is_lacking headed) a n j z object in
+    let r = numbers start words views kept id me.0 at alive (ap is_lacking headed) a n j z object
+    (ap is_reading headed) in
     let word : now.word (number_place a z j) ≡ get_or words i 0 =
     sym (space_word start words views kept id me.0 at alive i (number_place a z j) (omega arith) place_is) in
     let w : View = read start words views kept id me.0 at alive (ap is_lacking headed) (slot.Cell n j) (Num (get_or words i 0)) me.0.known in
@@ -314,7 +321,7 @@ stores_at start slots id i a n k held x z value me live has headed below place_i
     (subst (λ (p : ℕ). WordChanges now (shows start.began (set words p x)) (a + 2 + k) x) (sym place)
     (word_changes start.began words (a + 2 + k) x (omega arith) in_words)) in
     let r = stores start words (set words i x) views kept id me.0 at alive (ap is_lacking headed) only (Field a k) (slot.Field n k) held value
-    s.0 s.1 names changes in
+    s.0 s.1 names changes (ap is_reading headed) in
     let w : View = wrote start words (set words i x) views kept id me.0 at alive (ap is_lacking headed) only (Write (slot.Field n k) value) in (
       w,
       r.0,
@@ -336,9 +343,10 @@ stores_at start slots id i a n k held x z value me live has headed below place_i
     ))
 
 pub global_stores : (start : Start) (slots id g held x : ℕ) (value : Value) (me : Me ℕ View) → 0 < me.0.parts
-    → is_lacking me.0.doing ≡ false → g < me.0.began.globals → Names me.0.known held value → x ≡ 4 * held
+    → is_lacking me.0.doing ≡ false → is_reading me.0.doing ≡ false → g < me.0.began.globals
+    → Names me.0.known held value → x ≡ 4 * held
     → Allows (Rule start) slots id me (2 + g) (λ _. x) (λ found. GlobalStorePlay (step slots (2 + g) x 0 none) me x)
-global_stores start slots id g held x value me live goes_on below names word =
+global_stores start slots id g held x value me live goes_on left below names word =
     allowed start slots id (2 + g) me (λ _. x) (λ found. GlobalStorePlay (step slots (2 + g) x 0 none) me x) live
     (λ words views kept at alive small.
     let stood = kept.seats id me.0 at alive in
@@ -349,7 +357,8 @@ global_stores start slots id g held x value me live goes_on below names word =
     let only : OnlyObjects start words (set words (2 + g) x) = only_global start words g x here in_words in
     let r = stores start words (set words (2 + g) x) views kept id me.0 at alive goes_on only (Global g) (slot.Global g) held
     value here refl names
-    (subst (λ (y : ℕ). GlobalChanges now (shows start.began (set words (2 + g) x)) g y) word changes) in
+    (subst (λ (y : ℕ). GlobalChanges now (shows start.began (set words (2 + g) x)) g y) word changes)
+    left in
     let w : View = wrote start words (set words (2 + g) x) views kept id me.0 at alive goes_on only
     (Write (slot.Global g) value) in (
       w,
@@ -390,7 +399,9 @@ number_stores start slots id i a n j x z me live has headed below place_is =
     let changes : WordChanges now (shows start.began (set words i x)) at_word x =
     subst (λ (p : ℕ). WordChanges now (shows start.began (set words p x)) at_word x) (sym place)
     (word_changes start.began words at_word x (omega arith) in_words) in
-    let r = puts start words (set words i x) views kept id me.0 at alive (ap is_lacking headed) only a n j x z object changes in
+    let r = puts start words (set words i x) views kept id me.0 at alive (ap is_lacking headed) only a n j x z object
+    changes
+    (ap is_reading headed) in
     let w : View = wrote start words (set words i x) views kept id me.0 at alive (ap is_lacking headed) only
     (Write (slot.Cell n j) (Num x)) in (
       w,

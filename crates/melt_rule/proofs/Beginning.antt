@@ -4,7 +4,7 @@ use Rattle.std.proofs.Common.{refl, sym, ◌∙◌, ap, subst, arith, inl, inr, 
 use Rattle.std.proofs.lemmas.Bool.{false≢true, cases_lt}
 use Rattle.std.proofs.lemmas.List.Sums.{sum_by-cons}
 use Rattle.std.specs.List.{sum_by}
-use Rattle.std.specs.Prelude.{Some}
+use Rattle.std.specs.Prelude.{None, Some}
 use lib.ListN.{get_elem?}
 use mathlib.Core.Option.{some, some-injective, some-ne-none}
 use Rattle.atomic_table.specs.Seated.{TableId}
@@ -17,17 +17,22 @@ use Rattle.melt_record.proofs.Heads.{same_head}
 use Rattle.melt_record.specs.declared.head.Head.{Head}
 use Rattle.melt_record.specs.declared.head.Kind.TheVariants.{Body, Stub}
 use Rattle.melt_forward.proofs.Pairs.{forward_word-filled}
+use Rattle.melt_space.specs.Space.{word_at}
 use Rattle.melt_scion.specs.Scions.{EachOnce}
 use Rattle.melt_scion.specs.State.{State}
+use Rattle.melt_core.proofs.StaleBitsTying.{tied_first}
+use Rattle.melt_core.specs.StaleBits.{Tied, sight_of}
 use Rattle.melt_rule.proofs.Pieces.{read_at}
+use Rattle.melt_rule.proofs.Tying.{same_tied, stage_idle, stage_none}
 use Rattle.melt_rule.proofs.Views.{in_range, begins_self, saw_all}
 use Rattle.melt_rule.proofs.Within.{within}
-use Rattle.melt_rule.specs.Beginning.{maps_of, MayBegin}
+use Rattle.melt_rule.specs.Beginning.{MayBegin}
 use Rattle.melt_rule.specs.Giving.{spent_view}
 use Rattle.melt_rule.specs.Rule.{Saw, SeatStands, threads_of, filled, filled_one, BodiesTell, Kept, Rule}
 use Rattle.melt_rule.specs.Rule.{first_or_0, others_of, first_view, has_cause, is_lacking}
 use Rattle.melt_rule.specs.Seats.{IsSeat, knows_of}
-use Rattle.melt_rule.specs.Shown.{shows}
+use Rattle.melt_rule.specs.Shown.{maps_of, shows}
+use Rattle.melt_rule.specs.Sights.{first_sight, no_calls, stage_at, stage_in}
 use Rattle.melt_rule.specs.Tells.{IsWithin}
 use Rattle.melt_rule.specs.declared.began.Start.{Start}
 use Rattle.melt_rule.specs.declared.view.Away.{Away}
@@ -131,6 +136,16 @@ module _ (start : Start) (words : List ℕ) (may : MayBegin start words) where
             )
       ]
 
+  -- nothing was done yet
+  first_tied : Tied (first_sight start.began)
+      (sight_of start.began.history (maps_of start.began) now (stage_at (first ∷ [])))
+  first_tied =
+      same_tied (first_sight start.began) start.began.history (maps_of start.began) now no_calls (stage_at (first ∷ []))
+      (λ t. stage_none t (first ∷ []) (each (λ (u : View). stage_in u t ≡ None) (stage_idle first t refl)))
+      (subst (λ (l : List ℕ). Tied (first_sight start.began)
+      (record (first_sight start.began) { word = word_at (record { list = l; used = 0 }) })) may.space
+      (tied_first (first_sight start.began) (λ t. refl)))
+
   pub begins : Kept start words (first ∷ [])
   begins = record {
     history = start.began.history;
@@ -174,6 +189,7 @@ module _ (start : Start) (words : List ℕ) (may : MayBegin start words) where
       forwarded = each (λ (u : View). u.forwarded ≡ true → (p : ℕ) → p < start.began.forwards → now.forward p ≢ 0)
           (λ is. absurd (false≢true is));
     };
+    tied = λ told. first_tied;
   }
 
 pub opens : (start : Start) (words : List ℕ) → MayBegin start words → Rule start (opening words [] (first_view start))

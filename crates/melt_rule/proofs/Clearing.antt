@@ -1,10 +1,10 @@
 -- The stale bit of an object is cleared by one fetch-and-and on its header, and the rule stays.
 use Rattle.std.proofs.Common.{◌≡◌, ℕ, ◌+◌, ◌*◌, ◌^◌, ◌<◌, ◌≤◌, Bool, true, false, List, length, get_or, refl, sym, ◌∙◌, ap}
-use Rattle.std.proofs.Common.{subst, arith, inr}
+use Rattle.std.proofs.Common.{subst, arith, inl, inr}
 use Rattle.std.proofs.Math.ListN.{set}
 use Rattle.std.proofs.lemmas.Nat.{and-not, and_block, and_comm}
 use Rattle.std.specs.Int.Bits.{and_zero_l}
-use Rattle.std.specs.Prelude.{None, Some, bit_and}
+use Rattle.std.specs.Prelude.{Option, None, Some, bit_and}
 use lib.ListN.{get_elem?}
 use mathlib.Core.Option.{some, none}
 use Rattle.atomic_table.specs.Table.{Me, Allows, step}
@@ -23,6 +23,7 @@ use Rattle.melt_core.proofs.Keeping.{event_keeps}
 use Rattle.melt_core.proofs.Regions.{no_region_apart}
 use Rattle.melt_core.proofs.Staying.{known_stays}
 use Rattle.melt_core.specs.Events.Event.{clears}
+use Rattle.melt_core.specs.StaleBits.{look_of}
 use Rattle.melt_core.specs.declared.call.Place.{Place}
 use Rattle.melt_core.specs.declared.call.Search.{Search}
 use Rattle.melt_rule.proofs.Keeping.{IsStep, sees}
@@ -31,11 +32,12 @@ use Rattle.melt_rule.proofs.Leaving.{OnlyObjects, leaves_none, only_space}
 use Rattle.melt_rule.proofs.Within.{allowed}
 use Rattle.melt_rule.specs.Barriers.{stale_mask, ClearPlay}
 use Rattle.melt_rule.specs.Coming.{ClearStubPlay}
-use Rattle.melt_rule.specs.Rule.{SeatStands, Kept, Rule, is_lacking}
-use Rattle.melt_rule.specs.Shown.{shows, word_place, Knows, stage_of}
+use Rattle.melt_rule.specs.Rule.{SeatStands, Kept, Rule, is_lacking, is_reading}
+use Rattle.melt_rule.specs.Shown.{shows, word_place, Knows, stage_of, staged}
 use Rattle.melt_rule.specs.Tells.{IsWithin, behind, Reaches}
 use Rattle.melt_rule.specs.declared.began.Began.{Began}
 use Rattle.melt_rule.specs.declared.began.Start.{Start}
+use Rattle.melt_rule.specs.declared.view.Doing.{Doing}
 use Rattle.melt_rule.specs.declared.view.Doing.TheVariants.{Looked, Cleared, Missed}
 use Rattle.melt_rule.specs.declared.view.View.{View}
 
@@ -78,7 +80,8 @@ module _ (start : Start) (words after : List ℕ) (views : List View) (kept : Ke
     (at : get_elem? views id ≡ some v) (live : 0 < v.parts) (goes_on : is_lacking v.doing ≡ false) (place : Place)
     (found : Ref) (target : ℕ)
     (knows : Knows start.began.told kept.maps (shows start.began words) v.rest (Some (Looked place found target)))
-    (only : OnlyObjects start words after) where
+    (looked : look_of (staged v.doing) ≡ Some (record { place = place; found = found }))
+    (left : is_reading v.doing ≡ false) (only : OnlyObjects start words after) where
   abbrev old : State
   old = shows start.began words
 
@@ -114,7 +117,13 @@ module _ (start : Start) (words after : List ℕ) (views : List View) (kept : Ke
         stays.1,
         λ other begins. ap (λ (h : Header). h.stale)
             (one_header new target other bare begins (keeps.evolves.clears named.0 header named.1 starts)),
-      ) in
+      ) (record {
+        look = inr (refl, inl (sym looked));
+        reads = inl left;
+        clears = λ some_. refl;
+        brings = λ a n is. inl is;
+        gives = λ n gives. absurd (let e : None ≡ Some gives.0 = gives.1 in cc);
+      }) in
       (is_step.0, record { sees = sees start words after views kept id v at live cleared is_step.0 is_step.1; is = refl })
 
 -- A seat that knows of the object at the target clears its bit, and is told this.
@@ -123,9 +132,10 @@ clears_known : (start : Start) (slots id i target : ℕ) (place : Place) (found 
     → i ≡ word_place me.0.began target
     → ((words : List ℕ) (views : List View) (kept : Kept start words views) → get_elem? views id ≡ some me.0
     → Knows start.began.told kept.maps (shows start.began words) me.0.rest (Some (Looked place found target)))
+    → look_of (staged me.0.doing) ≡ Some (record { place = place; found = found }) → is_reading me.0.doing ≡ false
     → ((n : ℕ) (w : View) → IsWithin w → Reaches me.0 w (Some (Cleared place found target)) → tells n (w, me.1))
     → Allows (Rule start) slots id me i (λ n. bit_and n stale_mask) tells
-clears_known start slots id i target place found me tells live goes_on at_i known tell =
+clears_known start slots id i target place found me tells live goes_on at_i known looked left tell =
     allowed start slots id i me (λ n. bit_and n stale_mask) tells live
     (λ words views kept at alive small.
     let now : State = shows start.began words in
@@ -148,7 +158,9 @@ clears_known start slots id i target place found me tells live goes_on at_i know
     let only : OnlyObjects start words (set words i x) =
     subst (λ (p : ℕ). OnlyObjects start words (set words p x)) (sym place_is)
     (only_space start words target x object.1.first in_words) in
-    let r = clearing start words (set words i x) views kept id me.0 at alive goes_on place found target known_ only header
+    let r = clearing start words (set words i x) views kept id me.0 at alive goes_on place found target known_ looked
+    left
+    only header
     object.1.starts
     (subst (λ (y : ℕ). WordChanges now (shows start.began (set words i x)) target y) bare changed) in
     let w : View = behind me.0 kept.history me.0.known (Some (Cleared place found target)) in
@@ -163,6 +175,8 @@ clears_at start slots id i target place found me live looked at_i =
     at_i
     (λ words views kept at. subst (Knows start.began.told kept.maps (shows start.began words) me.0.rest) looked
     (kept.seats id me.0 at live).doing)
+    (ap (λ (doing : Option Doing). look_of (staged doing)) looked)
+    (ap is_reading looked)
     (λ n w inside reaches. (
       (refl, inside),
       λ p f t also.
@@ -203,6 +217,8 @@ stub_clears_at start slots id i scion target search me live missed scion_live at
             target range is_live;
       },
     ))
+    (ap (λ (doing : Option Doing). look_of (staged doing)) missed)
+    (ap is_reading missed)
     (λ n w inside reaches. (
       (refl, inside),
       λ other k t also also_live there.

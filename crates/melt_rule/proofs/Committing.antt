@@ -32,6 +32,7 @@ use Rattle.melt_core.proofs.Staying.{fresh_stays, looked_stays}
 use Rattle.melt_core.specs.Events.{Event}
 use Rattle.melt_core.specs.Events.Event.{commits}
 use Rattle.melt_core.specs.Known.{Evolves, HoldsCopy, region}
+use Rattle.melt_core.specs.StaleBits.{look_of}
 use Rattle.melt_core.specs.Stages.{retried}
 use Rattle.melt_core.specs.declared.call.Activation.{Activation}
 use Rattle.melt_rule.proofs.Allowed.{loaded}
@@ -46,9 +47,9 @@ use Rattle.melt_rule.proofs.Untagging.{either_yes, either_no}
 use Rattle.melt_rule.proofs.Within.{allowed}
 use Rattle.melt_rule.specs.Coming.{CommitPlay, Commits, FindsCommit, FindsForward, IsForward, Probes, Wins, probe_place}
 use Rattle.melt_rule.specs.Plays.{Stays}
-use Rattle.melt_rule.specs.Rule.{Has, SeatStands, Kept, Rule, filled, is_lacking}
+use Rattle.melt_rule.specs.Rule.{Has, SeatStands, Kept, Rule, filled, is_lacking, is_reading}
 use Rattle.melt_rule.specs.Seats.{EpochWords, IsSeat, knows_of}
-use Rattle.melt_rule.specs.Shown.{shows, owned, forward_place, Knows}
+use Rattle.melt_rule.specs.Shown.{shows, owned, forward_place, Knows, staged}
 use Rattle.melt_rule.specs.Tells.{CopyFits, FitsIn, IsWithin, behind}
 use Rattle.melt_rule.specs.declared.began.Began.{Began}
 use Rattle.melt_rule.specs.declared.began.Pair.{Pair}
@@ -85,13 +86,17 @@ module _ (start : Start) (words : List ℕ) (views : List View) (kept : Kept sta
   place_within = probe_within a.search.home start.began.forwards a.search.tried knows.1
 
   -- the search may read the word, and goes on behind it with the copy at hand
-  searching : Probing start words views kept id v at live (ap is_lacking copied) a.search (Copied a)
+  searching : Probing start words views kept id v at live (ap is_lacking copied) (ap is_reading copied) a.search
+      (Copied a)
       (Retrying (retried a))
   searching = record {
     searches = knows.0.searches;
     more = knows.1;
     misses = λ empty. knows;
     passes = λ another. copy_more start.began.told kept.maps now v.rest a knows.0 knows.1 another;
+    look = ap (λ (doing : Option Doing). look_of (staged doing)) copied;
+    empty_look = refl;
+    another_look = refl;
     empty_owns = inl (sym (ap owned copied));
     another_owns = inl (sym (ap owned copied));
   }
@@ -110,7 +115,8 @@ module _ (start : Start) (words : List ℕ) (views : List View) (kept : Kept sta
   pub loses : now.forward place ≢ 0
       → (w : View) × IsStep start words words views kept id v at live w × FindsCommit v w a (now.forward place)
   loses some_ =
-      let r = probes start words views kept id v at live (ap is_lacking copied) a.search (Copied a)
+      let r = probes start words views kept id v at live (ap is_lacking copied) (ap is_reading copied) a.search
+      (Copied a)
       (Retrying (retried a))
       searching in
       (r.0, r.1, filled_answers (now.forward place) r.0 some_ r.2)
@@ -248,6 +254,16 @@ module _ (start : Start) (words : List ℕ) (views : List View) (kept : Kept sta
           forwarded = λ found p below none_.
               let some_ : now.forward p ≢ 0 = kept.stop.forwarded id v at found p below in
               some_ (sym (evolves.forwards p below some_) ∙ none_);
+        };
+        bits = record {
+          look = inr (refl, inl (sym (ap (λ (d : Option Doing). look_of (staged d)) copied)));
+          reads = inl (ap is_reading copied);
+          clears = λ some_. absurd (some_ refl);
+          brings = λ b m is. elim (cases_eq b a.address) [
+            | inl here ↦ inr (inr (ap Some (sym here)))
+            | inr other ↦ inl (sym (appeared.others b other) ∙ is)
+          ];
+          gives = λ m gives. absurd (let e : None ≡ Some gives.0 = gives.1 in cc);
         };
       },
       refl,

@@ -25,10 +25,12 @@ use Rattle.melt_core.proofs.Staying.{fetches_stays, misses_stays}
 use Rattle.melt_core.proofs.Storing.{none_stored, stored_more}
 use Rattle.melt_core.specs.Events.{Event}
 use Rattle.melt_core.specs.Events.Event.{stores}
+use Rattle.melt_core.specs.StaleBits.{home_look, look_of}
 use Rattle.melt_core.specs.Known.{Evolves, Fetches, Misses, region}
 use Rattle.melt_core.specs.declared.call.Activation.{Activation}
 use Rattle.melt_core.specs.declared.call.Search.{Search}
-use Rattle.melt_rule.proofs.Keeping.{IsStep, sees}
+use Rattle.melt_rule.proofs.Claiming.{found_first}
+use Rattle.melt_rule.proofs.Keeping.{IsStep, sees, still_bits}
 use Rattle.melt_rule.proofs.Leaving.{leaves_same}
 use Rattle.melt_rule.proofs.Makes.{began_size, claim_evolves, claim_fits, claim_lacks, claim_small, claimed}
 use Rattle.melt_rule.proofs.Makes.{claimed_words, free, moved, only_word, owns_still, sizes, with_word}
@@ -37,9 +39,9 @@ use Rattle.melt_rule.proofs.Showing.{word_changes}
 use Rattle.melt_rule.proofs.Within.{allowed}
 use Rattle.melt_rule.specs.Coming.{HomeHas, ClaimsCopy, LacksCopy, CopyPlay, FillCopyPlay, HeadCopyPlay}
 use Rattle.melt_rule.specs.Plays.{Stays}
-use Rattle.melt_rule.specs.Rule.{Begins, SeatStands, Kept, Rule, has_cause, is_lacking}
+use Rattle.melt_rule.specs.Rule.{Begins, SeatStands, Kept, Rule, has_cause, is_lacking, is_reading}
 use Rattle.melt_rule.specs.Seats.{EpochWords, IsSeat, knows_of}
-use Rattle.melt_rule.specs.Shown.{base_of, shows, Knows, owned, word_place}
+use Rattle.melt_rule.specs.Shown.{base_of, shows, Knows, owned, staged, word_place}
 use Rattle.melt_rule.specs.Tells.{FitsIn, IsWithin, behind, Reaches}
 use Rattle.melt_rule.specs.declared.began.Began.{Began}
 use Rattle.melt_rule.specs.declared.began.Start.{Start}
@@ -96,6 +98,11 @@ module _ (start : Start) (words : List ℕ) (views : List View) (kept : Kept sta
       search
       (misses search is)
 
+  -- and the call keeps its look
+  missed_look : (search : Search) → v.doing ≡ Some (Missed search)
+      → look_of (staged v.doing) ≡ Some (home_look search)
+  missed_look search is = ap (λ (doing : Option Doing). look_of (staged doing)) is
+
   -- the words for a copy are claimed, and lie within the space
   pub copying : (search : Search) (z : Shape) (rest : List ℕ) → v.doing ≡ Some (Missed search) → has_cause v ≡ false
       → Reads search z rest → first_free + cost_of z ≤ start.began.size + 1
@@ -112,11 +119,14 @@ module _ (start : Start) (words : List ℕ) (views : List View) (kept : Kept sta
       (λ owns. (
         record { misses = missed_on search (cost_of z) is; body = body },
         none_stored kept.maps (shows start.began after) first_free z (copy_word search.home z rest) owns,
-      ))) in (
+      ))
+      (inr (refl, inl (sym (missed_look search is))))
+      (ap is_reading is)) in (
         step.0,
         record {
           sees = sees start words after views kept id v at live w step.0 step.1;
           object = home_has search z rest body;
+          first = found_first start words views kept id v at live;
           fits = let size = began_size start words views kept id v at live in omega arith;
           is = refl;
         },
@@ -137,12 +147,15 @@ module _ (start : Start) (words : List ℕ) (views : List View) (kept : Kept sta
       let step = moved start words views kept id v at live v.rest (cost_of z) (v.over + 1) true doing no_cause
       (claim_lacks start words views kept id v at live v.rest (cost_of z) doing no_cause past refl refl
       (λ above. (above, missed_on search (cost_of z) is, body.head))
-      (omega arith)) in (
+      (omega arith)
+      (inr (refl, inl (sym (missed_look search is))))
+      (ap is_reading is)) in (
         step.0,
         record {
           sees = sees start words after views kept id v at live w step.0 step.1;
           object = home_has search z rest body;
           found = first_free;
+          first = found_first start words views kept id v at live;
           past = let size = began_size start words views kept id v at live in omega arith;
           is = refl;
         },
@@ -204,10 +217,10 @@ module _ (start : Start) (words : List ℕ) (views : List View) (kept : Kept sta
     )
 
     storing : (doing : Option Doing) → owned doing ≡ mine
-        → Knows start.began.told kept.maps new v.rest doing
+        → Knows start.began.told kept.maps new v.rest doing → look_of (staged doing) ≡ Some (home_look a.search)
         → let w : View = behind v kept.history v.known doing in
         IsStep start words after views kept id v at live w × Reaches v w doing
-    storing doing owns knows =
+    storing doing owns knows look =
         let w : View = behind v kept.history v.known doing in
         let step =
         leaves_same start words after views kept id v at live (ap is_lacking is)
@@ -219,7 +232,10 @@ module _ (start : Start) (words : List ℕ) (views : List View) (kept : Kept sta
         event
         (copy_apart a k is)
         (inl (owns ∙ sym (let mine_is : owned v.doing ≡ mine = ap owned is in mine_is)))
-        knows in
+        knows
+        (still_bits start words after views kept id v at live v.known doing
+        (inr (refl, inl (look ∙ sym (ap (λ (before : Option Doing). look_of (staged before)) is))))
+        (ap is_reading is)) in
         (step.0, record { sees = sees start words after views kept id v at live w step.0 step.1; is = refl })
 
   -- the next word of the copy is stored
@@ -239,6 +255,7 @@ module _ (start : Start) (words : List ℕ) (views : List View) (kept : Kept sta
             (copy_word a.search.home a.shape v.rest) k place word (copies a k is).1 stays.1 (omega arith) stored few
             (changes a k is place word from to),
       )
+      refl
 
   -- the copy is whole once its header is stored
   pub heading_copy : (a : Activation) (k : ℕ) → v.doing ≡ Some (Copying a k) → k + 1 ≡ cost_of a.shape
@@ -271,6 +288,7 @@ module _ (start : Start) (words : List ℕ) (views : List View) (kept : Kept sta
         },
         stays.0.misses.within,
       )
+      refl
 
 pub copies_at : (start : Start) (slots id : ℕ) (search : Search) (z : Shape) (rest : List ℕ) (me : Me ℕ View)
     → 0 < me.0.parts → has_cause me.0 ≡ false → me.0.doing ≡ Some (Missed search)

@@ -15,12 +15,14 @@ use Rattle.melt_scion.specs.Regions.{Apart, no_region}
 use Rattle.melt_scion.specs.State.{State}
 use Rattle.melt_core.proofs.Regions.{no_region_apart, apart_sym}
 use Rattle.melt_rule.proofs.Pieces.{at_end}
+use Rattle.melt_rule.proofs.Tying.{same_tied, stage_idle, stage_more, stage_set}
 use Rattle.melt_rule.proofs.Views.{in_range, sum_set}
 use Rattle.melt_rule.specs.Giving.{first_away, others_away, giver_view, given_view, spent_view}
 use Rattle.melt_rule.specs.Rule.{Has, Knowing, Saw, SeatStands, threads_of, Whole, SumsStand}
 use Rattle.melt_rule.specs.Rule.{has_cause, is_lacking, StopStands, Kept, Rule}
 use Rattle.melt_rule.specs.Seats.{EpochWords, IsSeat, knows_of}
 use Rattle.melt_rule.specs.Shown.{shows, owned}
+use Rattle.melt_rule.specs.Sights.{first_sight, stage_at}
 use Rattle.melt_rule.specs.Tells.{IsWithin}
 use Rattle.melt_rule.specs.declared.began.Start.{Start}
 use Rattle.melt_rule.specs.declared.view.Away.{Away}
@@ -367,6 +369,9 @@ module _ (start : Start) (words : List ℕ) (views : List View) (kept : Kept sta
         none x.seat x.place x.view x.is x.alive x.has);
     sums = sums_kept;
     stop = stop_kept;
+    tied = λ told. same_tied (first_sight start.began) kept.history kept.maps now (stage_at views) (stage_at after)
+        (λ t. stage_more t (set views id left) right (stage_idle right t refl) ∙ stage_set t views id v left at refl)
+        (kept.tied told);
   }
 
 -- where some thread is away

@@ -2,34 +2,52 @@
 use Rattle.std.proofs.Common.{◌≡◌, ◌≢◌, ◌⊎◌, ℕ, suc, ◌+◌, ◌*◌, ◌<◌, ◌≤◌, List, [], ◌∷◌, ◌++◌, length, map, get_or}
 use Rattle.std.proofs.Common.{refl, sym, ◌∙◌, ap, subst, arith, inl, inr, Bool, true, false}
 use Rattle.std.proofs.Math.ListN.{set}
-use Rattle.std.specs.Prelude.{Option, None, Some}
+use Rattle.std.specs.Prelude.{Option, None, Some, IfSome}
 use lib.ListN.{get_elem?}
 use mathlib.Core.Option.{some, some-injective}
 use native.Mathlib.Decide.{ℕ_discrete}
 use Rattle.atomic_table.proofs.Lists.{at_set, set_here, set_else, at_map}
 use Rattle.melt_model.proofs.Histories.{own-push_own}
-use Rattle.melt_model.specs.History.{Legal}
+use Rattle.melt_model.specs.History.{Legal, given}
 use Rattle.melt_model.specs.Thread.{own}
 use Rattle.melt_model.specs.declared.history.Act.{Act}
+use Rattle.melt_model.specs.declared.history.Act.TheVariants.{Read}
+use Rattle.melt_model.specs.declared.history.Slot.{Slot}
+use Rattle.melt_model.specs.declared.history.Value.{Value}
+use Rattle.melt_model.specs.declared.history.Value.TheVariants.{Ref as Object}
+use Rattle.melt_word.specs.Words.{ref_word}
+use Rattle.melt_word.specs.declared.reference.Ref.{Ref}
 use Rattle.melt_model.specs.declared.history.Entry.{Entry}
 use Rattle.melt_scion.specs.Placed.{Maps, FormedWords}
 use Rattle.melt_scion.specs.Regions.{Region, Apart, Owns}
 use Rattle.melt_scion.specs.State.{State, IsFresh}
 use Rattle.melt_core.proofs.Keeping.{event_keeps}
 use Rattle.melt_core.proofs.Regions.{apart_sym}
+use Rattle.melt_core.proofs.StaleBitsHeaders.{Owes, no_bit_at, touched}
+use Rattle.melt_core.proofs.StaleBitsPassing.{used_push}
+use Rattle.melt_core.proofs.StaleBitsTying.{look_stays, tied_later}
+use Rattle.melt_core.proofs.StaleBitsWatching.{look_passes, one_slot, watch_begins}
 use Rattle.melt_core.proofs.Staying.{fresh_stays, known_stays}
 use Rattle.melt_core.specs.Answering.{entry, with_entry}
 use Rattle.melt_core.specs.Events.{Event, Keeps}
-use Rattle.melt_core.specs.Known.{Evolves, RegionStays}
+use Rattle.melt_core.specs.Known.{Evolves, RegionStays, SlotAt, word_in}
+use Rattle.melt_core.specs.StaleBits.{HasNoBit, Look, Passed, Sight, Tied, Watched, look_of, pending, sight_of}
+use Rattle.melt_core.specs.declared.call.Place.{Place}
+use Rattle.melt_core.specs.declared.call.Stage.{Stage}
+use Rattle.melt_rule.proofs.Tying.{knows_look, none_pending, stage_apart, stage_here, stage_one, stage_other, stage_own}
+use Rattle.melt_rule.proofs.Tying.{stage_set}
 use Rattle.melt_rule.proofs.Views.{in_range, sum_set, begins_on, own_other, saw_other, saw_all}
 use Rattle.melt_rule.specs.Rule.{Has, Knowing, Saw, SeatStands, threads_of, MapsStand, filled, SumsStand}
-use Rattle.melt_rule.specs.Rule.{has_cause, is_lacking, StopStands, Kept}
-use Rattle.melt_rule.specs.Shown.{shows, Knows, owned, stage_of}
+use Rattle.melt_rule.specs.Rule.{has_cause, is_lacking, is_reading, StopStands, Kept}
+use Rattle.melt_rule.specs.Shown.{shows, Knows, owned, stage_of, staged}
+use Rattle.melt_rule.specs.Sights.{first_sight, stage_at, stage_in}
 use Rattle.melt_rule.specs.Tells.{Since, Sees, Adds}
 use Rattle.melt_rule.specs.declared.began.Began.{Began}
+use Rattle.melt_rule.specs.declared.began.Pair.{Pair}
 use Rattle.melt_rule.specs.declared.began.Start.{Start}
 use Rattle.melt_rule.specs.declared.view.Away.{Away}
 use Rattle.melt_rule.specs.declared.view.Doing.{Doing}
+use Rattle.melt_rule.specs.declared.view.Doing.TheVariants.{Cleared}
 use Rattle.melt_rule.specs.declared.view.View.{View}
 
 -- what another seat knows of its call stays
@@ -66,6 +84,57 @@ module _ (start : Start) (words after : List ℕ) (views : List View) (kept : Ke
     pub over : w.over ≤ v.parts
     pub won : filled new.forward start.began.forwards + v.won ≡ filled old.forward start.began.forwards + w.won
 
+  -- how the look of the call goes on: it has none, keeps the one that it had, or has looked now
+  abbrev pub LookGoes : Option Act → Option Doing → Type 0
+  LookGoes act doing = (look_of (staged doing) ≡ None) ⊎ ((act ≡ None)
+      × ((look_of (staged doing) ≡ look_of (staged v.doing))
+      ⊎ ((look : Look) × (look_of (staged doing) ≡ Some look) × (word_in new look.place ≡ ref_word look.found))))
+
+  -- the entry is of a read of the slot of the look
+  pub record ReadsLook (act : Option Act) : Type 0 where
+    pub place : Place
+    pub found : Ref
+    pub target : ℕ
+    pub stage : v.doing ≡ Some (Cleared place found target)
+    pub slot : Slot
+    pub is_slot : SlotAt kept.maps place slot
+    pub value : Value
+    pub reads : act ≡ Some (Read slot value)
+
+  -- the entry gives the object
+  abbrev pub Gives : Option Act → ℕ → Type 0
+  Gives act n = (x : Act) × (act ≡ Some x) × (given kept.history x ≡ Some (Object n))
+
+  -- What it owes for the stale bit: a call that was to read the slot of its look did; one that clears the bit of an
+  -- object or brings it back is to read its slot next; and objects that the entry gives are known.
+  pub record Bits (maps : Maps) (cleared : ℕ) (act : Option Act) (known : List Pair) (doing : Option Doing)
+      : Type 0 where
+    pub look : LookGoes act doing
+    pub reads : (is_reading v.doing ≡ false) ⊎ ReadsLook act
+    pub clears : cleared ≢ 0 → pending (staged doing) ≡ Some cleared
+    pub brings : (a n : ℕ) → maps.address a ≡ Some n
+        → (kept.maps.address a ≡ Some n) ⊎ (Gives act n ⊎ (pending (staged doing) ≡ Some a))
+    pub gives : (n : ℕ) → Gives act n → (a : ℕ) × Has known a n
+
+  -- a step that neither clears a bit nor brings an object
+  pub keeps_bits : (act : Option Act) (known : List Pair) (doing : Option Doing) → LookGoes act doing
+      → (is_reading v.doing ≡ false) ⊎ ReadsLook act → ((n : ℕ) → Gives act n → (a : ℕ) × Has known a n)
+      → Bits kept.maps 0 act known doing
+  keeps_bits act known doing look reads gives = record {
+    look = look;
+    reads = reads;
+    clears = λ some. absurd (some refl);
+    brings = λ a n is. inl is;
+    gives = gives;
+  }
+
+  -- nor has an entry
+  pub still_bits : (known : List Pair) (doing : Option Doing) → LookGoes None doing → is_reading v.doing ≡ false
+      → Bits kept.maps 0 None known doing
+  still_bits known doing look left =
+      keeps_bits None known doing look (inl left)
+      (λ n gives. absurd (let e : None ≡ Some gives.0 = gives.1 in cc))
+
   -- What a step of the seat shows: which event it is; that the maps have no more names than the view knows; and of the
   -- view, what the rule says of it.
   pub record IsStep (w : View) : Type 0 where
@@ -91,6 +160,7 @@ module _ (start : Start) (words after : List ℕ) (views : List View) (kept : Ke
         → Apart (owned w.doing) (owned u.doing)
     pub sums : Sums w
     pub stops : Stops w
+    pub bits : Bits maps cleared act w.known w.doing
 
   -- a seat behind the step is the one that stepped, or was there before
   cases : (w : View) (i : ℕ) (u : View) → get_elem? (set views id w) i ≡ some u
@@ -318,6 +388,126 @@ module _ (start : Start) (words after : List ℕ) (views : List View) (kept : Ke
           (sym (keeps.evolves.forwards p below (kept.stop.forwarded i u e is p below)) ∙ empty));
     }
 
+    -- The stale bit, where it is told:
+    module _ (told : start.began.told ≡ true) where
+      abbrev q : ℕ
+      q = length start.began.history
+
+      abbrev t : ℕ
+      t = v.thread
+
+      abbrev seen_before : Sight
+      seen_before = sight_of kept.history kept.maps old (stage_at views)
+
+      abbrev seen_now : Sight
+      seen_now = sight_of later s.maps new (stage_at (set views id w))
+
+      tied : Tied (first_sight start.began) seen_before
+      tied = kept.tied told
+
+      -- the thread is at the stage of its own call, and each other is where it was
+      was_at : stage_at views t ≡ staged v.doing
+      was_at = stage_here start words views kept id v at live
+
+      stays_at : (x : ℕ) → x ≢ t → stage_at (set views id w) x ≡ stage_at views x
+      stays_at x other =
+          stage_set x views id v w at
+          (stage_other w x (λ same. other (sym same ∙ s.thread)) ∙ sym (stage_other v x (λ same. other (sym same))))
+
+      is_at : stage_at (set views id w) t ≡ staged w.doing
+      is_at =
+          stage_one t (set views id w) id w (here w) (λ i u other e. elim (cases w i u e) [
+            | inl x ↦ absurd (other x.0)
+            | inr x ↦ stage_apart start words views kept id v at live i u x.0 x.1
+          ])
+          ∙ (ap (stage_in w) (sym s.thread) ∙ stage_own w)
+
+      watched_by : (act : Option Act) → s.act ≡ act → LookGoes act w.doing
+          → IfSome (look_of (staged w.doing)) (Watched q seen_now t)
+      watched_by act is (inl none) = subst (λ (g : Option Look). IfSome g (Watched q seen_now t)) (sym none) tt
+      watched_by act is (inr goes) = elim goes.1 [
+        | inl same ↦
+            subst (λ (g : Option Look). IfSome g (Watched q seen_now t)) (sym same)
+            (look_stays q t t None seen_before seen_now (look_of (staged v.doing))
+            (ap (with_entry t kept.history) (is ∙ goes.0)) keeps.evolves.names keeps.evolves.homes (inr refl)
+            (subst (λ (g : Option Stage). IfSome (look_of g) (Watched q seen_before t)) was_at (tied.watched t)))
+        | inr looks ↦
+            subst (λ (g : Option Look). IfSome g (Watched q seen_now t)) (sym looks.1)
+            (watch_begins later s.maps new (stage_at (set views id w)) q t looks.0 (keeps.holds.tells told)
+            (knows_look start.began.told s.maps new w.rest w.doing looks.0 looks.1 s.doing) looks.2 since_now)
+      ]
+        where
+          since_now : q ≤ length later
+          since_now =
+              let before : q ≤ length kept.history = tied.since in
+              omega (arith, before, ap (λ (x : Option Act). length (with_entry t kept.history x)) (is ∙ goes.0))
+
+      -- an object that the entry gives is used by it
+      uses : (n : ℕ) → Gives s.act n → Passed later q n
+      uses n gives =
+          subst (λ (x : Option Act). Passed (with_entry t kept.history x) q n) (sym gives.1)
+          (inl (used_push kept.history (entry t gives.0) q n tied.since gives.2))
+
+      no_bit : (a n : ℕ) → Has w.known a n → HasNoBit seen_now n
+      no_bit a n has =
+          no_bit_at later s.maps new (stage_at (set views id w)) a n keeps.holds.formed (s.known a n has)
+          (s.fresh a n has)
+
+      -- a call that was to read the slot of its look did, and passed the object
+      passes : (a n : ℕ) → pending (stage_at views t) ≡ Some a → kept.maps.address a ≡ Some n → Passed later q n
+      passes a n waits named = elim s.bits.reads [
+        | inl left ↦ absurd (
+            let none : pending (stage_at views t) ≡ None = ap pending was_at ∙ none_pending v.doing left in cc)
+        | inr r ↦
+            let here : stage_at views t ≡ staged (Some (Cleared r.place r.found r.target)) =
+            was_at ∙ ap staged r.stage in
+            let target : Some r.target ≡ Some a = sym (ap pending here) ∙ waits in
+            let same : r.target ≡ a = cc in
+            let look : Look = record { place = r.place; found = r.found } in
+            let watched : Watched q seen_before t look =
+            subst (λ (g : Option Stage). IfSome (look_of g) (Watched q seen_before t)) here (tied.watched t) in
+            let knows : Knows start.began.told kept.maps old v.rest (Some (Cleared r.place r.found r.target)) =
+            subst (Knows start.began.told kept.maps old v.rest) r.stage (kept.seats id v at live).doing in
+            let slot : watched.slot ≡ r.slot = one_slot kept.maps r.place watched.slot r.slot watched.at r.is_slot in
+            let act : s.act ≡ Some (Read watched.slot r.value) =
+            r.reads ∙ ap (λ (x : Slot). Some (Read x r.value)) (sym slot) in
+            subst (λ (x : Option Act). Passed (with_entry t kept.history x) q n) (sym act)
+            (look_passes q t r.target n seen_before look r.value (knows.1.same told)
+            (ap kept.maps.address same ∙ named) watched)
+      ]
+
+      owes : Owes kept.history later kept.maps s.maps old new (stage_at views) (stage_at (set views id w)) s.cleared
+          kept.holds.formed keeps.evolves q t s.act
+      owes = record {
+        log = refl;
+        others = stays_at;
+        one_address = (keeps.holds.tells told).one_address;
+        watched = subst (λ (g : Option Stage). IfSome (look_of g) (Watched q seen_now t)) (sym is_at)
+            (watched_by s.act refl s.bits.look);
+        appears = λ a n named. elim (s.names a n named) [
+          | inl was ↦ inl was
+          | inr has ↦ elim (s.bits.brings a n named) [
+            | inl was ↦ inl was
+            | inr new_ ↦ inr (
+              no_bit a n has,
+              elim new_ [
+                | inl gives ↦ inl (uses n gives)
+                | inr waits ↦ inr (record { thread = t; address = a; is = ap pending is_at ∙ waits; named = named })
+              ],
+            )
+          ]
+        ];
+        clears = λ some_. ap pending is_at ∙ s.bits.clears some_;
+        exchanges = passes;
+        gives = λ n x is gives. let has = s.bits.gives n (x, is, gives) in no_bit has.0 n has.1;
+      }
+
+      still_tied : Tied (first_sight start.began) seen_now
+      still_tied =
+          tied_later t s.act (first_sight start.began) seen_before seen_now
+          (touched kept.history later kept.maps s.maps old new (stage_at views) (stage_at (set views id w)) s.cleared
+          kept.holds.formed keeps.evolves q t s.act owes) tied
+
     pub keep : Kept start after (set views id w)
     keep = record {
       history = later;
@@ -354,6 +544,7 @@ module _ (start : Start) (words after : List ℕ) (views : List View) (kept : Ke
           none i p x.view x.is x.alive x.has);
       sums = sums_kept;
       stop = stop_kept;
+      tied = still_tied;
     }
 
     -- the history is legal, for the thread of the seat

@@ -17,7 +17,7 @@ use Rattle.melt_core.proofs.Staying.{fresh_stays}
 use Rattle.melt_core.specs.Answering.{with_entry}
 use Rattle.melt_core.specs.Events.{Event}
 use Rattle.melt_core.specs.Known.{Evolves}
-use Rattle.melt_rule.proofs.Keeping.{IsStep}
+use Rattle.melt_rule.proofs.Keeping.{Bits, IsStep}
 use Rattle.melt_rule.proofs.Showing.{filled_same, word_changes, global_changes}
 use Rattle.melt_rule.specs.Rule.{Has, SeatStands, Kept, is_lacking}
 use Rattle.melt_rule.specs.Shown.{shows, Knows, owned, global_place, word_place}
@@ -87,6 +87,7 @@ module _ (start : Start) (words after : List ℕ) (views : List View) (kept : Ke
     pub named : (a n : ℕ) → Has known a n → maps.address a ≡ Some n
     pub fresh : (a n : ℕ) → Has known a n → IsFresh new a
     pub knows : Knows start.began.told maps new v.rest doing
+    pub bits : Bits start words after views kept id v at live maps cleared act known doing
 
   pub leaves : (maps : Maps) (mine : Region) (cleared : ℕ) (act : Option Act) (known : List Pair) (doing : Option Doing)
       → Leaves maps mine cleared act known doing
@@ -132,6 +133,7 @@ module _ (start : Start) (words after : List ℕ) (views : List View) (kept : Ke
         sets = λ cause goes. only.stop ∙ kept.stop.sets id v at cause goes_on;
         forwarded = λ found p below empty. kept.stop.forwarded id v at found p below (sym (only.forward p) ∙ empty);
       };
+      bits = is.bits;
     },
     refl,
   )
@@ -141,8 +143,9 @@ module _ (start : Start) (words after : List ℕ) (views : List View) (kept : Ke
       → Event start.began.told kept.history kept.maps kept.maps old new mine cleared act
       → ((i : ℕ) (u : View) → i ≢ id → get_elem? views i ≡ some u → 0 < u.parts → Apart mine (owned u.doing))
       → (owned doing ≡ owned v.doing) ⊎ (owned doing ≡ no_region) → Knows start.began.told kept.maps new v.rest doing
+      → Bits start words after views kept id v at live kept.maps cleared act v.known doing
       → StepTo (behind v (with_entry v.thread kept.history act) v.known doing) act
-  leaves_same mine cleared act doing event apart owns knows =
+  leaves_same mine cleared act doing event apart owns knows bits =
       let evolves : Evolves kept.maps kept.maps old new cleared =
       evolves_event start.began.told kept.history kept.maps kept.maps old new mine cleared act kept.holds.formed event in
       leaves kept.maps mine cleared act v.known doing (record {
@@ -156,12 +159,15 @@ module _ (start : Start) (words after : List ℕ) (views : List View) (kept : Ke
             (n, stood.known a n has)
             (stood.fresh a n has);
         knows = knows;
+        bits = bits;
       })
 
   -- and no word of a region changes
   pub leaves_none : (cleared : ℕ) (act : Option Act) (doing : Option Doing)
       → Event start.began.told kept.history kept.maps kept.maps old new no_region cleared act
       → (owned doing ≡ owned v.doing) ⊎ (owned doing ≡ no_region) → Knows start.began.told kept.maps new v.rest doing
+      → Bits start words after views kept id v at live kept.maps cleared act v.known doing
       → StepTo (behind v (with_entry v.thread kept.history act) v.known doing) act
-  leaves_none cleared act doing event owns knows =
+  leaves_none cleared act doing event owns knows bits =
       leaves_same no_region cleared act doing event (λ i u other is alive. no_region_apart (owned u.doing)) owns knows
+      bits

@@ -1,4 +1,5 @@
 pub mod Views
+pub mod Tying
 pub mod Keeping
 pub mod Showing
 pub mod Within
@@ -8,6 +9,7 @@ pub mod Stores
 pub mod Allowed
 pub mod Seating
 pub mod Stopping
+pub mod Claiming
 pub mod Makes
 pub mod MayMake
 pub mod Pieces

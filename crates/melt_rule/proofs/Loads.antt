@@ -3,10 +3,11 @@ use Rattle.std.proofs.Common.{◌≡◌, ◌⊎◌, ℕ, zero, suc, ◌<◌, Boo
 use Rattle.std.proofs.Common.{refl, sym, ◌∙◌, ap, subst, arith, inl, inr}
 use Rattle.std.specs.Prelude.{Option, None, Some}
 use Rattle.std.specs.Option.{option_map}
+use Rattle.std.proofs.lemmas.Option.{same_Some}
 use lib.ListN.{get_elem?}
 use mathlib.Core.Option.{some, some-injective, some-ne-none}
 use Rattle.atomic_table.proofs.Lists.{at_longer}
-use Rattle.melt_model.specs.History.{last}
+use Rattle.melt_model.specs.History.{last, given}
 use Rattle.melt_model.specs.declared.history.Act.{Act}
 use Rattle.melt_model.specs.declared.history.Act.TheVariants.{Read}
 use Rattle.melt_model.specs.declared.history.Slot.{Slot}
@@ -23,16 +24,17 @@ use Rattle.melt_scion.specs.GhostMaps.{named}
 use Rattle.melt_scion.specs.Placed.{MayStand, value_of}
 use Rattle.melt_scion.specs.Regions.{Region, no_region, Apart}
 use Rattle.melt_scion.specs.State.{State, IsFresh}
-use Rattle.melt_core.proofs.Places.{place_stands}
+use Rattle.melt_core.proofs.Places.{found_stands}
 use Rattle.melt_core.proofs.Regions.{no_region_apart}
 use Rattle.melt_core.specs.Answering.{with_entry}
 use Rattle.melt_core.specs.Events.{Event, LastAt, IsNumberWord, number_place}
 use Rattle.melt_core.specs.Events.Event.{quiet, reads_place, reads_number}
+use Rattle.melt_core.specs.StaleBits.{home_look}
 use Rattle.melt_core.specs.Known.{IsPlace, SlotAt, IsTagged, HasTag, HasLooked, word_in}
 use Rattle.melt_core.specs.declared.call.Place.{Place}
 use Rattle.melt_core.specs.declared.call.Search.{Search}
-use Rattle.melt_rule.proofs.Keeping.{IsStep, sees, adds}
-use Rattle.melt_rule.specs.Rule.{Has, SeatStands, Kept, is_lacking}
+use Rattle.melt_rule.proofs.Keeping.{Bits, IsStep, LookGoes, ReadsLook, adds, keeps_bits, sees, still_bits}
+use Rattle.melt_rule.specs.Rule.{Has, SeatStands, Kept, is_lacking, is_reading}
 use Rattle.melt_rule.specs.Shown.{shows, Knows, owned}
 use Rattle.melt_rule.specs.Tells.{HasAll, Adds, behind, Reaches, Looks, Ends, Polls, search_for}
 use Rattle.melt_rule.specs.declared.began.Began.{Began}
@@ -104,8 +106,9 @@ module _ (start : Start) (words : List ℕ) (views : List View) (kept : Kept sta
   pub loads : (act : Option Act) (known : List Pair) (doing : Option Doing) (stopped : Bool)
       → Event start.began.told kept.history kept.maps kept.maps now now no_region 0 act → Learns known doing
       → (stopped ≡ true → get_or words 0 0 ≡ 1)
+      → Bits start words words views kept id v at live kept.maps 0 act known doing
       → Step (record (behind v (with_entry v.thread kept.history act) known doing) { stopped = stopped })
-  loads act known doing stopped event learns set_ = record {
+  loads act known doing stopped event learns set_ bits = record {
     maps = kept.maps;
     mine = no_region;
     cleared = 0;
@@ -136,25 +139,38 @@ module _ (start : Start) (words : List ℕ) (views : List View) (kept : Kept sta
       sets = λ cause goes. kept.stop.sets id v at cause goes_on;
       forwarded = kept.stop.forwarded id v at;
     };
+    bits = bits;
   }
+
+  -- how the look of the call goes on where it has no entry
+  abbrev pub LooksOn : Option Doing → Type 0
+  LooksOn doing = LookGoes start words words views kept id v at live None doing
+
+  -- it was not to read a slot next, or this entry is that read
+  abbrev pub MayRead : Slot → Value → Type 0
+  MayRead slot value = (is_reading v.doing ≡ false)
+      ⊎ ReadsLook start words words views kept id v at live (Some (Read slot value))
 
   -- a load without an entry
   pub reaches : (doing : Option Doing) → Knows start.began.told kept.maps now v.rest doing → owned doing ≡ no_region
+      → LooksOn doing → is_reading v.doing ≡ false
       → Step (behind v kept.history v.known doing) × Reaches v (behind v kept.history v.known doing) doing
   unfolding loads
-  reaches doing knows none =
+  reaches doing knows none look left =
       let w : View = behind v kept.history v.known doing in
       let step : Step w = loads None v.known doing v.stopped (quiet refl (same now)) (learns_same doing knows none)
-      (kept.stop.stopped id v at) in
+      (kept.stop.stopped id v at)
+      (still_bits start words words views kept id v at live v.known doing look left) in
       (step, record { sees = sees start words words views kept id v at live w step refl; is = refl })
 
   -- a load of the stop word, which is set
-  pub stops : get_or words 0 0 ≡ 1
+  pub stops : get_or words 0 0 ≡ 1 → is_reading v.doing ≡ false
       → let w : View = record (behind v kept.history v.known None) { stopped = true } in Step w × Polls v w true
   unfolding loads
-  stops one =
+  stops one left =
       let w : View = record (behind v kept.history v.known None) { stopped = true } in
-      let step : Step w = loads None v.known None true (quiet refl (same now)) (learns_same None tt refl) (λ is. one) in
+      let step : Step w = loads None v.known None true (quiet refl (same now)) (learns_same None tt refl) (λ is. one)
+      (still_bits start words words views kept id v at live v.known None (inl refl) left) in
       (step, (sees start words words views kept id v at live w step refl, refl))
 
   -- the view behind a load that is answered
@@ -164,29 +180,39 @@ module _ (start : Start) (words : List ℕ) (views : List View) (kept : Kept sta
   -- it is answered by the word of a place
   pub reads : (place : Place) (slot : Slot) (value : Value) (known : List Pair) → IsPlace kept.maps now place
       → (IsTagged (word_in now place) → ⊥) → (start.began.told ≡ true → LastAt kept.history kept.maps place slot value)
-      → Learns known None → Step (read slot value known) × Adds v (read slot value known).seen (Read slot value)
+      → Learns known None → MayRead slot value → ((n : ℕ) → value ≡ Ref n → (a : ℕ) × Has known a n)
+      → Step (read slot value known) × Adds v (read slot value known).seen (Read slot value)
   unfolding loads
-  reads place slot value known there clean last_at learns =
+  reads place slot value known there clean last_at learns due gives =
       let act : Option Act = Some (Read slot value) in
       let w : View = read slot value known in
       let step : Step w = loads act known None v.stopped
       (reads_place place slot value refl (same now) there clean last_at)
       learns
-      (kept.stop.stopped id v at) in
+      (kept.stop.stopped id v at)
+      (keeps_bits start words words views kept id v at live act known None (inl refl) due (λ n is.
+      gives n (let e : Some (Read slot value) ≡ Some is.0 = is.1 in
+      same_Some value (Ref n) (ap (given kept.history) (same_Some (Read slot value) is.0 e) ∙ is.2)))) in
       (step, adds start words words views kept id v at live w step (Read slot value) refl)
 
   -- or by a number word
   pub numbers : (object n j : ℕ) (shape : Shape) → IsNumberWord kept.maps now object shape n j
+      → is_reading v.doing ≡ false
       → let value : Value = Num (now.word (number_place object shape j)) in
       Step (read (slot.Cell n j) value v.known) × Ends v (read (slot.Cell n j) value v.known) (Read (slot.Cell n j) value)
   unfolding loads
-  numbers object n j shape is =
+  numbers object n j shape is left =
       let value : Value = Num (now.word (number_place object shape j)) in
       let act : Option Act = Some (Read (slot.Cell n j) value) in
       let w : View = read (slot.Cell n j) value v.known in
       let step : Step w = loads act v.known None v.stopped (reads_number object n j shape refl (same now) is)
       (learns_same None tt refl)
-      (kept.stop.stopped id v at) in (
+      (kept.stop.stopped id v at)
+      (keeps_bits start words words views kept id v at live act v.known None (inl refl) (inl left) (λ m gives.
+      absurd (
+      let same : Read (slot.Cell n j) value ≡ gives.0 = same_Some (Read (slot.Cell n j) value) gives.0 gives.1 in
+      let e : value ≡ Ref m = same_Some value (Ref m) (ap (given kept.history) same ∙ gives.2) in
+      cc))) in (
         step,
         record { adds = adds start words words views kept id v at live w step (Read (slot.Cell n j) value) refl; is = refl },
       )
@@ -196,9 +222,7 @@ module _ (start : Start) (words : List ℕ) (views : List View) (kept : Kept sta
       → IsRef r → word_in now place ≡ ref_word r → start.began.told ≡ true
       → value_of kept.maps r ≡ Some (last kept.history slot)
   stands_at place slot r there is_slot range is told =
-      let stands = place_stands kept.history kept.maps now place slot (kept.holds.tells told) there is_slot in
-      let one : stands.reference ≡ r = same_ref stands.reference r stands.in_range range (sym stands.is ∙ is) in
-      subst (λ (x : word.Ref). value_of kept.maps x ≡ Some (last kept.history slot)) one stands.stands_for
+      found_stands kept.history kept.maps now place slot r (kept.holds.tells told) there is_slot range is
 
   -- the object of a home that a slot held
   home_held : (home : ℕ) (slot : Slot) → option_map Ref (kept.maps.home home) ≡ Some (last kept.history slot)
@@ -210,21 +234,35 @@ module _ (start : Start) (words : List ℕ) (views : List View) (kept : Kept sta
         n.2,
       )
 
+  -- a load that finds a reference without a tag is answered by it
+  abbrev pub MayAnswer : Slot → word.Ref → Type 0
+  MayAnswer slot Null = MayRead slot Nil
+  MayAnswer slot (Clean a) = (n : ℕ) → MayRead slot (Ref n)
+  MayAnswer slot (Stale a) = is_reading v.doing ≡ false
+  MayAnswer slot (Disk home) = is_reading v.doing ≡ false
+
+  pub may_answer : (slot : Slot) (r : word.Ref) → is_reading v.doing ≡ false → MayAnswer slot r
+  may_answer slot Null left = inl left
+  may_answer slot (Clean a) left = λ n. inl left
+  may_answer slot (Stale a) left = left
+  may_answer slot (Disk home) left = left
+
   -- what a look at a place finds
   pub looks : (place : Place) (slot : Slot) (r : word.Ref) → IsPlace kept.maps now place → SlotAt kept.maps place slot
-      → IsRef r → word_in now place ≡ ref_word r → MayStand kept.maps now r → (w : View) × Step w × Looks v w slot place r
-  looks place slot Null there is_slot range is may =
+      → IsRef r → word_in now place ≡ ref_word r → MayStand kept.maps now r → MayAnswer slot r
+      → (w : View) × Step w × Looks v w slot place r
+  looks place slot Null there is_slot range is may answers =
       let r = reads place slot Nil v.known there (no_tag Null (word_in now place) range is (λ tag. tag))
       (λ told. record {
         slot = is_slot;
         last = let e : Some Nil ≡ Some (last kept.history slot) = stands_at place slot Null there is_slot range is told in cc;
       })
-      (learns_same None tt refl) in (
+      (learns_same None tt refl) answers (λ n e. absurd (cc)) in (
         read slot Nil v.known,
         r.0,
         record { value = Nil; adds = r.1; names = inl (refl, refl); more = λ a n has. has; is = refl },
       )
-  looks place slot (Clean a) there is_slot range is may =
+  looks place slot (Clean a) there is_slot range is may answers =
       let n : ℕ = may.0.0 in
       let named : kept.maps.address a ≡ Some n = may.0.1 in
       let pair : Pair = record { address = a; object = n } in
@@ -249,7 +287,9 @@ module _ (start : Start) (words : List ℕ) (views : List View) (kept : Kept sta
         ];
         knows = tt;
         none = refl;
-      }) in (
+      })
+      (answers n)
+      (λ m e. (a, (let same : n ≡ m = cc in subst (λ (k : ℕ). Has known a k) same (snoc_here v.known pair)))) in (
         read slot (Ref n) known,
         r.0,
         record {
@@ -260,7 +300,7 @@ module _ (start : Start) (words : List ℕ) (views : List View) (kept : Kept sta
           is = refl;
         },
       )
-  looks place slot (Stale a) there is_slot range is may =
+  looks place slot (Stale a) there is_slot range is may answers =
       let looked : HasLooked kept.maps now place (Stale a) = record {
         at = there;
         in_range = range;
@@ -268,9 +308,10 @@ module _ (start : Start) (words : List ℕ) (views : List View) (kept : Kept sta
         may_stand = may;
         unless_clean = λ tagged. is;
       } in
-      let r = reaches (Some (Looked place (Stale a) a)) (looked, record { named = may; same = λ told. refl }) refl in
+      let r = reaches (Some (Looked place (Stale a) a)) (looked, record { named = may; same = λ told. refl }) refl
+      (inr (refl, inr (record { place = place; found = Stale a }, refl, is))) answers in
       (behind v kept.history v.known (Some (Looked place (Stale a) a)), r.0, r.1)
-  looks place slot (Disk home) there is_slot range is may =
+  looks place slot (Disk home) there is_slot range is may answers =
       let looked : HasLooked kept.maps now place (Disk home) = record {
         at = there;
         in_range = range;
@@ -285,7 +326,7 @@ module _ (start : Start) (words : List ℕ) (views : List View) (kept : Kept sta
         looked = looked;
         probed = record { few = omega arith; others = λ i less. absurd (omega arith) };
         object = λ told. let n = home_object (kept.maps.home home) (last kept.history slot) (held told) in (n.0, n.1);
-      }) refl in (
+      }) refl (inr (refl, inr (home_look search, refl, is))) answers in (
         behind v kept.history v.known (Some (Searching search)),
         r.0,
         record {

@@ -5,14 +5,17 @@ use Rattle.std.proofs.Math.ListN.{set, length-set}
 use Rattle.std.proofs.lemmas.Bool.{cases_lt, cases_eq}
 use Rattle.std.proofs.lemmas.List.{get_or-set_other, append_cancel_right}
 use Rattle.std.proofs.lemmas.List.Sums.{sum_by-cons}
+use Rattle.std.proofs.lemmas.Option.{same_Some}
 use Rattle.std.specs.List.{sum_by}
+use Rattle.std.specs.Option.{option_map}
 use Rattle.std.specs.Prelude.{Option, None, Some, ◌==◌, ◌||◌, if◌then◌else◌}
 use lib.ListN.{get_elem?}
 use mathlib.Core.Option.{some}
-use Rattle.melt_model.specs.History.{made}
+use Rattle.melt_model.specs.History.{made, given}
 use Rattle.melt_model.specs.declared.history.Act.{Act}
 use Rattle.melt_model.specs.declared.history.Act.TheVariants.{Make}
 use Rattle.melt_model.specs.declared.history.Entry.{Entry}
+use Rattle.melt_model.specs.declared.history.Value.TheVariants.{Ref as Object}
 use Rattle.melt_word.specs.Words.{IsShape, cost_of, header_word}
 use Rattle.melt_word.specs.declared.header.Header.{Header}
 use Rattle.melt_word.specs.declared.header.Shape.{Shape}
@@ -29,12 +32,13 @@ use Rattle.melt_core.specs.Answering.{entry, with_entry}
 use Rattle.melt_core.specs.Events.{Event}
 use Rattle.melt_core.specs.Events.Event.{claims, stores, publishes}
 use Rattle.melt_core.specs.Known.{Evolves, region}
-use Rattle.melt_rule.proofs.Keeping.{IsStep, sees, adds}
+use Rattle.melt_rule.proofs.Claiming.{found_first}
+use Rattle.melt_rule.proofs.Keeping.{IsStep, LookGoes, adds, sees, still_bits}
 use Rattle.melt_rule.proofs.Loads.{snoc_old, snoc_new, snoc_here}
 use Rattle.melt_rule.proofs.Leaving.{OnlyObjects, leaves, leaves_same, only_space}
 use Rattle.melt_rule.proofs.Showing.{free_moves, word_changes, filled_same}
 use Rattle.melt_rule.specs.Making.{Claims, Lacks, Makes}
-use Rattle.melt_rule.specs.Rule.{Has, SeatStands, Kept, has_cause, is_lacking}
+use Rattle.melt_rule.specs.Rule.{Has, SeatStands, Kept, has_cause, is_lacking, is_reading}
 use Rattle.melt_rule.specs.Shown.{shows, Knows, owned, word_place}
 use Rattle.melt_rule.specs.Tells.{Adds, behind, Reaches}
 use Rattle.melt_rule.specs.declared.began.Began.{Began}
@@ -179,6 +183,8 @@ module _ (start : Start) (words : List ℕ) (views : List View) (kept : Kept sta
     pub spaced : lacked ≡ true → start.began.size + 1 < free + cost
     pub lacks : over ≢ 0 → lacked ≡ true
     pub caused : (is_lacking (Some doing) ≡ true) ⊎ (lacked ≡ v.spaced)
+    pub look : LookGoes start words (claimed_words cost) views kept id v at live None (Some doing)
+    pub left : is_reading v.doing ≡ false
 
   pub moved : (rest : List ℕ) (cost over : ℕ) (spaced : Bool) (doing : Doing) → has_cause v ≡ false
       → Counts rest cost over spaced doing
@@ -237,6 +243,8 @@ module _ (start : Start) (words : List ℕ) (views : List View) (kept : Kept sta
             ];
             forwarded = λ found p below empty. kept.stop.forwarded id v at found p below (sym (moves.forward p) ∙ empty);
           };
+          bits = still_bits start words (claimed_words cost) views kept id v at live v.known (Some doing) counts.look
+              counts.left;
         },
         refl,
       )
@@ -261,8 +269,9 @@ module _ (start : Start) (words : List ℕ) (views : List View) (kept : Kept sta
       → owned (Some doing) ≡ region free z
       → (Owns kept.maps (shows start.began (claimed_words (cost_of z))) (region free z)
       → Knows start.began.told kept.maps (shows start.began (claimed_words (cost_of z))) rest (Some doing))
-      → Counts rest (cost_of z) v.over v.spaced doing
-  claim_fits rest z doing fits is knows = record {
+      → LookGoes start words (claimed_words (cost_of z)) views kept id v at live None (Some doing)
+      → is_reading v.doing ≡ false → Counts rest (cost_of z) v.over v.spaced doing
+  claim_fits rest z doing fits is knows look left = record {
     knows = knows (claimed_region z fits);
     apart = λ i u other there alive. subst (λ (r : Region). Apart r (owned u.doing)) (sym is)
         (free_apart start.began.told kept.maps old u.rest (cost_of z) u.doing (kept.seats i u there alive).doing);
@@ -271,6 +280,8 @@ module _ (start : Start) (words : List ℕ) (views : List View) (kept : Kept sta
     spaced = λ found. let past = kept.stop.spaced id v at found in omega arith;
     lacks = kept.stop.lacks id v at;
     caused = inr refl;
+    look = look;
+    left = left;
   }
 
   -- and one that ends past the last word
@@ -279,8 +290,9 @@ module _ (start : Start) (words : List ℕ) (views : List View) (kept : Kept sta
       → is_lacking (Some doing) ≡ true → owned (Some doing) ≡ no_region
       → (start.began.size + 1 < (shows start.began (claimed_words cost)).free
       → Knows start.began.told kept.maps (shows start.began (claimed_words cost)) rest (Some doing))
-      → cost ≤ 126 → Counts rest cost (v.over + 1) true doing
-  claim_lacks rest cost doing no_cause past lacks none knows small =
+      → cost ≤ 126 → LookGoes start words (claimed_words cost) views kept id v at live None (Some doing)
+      → is_reading v.doing ≡ false → Counts rest cost (v.over + 1) true doing
+  claim_lacks rest cost doing no_cause past lacks none knows small look left =
       let moves : FreeMoves old (shows start.began (claimed_words cost)) (free + cost) = moves cost in
       let over : v.over ≡ 0 = elim (cases_eq v.over 0) [
         | inl none ↦ none
@@ -299,21 +311,27 @@ module _ (start : Start) (words : List ℕ) (views : List View) (kept : Kept sta
         spaced = λ is. past;
         lacks = λ some. refl;
         caused = inl lacks;
+        look = look;
+        left = left;
       }
 
   -- words are claimed that lie within the space
-  pub claiming : (z : Shape) → IsShape z → has_cause v ≡ false → free + cost_of z ≤ start.began.size + 1
+  pub claiming : (z : Shape) → IsShape z → has_cause v ≡ false → is_reading v.doing ≡ false
+      → free + cost_of z ≤ start.began.size + 1
       → let w : View = claimed v.rest (cost_of z) v.over v.spaced (Claimed free z 0) in
       IsStep start words (claimed_words (cost_of z)) views kept id v at live w × Claims v w free (cost_of z)
-  claiming z small no_cause fits =
+  claiming z small no_cause left fits =
       let w : View = claimed v.rest (cost_of z) v.over v.spaced (Claimed free z 0) in
       let new : State = shows start.began (claimed_words (cost_of z)) in
       let step = moved v.rest (cost_of z) v.over v.spaced (Claimed free z 0) no_cause
       (claim_fits v.rest z (Claimed free z 0) fits refl
-      (λ owns. (small, none_stored kept.maps new free z (λ k. 0) owns))) in (
+      (λ owns. (small, none_stored kept.maps new free z (λ k. 0) owns))
+      (inl refl)
+      left) in (
         step.0,
         record {
           sees = sees start words (claimed_words (cost_of z)) views kept id v at live w step.0 step.1;
+          first = found_first start words views kept id v at live;
           fits = let size = began_size in omega arith;
           shape = z;
           small = small;
@@ -323,17 +341,20 @@ module _ (start : Start) (words : List ℕ) (views : List View) (kept : Kept sta
       )
 
   -- and they end past its last word
-  pub lacking : (cost : ℕ) → cost ≤ 126 → has_cause v ≡ false → start.began.size + 1 < free + cost
+  pub lacking : (cost : ℕ) → cost ≤ 126 → has_cause v ≡ false → is_reading v.doing ≡ false
+      → start.began.size + 1 < free + cost
       → let w : View = claimed v.rest cost (v.over + 1) true (Lacking cost) in
       IsStep start words (claimed_words cost) views kept id v at live w × Lacks v w cost
-  lacking cost small no_cause past =
+  lacking cost small no_cause left past =
       let w : View = claimed v.rest cost (v.over + 1) true (Lacking cost) in
       let step = moved v.rest cost (v.over + 1) true (Lacking cost) no_cause
-      (claim_lacks v.rest cost (Lacking cost) no_cause past refl refl (λ above. above) small) in (
+      (claim_lacks v.rest cost (Lacking cost) no_cause past refl refl (λ above. above) small (inl refl)
+      left) in (
         step.0,
         record {
           sees = sees start words (claimed_words cost) views kept id v at live w step.0 step.1;
           found = free;
+          first = found_first start words views kept id v at live;
           past = let size = began_size in omega arith;
           is = refl;
         },
@@ -397,7 +418,8 @@ module _ (start : Start) (words : List ℕ) (views : List View) (kept : Kept sta
             (owns_still kept.maps old new (region address z) kept.holds.formed evolves mine.1.owns)
             (omega arith)
             refl few changes,
-      ) in
+      )
+      (still_bits start words after views kept id v at live v.known doing (inl refl) (ap is_reading is)) in
       (step.0, record { sees = sees start words after views kept id v at live w step.0 step.1; is = refl })
 
   -- the maps with one address more
@@ -484,6 +506,27 @@ module _ (start : Start) (words : List ℕ) (views : List View) (kept : Kept sta
           | inr this ↦ subst (λ (p : Pair). IsFresh new p.address) this fresh_here
         ];
         knows = tt;
+        bits = record {
+          look = inl refl;
+          reads = inl (ap is_reading is);
+          clears = λ some_. absurd (some_ refl);
+          brings = λ a m named. elim (cases_eq a address) [
+            | inl same ↦ inr (inl (
+              act,
+              refl,
+              ap (option_map Object) (sym (appears address n).here ∙ (ap maps.address (sym same) ∙ named)),
+            ))
+            | inr other ↦ inl (sym ((appears address n).others a other) ∙ named)
+          ];
+          gives = λ m gives. (
+            address,
+            (let same_act : act ≡ gives.0 = same_Some act gives.0 gives.1 in
+                let e : Object n ≡ Object m =
+                same_Some (Object n) (Object m) (ap (given kept.history) same_act ∙ gives.2) in
+                let number : n ≡ m = cc in
+                subst (λ (j : ℕ). Has known address j) number (snoc_here v.known pair)),
+          );
+        };
       }) in (
         step.0,
         told_makes v kept.history address z (adds start words after views kept id v at live w step.0 act step.1),

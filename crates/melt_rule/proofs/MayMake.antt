@@ -14,7 +14,7 @@ use Rattle.melt_rule.proofs.Keeping.{IsStep}
 use Rattle.melt_rule.proofs.Makes.{shape_of_cost, claim_small, claimed, claiming, lacking, filling, publishing, made_view}
 use Rattle.melt_rule.proofs.Within.{allowed}
 use Rattle.melt_rule.specs.Making.{Claims, Lacks, Makes, ClaimPlay, FillPlay, PublishPlay}
-use Rattle.melt_rule.specs.Rule.{Rule, has_cause}
+use Rattle.melt_rule.specs.Rule.{Rule, has_cause, is_reading}
 use Rattle.melt_rule.specs.Shown.{word_place}
 use Rattle.melt_rule.specs.Tells.{FitsIn, IsWithin, behind, Reaches}
 use Rattle.melt_rule.specs.declared.began.Began.{Began}
@@ -23,9 +23,9 @@ use Rattle.melt_rule.specs.declared.view.Doing.TheVariants.{Claimed, Lacking}
 use Rattle.melt_rule.specs.declared.view.View.{View}
 
 pub claims : (start : Start) (slots id cost : ℕ) (me : Me ℕ View) → 0 < me.0.parts → has_cause me.0 ≡ false
-    → 2 ≤ cost → cost ≤ 126
+    → is_reading me.0.doing ≡ false → 2 ≤ cost → cost ≤ 126
     → Allows (Rule start) slots id me 1 (λ n. (n + cost) % 2 ^ 64) (ClaimPlay (step slots 1 cost 0 none) me)
-claims start slots id cost me live no_cause low high =
+claims start slots id cost me live no_cause left low high =
     allowed start slots id 1 me (λ n. (n + cost) % 2 ^ 64) (ClaimPlay (step slots 1 cost 0 none) me) live
     (λ words views kept at alive small.
     let free : ℕ = get_or words 1 0 in
@@ -36,7 +36,7 @@ claims start slots id cost me live no_cause low high =
       | inl past ↦
           let w : View = claimed start words views kept id me.0 at alive me.0.rest cost (me.0.over + 1) true (Lacking cost) in
           let r : IsStep start words (set words 1 (free + cost)) views kept id me.0 at alive w × Lacks me.0 w cost =
-          lacking start words views kept id me.0 at alive cost high no_cause past in (
+          lacking start words views kept id me.0 at alive cost high no_cause left past in (
             w,
             subst (λ (n : ℕ). IsStep start words (set words 1 n) views kept id me.0 at alive w) (sym whole) r.0,
             λ inside. ((refl, inside), wide, (λ fits. absurd (omega arith)), (λ over. r.1)),
@@ -49,7 +49,7 @@ claims start slots id cost me live no_cause low high =
           × Claims me.0 (w cost) free cost =
           subst (λ (n : ℕ). IsStep start words (set words 1 (free + n)) views kept id me.0 at alive (w n)
           × Claims me.0 (w n) free n) z.2
-          (claiming start words views kept id me.0 at alive z.0 z.1 no_cause
+          (claiming start words views kept id me.0 at alive z.0 z.1 no_cause left
           (let cost_is : cost_of z.0 ≡ cost = z.2 in omega arith)) in (
             w cost,
             subst (λ (n : ℕ). IsStep start words (set words 1 n) views kept id me.0 at alive (w cost)) (sym whole) r.0,

@@ -16,18 +16,19 @@ use Rattle.melt_scion.specs.State.{State, Forwards}
 use Rattle.melt_core.proofs.Searching.{searches_more}
 use Rattle.melt_core.specs.Events.Event.{quiet}
 use Rattle.melt_core.specs.Known.{Known, Searches}
+use Rattle.melt_core.specs.StaleBits.{home_look, look_of}
 use Rattle.melt_core.specs.Stages.{further, retried}
 use Rattle.melt_core.specs.declared.call.Activation.{Activation}
 use Rattle.melt_core.specs.declared.call.Search.{Search}
 use Rattle.melt_rule.proofs.Allowed.{loaded}
-use Rattle.melt_rule.proofs.Keeping.{IsStep, sees}
+use Rattle.melt_rule.proofs.Keeping.{IsStep, sees, still_bits}
 use Rattle.melt_rule.proofs.Leaving.{leaves_none, only_same}
 use Rattle.melt_rule.proofs.Loads.{same}
 use Rattle.melt_rule.proofs.Showing.{forward_is}
 use Rattle.melt_rule.proofs.Within.{allowed}
 use Rattle.melt_rule.specs.Coming.{FindsForward, ProbePlay, RetryPlay, probe_place}
-use Rattle.melt_rule.specs.Rule.{SeatStands, Kept, Rule, is_lacking}
-use Rattle.melt_rule.specs.Shown.{shows, owned, Knows, stage_of}
+use Rattle.melt_rule.specs.Rule.{SeatStands, Kept, Rule, is_lacking, is_reading}
+use Rattle.melt_rule.specs.Shown.{shows, owned, Knows, stage_of, staged}
 use Rattle.melt_rule.specs.Tells.{Reaches, behind}
 use Rattle.melt_rule.specs.declared.began.Began.{Began}
 use Rattle.melt_rule.specs.declared.began.Start.{Start}
@@ -36,7 +37,8 @@ use Rattle.melt_rule.specs.declared.view.Doing.TheVariants.{Cleared, Copied, Mis
 use Rattle.melt_rule.specs.declared.view.View.{View}
 
 module _ (start : Start) (words : List ℕ) (views : List View) (kept : Kept start words views) (id : ℕ) (v : View)
-    (at : get_elem? views id ≡ some v) (live : 0 < v.parts) (goes_on : is_lacking v.doing ≡ false) where
+    (at : get_elem? views id ≡ some v) (live : 0 < v.parts) (goes_on : is_lacking v.doing ≡ false)
+    (left : is_reading v.doing ≡ false) where
   abbrev now : State
   now = shows start.began words
 
@@ -46,10 +48,12 @@ module _ (start : Start) (words : List ℕ) (views : List View) (kept : Kept sta
   -- a step that changes no word, and leaves the region of the call its own or nobody's
   pub goes : (doing : Option Doing) → Knows start.began.told kept.maps now v.rest doing
       → (owned doing ≡ owned v.doing) ⊎ (owned doing ≡ no_region)
+      → look_of (staged doing) ≡ look_of (staged v.doing)
       → IsStep start words words views kept id v at live (to doing) × Reaches v (to doing) doing
-  goes doing knows owns =
+  goes doing knows owns look =
       let s = leaves_none start words words views kept id v at live goes_on (only_same start words) 0 None doing
-      (quiet refl (same now)) owns knows in
+      (quiet refl (same now)) owns knows
+      (still_bits start words words views kept id v at live v.known doing (inr (refl, inl look)) left) in
       (s.0, record { sees = sees start words words views kept id v at live (to doing) s.0 s.1; is = refl })
 
   -- What a search knows, where it may read one word more; and what it knows behind an empty word, and behind one that
@@ -62,6 +66,9 @@ module _ (start : Start) (words : List ℕ) (views : List View) (kept : Kept sta
     pub passes : SendsAnother (now.forward (probe search.home start.began.forwards search.tried)) search.home
         → Knows start.began.told kept.maps now v.rest (Some another)
     pub empty_owns : (owned (Some empty) ≡ owned v.doing) ⊎ (owned (Some empty) ≡ no_region)
+    pub look : look_of (staged v.doing) ≡ Some (home_look search)
+    pub empty_look : look_of (staged (Some empty)) ≡ Some (home_look search)
+    pub another_look : look_of (staged (Some another)) ≡ Some (home_look search)
     pub another_owns : (owned (Some another) ≡ owned v.doing) ⊎ (owned (Some another) ≡ no_region)
 
   -- the object of a home that a word sends
@@ -86,7 +93,7 @@ module _ (start : Start) (words : List ℕ) (views : List View) (kept : Kept sta
       let within : p < start.began.forwards = probe_within search.home start.began.forwards search.tried is.more in
       elim (kept.holds.formed.forwards p within) [
         | inl none_ ↦
-            let r = goes (Some empty) (is.misses none_) is.empty_owns in
+            let r = goes (Some empty) (is.misses none_) is.empty_owns (is.empty_look ∙ sym is.look) in
             (to (Some empty), r.0, record { sent = None; is = none_; probes = r.1 })
         | inr some_ ↦
             let home : ℕ = some_.0 in
@@ -100,7 +107,7 @@ module _ (start : Start) (words : List ℕ) (views : List View) (kept : Kept sta
                     within = within;
                     sends = subst (λ (h : ℕ). Sends (now.forward p) h a) same_home sends;
                   } in
-                  let r = goes (Some doing) (reached search a is.searches sent) (inr refl) in (
+                  let r = goes (Some doing) (reached search a is.searches sent) (inr refl) (sym is.look) in (
                     to (Some doing),
                     r.0,
                     record {
@@ -110,7 +117,8 @@ module _ (start : Start) (words : List ℕ) (views : List View) (kept : Kept sta
                     },
                   )
               | no other ↦
-                  let r = goes (Some another) (is.passes (home, a, other, sends)) is.another_owns in (
+                  let r = goes (Some another) (is.passes (home, a, other, sends)) is.another_owns
+                  (is.another_look ∙ sym is.look) in (
                     to (Some another),
                     r.0,
                     record {
@@ -141,6 +149,9 @@ module _ (start : Start) (words : List ℕ) (views : List View) (kept : Kept sta
         );
         passes = λ another. searches_more start.began.told kept.maps now search.place search.home search.tried known more
             another;
+        look = ap (λ (doing : Option Doing). look_of (staged doing)) is;
+        empty_look = refl;
+        another_look = refl;
         empty_owns = inr refl;
         another_owns = inr refl;
       }
@@ -161,6 +172,9 @@ module _ (start : Start) (words : List ℕ) (views : List View) (kept : Kept sta
           body = known.body;
           copy = known.copy;
         };
+        look = ap (λ (doing : Option Doing). look_of (staged doing)) is;
+        empty_look = refl;
+        another_look = refl;
         empty_owns = inl (sym (ap owned is));
         another_owns = inl (sym (ap owned is));
       }
@@ -188,11 +202,13 @@ probes_at start slots id i search me live is more place =
     allowed start slots id i me (λ n. n) (ProbePlay (step slots i 0 0 none) me) live
     (λ words views kept at alive small.
     let goes_on : is_lacking me.0.doing ≡ false = ap is_lacking is in
+    let left : is_reading me.0.doing ≡ false = ap is_reading is in
     let few : search.tried < start.began.forwards =
     fewer me.0.began start.began search.tried (kept.seats id me.0 at alive).began more in
     let word = probed_word start words views kept id i me.0 at alive search few place in
-    let r = probes start words views kept id me.0 at alive goes_on search (Missed search) (Searching (further search))
-    (probing start words views kept id me.0 at alive goes_on search is few) in (
+    let r = probes start words views kept id me.0 at alive goes_on left search (Missed search)
+    (Searching (further search))
+    (probing start words views kept id me.0 at alive goes_on left search is few) in (
       r.0,
       loaded start words views kept id me.0 at alive r.0 i r.1,
       λ inside. (
@@ -213,11 +229,12 @@ retries_at start slots id i a me live is more place =
     allowed start slots id i me (λ n. n) (RetryPlay (step slots i 0 0 none) me) live
     (λ words views kept at alive small.
     let goes_on : is_lacking me.0.doing ≡ false = ap is_lacking is in
+    let left : is_reading me.0.doing ≡ false = ap is_reading is in
     let few : a.search.tried < start.began.forwards =
     fewer me.0.began start.began a.search.tried (kept.seats id me.0 at alive).began more in
     let word = probed_word start words views kept id i me.0 at alive a.search few place in
-    let r = probes start words views kept id me.0 at alive goes_on a.search (Copied a) (Retrying (retried a))
-    (retrying start words views kept id me.0 at alive goes_on a is few) in (
+    let r = probes start words views kept id me.0 at alive goes_on left a.search (Copied a) (Retrying (retried a))
+    (retrying start words views kept id me.0 at alive goes_on left a is few) in (
       r.0,
       loaded start words views kept id me.0 at alive r.0 i r.1,
       λ inside. (

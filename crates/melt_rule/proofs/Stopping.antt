@@ -20,12 +20,12 @@ use Rattle.melt_core.specs.Events.Event.{quiet}
 use Rattle.melt_core.specs.Known.{HoldsCopy, Searches}
 use Rattle.melt_core.specs.declared.call.Place.{Place}
 use Rattle.melt_core.specs.declared.call.Search.{Search}
-use Rattle.melt_rule.proofs.Keeping.{IsStep, sees}
+use Rattle.melt_rule.proofs.Keeping.{IsStep, sees, still_bits}
 use Rattle.melt_rule.proofs.Showing.{stop_sets, filled_same}
 use Rattle.melt_rule.proofs.Within.{allowed}
 use Rattle.melt_rule.specs.Coming.{FillsPlay, SearchesOn}
 use Rattle.melt_rule.specs.Plays.{StopPlay, AskPlay}
-use Rattle.melt_rule.specs.Rule.{SeatStands, Kept, Rule, has_cause}
+use Rattle.melt_rule.specs.Rule.{SeatStands, Kept, Rule, has_cause, is_reading}
 use Rattle.melt_rule.specs.Shown.{shows, owned, Knows}
 use Rattle.melt_rule.specs.Tells.{Sees, behind, caused}
 use Rattle.melt_rule.specs.declared.began.Began.{Began}
@@ -55,9 +55,9 @@ module _ (start : Start) (words : List ℕ) (views : List View) (kept : Kept sta
       record (behind v kept.history v.known None) { asked = asked; forwarded = forwarded }
 
   pub stops_by : (asked forwarded : Bool) → has_cause (stopped_by asked forwarded) ≡ true
-      → (forwarded ≡ true → (p : ℕ) → p < start.began.forwards → old.forward p ≢ 0)
+      → (forwarded ≡ true → (p : ℕ) → p < start.began.forwards → old.forward p ≢ 0) → is_reading v.doing ≡ false
       → IsStep start words after views kept id v at live (stopped_by asked forwarded) × Sees v kept.history
-  stops_by asked forwarded cause filled =
+  stops_by asked forwarded cause filled left =
       let same = stop_sets start.began words 1 in
       let keeps = event_keeps start.began.told v.thread kept.history kept.maps kept.maps old new no_region 0 None
       kept.legal kept.holds (quiet refl same) in
@@ -100,16 +100,18 @@ module _ (start : Start) (words : List ℕ) (views : List View) (kept : Kept sta
           sets = λ cause goes. set_there;
           forwarded = λ is p below empty. filled is p below (sym (same.forward p) ∙ empty);
         };
+        bits = still_bits start words after views kept id v at live v.known None (inl refl) left;
       } in
       (is_step, sees start words after views kept id v at live w is_step refl)
 
 pub stops_at : (start : Start) (slots id : ℕ) (me : Me ℕ View) → 0 < me.0.parts → has_cause me.0 ≡ true
+    → is_reading me.0.doing ≡ false
     → Allows (Rule start) slots id me 0 (λ _. 1) (λ found. StopPlay (step slots 0 1 0 none) me 1)
-stops_at start slots id me live cause =
+stops_at start slots id me live cause left =
     allowed start slots id 0 me (λ _. 1) (λ found. StopPlay (step slots 0 1 0 none) me 1) live
     (λ words views kept at alive small.
     let r = stops_by start words views kept id me.0 at alive me.0.asked me.0.forwarded cause
-    (kept.stop.forwarded id me.0 at) in (
+    (kept.stop.forwarded id me.0 at) left in (
       behind me.0 kept.history me.0.known None,
       r.0,
       λ inside. ((refl, inside), record { sees = r.1; is = refl }),
@@ -126,6 +128,11 @@ searches_on start words views kept id v at live search (inr is) =
     subst (Knows start.began.told kept.maps (shows start.began words) v.rest) is.1 (kept.seats id v at live).doing in
     subst (λ (s : Search).
     Searches start.began.told kept.maps (shows start.began words) s.place s.home s.tried) is.2 known.searches
+
+-- and is not to read a slot next
+searches_left : (v : View) (search : Search) → SearchesOn v search → is_reading v.doing ≡ false
+searches_left v search (inl is) = ap is_reading is
+searches_left v search (inr is) = ap is_reading is.1
 
 -- where it has read all of them, all are filled
 all_filled : (told : Bool) (maps : Maps) (s : State) (place : Place) (home tried : ℕ)
@@ -155,7 +162,8 @@ fills_at start slots id search me live on all =
     let r = stops_by start words views kept id me.0 at alive me.0.asked true
     (forwarded_cause me.0.asked me.0.spaced)
     (λ is. all_filled start.began.told kept.maps (shows start.began words) search.place search.home search.tried searches
-    read) in (
+    read)
+    (searches_left me.0 search on) in (
       record (behind me.0 kept.history me.0.known None) { forwarded = true },
       r.0,
       λ inside. ((refl, inside), (r.1, refl)),
@@ -171,15 +179,15 @@ caused_is : (v : View) (b : Bool) → has_cause v ≡ b
 caused_is v true is = (v.asked, ap (λ (b : Bool). if b then v else record v { asked = true }) is, is)
 caused_is v false is = (true, ap (λ (b : Bool). if b then v else record v { asked = true }) is, refl)
 
-pub asks_at : (start : Start) (slots id : ℕ) (me : Me ℕ View) → 0 < me.0.parts
+pub asks_at : (start : Start) (slots id : ℕ) (me : Me ℕ View) → 0 < me.0.parts → is_reading me.0.doing ≡ false
     → Allows (Rule start) slots id me 0 (λ _. 1) (λ found. AskPlay (step slots 0 1 0 none) me 1)
-asks_at start slots id me live =
+asks_at start slots id me live left =
     allowed start slots id 0 me (λ _. 1) (λ found. AskPlay (step slots 0 1 0 none) me 1) live
     (λ words views kept at alive small.
     let base : View = behind me.0 kept.history me.0.known None in
     let c = caused_is base (has_cause base) refl in
     let r = stops_by start words views kept id me.0 at alive c.0 me.0.forwarded c.2
-    (kept.stop.forwarded id me.0 at) in (
+    (kept.stop.forwarded id me.0 at) left in (
       record base { asked = c.0 },
       r.0,
       λ inside. ((refl, inside), (r.1, sym c.1)),

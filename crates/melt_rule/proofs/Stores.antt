@@ -3,6 +3,8 @@ use Rattle.std.proofs.Common.{◌≡◌, ℕ, zero, suc, ◌*◌, ◌<◌, ◌�
 use Rattle.std.proofs.Common.{arith, inl, inr, false}
 use Rattle.std.specs.Prelude.{None, Some}
 use Rattle.std.specs.Option.{option_map}
+use Rattle.std.proofs.lemmas.Option.{same_Some}
+use Rattle.melt_model.specs.History.{given}
 use lib.ListN.{get_elem?}
 use mathlib.Core.Option.{some}
 use Rattle.melt_model.specs.declared.history.Act.{Act}
@@ -21,9 +23,9 @@ use Rattle.melt_core.specs.Events.{Event, PlaceChanges, IsNumberWord, number_pla
 use Rattle.melt_core.specs.Events.Event.{writes_place, writes_number}
 use Rattle.melt_core.specs.Known.{IsPlace, SlotAt}
 use Rattle.melt_core.specs.declared.call.Place.{Place}
-use Rattle.melt_rule.proofs.Keeping.{IsStep, adds}
+use Rattle.melt_rule.proofs.Keeping.{IsStep, adds, keeps_bits}
 use Rattle.melt_rule.proofs.Leaving.{OnlyObjects, leaves_none}
-use Rattle.melt_rule.specs.Rule.{SeatStands, Kept, is_lacking}
+use Rattle.melt_rule.specs.Rule.{SeatStands, Kept, is_lacking, is_reading}
 use Rattle.melt_rule.specs.Shown.{shows}
 use Rattle.melt_rule.specs.Tells.{behind, Names, Ends}
 use Rattle.melt_rule.specs.declared.began.Start.{Start}
@@ -50,11 +52,15 @@ module _ (start : Start) (words after : List ℕ) (views : List View) (kept : Ke
   abbrev pub wrote : Act → View
   wrote act = behind v (with_entry v.thread kept.history (Some act)) v.known None
 
-  ends : (act : Act) → Event start.began.told kept.history kept.maps kept.maps old new no_region 0 (Some act)
+  ends : (act : Act) → is_reading v.doing ≡ false → ((n : ℕ) → given kept.history act ≡ Some (Ref n) → ⊥)
+      → Event start.began.told kept.history kept.maps kept.maps old new no_region 0 (Some act)
       → IsStep start words after views kept id v at live (wrote act) × Ends v (wrote act) act
-  ends act event =
+  ends act left none event =
       let w : View = wrote act in
-      let step = leaves_none start words after views kept id v at live goes_on only 0 (Some act) None event (inr refl) tt in
+      let step =
+      leaves_none start words after views kept id v at live goes_on only 0 (Some act) None event (inr refl) tt
+      (keeps_bits start words after views kept id v at live (Some act) v.known None (inl refl) (inl left) (λ n gives.
+      absurd (none n (ap (given kept.history) (same_Some act gives.0 gives.1) ∙ gives.2)))) in
       (step.0, record { adds = adds start words after views kept id v at live w step.0 act step.1; is = refl })
 
   -- an address that is known, or none, is one that a register may hold
@@ -75,18 +81,20 @@ module _ (start : Start) (words after : List ℕ) (views : List View) (kept : Ke
   -- a store into a place
   pub stores : (place : Place) (slot : Slot) (held : ℕ) (value : Value) → IsPlace kept.maps old place
       → SlotAt kept.maps place slot → Names v.known held value → PlaceChanges old new place (4 * held)
+      → is_reading v.doing ≡ false
       → IsStep start words after views kept id v at live (wrote (Write slot value))
       × Ends v (wrote (Write slot value)) (Write slot value)
-  stores place slot held value there is_slot names changes =
-      ends (Write slot value)
+  stores place slot held value there is_slot names changes left =
+      ends (Write slot value) left (λ n gives. absurd (cc))
       (writes_place place slot held value refl there is_slot (may_hold held value names)
       (λ told. value_held held value names)
       changes)
 
   -- a store into a number word
   pub puts : (object n j word : ℕ) (shape : Shape) → IsNumberWord kept.maps old object shape n j
-      → WordChanges old new (number_place object shape j) word
+      → WordChanges old new (number_place object shape j) word → is_reading v.doing ≡ false
       → IsStep start words after views kept id v at live (wrote (Write (slot.Cell n j) (Num word)))
       × Ends v (wrote (Write (slot.Cell n j) (Num word))) (Write (slot.Cell n j) (Num word))
-  puts object n j word shape is changes =
-      ends (Write (slot.Cell n j) (Num word)) (writes_number object n j word shape refl is changes)
+  puts object n j word shape is changes left =
+      ends (Write (slot.Cell n j) (Num word)) left (λ m gives. absurd (cc))
+      (writes_number object n j word shape refl is changes)

@@ -5,6 +5,7 @@ use Rattle.std.proofs.Math.ListN.{set}
 use Rattle.std.proofs.lemmas.Bool.{false≢true}
 use Rattle.std.proofs.lemmas.List.{map-append}
 use Rattle.std.specs.List.{sum_by}
+use Rattle.std.specs.Prelude.{None}
 use lib.ListN.{get_elem?}
 use mathlib.Core.Option.{some, some-injective}
 use native.Mathlib.Decide.{ℕ_discrete}
@@ -13,14 +14,18 @@ use Rattle.atomic_table.specs.Table.{Me, Joins}
 use Rattle.atomic_table.specs.declared.shared.Seat.{Seat}
 use Rattle.melt_scion.specs.Regions.{Apart}
 use Rattle.melt_scion.specs.State.{State}
+use Rattle.melt_core.specs.StaleBits.{pending}
 use Rattle.melt_rule.proofs.Lengths.{longer_first, longer_second, saw_longer}
 use Rattle.melt_rule.proofs.Pieces.{at_append, at_behind}
-use Rattle.melt_rule.proofs.Views.{in_range, sum_set}
+use Rattle.melt_rule.proofs.Tying.{left_tied, none_pending, stage_apart, stage_here, stage_idle}
+use Rattle.melt_rule.proofs.Tying.{stage_none, stage_other, stage_set}
+use Rattle.melt_rule.proofs.Views.{cases_zero, in_range, sum_set}
 use Rattle.melt_rule.specs.Giving.{joined_view, spent_view}
 use Rattle.melt_rule.specs.Rule.{Has, Knowing, Saw, SeatStands, threads_of, Whole, SumsStand}
-use Rattle.melt_rule.specs.Rule.{has_cause, is_lacking, StopStands, Kept, Rule}
+use Rattle.melt_rule.specs.Rule.{has_cause, is_lacking, is_reading, StopStands, Kept, Rule}
 use Rattle.melt_rule.specs.Seats.{EpochWords, Sits, knows_of}
 use Rattle.melt_rule.specs.Shown.{shows, owned}
+use Rattle.melt_rule.specs.Sights.{first_sight, stage_at, stage_in}
 use Rattle.melt_rule.specs.declared.began.Pair.{Pair}
 use Rattle.melt_rule.specs.declared.began.Start.{Start}
 use Rattle.melt_rule.specs.declared.view.Away.{Away}
@@ -86,14 +91,10 @@ either_cause v w both = elim (or_either (v.asked || w.asked) _ both) [
   ]
 ]
 
-cases_zero : (n : ℕ) → (n ≡ 0) ⊎ (n ≢ 0)
-cases_zero zero = inl refl
-cases_zero (suc n) = inr (λ e. omega arith)
-
 module _ (start : Start) (words : List ℕ) (views : List View) (kept : Kept start words views) (id other : ℕ)
     (v w : View) (at : get_elem? views id ≡ some v) (there : get_elem? views other ≡ some w) (differ : other ≢ id)
     (live : 0 < v.parts) (live_w : 0 < w.parts) (goes_on : is_lacking v.doing ≡ false)
-    (other_goes_on : is_lacking w.doing ≡ false) where
+    (other_goes_on : is_lacking w.doing ≡ false) (other_left : is_reading w.doing ≡ false) where
   abbrev both : View
   both = joined_view v w
 
@@ -376,7 +377,7 @@ module _ (start : Start) (words : List ℕ) (views : List View) (kept : Kept sta
   lacks_both : v.over + w.over ≢ 0 → v.spaced || w.spaced ≡ true
   lacks_both some_ = elim (cases_zero v.over) [
     | inl none ↦ or_right v.spaced w.spaced (kept.stop.lacks other w there (λ e. some_ (omega arith)))
-    | inr over ↦ or_left v.spaced w.spaced (kept.stop.lacks id v at over)
+    | inr over ↦ or_left v.spaced w.spaced (kept.stop.lacks id v at (λ e. omega arith))
   ]
 
   stop_kept : StopStands start.began (get_or words 0 0) now after
@@ -413,6 +414,22 @@ module _ (start : Start) (words : List ℕ) (views : List View) (kept : Kept sta
         (λ is. absurd (false≢true is))
         kept.stop.forwarded;
   }
+
+  -- the other's thread has no call from then on, and each else is where it was
+  stages_stay : (t : ℕ) → t ≢ w.thread → stage_at after t ≡ stage_at views t
+  stages_stay t ne =
+      stage_set t (set views id both) other w spent_view (set_else views id other both differ ∙ there)
+      (stage_idle spent_view t refl ∙ sym (stage_other w t (λ same. ne (sym same))))
+      ∙ stage_set t views id v both at refl
+
+  taken_stage : stage_at after w.thread ≡ None
+  taken_stage = stage_none w.thread after (λ i u e. elim (found i u e) [
+    | is_both j is ↦
+        ap (λ (z : View). stage_in z w.thread) (sym is)
+        ∙ stage_apart start words views kept other w there live_w id v (λ same. differ (sym same)) at
+    | is_spent is ↦ ap (λ (z : View). stage_in z w.thread) (sym is) ∙ stage_idle spent_view w.thread refl
+    | as_before ne ne' old ↦ stage_apart start words views kept other w there live_w i u ne' old
+  ])
 
   pub take_in : Kept start words after
   take_in = record {
@@ -452,14 +469,19 @@ module _ (start : Start) (words : List ℕ) (views : List View) (kept : Kept sta
         none x.seat x.place x.view x.is x.alive x.has);
     sums = sums_kept;
     stop = stop_kept;
+    tied = λ told. left_tied (first_sight start.began) kept.history kept.maps now (stage_at views) (stage_at after)
+        w.thread stages_stay taken_stage
+        (ap pending (stage_here start words views kept other w there live_w) ∙ none_pending w.doing other_left)
+        (kept.tied told);
   }
 
 pub takes : (start : Start) (id other : ℕ) (v w : View) → 0 < v.parts → 0 < w.parts → is_lacking v.doing ≡ false
-    → is_lacking w.doing ≡ false → Joins (Rule start) id v other w (joined_view v w) spent_view
-takes start id other v w live live_w goes_on other_goes_on s kept at differ there =
+    → is_lacking w.doing ≡ false → is_reading w.doing ≡ false
+    → Joins (Rule start) id v other w (joined_view v w) spent_view
+takes start id other v w live live_w goes_on other_goes_on other_left s kept at differ there =
     take_in start s.words s.views kept id other v w at
     (sym (set_else s.views id other (joined_view v w) differ) ∙ there)
-    differ live live_w goes_on other_goes_on
+    differ live live_w goes_on other_goes_on other_left
 
 -- the seat that took in the other
 pub taker_seat : (words : EpochWords) (old other new : Seat ℕ View) → Sits words old → new.table_id ≡ old.table_id

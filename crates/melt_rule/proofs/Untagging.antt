@@ -8,12 +8,13 @@ use lib.ListN.{get_elem?}
 use mathlib.Core.Option.{some, none}
 use prog.Atomic.{either}
 use Rattle.atomic_table.specs.Table.{Me, Allows, step}
-use Rattle.melt_model.specs.History.{last}
+use Rattle.melt_model.specs.History.{last, given}
 use Rattle.melt_model.specs.declared.history.Act.{Act}
 use Rattle.melt_model.specs.declared.history.Act.TheVariants.{Read}
 use Rattle.melt_model.specs.declared.history.Slot.{Slot}
 use Rattle.melt_model.specs.declared.history.Slot.TheVariants as slot
-use Rattle.melt_model.specs.declared.history.Value.TheVariants.{Ref as Object}
+use Rattle.melt_model.specs.declared.history.Value.{Value}
+use Rattle.melt_model.specs.declared.history.Value.TheVariants.{Nil, Ref as Object}
 use Rattle.melt_word.specs.Words.{IsRef, ref_word}
 use Rattle.melt_word.specs.declared.header.Shape.{Shape}
 use Rattle.melt_word.specs.declared.reference.Ref.{Ref}
@@ -23,6 +24,7 @@ use Rattle.melt_scion.specs.Placed.{IsNamed, IsReferenceWord, MayStand}
 use Rattle.melt_scion.specs.Regions.{no_region}
 use Rattle.melt_scion.specs.State.{State, IsFresh}
 use Rattle.std.specs.Option.{option_map}
+use Rattle.std.proofs.lemmas.Option.{same_Some}
 use Rattle.melt_core.proofs.Keeping.{event_keeps}
 use Rattle.melt_core.proofs.Regions.{no_region_apart}
 use Rattle.melt_core.proofs.Staying.{fresh_stays}
@@ -33,7 +35,7 @@ use Rattle.melt_core.specs.Known.{Known, SlotAt, word_in}
 use Rattle.melt_core.specs.declared.call.Place.{Place}
 use Rattle.melt_core.specs.declared.call.Place.TheVariants.{Field, Global}
 use Rattle.melt_rule.proofs.Allowed.{loaded, one_object}
-use Rattle.melt_rule.proofs.Keeping.{IsStep, adds}
+use Rattle.melt_rule.proofs.Keeping.{IsStep, ReadsLook, adds, keeps_bits}
 use Rattle.melt_rule.proofs.Loads.{looks, snoc_old, snoc_new, snoc_here, stands_at}
 use Rattle.melt_rule.proofs.Showing.{word_is, global_is, word_changes, global_changes}
 use Rattle.melt_rule.proofs.Leaving.{OnlyObjects, leaves, only_global, only_space}
@@ -61,6 +63,20 @@ module _ (start : Start) (words : List ℕ) (views : List View) (kept : Kept sta
   pub knows : Known start.began.told kept.maps old v.rest (stage_of (Cleared place found target))
   knows = subst (Knows start.began.told kept.maps old v.rest) cleared stood.doing
 
+  -- either way the slot of the look is read
+  reads : (after : List ℕ) (slot_ : Slot) → SlotAt kept.maps place slot_ → (value : Value)
+      → ReadsLook start words after views kept id v at live (Some (Read slot_ value))
+  reads after slot_ is_slot value = record {
+    place = place;
+    found = found;
+    target = target;
+    stage = cleared;
+    slot = slot_;
+    is_slot = is_slot;
+    value = value;
+    reads = refl;
+  }
+
   -- the exchange was lost: the word that stands there has no tag, and is read
   pub loses : (slot_ : Slot) → SlotAt kept.maps place slot_ → IsReferenceWord kept.maps old (word_in old place)
       → word_in old place ≢ ref_word found
@@ -75,13 +91,15 @@ module _ (start : Start) (words : List ℕ) (views : List View) (kept : Kept sta
           let r = looks start words views kept id v at live (ap is_lacking cleared) place slot_ Null knows.0.at is_slot
           (subst IsRef is reference.in_range)
           (reference.is ∙ ap ref_word is)
-          (subst (MayStand kept.maps old) is reference.stands) in
+          (subst (MayStand kept.maps old) is reference.stands)
+          (inr (reads words slot_ is_slot Nil)) in
           (r.0, r.1, (0, reference.is ∙ ap ref_word is, r.2))
       go (Clean a) is =
           let r = looks start words views kept id v at live (ap is_lacking cleared) place slot_ (Clean a) knows.0.at is_slot
           (subst IsRef is reference.in_range)
           (reference.is ∙ ap ref_word is)
-          (subst (MayStand kept.maps old) is reference.stands) in
+          (subst (MayStand kept.maps old) is reference.stands)
+          (λ n. inr (reads words slot_ is_slot (Object n))) in
           (r.0, r.1, (a, reference.is ∙ ap ref_word is, r.2))
       go (Stale a) is = absurd (other (knows.0.unless_clean (record {
         reference = Stale a;
@@ -153,6 +171,14 @@ module _ (start : Start) (words : List ℕ) (views : List View) (kept : Kept sta
               | inr this ↦ subst (λ (x : Pair). IsFresh new x.address) this (still target (n, named) knows.2)
             ];
             knows = tt;
+            bits = keeps_bits start words after views kept id v at live act (v.known ++ pair ∷ []) None (inl refl)
+                (inr (reads after slot_ is_slot (Object n)))
+                (λ m gives.
+                let same_act : Read slot_ (Object n) ≡ gives.0 = same_Some (Read slot_ (Object n)) gives.0 gives.1 in
+                let e : Object n ≡ Object m =
+                same_Some (Object n) (Object m) (ap (given kept.history) same_act ∙ gives.2) in
+                let one : n ≡ m = cc in
+                (target, subst (λ (k : ℕ). Has (v.known ++ pair ∷ []) target k) one (snoc_here v.known pair)));
           }) in (
             is_step.0,
             record {

@@ -1,6 +1,6 @@
 -- Lists of views, of which one is replaced, and histories that grow by an entry.
 use Rattle.std.proofs.Common.{◌≡◌, ◌≢◌, ℕ, zero, suc, ◌+◌, ◌<◌, List, [], ◌∷◌, ◌++◌, length, get_or}
-use Rattle.std.proofs.Common.{refl, sym, ◌∙◌, ap, arith, append_assoc, append-nil}
+use Rattle.std.proofs.Common.{refl, sym, ◌∙◌, ap, arith, append_assoc, append-nil, inl, inr, ◌⊎◌}
 use Rattle.std.proofs.Math.ListN.{set}
 use Rattle.std.proofs.lemmas.List.Sums.{sum_by-set}
 use Rattle.std.specs.List.{sum_by}
@@ -14,6 +14,10 @@ use Rattle.melt_model.specs.declared.history.Entry.{Entry}
 use Rattle.melt_core.specs.Answering.{entry, with_entry}
 use Rattle.melt_rule.specs.Rule.{Begins, Saw}
 use Rattle.melt_rule.specs.declared.view.View.{View}
+
+pub cases_zero : (n : ℕ) → (n ≡ 0) ⊎ (0 < n)
+cases_zero zero = inl refl
+cases_zero (suc n) = inr (omega arith)
 
 pub in_range : {A : Type 0} (l : List A) (i : ℕ) (v : A) → get_elem? l i ≡ some v → i < length l
 in_range [] i v e = absurd (some-ne-none v (sym e))

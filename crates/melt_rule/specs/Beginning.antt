@@ -2,17 +2,12 @@
 use Rattle.std.specs.Prelude.{◌≡◌, ℕ, ◌+◌, ◌^◌, ◌<◌, ◌≤◌, true, List, length, Some, slice_index}
 use Rattle.melt_model.specs.History.{Legal}
 use Rattle.melt_scion.specs.GhostMaps.{named}
-use Rattle.melt_scion.specs.Placed.{Maps, Holds}
+use Rattle.melt_scion.specs.Placed.{Holds}
 use Rattle.melt_scion.specs.Scions.{EachOnce}
 use Rattle.melt_scion.specs.State.{IsFresh}
 use Rattle.melt_rule.specs.Rule.{Has}
-use Rattle.melt_rule.specs.Shown.{shows}
-use Rattle.melt_rule.specs.declared.began.Began.{Began}
+use Rattle.melt_rule.specs.Shown.{maps_of, shows, space_in}
 use Rattle.melt_rule.specs.declared.began.Start.{Start}
-
--- the maps with which an epoch begins
-abbrev pub maps_of : Began → Maps
-maps_of b = record { address = named b.maps.addresses; home = named b.maps.homes }
 
 -- The words stand for the history, which is legal, by the maps. Nothing was claimed past the last word, no forwarding
 -- word is filled, and the stop word is not set. What registers hold are objects without the stale bit. One thread takes
@@ -22,6 +17,7 @@ pub record MayBegin (start : Start) (words : List ℕ) : Type 0 where
   pub few_words : length words ≤ 2 ^ 32
   pub legal : start.began.told ≡ true → Legal start.began.history start.began.globals
   pub holds : Holds start.began.told start.began.history (maps_of start.began) (shows start.began words)
+  pub space : start.began.words ≡ (space_in start.began words).list
   pub first : 1 ≤ start.began.free
   pub free : slice_index words 1 ≡ start.began.free
   pub room : start.began.free ≤ start.began.size + 1

@@ -13,6 +13,7 @@ use Rattle.melt_scion.specs.Heaps.{scion_in}
 use Rattle.melt_core.specs.Stages.{further, retried}
 use Rattle.melt_core.specs.declared.call.Activation.{Activation}
 use Rattle.melt_core.specs.declared.call.Search.{Search}
+use Rattle.melt_rule.specs.Making.{FirstFree}
 use Rattle.melt_rule.specs.Plays.{Stays}
 use Rattle.melt_rule.specs.Shown.{forward_place, word_place}
 use Rattle.melt_rule.specs.Tells.{Sees, behind, Reaches}
@@ -56,6 +57,7 @@ HomeHas v h home z = v.began.told ≡ true → (n : ℕ) → named v.began.maps.
 pub record ClaimsCopy (v w : View) (search : Search) (z : Shape) (rest : List ℕ) (address : ℕ) : Type 0 where
   pub sees : Sees v w.seen
   pub object : HomeHas v w.seen search.home z
+  pub first : FirstFree v address
   pub fits : address + cost_of z ≤ v.began.size + 1
   pub is : w ≡ record (behind v w.seen v.known
       (Some (Copying (record { search = search; address = address; shape = z }) 0))) {
@@ -68,6 +70,7 @@ pub record LacksCopy (v w : View) (search : Search) (z : Shape) : Type 0 where
   pub sees : Sees v w.seen
   pub object : HomeHas v w.seen search.home z
   pub found : ℕ
+  pub first : FirstFree v found
   pub past : v.began.size + 1 < found + cost_of z
   pub is : w ≡ record (behind v w.seen v.known (Some (LackingCopy search z))) {
     claimed = v.claimed + cost_of z;

@@ -76,6 +76,7 @@ no_beginning = record {
   free_homes = [];
   image = [];
   free = 0;
+  words = [];
   maps = no_pairs;
 }
 

@@ -1,4 +1,5 @@
 pub mod Shown
+pub mod Sights
 pub mod Rule
 pub mod Tells
 pub mod Plays

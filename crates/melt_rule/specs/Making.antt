@@ -1,6 +1,6 @@
 -- What the steps of a call that makes an object tell its thread: the claim of its words, the stores into those behind
 -- the first, and the store of its header.
-use Rattle.std.specs.Prelude.{◌≡◌, ℕ, ◌+◌, ◌^◌, ◌<◌, ◌≤◌, true, false, [], ◌∷◌, ◌++◌, Option, None, Some}
+use Rattle.std.specs.Prelude.{◌≡◌, ℕ, ◌+◌, ◌^◌, ◌<◌, ◌≤◌, true, false, [], ◌∷◌, ◌++◌, length, Option, None, Some}
 use Rattle.atomic_table.specs.Table.{Me, Step}
 use Rattle.melt_model.specs.History.{made}
 use Rattle.melt_model.specs.declared.history.Act.TheVariants.{Make}
@@ -11,9 +11,16 @@ use Rattle.melt_rule.specs.Tells.{Sees, Adds, behind, Reaches}
 use Rattle.melt_rule.specs.declared.view.Doing.TheVariants.{Claimed, Lacking}
 use Rattle.melt_rule.specs.declared.view.View.{View}
 
+-- A claim found the first free place there. It lies behind all words that the seat has claimed; and where the seat speaks
+-- for all threads, no others were claimed.
+pub record FirstFree (v : View) (found : ℕ) : Type 0 where
+  pub from : v.began.free + v.claimed ≤ found
+  pub alone : v.parts ≡ length v.began.threads → found ≡ v.began.free + v.claimed
+
 -- So many words from the address on are for a new object, of some shape of that cost.
 pub record Claims (v w : View) (address cost : ℕ) : Type 0 where
   pub sees : Sees v w.seen
+  pub first : FirstFree v address
   pub fits : address + cost ≤ v.began.size + 1
   pub shape : Shape
   pub small : IsShape shape
@@ -24,6 +31,7 @@ pub record Claims (v w : View) (address cost : ℕ) : Type 0 where
 pub record Lacks (v w : View) (cost : ℕ) : Type 0 where
   pub sees : Sees v w.seen
   pub found : ℕ
+  pub first : FirstFree v found
   pub past : v.began.size + 1 < found + cost
   pub is : w ≡ record (behind v w.seen v.known (Some (Lacking cost))) {
     claimed = v.claimed + cost;

@@ -15,13 +15,15 @@ use Rattle.melt_scion.specs.Placed.{Maps, Holds, HeadIs}
 use Rattle.melt_scion.specs.Regions.{Apart}
 use Rattle.melt_scion.specs.State.{State, IsFresh}
 use Rattle.melt_rule.specs.Giving.{spent_view}
+use Rattle.melt_core.specs.StaleBits.{Tied, sight_of}
 use Rattle.melt_rule.specs.Shown.{base_of, shows, Knows, owned}
+use Rattle.melt_rule.specs.Sights.{first_sight, stage_at}
 use Rattle.melt_rule.specs.declared.began.Began.{Began}
 use Rattle.melt_rule.specs.declared.began.Pair.{Pair}
 use Rattle.melt_rule.specs.declared.began.Start.{Start}
 use Rattle.melt_rule.specs.declared.view.Away.{Away}
 use Rattle.melt_rule.specs.declared.view.Doing.{Doing}
-use Rattle.melt_rule.specs.declared.view.Doing.TheVariants.{Lacking, LackingCopy}
+use Rattle.melt_rule.specs.declared.view.Doing.TheVariants.{Cleared, Lacking, LackingCopy}
 use Rattle.melt_rule.specs.declared.view.View.{View}
 
 -- the list has the pair
@@ -112,6 +114,15 @@ is_lacking (Some (Lacking need)) = true
 is_lacking (Some (LackingCopy search shape)) = true
 is_lacking doing = false
 
+-- The call is to read the slot of its look next: the object that it found there has no stale bit by now.
+abbrev pub is_reading : Option Doing → Bool
+is_reading (Some (Cleared place found target)) = true
+is_reading doing = false
+
+-- Either way it may not be left as it is.
+abbrev pub is_bound : Option Doing → Bool
+is_bound doing = is_lacking doing || is_reading doing
+
 -- The stop word is set where a seat has a cause, once the call that found it has set it, and only where some seat has one.
 -- What a cause and a word that was found set say is so.
 pub record StopStands (b : Began) (stop : ℕ) (s : State) (views : List View) : Type 0 where
@@ -128,7 +139,7 @@ pub record StopStands (b : Began) (stop : ℕ) (s : State) (views : List View) :
 -- There is one history. It is legal, and the words stand for it. Each seat that is not spent knows what is so, and one
 -- that is spent knows and counts nothing; no thread has two seats; no word belongs to two calls. No thread but those
 -- that take part has an entry since the beginning. What a Body on disk says of the shape of its object stays so where
--- the object comes back.
+-- the object comes back. Where it is told, the stale bit is tied to the history since the beginning.
 pub record Kept (start : Start) (words : List ℕ) (views : List View) : Type 0 where
   pub history : List Entry
   pub maps : Maps
@@ -156,6 +167,8 @@ pub record Kept (start : Start) (words : List ℕ) (views : List View) : Type 0 
       → get_elem? (threads_of v) p ≡ some t → ⊥) → own history t ≡ own start.began.history t
   pub sums : SumsStand start.began (length start.began.threads) (shows start.began words) views
   pub stop : StopStands start.began (slice_index words 0) (shows start.began words) views
+  pub tied : start.began.told ≡ true
+      → Tied (first_sight start.began) (sight_of history maps (shows start.began words) (stage_at views))
 
 abbrev pub Rule : Start → Table ℕ View → Type 0
 Rule start table = Kept start table.words table.views

@@ -3,7 +3,7 @@ use Rattle.std.specs.Prelude.{◌≡◌, ℕ, ◌+◌, ◌^◌, ◌<◌, [], fal
 use Rattle.atomic_table.specs.Seated.{TableId}
 use Rattle.atomic_table.specs.declared.shared.Seat.{Seat}
 use Rattle.melt_word.specs.declared.header.Shape.{Shape}
-use Rattle.melt_rule.specs.Rule.{Has, is_lacking}
+use Rattle.melt_rule.specs.Rule.{Has, is_bound}
 use Rattle.melt_rule.specs.Tells.{IsWithin}
 use Rattle.melt_rule.specs.declared.began.Start.{Start}
 use Rattle.melt_rule.specs.declared.view.Doing.TheVariants.{Headed}
@@ -42,9 +42,9 @@ pub record IsSeat (words : EpochWords) (seat : Seat ℕ View) : Type 0 where
   pub began : (knows_of seat).began ≡ words.start.began
   pub within : IsWithin (knows_of seat)
 
--- the call has not claimed words past the last one
+-- the call has not claimed words past the last one, nor is it to read the slot of its look next
 abbrev pub MayGoOn : View → Type 0
-MayGoOn v = is_lacking v.doing ≡ false
+MayGoOn v = is_bound v.doing ≡ false
 
 -- the object at the address is known
 abbrev pub HasName : View → ℕ → Type 0

@@ -1,7 +1,9 @@
 -- The state of a core that the words of an epoch show, and what is known of a call over it.
 use Rattle.std.specs.Prelude.{ℕ, ◌+◌, Bool, List, map, take, drop, slice_index, Option, None, Some}
+use Rattle.std.specs.Option.{option_map}
 use Rattle.melt_word.specs.declared.header.Shape.{Shape}
 use Rattle.melt_space.specs.Space.{SpaceWords, word_at}
+use Rattle.melt_scion.specs.GhostMaps.{named}
 use Rattle.melt_scion.specs.Heaps.{scion_in}
 use Rattle.melt_scion.specs.Placed.{Maps}
 use Rattle.melt_scion.specs.Regions.{Region, no_region}
@@ -31,6 +33,10 @@ base_of b = record {
   free_homes = b.free_homes;
   image = slice_index b.image;
 }
+
+-- the maps with which an epoch begins
+abbrev pub maps_of : Began → Maps
+maps_of b = record { address = named b.maps.addresses; home = named b.maps.homes }
 
 -- The words of an epoch are, in this order: the stop word, the first free place, the globals, the forwarding words, and
 -- the words of the space.
@@ -78,6 +84,9 @@ stage_of (Copying a stored) = stage.Copying a stored
 stage_of (Copied a) = stage.Copied a
 stage_of (Retrying a) = stage.Retrying a
 stage_of (LackingCopy search shape) = stage.LackingCopy search shape
+
+abbrev pub staged : Option Doing → Option Stage
+staged doing = option_map stage_of doing
 
 -- what is known of a call, and the words that it owns
 abbrev pub Knows : Bool → Maps → State → List ℕ → Option Doing → Type 0

@@ -34,6 +34,8 @@ pub struct Began {
     pub image: LinkedList<u64>,
     /// The first free place.
     pub free: u64,
+    /// The words of the space.
+    pub words: LinkedList<u64>,
     /// The numbers of objects, by their addresses and by their homes.
     pub maps: GhostMaps,
 }

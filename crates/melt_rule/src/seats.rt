@@ -96,6 +96,7 @@ impl Words {
     /// seat has seen.
     pub fn close(self, seat: Seated) -> EndedWords
         requires seat { Sits self seat }
+        requires goes_on { MayGoOn (knows_of seat) }
         requires all { (knows_of seat).parts ≡ length self.start.began.threads }
         ensures ended { HasEnded self.start result (knows_of seat) }
     {

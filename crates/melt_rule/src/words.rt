@@ -2,13 +2,13 @@
 //!
 //! A step is one load, store, fetch-and-add or compare-exchange of one word. What it asks is what its thread has to know
 //! by then; what it tells is the history behind it and what the thread knows from then on.
-ghost use Rattle.std.specs.Prelude.{true, ◌≡◌, ℕ, ◌+◌, ◌<◌, Some};
+ghost use Rattle.std.specs.Prelude.{true, false, ◌≡◌, ℕ, ◌+◌, ◌<◌, Some};
 ghost use Rattle.melt_model.specs.declared.history.Act.TheVariants.{Read, Write};
 ghost use Rattle.melt_model.specs.declared.history.Slot.TheVariants as slot;
 ghost use Rattle.melt_model.specs.declared.history.Value.{Value};
 ghost use Rattle.melt_model.specs.declared.history.Value.TheVariants.{Num};
 ghost use Rattle.melt_core.specs.declared.call.Place.TheVariants as place;
-ghost use Rattle.melt_rule.specs.Rule.{Has, has_cause};
+ghost use Rattle.melt_rule.specs.Rule.{Has, has_cause, is_reading};
 ghost use Rattle.melt_rule.specs.Seats.{IsSeat, MayGoOn, knows_of, SpeaksOf, HasName};
 ghost use Rattle.melt_rule.specs.Tells.{Asks, Ends, Heads, Looks, Names, Polls, Stops};
 ghost use Rattle.melt_rule.specs.declared.view.Doing.TheVariants.{Polled};
@@ -66,6 +66,7 @@ impl Words {
     pub fn stop(&self, seat: &mut Seated)
         requires seat { IsSeat self.now seat.old }
         requires cause { has_cause (knows_of seat.old) ≡ true }
+        requires left { is_reading (knows_of seat.old).doing ≡ false }
         ensures seat { IsSeat self.now seat.new }
         ensures stops { Stops (knows_of seat.old) (knows_of seat.new) }
     {

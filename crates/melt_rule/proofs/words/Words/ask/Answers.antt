@@ -1,6 +1,8 @@
 use Rattle.std.proofs.Common.{arith}
 use Rattle.melt_rule.proofs.Seating.{inside_seat, seated_asked}
 use Rattle.melt_rule.proofs.Stopping.{asks_at}
+use Rattle.melt_rule.proofs.Tying.{not_reading}
+use Rattle.melt_rule.specs.Seats.{knows_of}
 use Rattle.melt_rule.proofs.words.Words.ask.Goals as goal
 
 pub store-requires : goal.store-requires
@@ -11,7 +13,8 @@ store-requires c =
     c.requires.seat in (
       seat.same,
       (let size = c.self.invariant.words in omega arith),
-      asks_at start id.slots c.args.seat.now.id c.args.seat.now.me seat.live,
+      asks_at start id.slots c.args.seat.now.id c.args.seat.now.me seat.live
+          (not_reading (knows_of c.args.seat.now).doing c.requires.goes_on),
     )
 
 pub returns-clause-seat : goal.returns-clause-seat

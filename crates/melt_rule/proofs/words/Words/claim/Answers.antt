@@ -1,6 +1,7 @@
-use Rattle.std.proofs.Common.{◌≡◌, arith}
+use Rattle.std.proofs.Common.{◌≡◌, ap, arith}
 use Rattle.melt_rule.proofs.MayMake.{claims}
 use Rattle.melt_rule.proofs.Seating.{inside_seat}
+use Rattle.melt_rule.specs.Rule.{is_reading}
 use Rattle.melt_rule.proofs.words.Words.claim.Goals as goal
 
 pub fetch_add-found-requires : goal.fetch_add-found-requires
@@ -14,6 +15,7 @@ fetch_add-found-requires c =
       seat.same,
       (let size = c.self.invariant.words in omega arith),
       claims start id.slots c.args.seat.now.id c.from-need.result c.args.seat.now.me seat.live c.requires.no_cause
+          (ap is_reading c.requires.polled)
           (let low = cost.0 in omega arith)
           (let high = cost.1 in omega arith),
     )

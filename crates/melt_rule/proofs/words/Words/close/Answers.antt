@@ -1,6 +1,7 @@
 use Rattle.std.proofs.Common.{◌≡◌, length, ap, sym, ◌∙◌, subst}
 use Rattle.std.specs.Slots.{slots_items}
 use Rattle.melt_rule.proofs.Ending.{closes}
+use Rattle.melt_rule.proofs.Tying.{not_reading}
 use Rattle.melt_rule.specs.Ending.{HasEnded}
 use Rattle.melt_rule.specs.Seats.{EpochWords, knows_of}
 use Rattle.melt_rule.specs.declared.began.Start.{Start}
@@ -19,5 +20,6 @@ returns c =
           (slots_items closed.slots)
           c.close_with-closed.ensures.values.2
           c.requires.seat.live
+          (not_reading (knows_of seat).doing c.requires.goes_on)
           all);
     }

@@ -5,7 +5,7 @@ use Rattle.melt_word.specs.declared.reference.Ref.{Ref}
 use Rattle.melt_core.specs.declared.call.Place.TheVariants.{Global}
 use Rattle.melt_rule.proofs.Allowed.{global_looks}
 use Rattle.melt_rule.proofs.Seating.{inside_seat, seated_looked}
-use Rattle.melt_rule.specs.Rule.{is_lacking}
+use Rattle.melt_rule.specs.Rule.{is_lacking, is_reading}
 use Rattle.melt_rule.specs.Seats.{EpochWords, knows_of}
 use Rattle.melt_rule.specs.declared.began.Began.{Began}
 use Rattle.melt_rule.specs.Tells.{Looks}
@@ -25,6 +25,7 @@ load-word-requires c =
       omega arith,
       global_looks start id.slots c.args.seat.now.id c.args.g c.args.seat.now.me seat.live
           (ap is_lacking c.requires.polled)
+          (ap is_reading c.requires.polled)
           below,
     )
 

@@ -5,7 +5,7 @@ use Rattle.melt_word.specs.declared.header.Header.{Header}
 use Rattle.melt_word.specs.declared.header.Shape.{Shape}
 use Rattle.melt_rule.proofs.Allowed.{heads}
 use Rattle.melt_rule.proofs.Seating.{inside_seat, seated_behind, placed_at, has_word}
-use Rattle.melt_rule.specs.Rule.{is_lacking}
+use Rattle.melt_rule.specs.Rule.{is_lacking, is_reading}
 use Rattle.melt_rule.specs.Seats.{knows_of}
 use Rattle.melt_rule.specs.Tells.{Heads}
 use Rattle.melt_rule.specs.declared.view.Doing.TheVariants.{Headed}
@@ -25,6 +25,7 @@ load-word-requires c =
           c.args.seat.now.me
           seat.live
           (ap is_lacking c.requires.polled)
+          (ap is_reading c.requires.polled)
           has
           (placed_at id start c.self.inside.before c.self.inside.forwards_at c.args.seat.now c.args.address c.self.invariant seat),
     )

@@ -2,6 +2,7 @@ use Rattle.std.proofs.Common.{ℕ, subst, arith, sym, true, false, inl, inr}
 use Rattle.std.proofs.Common.{nat_eq}
 use Rattle.melt_rule.proofs.Allowed.{polls}
 use Rattle.melt_rule.proofs.Seating.{seated_polled}
+use Rattle.melt_rule.proofs.Tying.{not_lacking, not_reading}
 use Rattle.melt_rule.specs.Seats.{EpochWords, IsSeat, knows_of}
 use Rattle.melt_rule.specs.Tells.{Polls}
 use Rattle.melt_rule.proofs.words.Words.poll.Goals as goal
@@ -13,7 +14,8 @@ load-requires c =
       (let size = c.self.invariant.words in omega arith),
       polls c.self.inside.table.shared.key c.self.inside.table.shared.table_id.slots c.args.seat.now.id c.args.seat.now.me
           seat.live
-          c.requires.goes_on,
+          (not_lacking (knows_of c.args.seat.now).doing c.requires.goes_on)
+          (not_reading (knows_of c.args.seat.now).doing c.requires.goes_on),
     )
 
 pub returns-clause-seat : goal.returns-clause-seat

@@ -13,7 +13,8 @@ store-requires c =
     c.requires.seat in (
       seat.same,
       (let size = c.self.invariant.words in omega arith),
-      stops_at start id.slots c.args.seat.now.id c.args.seat.now.me seat.live c.requires.cause,
+      stops_at start id.slots c.args.seat.now.id c.args.seat.now.me seat.live c.requires.cause
+          c.requires.left,
     )
 
 pub returns-clause-seat : goal.returns-clause-seat

@@ -2,7 +2,7 @@ use Rattle.std.proofs.Common.{◌<◌, subst, ap, refl, sym, arith}
 use Rattle.std.specs.Prelude.{None}
 use Rattle.melt_rule.proofs.Allowed.{global_stores}
 use Rattle.melt_rule.proofs.Seating.{inside_seat, seated_behind, held_small}
-use Rattle.melt_rule.specs.Rule.{is_lacking}
+use Rattle.melt_rule.specs.Rule.{is_lacking, is_reading}
 use Rattle.melt_rule.specs.Seats.{EpochWords, knows_of}
 use Rattle.melt_rule.specs.declared.began.Began.{Began}
 use Rattle.melt_rule.proofs.words.Words.store_global.Goals as goal
@@ -23,6 +23,7 @@ store-requires c =
           c.args.seat.now.me
           seat.live
           (ap is_lacking c.requires.polled)
+          (ap is_reading c.requires.polled)
           below
           c.requires.held.1
           c.held_word.ensures,

@@ -1,5 +1,6 @@
 use Rattle.std.proofs.Common.{subst, arith, sym}
 use Rattle.melt_rule.proofs.Taking.{takes, taker_seat}
+use Rattle.melt_rule.proofs.Tying.{not_lacking, not_reading}
 use Rattle.melt_rule.specs.Seats.{EpochWords, Sits}
 use Rattle.melt_rule.proofs.words.Words.take_seat.Goals as goal
 
@@ -12,7 +13,10 @@ join_seat-requires c =
       other.none,
       (let size = c.self.invariant.words in omega arith),
       takes c.self.inside.table.shared.key c.args.seat.now.id c.args.other.id c.args.seat.now.me.0 c.args.other.me.0
-          seat.live other.live c.requires.goes_on c.requires.other_goes_on,
+          seat.live other.live
+          (not_lacking c.args.seat.now.me.0.doing c.requires.goes_on)
+          (not_lacking c.args.other.me.0.doing c.requires.other_goes_on)
+          (not_reading c.args.other.me.0.doing c.requires.other_goes_on),
     )
 
 pub returns-clause-seat : goal.returns-clause-seat
