@@ -10,7 +10,7 @@ use Rattle.melt_rule.specs.Tells.{Asks, Names, behind}
 use Rattle.melt_rule.specs.declared.began.Pair.{Pair}
 use Rattle.melt_rule.specs.declared.view.View.{View}
 use Rattle.melt_epoch.proofs.Following.{idle_seat, sound_sees}
-use Rattle.melt_epoch.proofs.Seated.{idle_here, names_here}
+use Rattle.melt_epoch.proofs.Seated.{by_seats, idle_here, names_here}
 use Rattle.melt_epoch.specs.Calls.{HasAsked, IsAsked}
 use Rattle.melt_epoch.specs.Mutators.{IsIdle, IsSeated}
 use Rattle.melt_epoch.specs.declared.mutator.Mutator.{Mutator}
@@ -27,12 +27,16 @@ asked_behind v w asks = go (has_cause v) refl
     go : (b : Bool) → has_cause v ≡ b → Behind v w
     go true is = record {
       asked = v.asked;
-      is = asks.1 ∙ ap (λ (b : Bool). let u : View = behind v w.seen v.known None in if b then u else record u { asked = true }) is;
+      is = asks.1
+          ∙ ap (λ (b : Bool). let u : View = behind v w.seen v.known None in if b then u else record u { asked = true })
+          is;
       cause = (λ e. refl, λ e. absurd (false≢true (sym e ∙ is)));
     }
     go false is = record {
       asked = true;
-      is = asks.1 ∙ ap (λ (b : Bool). let u : View = behind v w.seen v.known None in if b then u else record u { asked = true }) is;
+      is = asks.1
+          ∙ ap (λ (b : Bool). let u : View = behind v w.seen v.known None in if b then u else record u { asked = true })
+          is;
       cause = (λ e. absurd (false≢true (sym is ∙ e)), λ e. refl);
     }
 
@@ -41,6 +45,7 @@ asks_has v w asks =
     let b = asked_behind v w asks in
     record {
       sees = asks.0;
+      is = asks.1;
       thread = ap (λ (x : View). x.thread) b.is;
       began = ap (λ (x : View). x.began) b.is;
       known = ap (λ (x : View). x.known) b.is;
@@ -77,17 +82,13 @@ module _ {R : Type 0} (m : Mutator R) (seat : Seat ℕ View) (is : Some seat ≡
         alone = ap (λ (x : View). x.away) b.is
             ∙ (ap (λ (s : Seat ℕ View). (knows_of s).away) (sym same) ∙ seated.alone);
         size = seated.size;
-        registers = λ r. subst (λ (l : List Pair). Names l (slice_index m.registers.regs r) (value_in m.values r)) (sym (ap (λ (x : View). x.known) b.is))
-            (names_here words m seated seat is r);
+        registers = λ r. subst (λ (l : List Pair). Names l (slice_index m.registers.regs r) (value_in m.values r))
+            (sym (ap (λ (x : View). x.known) b.is)) (names_here words m seated seat is r);
       }
 
   pub is_asked : (new : Seat ℕ View) → Asks (knows_of seat) (knows_of new) → IsAsked m (record m { seat = Some new })
   is_asked new asks = (
     refl,
-    λ s t at_s at_t.
-        let one : seat ≡ s = let both : Some seat ≡ Some s = is ∙ at_s in cc in
-        let two : new ≡ t = let both : Some new ≡ Some t = at_t in cc in
-        subst (λ (x : Seat ℕ View). HasAsked (knows_of x) (knows_of t)) one
-        (subst (λ (y : Seat ℕ View). HasAsked (knows_of seat) (knows_of y)) two
-        (asks_has (knows_of seat) (knows_of new) asks)),
+    λ s t at_s at_t. by_seats HasAsked seat new s t m.seat (Some new) is refl at_s at_t
+        (asks_has (knows_of seat) (knows_of new) asks),
   )

@@ -11,11 +11,11 @@ use Rattle.melt_scion.specs.Placed.{Holds}
 use Rattle.melt_scion.specs.State.{Base, IsFresh, State}
 use Rattle.melt_scion.specs.declared.heap.Heap.{Heap}
 use Rattle.melt_scion.specs.declared.heap.Names.{Names}
-use Rattle.melt_rule.proofs.Laying.{parts_shown, state_by}
-use Rattle.melt_rule.specs.Beginning.{MayBegin, maps_of}
-use Rattle.melt_rule.specs.Rule.{is_lacking}
+use Rattle.melt_rule.proofs.Laying.{parts_shown, space_laid, state_by}
+use Rattle.melt_rule.specs.Beginning.{MayBegin}
+use Rattle.melt_rule.specs.Rule.{is_bound}
 use Rattle.melt_rule.specs.Seats.{EpochWords}
-use Rattle.melt_rule.specs.Shown.{base_of, shows}
+use Rattle.melt_rule.specs.Shown.{base_of, maps_of, shows}
 use Rattle.melt_rule.specs.Tells.{Sees}
 use Rattle.melt_rule.specs.declared.began.Began.{Began}
 use Rattle.melt_rule.specs.declared.began.Pair.{Pair}
@@ -76,6 +76,8 @@ module _ (start : Start) (heap : Heap) (end : ℕ) (history : List Entry) (begin
         holds = subst (Holds b.told b.history (maps_of b)) (sym heap_shown)
             (subst (λ (h : List Entry). Holds b.told h (maps_of b) (state_of heap [] (disk_of b))) stands.history_is
             stands.holds);
+        space = sym begins.words ∙ sym (space_laid b 0 (heap.space.used + 1) heap.globals heap.forward heap.space
+            begins.globals begins.forwards);
         first = let free = begins.free in omega arith;
         free = begins.free;
         room = let free = begins.free in let size = begins.size in omega arith;
@@ -156,7 +158,7 @@ module _ {R : Type 0} (image : R → Option (List ℕ)) (words : EpochWords)
           there = given.there;
           idle = record {
             is_seat = given.is;
-            goes_on = ap (λ (x : View). is_lacking x.doing) given.knows;
+            goes_on = ap (λ (x : View). is_bound x.doing) given.knows;
             sound = subst (λ (x : View). Sees x x.seen) (sym given.knows) (fresh_sees words.start m.thread legal);
             own = ap (λ (x : View). x.mine) given.knows ∙ sym (ap (λ (x : View). x.seen) given.knows);
           };

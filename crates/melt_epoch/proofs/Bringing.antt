@@ -13,7 +13,7 @@ use Rattle.melt_core.specs.declared.answer.Refusal.{Refusal}
 use Rattle.melt_core.specs.declared.answer.Refusal.TheVariants as refusal
 use Rattle.melt_core.specs.declared.call.Search.{Search}
 use Rattle.melt_rule.specs.Coming.{HomeHas}
-use Rattle.melt_rule.specs.Rule.{is_lacking}
+use Rattle.melt_rule.specs.Rule.{is_bound}
 use Rattle.melt_rule.specs.Seats.{EpochWords, IsSeat, knows_of}
 use Rattle.melt_rule.specs.Shown.{base_of}
 use Rattle.melt_rule.specs.Tells.{FitsIn, Reaches}
@@ -22,7 +22,8 @@ use Rattle.melt_rule.specs.declared.view.Doing.{Doing}
 use Rattle.melt_rule.specs.declared.view.Doing.TheVariants.{Missed}
 use Rattle.melt_rule.specs.declared.view.View.{View}
 use Rattle.melt_epoch.proofs.Following.{counts_most}
-use Rattle.melt_epoch.proofs.Toward.{Toward, goes_then, goes_toward, toward_full, toward_goes, toward_itself, toward_lacked}
+use Rattle.melt_epoch.proofs.Toward.{Toward, goes_then, goes_toward, toward_full, toward_goes, toward_itself}
+use Rattle.melt_epoch.proofs.Toward.{toward_lacked}
 use Rattle.melt_epoch.specs.Bringing.{Brings, Brought, Copies, IsLost, IsPaused, LacksRoom, Misses, Seeks, Stays}
 use Rattle.melt_epoch.specs.Bringing.{reached, tried_to}
 use Rattle.melt_epoch.specs.Epochs.{Fits}
@@ -93,10 +94,10 @@ stub_brings v w search target most some_ clears = record {
 
 -- or a copy does
 pub copies_miss : (told : Bool) (image : Option (List ℕ)) (scions : Scions) (end before after : ℕ) (v w : View)
-    (search : Search) (z : Shape) (forwards : ℕ) (result : Result ℕ Refusal) → IsShape z
+    (search : Search) (z : Shape) (forwards : ℕ) (result : Result ℕ Refusal) → IsShape z → forwards ≡ v.began.forwards
     → Copies v w search z forwards result
     → Misses told image scions end before after v w search (128 + 2 * (forwards - search.tried)) result
-copies_miss told image scions end before after v w search z forwards (Ok address) small copied = record {
+copies_miss told image scions end before after v w search z forwards (Ok address) small same copied = record {
   words = cost_of z;
   wins = copied.wins;
   goes = goes_then v v w (cost_of z) copied.wins 0 (cost_of z + 1 + 2 * (forwards - search.tried))
@@ -104,21 +105,29 @@ copies_miss told image scions end before after v w search z forwards (Ok address
       (let refs = small.refs in let nums = small.nums in omega arith) (toward_itself v) copied.goes;
   claims = inr (z, refl, copied.one, copied.object);
 }
-copies_miss told image scions end before after v w search z forwards (Err why) small (inl full) = inl (inl (record {
-  words = cost_of z;
-  full = toward_full v v w 0 (cost_of z) (cost_of z) 0 (cost_of z + 2 + 2 * (forwards - search.tried))
-      (128 + 2 * (forwards - search.tried)) why (omega arith)
-      (let refs = small.refs in let nums = small.nums in omega arith) (toward_itself v) full.full;
-  claims = inr (z, refl, full.object);
-}))
-copies_miss told image scions end before after v w search z forwards (Err why) small (inr lacks) =
-    inl (inr (lacks_on v v w search search.tried 0 2 (128 + 2 * (forwards - search.tried)) why (omega arith) (toward_itself v) lacks))
+copies_miss told image scions end before after v w search z forwards (Err why) small same (inl full) =
+    inl (inl (record {
+      words = cost_of z;
+      full = toward_full v v w 0 (cost_of z) (cost_of z) 0 (cost_of z + 2 + 2 * (forwards - search.tried))
+          (128 + 2 * (forwards - search.tried)) why (omega arith)
+          (let refs = small.refs in let nums = small.nums in omega arith) (toward_itself v) full.full;
+      read = let all = full.read in omega arith;
+      claims = inr (z, refl, full.object);
+    }))
+copies_miss told image scions end before after v w search z forwards (Err why) small same (inr lacks) =
+    inl (inr (lacks_on v v w search search.tried 0 2 (128 + 2 * (forwards - search.tried)) why (omega arith)
+    (toward_itself v) lacks))
 
 pub paused_on : (v w u : View) (search : Search) (tried m n k : ℕ) (why : Refusal) → m + n ≤ k → Toward v w 0 0 m
+    → search.tried ≤ tried → v.steps + (tried - search.tried) ≤ w.steps
     → IsPaused w u (tried_to search tried) n why → IsPaused v u search k why
-paused_on v w u search tried m n k why le toward (inl found) = inl (record {
+paused_on v w u search tried m n k why le toward from read (inl found) = inl (record {
   words = found.words;
   full = toward_full v w u 0 found.words found.words m n k why (omega arith) le toward found.full;
+  read =
+      let began = ap (λ (b : Began). b.forwards) toward.counts.began in
+      let all = found.read in
+      omega arith;
   claims = elim found.claims [
     | inl none ↦ inl none
     | inr some_ ↦ inr (
@@ -128,7 +137,7 @@ paused_on v w u search tried m n k why le toward (inl found) = inl (record {
     )
   ];
 })
-paused_on v w u search tried m n k why le toward (inr lacks) =
+paused_on v w u search tried m n k why le toward from read (inr lacks) =
     inr (lacks_on v w u search tried m n k why le toward lacks)
 
 pub brought_on : (v w u : View) (search : Search) (tried m n k address : ℕ) → m + n ≤ k → Toward v w 0 0 m
@@ -147,6 +156,19 @@ brought_on v w u search tried m n k address le toward brought = record {
     )
   ];
 }
+
+-- all forwarding words send other homes than that of a search
+pub sought_full : (told : Bool) (image : Option (List ℕ)) (scions : Scions) (end before after : ℕ) (v w : View)
+    (search : Search) (forwards : ℕ) (why : Refusal) → search.tried ≡ 0 → forwards ≡ v.began.forwards
+    → Seeks v w search forwards (Err why)
+    → Brings told image scions end before after v w search (2 * forwards + 130) (Err why)
+sought_full told image scions end before after v w search forwards why first same full = inl (inl (record {
+  words = 0;
+  full = toward_full v v w 0 0 0 0 (forwards + 1 - search.tried) (2 * forwards + 130) why (omega arith) (omega arith)
+      (toward_itself v) full.0;
+  read = let all = full.1 in omega arith;
+  claims = inl refl;
+}))
 
 -- a home that a search missed was brought, or was not
 pub missed_brings : (told : Bool) (image : Option (List ℕ)) (scions : Scions) (end before after : ℕ) (v w u : View)
@@ -175,13 +197,13 @@ missed_brings told image scions end before after v w u search missed forwards re
         (2 * forwards + 130) address few toward brought
     brings (Err why) (inl paused) =
         inl (paused_on v w u search missed.tried (missed.tried + 1 - search.tried) (128 + 2 * (forwards - missed.tried))
-        (2 * forwards + 130) why few toward paused)
+        (2 * forwards + 130) why few toward seeks.1 (let read = seeks.4 in let from = seeks.1 in omega arith) paused)
     brings (Err why) (inr lost) = inr (
       subst (λ (x : View). Stays v x (2 * forwards + 130)) (sym lost.0) (record {
         sees = seeks.0.sees;
         counts = counts_most v w 0 0 (missed.tried + 1 - search.tried) (2 * forwards + 130)
             (let below = seeks.2 in omega arith) seeks.0.counts;
-        goes_on = ap is_lacking seeks.0.at;
+        goes_on = ap is_bound seeks.0.at;
       }),
       lost.1,
     )

@@ -1,6 +1,6 @@
 -- Where an epoch has ended: its words stand in the heap again, and the seat that took in all others tells of them.
 use Rattle.std.proofs.Common.{◌≡◌, ℕ, zero, suc, ◌+◌, ◌-◌, ◌<◌, ◌≤◌}
-use Rattle.std.proofs.Common.{List, [], ◌∷◌, length, map, get_or, drop, take}
+use Rattle.std.proofs.Common.{List, [], ◌∷◌, length, map, get_or, drop, take, true}
 use Rattle.std.proofs.Common.{refl, sym, ◌∙◌, ap, subst, arith, inl, inr}
 use Rattle.std.proofs.lemmas.List.{length-drop, length-take}
 use Rattle.std.specs.List.{sum_by}
@@ -20,18 +20,20 @@ use Rattle.melt_scion.specs.State.{IsFresh, State}
 use Rattle.melt_scion.specs.declared.heap.Heap.{Heap}
 use Rattle.melt_scion.specs.declared.heap.Names.{Names as HeapNames}
 use Rattle.melt_core.proofs.Resting.{holds_shifts}
+use Rattle.melt_core.specs.StaleBits.{BitsTold}
 use Rattle.melt_rule.proofs.Laying.{shown_by_parts, state_by}
 use Rattle.melt_rule.specs.Ending.{HasEnded as WordsEnd, HistoryEnds as HistorySeen}
-use Rattle.melt_rule.specs.Rule.{Has, Saw, filled, threads_of}
+use Rattle.melt_rule.specs.Rule.{Has, Saw, filled, has_cause, threads_of}
 use Rattle.melt_rule.specs.Seats.{EpochWords}
 use Rattle.melt_rule.specs.Shown.{forwards_in, globals_in, shows}
+use Rattle.melt_rule.specs.Sights.{first_sight, last_sight, no_calls}
 use Rattle.melt_rule.specs.Tells.{Names}
 use Rattle.melt_rule.specs.declared.began.Began.{Began}
 use Rattle.melt_rule.specs.declared.began.Start.{Start}
 use Rattle.melt_rule.specs.declared.view.View.{View}
 use Rattle.melt_epoch.proofs.Begun.{same_parts}
 use Rattle.melt_epoch.proofs.Gathered.{Back, all_flag, all_has, all_only, all_sum, all_threads, away_is, away_of}
-use Rattle.melt_epoch.proofs.Gathered.{comes_back, contains_at, gathered_first, stands_at}
+use Rattle.melt_epoch.proofs.Gathered.{comes_back, contains_at, gathered_first, some_cause, stands_at}
 use Rattle.melt_epoch.proofs.Paired.{pairs_name, pairs_with}
 use Rattle.melt_epoch.specs.Ends.{HasEnded, HeapEnds, HistoryEnds, HoldsValues, MapsEnd}
 use Rattle.melt_epoch.specs.Ends.{MayEnd, disk_of, free_behind, view_of}
@@ -195,6 +197,8 @@ module _ {R : Type 0} (words : EpochWords) (ms : List (Mutator R)) (may : MayEnd
     forwarded = λ k d below is p within empty. has.counts.forwarded
         (ap (λ (x : View). x.forwarded) gathers ∙ all_flag (λ (x : View). x.forwarded) (λ x w. refl) ms k d below is)
         p within (ap (λ (l : List ℕ). slice_index l p) (sym new_forwards) ∙ empty);
+    stops = λ k d below is. some_cause ms (ap has_cause (sym gathers) ∙ has.counts.caused (has.counts.stopped
+        (ap (λ (x : View). x.stopped) gathers ∙ all_flag (λ (x : View). x.stopped) (λ x w. refl) ms k d below is)));
   }
 
   maps_end : MapsEnd b ms has.maps
@@ -214,7 +218,7 @@ module _ {R : Type 0} (words : EpochWords) (ms : List (Mutator R)) (may : MayEnd
     in_all : (a n : ℕ) → Has (view_of m).known a n → Has v.known a n
     in_all a n knows =
         subst (λ (x : View). Has x.known a n) (sym gathers)
-        (all_has ms a n (record { place = k; mutator = m; at = at; knows = knows }))
+        (all_has ms a n (record { place = k; mutator = m; at = at; is = knows }))
 
     register_stands : (a : ℕ) (value : Value) → Names (view_of m).known a value
         → (value_at has.maps a ≡ Some value) × MayHold has.maps (state_of new [] (disk_of b)) a
@@ -237,6 +241,15 @@ module _ {R : Type 0} (words : EpochWords) (ms : List (Mutator R)) (may : MayEnd
       hold = λ r. (register_stands (slice_index m.registers.regs r) (value_in m.values r) (its.registers r)).1;
     }
 
+  -- its words are those of the table
+  same_words_end : (shows b ended).word ≡ (state_of new [] (disk_of b)).word
+  same_words_end = ap (λ (s : State). s.word) shown ∙ ap (λ (s : State). s.word) rests
+
+  bits_end : b.told ≡ true → BitsTold (first_sight b) (last_sight v.seen has.maps (state_of new [] (disk_of b)))
+  bits_end told =
+      subst (λ (word : ℕ → ℕ). BitsTold (first_sight b)
+      (record { log = v.seen; maps = has.maps; word = word; stage = no_calls })) same_words_end (has.bits told)
+
   -- The heap behind the epoch, where its pairs were picked.
   pub epoch_ended : pairs ≡ record { addresses = pairs_with v.known b.maps.addresses; homes = b.maps.homes }
       → HasEnded b ms new v.seen
@@ -252,4 +265,5 @@ module _ {R : Type 0} (words : EpochWords) (ms : List (Mutator R)) (may : MayEnd
     named = maps_end;
     holds = holds_on;
     registers = λ k d below. holds_values (get_or ms k d) k (stands_at ms k d below) (back k d below);
+    bits = bits_end;
   }

@@ -1,5 +1,6 @@
 -- A copy of a Body on its way into use.
-use Rattle.std.proofs.Common.{◌≡◌, ℕ, ◌+◌, ◌*◌, ◌-◌, ◌||◌, inl, Ok, Err, Bool, true, false, List, refl, sym, ◌∙◌, ap, subst, arith}
+use Rattle.std.proofs.Common.{◌≡◌, ℕ, ◌+◌, ◌*◌, ◌-◌, ◌||◌, inl, Ok, Err, Bool, true, false, List, refl, sym, ◌∙◌, ap}
+use Rattle.std.proofs.Common.{subst, arith}
 use Rattle.std.specs.Prelude.{None, Result, Some}
 use Rattle.melt_model.specs.declared.history.Entry.{Entry}
 use Rattle.melt_word.specs.Words.{cost_of}
@@ -61,6 +62,10 @@ lacks_room v w u search z lacks stops =
         over = ap (λ (x : View). x.over) then_ ∙ ap (λ (x : View). x.over) is;
         won = ap (λ (x : View). x.won) then_ ∙ ap (λ (x : View). x.won) is;
         steps = let e = ap (λ (x : View). x.steps) then_ in let s = ap (λ (x : View). x.steps) is in omega arith;
+        counted = let e = ap (λ (x : View). x.steps) then_ in let s = ap (λ (x : View). x.steps) is in omega arith;
+        found = lacks.found;
+        first = lacks.first;
+        past = lacks.past;
       };
       over = ap (λ (x : View). x.doing) then_;
     }
@@ -87,6 +92,7 @@ claimed_toward v w search z rest address claims =
         over = ap (λ (x : View). x.over) is;
         won = let e = ap (λ (x : View). x.won) is in omega arith;
         steps = let e = ap (λ (x : View). x.steps) is in omega arith;
+        counted = let e = ap (λ (x : View). x.steps) is in omega arith;
       };
     }
 
@@ -113,7 +119,8 @@ module _ (v w u x y : View) (search : Search) (z : Shape) (rest : List ℕ) (add
   shape_here sees =
       home_has_on v v w.seen y.seen search.home z refl (behind_claim.on y.seen sees).begins claims.object
 
-  pub copy_settles : (result : Result ℕ Refusal) → Settles x y copy forwards result → Copies v y search z forwards result
+  pub copy_settles : (result : Result ℕ Refusal) → Settles x y copy forwards result
+      → Copies v y search z forwards result
   copy_settles (Ok found) settled = record {
     wins = settled.wins;
     one = settled.one;
@@ -122,7 +129,8 @@ module _ (v w u x y : View) (search : Search) (z : Shape) (rest : List ℕ) (add
         (cost_of z + 1 + 2 * (forwards - search.tried)) (reached search found) (omega arith) to_copy settled.goes;
   }
   copy_settles (Err refusal) full = inl (record {
-    object = shape_here full.sees;
+    object = shape_here full.0.sees;
     full = toward_full v x y (cost_of z) 0 (cost_of z) (cost_of z + 1) (2 * (forwards - search.tried) + 1)
-        (cost_of z + 2 + 2 * (forwards - search.tried)) refusal (omega arith) (omega arith) to_copy full;
+        (cost_of z + 2 + 2 * (forwards - search.tried)) refusal (omega arith) (omega arith) to_copy full.0;
+    read = let before = to_copy.counts.counted in let all = full.1 in omega arith;
   })

@@ -5,7 +5,7 @@ use Rattle.std.proofs.lemmas.Bool.{cases_lt}
 use Rattle.std.proofs.lemmas.List.{get_or-replicate, get_or_past, length-map, length-replicate}
 use Rattle.std.proofs.lemmas.List.Elements.{All-cons, All-nil}
 use Rattle.std.proofs.lemmas.List.Kept.{AllPairs-cons}
-use Rattle.std.specs.Prelude.{Option, None, Some, ◌^◌, All, AllPairs, Result, Ok, Err, IfOk, map}
+use Rattle.std.specs.Prelude.{zero, suc, Option, None, Some, ◌^◌, All, AllPairs, Result, Ok, Err, IfOk, map}
 use Rattle.std.specs.Prelude.{slice_index, slice_index_or}
 use Rattle.melt_model.specs.declared.history.Value.{Value}
 use Rattle.melt_model.specs.declared.history.Value.TheVariants.{Nil}
@@ -17,13 +17,13 @@ use Rattle.melt_scion.specs.GhostMaps.{no_pairs}
 use Rattle.melt_scion.specs.Heaps.{IsNewHeap, state_of, no_homes_on}
 use Rattle.melt_scion.specs.Scions.{EachOnce}
 use Rattle.melt_scion.specs.declared.heap.Heap.{Heap}
-use Rattle.melt_rule.specs.Beginning.{maps_of}
+use Rattle.melt_rule.specs.Shown.{maps_of}
 use Rattle.melt_rule.specs.Seats.{EpochWords}
 use Rattle.melt_rule.specs.declared.began.Pair.{Pair}
 use Rattle.melt_rule.specs.declared.began.Start.{Start}
 use Rattle.melt_epoch.specs.Ends.{HasJoined, HeapBegins, HistoryBegins, MayEnd, MutatorBegins, disk_of, unseated}
-use Rattle.melt_epoch.specs.Mutators.{StandFor}
-use Rattle.melt_epoch.specs.Tests.{AllMayStart, MayStart}
+use Rattle.melt_epoch.specs.Mutators.{HasReader, StandFor}
+use Rattle.melt_epoch.specs.Tests.{AllMayStart, HasBegun, MayStart, eight}
 use Rattle.melt_epoch.specs.declared.epoch.Epoch.{Epoch}
 use Rattle.melt_epoch.specs.declared.mutator.Mutator.{Mutator}
 
@@ -43,6 +43,7 @@ empty_start threads heap = record {
     free_homes = [];
     image = [];
     free = 1;
+    words = heap.space.list;
     maps = no_pairs;
   };
   held = [];
@@ -78,6 +79,7 @@ module _ (threads : List ℕ) (heap : Heap) (words globals forwards : ℕ) (smal
     scions = refl;
     ends = refl;
     free = ap (λ used. used + 1) new.space.used;
+    words = refl;
     maps = new.maps;
     nameless = new.names;
     settled = λ p. ap (λ xs. slice_index xs p) new.nothing_forwarded ∙ nothing_at forwards p;
@@ -121,17 +123,19 @@ joined_end {R} words s ms olds some_ all same is joined =
       seated = λ k d below. (joined k d below).seated;
     }
 
-pub begun_end : {R : Type 0} (result : Result Epoch NoMemory) (s : Start) (ms olds : List (Mutator R))
-    → 1 ≤ length olds → length s.began.threads ≡ length olds → map unseated ms ≡ olds
+-- Where an epoch began, each may make calls.
+pub begun_all : {R : Type 0} (image : R → Option (List ℕ)) (result : Result Epoch NoMemory) (s : Start)
+    (ms olds : List (Mutator R)) → 1 ≤ length olds → length s.began.threads ≡ length olds → map unseated ms ≡ olds
     → IfOk result (λ (epoch : Epoch). epoch.words.start ≡ s)
     → IfOk result (λ (epoch : Epoch). All (HasJoined epoch.words) ms)
-    → IfOk result (λ (epoch : Epoch). MayEnd epoch.words ms)
-begun_end (Ok epoch) s ms olds some_ all same is joined =
-    joined_end epoch.words s ms olds some_ all same is joined
-begun_end (Err refused) s ms olds some_ all same is joined = tt
+    → IfOk result (λ (epoch : Epoch). All (HasReader image epoch.words) ms)
+    → IfOk result (λ (epoch : Epoch). HasBegun image epoch.words ms)
+begun_all image (Ok epoch) s ms olds some_ all same is joined readers =
+    (joined_end epoch.words s ms olds some_ all same is joined, readers)
+begun_all image (Err refused) s ms olds some_ all same is joined readers = tt
 
 -- registers that all hold nothing stand for values that all are Nil
-none_held : (held : List Pair) (regs : List ℕ) (values : List Value) → regs ≡ replicate 16 0
+pub none_held : (held : List Pair) (regs : List ℕ) (values : List Value) → regs ≡ replicate 16 0
     → values ≡ replicate 16 Nil → StandFor held regs values
 none_held held regs values none nils r =
     inl (
@@ -184,3 +188,58 @@ two_may_start {R} image m n differ may also s empty threads = record {
   each = All-cons (MutatorBegins image s) m (n ∷ []) (may s empty)
       (All-cons (MutatorBegins image s) n [] (also s empty) (All-nil (MutatorBegins image s)));
 }
+
+-- each of eight numbers stands at its own place
+at_place : (k d : ℕ) → k < 8 → slice_index_or eight k d ≡ k
+at_place zero d below = refl
+at_place (suc zero) d below = refl
+at_place (suc (suc zero)) d below = refl
+at_place (suc (suc (suc zero))) d below = refl
+at_place (suc (suc (suc (suc zero)))) d below = refl
+at_place (suc (suc (suc (suc (suc zero))))) d below = refl
+at_place (suc (suc (suc (suc (suc (suc zero)))))) d below = refl
+at_place (suc (suc (suc (suc (suc (suc (suc zero))))))) d below = refl
+at_place (suc (suc (suc (suc (suc (suc (suc (suc k)))))))) d below = absurd (omega arith)
+
+pub eight_once : EachOnce eight
+eight_once i j d before below same =
+    let a = at_place i d (omega arith) in
+    let b = at_place j d below in
+    omega arith
+
+-- They are mutators of these threads, and each may begin.
+abbrev pub StartAs : {R : Type 0} → (R → Option (List ℕ)) → List ℕ → List (Mutator R) → Type 0
+StartAs image [] [] = Unit {0}
+StartAs image [] (m ∷ ms) = ⊥
+StartAs image (t ∷ ts) [] = ⊥
+StartAs image (t ∷ ts) (m ∷ ms) = ((m.thread ≡ t) × MayStart image m) × StartAs image ts ms
+
+threads_of : {R : Type 0} (image : R → Option (List ℕ)) (ts : List ℕ) (ms : List (Mutator R)) → StartAs image ts ms
+    → map (λ (m : Mutator R). m.thread) ms ≡ ts
+threads_of image [] [] none = refl
+threads_of image [] (m ∷ ms) none = elim none [ ]
+threads_of image (t ∷ ts) [] none = elim none [ ]
+threads_of {R} image (t ∷ ts) (m ∷ ms) (is, rest) =
+    ap (λ (x : ℕ). x ∷ map (λ (m : Mutator R). m.thread) ms) is.0
+    ∙ ap (λ (xs : List ℕ). t ∷ xs) (threads_of image ts ms rest)
+
+all_begin : {R : Type 0} (image : R → Option (List ℕ)) (s : Start) → s.began.image ≡ [] → (ts : List ℕ)
+    (ms : List (Mutator R)) → StartAs image ts ms → All (MutatorBegins image s) ms
+all_begin image s empty [] [] none = All-nil (MutatorBegins image s)
+all_begin image s empty [] (m ∷ ms) none = elim none [ ]
+all_begin image s empty (t ∷ ts) [] none = elim none [ ]
+all_begin image s empty (t ∷ ts) (m ∷ ms) (is, rest) =
+    All-cons (MutatorBegins image s) m ms (is.1 s empty) (all_begin image s empty ts ms rest)
+
+pub eight_may_start : {R : Type 0} (image : R → Option (List ℕ)) (ms : List (Mutator R)) → StartAs image eight ms
+    → AllMayStart image ms
+eight_may_start {R} image ms starts s empty threads =
+    let are : map (λ (m : Mutator R). m.thread) ms ≡ eight = threads_of image eight ms starts in
+    let size : length ms ≡ 8 = sym (length-map ms (λ (m : Mutator R). m.thread)) ∙ ap length are in
+    record {
+      some_thread = omega (arith, size);
+      few = omega (arith, size);
+      threads = threads;
+      each_once = subst EachOnce (sym are ∙ threads) eight_once;
+      each = all_begin image s empty eight ms starts;
+    }

@@ -22,8 +22,10 @@ use Rattle.melt_core.specs.declared.answer.Refusal.{Refusal}
 use Rattle.melt_core.specs.declared.answer.Refusal.TheVariants as refusal
 use Rattle.melt_rule.specs.Shown.{base_of}
 use Rattle.melt_rule.specs.declared.began.Began.{Began}
-use Rattle.melt_epoch.specs.Fetching.{BodyFetched, HeadBroken, HeadDamage, HeadRead, IsDamage, IsDamaged, IsDead, OfDisk}
-use Rattle.melt_epoch.specs.Fetching.{IsUnread, ReadsHead, ReadsRest, RestBroken, RestDamage, RestRead, WasRead, rest_of}
+use Rattle.melt_epoch.specs.Fetching.{BodyFetched, HeadBroken, HeadDamage, HeadRead, IsDamage, IsDamaged, IsDead}
+use Rattle.melt_epoch.specs.Fetching.{OfDisk}
+use Rattle.melt_epoch.specs.Fetching.{IsUnread, ReadsHead, ReadsRest, RestBroken, RestDamage, RestRead, WasRead}
+use Rattle.melt_epoch.specs.Fetching.{rest_of}
 
 -- words that were read are those of the disk, where the epoch is told
 read_told : (b : Began) (image : Option (List ℕ)) (at n : ℕ) (words : List ℕ) → image ≡ Some b.image
@@ -64,8 +66,8 @@ module _ (b : Began) (image : Option (List ℕ)) (end home : ℕ) (of : OfDisk b
       on_disk = λ told. head_stands head.words (record { shape = z; kind = Body }) told head.read head.is;
     };
     slots = subst (λ (e : ℕ). AreSlots e z.refs (take (rest_of z) rest)) (sym of.ends) read.slots;
-    on_disk = λ told i below. read_told b image (home + 2) (rest_of z) (take (rest_of z) rest) (of.tells told) read.read i
-        below;
+    on_disk = λ told i below. read_told b image (home + 2) (rest_of z) (take (rest_of z) rest)
+        (of.tells told) read.read i below;
   }
 
   -- where there is a record, no head of it is damaged
@@ -75,8 +77,8 @@ module _ (b : Began) (image : Option (List ℕ)) (end home : ℕ) (of : OfDisk b
     | inl breaks ↦ no_head_damage (base_of b) home has (slice_index bad.words 0) (slice_index bad.words 1) damaged
         (first_told bad.words told bad.read)
         (second_told bad.words told bad.read)
-        (subst (λ (e : ℕ). IsHeadDamage home e (slice_index bad.words 0) (slice_index bad.words 1) damaged) (sym of.ends)
-        breaks)
+        (subst (λ (e : ℕ). IsHeadDamage home e (slice_index bad.words 0) (slice_index bad.words 1) damaged)
+        (sym of.ends) breaks)
     | inr none ↦
         let live = stub_live (base_of b) home has none.shape none.scion
         (head_stands bad.words (record { shape = none.shape; kind = Stub none.scion }) told bad.read none.head) in
@@ -146,7 +148,8 @@ pub rest_broken : (image : Option (List ℕ)) (scions : Scions) (end home : ℕ)
 rest_broken image scions end home z damaged head bad =
     is_damaged image scions end home damaged (inr (record { shape = z; head = head; rest = bad }))
 
-pub rose_before : (before between after : ℕ) → before ≤ between → between ≤ after → Rose between after → Rose before after
+pub rose_before : (before between after : ℕ) → before ≤ between → between ≤ after → Rose between after
+    → Rose before after
 rose_before before between after first more rose small = elim (cases_lt between (2 ^ 64 - 1)) [
   | inl below ↦ (let up = rose below in omega arith)
   | inr past ↦ omega arith

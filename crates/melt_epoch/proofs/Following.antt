@@ -11,7 +11,8 @@ use Rattle.melt_model.specs.declared.history.Act.{Act}
 use Rattle.melt_model.specs.declared.history.Entry.{Entry}
 use Rattle.melt_scion.proofs.Entries.{was_made}
 use Rattle.melt_core.specs.Answering.{entry}
-use Rattle.melt_rule.specs.Rule.{is_lacking}
+use Rattle.melt_rule.specs.Making.{FirstFree}
+use Rattle.melt_rule.specs.Rule.{is_bound}
 use Rattle.melt_rule.specs.Seats.{EpochWords, IsSeat, knows_of}
 use Rattle.melt_rule.specs.Tells.{Adds, HasAll, Reaches, Sees, Since, behind}
 use Rattle.melt_rule.specs.declared.began.Began.{Began}
@@ -40,6 +41,7 @@ no_counts v = record {
   over = refl;
   won = omega arith;
   steps = omega arith;
+  counted = omega arith;
 }
 
 behind_counts : (v : View) (h : List Entry) (known : List Pair) (doing : Option Doing) → HasAll v.known known
@@ -57,6 +59,7 @@ behind_counts v h known doing more = record {
   over = refl;
   won = omega arith;
   steps = omega arith;
+  counted = omega arith;
 }
 
 pub counts_on : (v w u : View) (a b c d m n : ℕ) → Counts v w a b m → Counts w u c d n
@@ -74,6 +77,7 @@ counts_on v w u a b c d m n first more = record {
   over = more.over ∙ first.over;
   won = let s = first.won in let t = more.won in omega arith;
   steps = let s = first.steps in let t = more.steps in omega arith;
+  counted = let s = first.counted in let t = more.counted in omega arith;
 }
 
 pub counts_most : (v w : View) (a b m n : ℕ) → m ≤ n → Counts v w a b m → Counts v w a b n
@@ -90,6 +94,25 @@ counts_most v w a b m n le counts = record {
   over = counts.over;
   won = counts.won;
   steps = let s = counts.steps in omega arith;
+  counted = counts.counted;
+}
+
+-- the first free place that a claim found, told behind a way that claimed none
+pub first_on : (v w : View) (most found : ℕ) → Counts v w 0 0 most → FirstFree w found → FirstFree v found
+first_on v w most found counts first = record {
+  from =
+      let free = ap (λ (b : Began). b.free) counts.began in
+      let claimed = counts.claimed in
+      let from = first.from in
+      omega arith;
+  alone = λ all.
+      let free = ap (λ (b : Began). b.free) counts.began in
+      let threads : length w.began.threads ≡ length v.began.threads =
+      ap (λ (b : Began). length b.threads) counts.began in
+      let claimed = counts.claimed in
+      let parts = counts.parts in
+      let is = first.alone (omega arith) in
+      omega arith;
 }
 
 -- a step to a view that is told
@@ -191,11 +214,11 @@ shape_stays g h more n z is at =
 
 -- the seat behind a call
 pub idle_seat : (words : EpochWords) (v : View) (seat : Seat ℕ View) (doing : Option Doing) → IsSeat words seat
-    → (knows_of seat).doing ≡ doing → is_lacking doing ≡ false → Sees (knows_of seat) (knows_of seat).seen
+    → (knows_of seat).doing ≡ doing → is_bound doing ≡ false → Sees (knows_of seat) (knows_of seat).seen
     → (knows_of seat).mine ≡ (knows_of seat).seen → IsIdle words seat
 idle_seat words v seat doing is_seat at goes_on sound own = record {
   is_seat = is_seat;
-  goes_on = ap is_lacking at ∙ goes_on;
+  goes_on = ap is_bound at ∙ goes_on;
   sound = sound;
   own = own;
 }

@@ -2,7 +2,7 @@
 use Rattle.std.proofs.Common.{◌≡◌, ◌⊎◌, ℕ, zero, suc, ◌+◌, ◌<◌, ◌||◌, Bool}
 use Rattle.std.proofs.Common.{true, false, List, [], ◌∷◌, ◌++◌, length, map}
 use Rattle.std.proofs.Common.{get_or, refl, sym, ◌∙◌, ap, subst, arith, inl, inr, append-nil, append_assoc}
-use Rattle.std.proofs.lemmas.Bool.{false≢true}
+use Rattle.std.proofs.lemmas.Bool.{false≢true, or_cases, or_left, or_right}
 use Rattle.std.proofs.lemmas.List.Elements.{All-tail}
 use Rattle.std.proofs.lemmas.List.Sums.{sum_by-cons}
 use Rattle.std.specs.List.{sum_by}
@@ -12,12 +12,12 @@ use mathlib.Core.Option.{some, some-injective, some-ne-none}
 use Rattle.atomic_table.proofs.Lists.{at_longer}
 use Rattle.melt_rule.proofs.Pieces.{at_append, at_behind}
 use Rattle.melt_rule.specs.Giving.{joined_view, spent_view}
-use Rattle.melt_rule.specs.Rule.{Has, threads_of}
+use Rattle.melt_rule.specs.Rule.{Has, has_cause, threads_of}
 use Rattle.melt_rule.specs.Seats.{EpochWords, knows_of}
 use Rattle.melt_rule.specs.declared.began.Pair.{Pair}
 use Rattle.melt_rule.specs.declared.view.Away.{Away}
 use Rattle.melt_rule.specs.declared.view.View.{View}
-use Rattle.melt_epoch.specs.Ends.{SomeKnows, view_in, view_of}
+use Rattle.melt_epoch.specs.Ends.{SomeCause, SomeKnows, SomeView, view_in, view_of}
 use Rattle.melt_epoch.specs.Gathering.{gathered, gathered_all}
 use Rattle.melt_epoch.specs.Mutators.{IsSeated, StandFor}
 use Rattle.melt_epoch.specs.declared.mutator.Mutator.{Mutator}
@@ -36,14 +36,6 @@ has_either l m a n x = elim (at_append l m x.0 (record { address = a; object = n
 
 pub has_none : (a n : ℕ) → Has [] a n → ⊥
 has_none a n x = some-ne-none (record { address = a; object = n }) (sym x.1)
-
-or_left : (a b : Bool) → a ≡ true → a || b ≡ true
-or_left true b e = refl
-or_left false b e = absurd (false≢true e)
-
-or_right : (a b : Bool) → b ≡ true → a || b ≡ true
-or_right true b e = refl
-or_right false b e = e
 
 -- what is read at a place of a list stands there
 pub stands_at : {A : Type 0} (l : List A) (k : ℕ) (d : A) → k < length l → get_elem? l k ≡ some (get_or l k d)
@@ -152,7 +144,7 @@ module _ {R : Type 0} where
 
   pub all_has : (ms : List (Mutator R)) (a n : ℕ) → SomeKnows ms a n → Has (gathered_all (map view_of ms)).known a n
   all_has [] a n some_ = absurd (some-ne-none some_.mutator (sym some_.at))
-  all_has (x ∷ ms) a n some_ = all_at x ms some_.place some_.mutator a n some_.at some_.knows
+  all_has (x ∷ ms) a n some_ = all_at x ms some_.place some_.mutator a n some_.at some_.is
     where
       all_at : (x : Mutator R) (ms : List (Mutator R)) (k : ℕ) (m : Mutator R) (a n : ℕ) → get_elem? (x ∷ ms) k ≡ some m
           → Has (view_of m).known a n → Has (gathered (view_of x) (map view_of ms)).known a n
@@ -161,28 +153,60 @@ module _ {R : Type 0} where
           (subst (λ (y : Mutator R). Has (view_of y).known a n) (sym (some-injective x m at)) has)
       all_at x ms (suc k) m a n at has = gathered_has_at (view_of x) ms k m a n at has
 
-  -- and nothing else is
-  knows_behind : (x : Mutator R) (ms : List (Mutator R)) (a n : ℕ) → SomeKnows ms a n → SomeKnows (x ∷ ms) a n
-  knows_behind x ms a n some_ =
-      record { place = suc some_.place; mutator = some_.mutator; at = some_.at; knows = some_.knows }
+  -- What is so of the whole was so of one of them, where it is so of two together only by one of the two.
+  module _ (Is : View → Type 0) (splits : (v w : View) → Is (joined_view v w) → Is v ⊎ Is w) where
+    some_behind : (x : Mutator R) (ms : List (Mutator R)) → SomeView ms Is → SomeView (x ∷ ms) Is
+    some_behind x ms one = record { place = suc one.place; mutator = one.mutator; at = one.at; is = one.is }
 
-  gathered_only : (v : View) (ms : List (Mutator R)) (a n : ℕ) → Has (gathered v (map view_of ms)).known a n
-      → Has v.known a n ⊎ SomeKnows ms a n
-  gathered_only v [] a n has = inl has
-  gathered_only v (m ∷ ms) a n has = elim (gathered_only (joined_view v (view_of m)) ms a n has) [
-    | inl either ↦ elim (has_either v.known (view_of m).known a n either) [
-      | inl first ↦ inl first
-      | inr here ↦ inr (record { place = 0; mutator = m; at = refl; knows = here })
+    gathered_some : (v : View) (ms : List (Mutator R)) → Is (gathered v (map view_of ms)) → Is v ⊎ SomeView ms Is
+    gathered_some v [] is = inl is
+    gathered_some v (m ∷ ms) is = elim (gathered_some (joined_view v (view_of m)) ms is) [
+      | inl both ↦ elim (splits v (view_of m) both) [
+        | inl first ↦ inl first
+        | inr here ↦ inr (record { place = 0; mutator = m; at = refl; is = here })
+      ]
+      | inr more ↦ inr (some_behind m ms more)
     ]
-    | inr more ↦ inr (knows_behind m ms a n more)
-  ]
 
+    all_some : (Is spent_view → ⊥) → (ms : List (Mutator R)) → Is (gathered_all (map view_of ms)) → SomeView ms Is
+    all_some none [] is = absurd (none is)
+    all_some none (m ∷ ms) is = elim (gathered_some (view_of m) ms is) [
+      | inl here ↦ record { place = 0; mutator = m; at = refl; is = here }
+      | inr more ↦ some_behind m ms more
+    ]
+
+  -- nothing else is known
   pub all_only : (ms : List (Mutator R)) (a n : ℕ) → Has (gathered_all (map view_of ms)).known a n → SomeKnows ms a n
-  all_only [] a n has = absurd (has_none a n has)
-  all_only (m ∷ ms) a n has = elim (gathered_only (view_of m) ms a n has) [
-    | inl here ↦ record { place = 0; mutator = m; at = refl; knows = here }
-    | inr more ↦ knows_behind m ms a n more
-  ]
+  all_only ms a n =
+      all_some (λ (v : View). Has v.known a n) (λ v w. has_either v.known w.known a n) (has_none a n) ms
+
+  -- and a cause to stop is that of one
+  some_flag : (f : View → Bool) → ((v w : View) → f (joined_view v w) ≡ (f v || f w)) → f spent_view ≡ false
+      → (ms : List (Mutator R)) → f (gathered_all (map view_of ms)) ≡ true → SomeView ms (λ (v : View). f v ≡ true)
+  some_flag f joins none =
+      all_some (λ (v : View). f v ≡ true) (λ v w both. or_cases (f v) (f w) (sym (joins v w) ∙ both))
+      (λ is. false≢true (sym none ∙ is))
+
+  causes : (f : View → Bool) → ((v : View) → f v ≡ true → has_cause v ≡ true) → (ms : List (Mutator R))
+      → SomeView ms (λ (v : View). f v ≡ true) → SomeCause ms
+  causes f cause ms one =
+      record { place = one.place; mutator = one.mutator; at = one.at; is = cause (view_of one.mutator) one.is }
+
+  pub some_cause : (ms : List (Mutator R)) → has_cause (gathered_all (map view_of ms)) ≡ true → SomeCause ms
+  some_cause ms has =
+      let all : View = gathered_all (map view_of ms) in
+      elim (or_cases all.asked (all.spaced || all.forwarded) has) [
+        | inl asked ↦ causes (λ v. v.asked) (λ v is. or_left v.asked (v.spaced || v.forwarded) is) ms
+            (some_flag (λ v. v.asked) (λ v w. refl) refl ms asked)
+        | inr lacks ↦ elim (or_cases all.spaced all.forwarded lacks) [
+          | inl spaced ↦ causes (λ v. v.spaced)
+              (λ v is. or_right v.asked (v.spaced || v.forwarded) (or_left v.spaced v.forwarded is)) ms
+              (some_flag (λ v. v.spaced) (λ v w. refl) refl ms spaced)
+          | inr forwarded ↦ causes (λ v. v.forwarded)
+              (λ v is. or_right v.asked (v.spaced || v.forwarded) (or_right v.spaced v.forwarded is)) ms
+              (some_flag (λ v. v.forwarded) (λ v w. refl) refl ms forwarded)
+        ]
+      ]
 
   -- the thread of a seat that was taken in, and what it had seen
   abbrev pub away_of : Mutator R → Away

@@ -1,10 +1,12 @@
 -- A mutator whose registers changed.
 use Rattle.std.proofs.Common.{◌≡◌, ◌≢◌, ℕ, ◌+◌, ◌-◌, ◌<◌, Bool, true, false, List, [], ◌∷◌, ◌++◌, length, take}
-use Rattle.std.proofs.Common.{refl, sym, ◌∙◌, ap, subst, arith, inl, inr, eq-eqb, ne_eqb}
+use Rattle.std.proofs.Common.{Ok, refl, sym, ◌∙◌, ap, subst, arith, inl, inr, eq-eqb, ne_eqb}
 use Rattle.std.proofs.Math.ListN.{length-set}
 use Rattle.std.proofs.Math.Seq.{take-append_seam}
 use Rattle.std.specs.Prelude.{Option, unwrap_or, option_and_then, if◌then◌else◌}
 use Rattle.std.specs.Option.{option_map}
+use Rattle.std.proofs.lemmas.Bool.{cases_eq}
+use Rattle.atomic_table.specs.declared.shared.Seat.{Seat}
 use Rattle.melt_model.proofs.Histories.{slice_get-append_seam}
 use Rattle.melt_model.specs.History.{given}
 use Rattle.melt_model.specs.Thread.{given_at, unchanged, value_eq, value_in}
@@ -13,6 +15,7 @@ use Rattle.melt_model.specs.declared.history.Entry.{Entry}
 use Rattle.melt_model.specs.declared.history.Value.{Value}
 use Rattle.melt_model.specs.declared.history.Value.TheVariants.{Nil, Num, Ref}
 use Rattle.melt_model.specs.declared.operations.Op.TheVariants as op
+use Rattle.melt_model.specs.declared.operations.Reply.{Reply}
 use Rattle.melt_model.specs.declared.operations.Reply.TheVariants as reply
 use Rattle.melt_core.proofs.Answers.{Answers_by}
 use Rattle.melt_core.specs.Answering.{Answers}
@@ -21,6 +24,7 @@ use Rattle.melt_rule.specs.Seats.{EpochWords, knows_of}
 use Rattle.melt_rule.specs.Tells.{IsWithin, Names}
 use Rattle.melt_rule.specs.declared.view.View.{View}
 use Rattle.melt_epoch.proofs.Seated.{stand_set}
+use Rattle.melt_epoch.specs.Calls.{HoldsOnly}
 use Rattle.melt_epoch.specs.Mutators.{IsSeated, last_given, with_held}
 use Rattle.melt_epoch.specs.declared.mutator.Mutator.{Mutator}
 
@@ -59,6 +63,24 @@ seated_set words m r address value seated few below names = record {
       seated.registers
       names;
 }
+
+-- nothing else of a mutator changes where a register holds what a call found
+pub holds_only : {R : Type 0} (m n : Mutator R) (seat : Option (Seat ℕ View)) (reader : Option R) (dst address : ℕ)
+    (value : Value) → n ≡ with_held (record m { seat = seat; reader = reader }) dst address value
+    → n ≡ with_held (record m { seat = n.seat; reader = n.reader }) dst address value
+holds_only {R} m n seat reader dst address value is =
+    subst (λ (x : Mutator R). x ≡ with_held (record m { seat = x.seat; reader = x.reader }) dst address value) (sym is)
+    refl
+
+pub holds_found : {R : Type 0} (m n : Mutator R) (seat : Option (Seat ℕ View)) (reader : Option R) (dst address : ℕ)
+    (value : Value) (r : Reply) → n ≡ with_held (record m { seat = seat; reader = reader }) dst address value
+    → (address ≡ 0 → r ≡ reply.Null) → (address ≢ 0 → r ≡ reply.Ref) → HoldsOnly m n dst (Ok r)
+holds_found m n seat reader dst address value r is null some_ = elim (cases_eq address 0) [
+  | inl none ↦ subst (λ (x : Reply). HoldsOnly m n dst (Ok x)) (sym (null none))
+      (address, value, holds_only m n seat reader dst address value is)
+  | inr object ↦ subst (λ (x : Reply). HoldsOnly m n dst (Ok x)) (sym (some_ object))
+      (address, value, holds_only m n seat reader dst address value is)
+]
 
 -- equal addresses stand for equal values
 value_same : (v : Value) → value_eq v v ≡ true

@@ -1,5 +1,6 @@
 -- A mutator whose register holds what a load read, or whose load was refused.
-use Rattle.std.proofs.Common.{◌≡◌, ◌≢◌, ◌⊎◌, ℕ, ◌<◌, ◌++◌, Bool, List, length, refl, sym, ◌∙◌, ap, subst, arith, inl, inr}
+use Rattle.std.proofs.Common.{◌≡◌, ◌≢◌, ◌⊎◌, ℕ, ◌<◌, ◌++◌, Bool, List, length, refl, sym, ◌∙◌, ap, subst, arith, inl}
+use Rattle.std.proofs.Common.{inr}
 use Rattle.std.proofs.Math.ListN.{set}
 use Rattle.std.specs.Prelude.{Option, Some}
 use Rattle.atomic_table.specs.declared.shared.Seat.{Seat}
@@ -88,8 +89,8 @@ module _ {R : Type 0} (words : EpochWords) (m : Mutator R) (seated : IsSeated wo
   pub kept_seated : (most : ℕ) → Counts (knows_of seat) (knows_of new) 0 0 most
       → IsSeated words (record m { seat = Some new; reader = reader })
   kept_seated most counts =
-      seated_by words (record m { reader = reader }) (seated_reader words m reader seated) seat is new idle counts.thread
-      counts.parts counts.away counts.known
+      seated_by words (record m { reader = reader }) (seated_reader words m reader seated) seat is new
+      idle counts.thread counts.parts counts.away counts.known
 
 -- nothing was in the register
 pub nil_read : (v w : View) (rs : List Value) (dst src i most : ℕ) → w ≡ v → Sees v v.seen → value_in rs src ≡ Nil
@@ -121,7 +122,8 @@ range_read v w rs dst src i n most is lacks =
     }
 
 -- or has it
-pub slot_read : (v w : View) (old new : List Value) (dst src i n most address : ℕ) (r : Reply) → value_in old src ≡ Ref n
+pub slot_read : (v w : View) (old new : List Value) (dst src i n most address : ℕ) (r : Reply)
+    → value_in old src ≡ Ref n
     → (from : LoadsFrom v w n i most address) → found from.loads.value ≡ r → new ≡ set old dst from.loads.value
     → HasRead v w old new dst src i most r
 slot_read v w old new dst src i n most address r is from told_ values =

@@ -10,6 +10,7 @@ use Rattle.melt_model.specs.declared.history.Act.TheVariants.{Read}
 use Rattle.melt_model.specs.declared.history.Entry.{Entry}
 use Rattle.melt_model.specs.declared.history.Slot.{Slot}
 use Rattle.melt_model.specs.declared.history.Slot.TheVariants as slot
+use Rattle.melt_model.specs.declared.history.Value.{Value}
 use Rattle.melt_model.specs.declared.operations.Op.TheVariants.{Collect}
 use Rattle.melt_word.specs.Words.{cost_of}
 use Rattle.melt_word.specs.declared.header.Shape.{Shape}
@@ -26,19 +27,22 @@ use Rattle.melt_core.specs.declared.call.Search.{Search}
 use Rattle.melt_core.specs.declared.call.Place.{Place}
 use Rattle.melt_core.specs.declared.call.Place.TheVariants.{Field, Global}
 use Rattle.melt_rule.specs.Coming.{HomeHas}
-use Rattle.melt_rule.specs.Rule.{Begins, Has, has_cause, is_lacking}
+use Rattle.melt_rule.specs.Rule.{Begins, Has, has_cause, is_bound}
 use Rattle.melt_rule.specs.Seats.{EpochWords, IsSeat, MayGoOn, knows_of}
-use Rattle.melt_rule.specs.Tells.{FitsIn, SearchFits, Adds, Finds, HasAll, Heads, Looks, Polls, Reads, Reaches, Sees, search_for}
+use Rattle.melt_rule.specs.Tells.{FitsIn, SearchFits, Adds, Finds, HasAll, Looks, Polls, Reads, Reaches, Sees}
+use Rattle.melt_rule.specs.Tells.{search_for}
 use Rattle.melt_rule.specs.declared.began.Began.{Began}
 use Rattle.melt_rule.specs.declared.began.Pair.{Pair}
 use Rattle.melt_rule.specs.declared.view.Doing.{Doing}
 use Rattle.melt_rule.specs.declared.view.Doing.TheVariants.{Searching}
 use Rattle.melt_rule.specs.declared.view.View.{View}
 use Rattle.melt_epoch.proofs.Copies.{home_has_on}
-use Rattle.melt_epoch.proofs.Following.{Way, adds_on, counts_most, counts_on, sees_on, shape_stays, sound_adds, sound_sees}
+use Rattle.melt_epoch.proofs.Following.{Way, adds_on, counts_most, counts_on, sees_on, shape_stays, sound_adds}
+use Rattle.melt_epoch.proofs.Following.{sound_sees}
 use Rattle.melt_epoch.proofs.Following.{step_counts}
-use Rattle.melt_epoch.proofs.Plainly.{asked_plain, headed_way}
-use Rattle.melt_epoch.proofs.Toward.{Toward, goes_then, toward_counts, toward_full, toward_itself, toward_lacked, toward_on}
+use Rattle.melt_epoch.proofs.Plainly.{Opened, asked_plain, headed_way}
+use Rattle.melt_epoch.proofs.Toward.{Toward, goes_then, toward_counts, toward_full, toward_itself, toward_lacked}
+use Rattle.melt_epoch.proofs.Toward.{toward_on}
 use Rattle.melt_epoch.specs.Bringing.{Brings, Brought, reached}
 use Rattle.melt_epoch.specs.Calls.{Counts}
 use Rattle.melt_epoch.specs.Epochs.{Fits}
@@ -47,7 +51,8 @@ use Rattle.melt_epoch.specs.Loading.{LacksSlot, Resolves, SlotAt}
 use Rattle.melt_epoch.specs.Mutators.{IsIdle}
 
 -- what is known of a place stays known
-pub slot_more : (old new : List Pair) (place : Place) (s : Slot) → HasAll old new → SlotAt old place s → SlotAt new place s
+pub slot_more : (old new : List Pair) (place : Place) (s : Slot) → HasAll old new → SlotAt old place s
+    → SlotAt new place s
 slot_more old new (Field object i) s more at = (at.0, more object at.0 at.1, at.2)
 slot_more old new (Global g) s more at = at
 
@@ -137,7 +142,8 @@ module _ (v w : View) (s : Slot) (place : Place) (home : ℕ) (finds : Finds v w
       (λ a m has. brought.goes.counts.known a m (looked_toward.counts.known a m has))
 
   -- it found a home, whose object was brought
-  pub home_loads : (u x : View) (n most target address : ℕ) → n + 2 ≤ most → Brought w u (search_for place home) n target
+  pub home_loads : (u x : View) (n most target address : ℕ) → n + 2 ≤ most
+      → Brought w u (search_for place home) n target
       → Reads u x s address → Loads v x s most address
   home_loads u x n most target address few brought reads =
       let goes = goes_then v w u brought.words brought.wins 1 n (n + 1) (reached (search_for place home) target)
@@ -158,12 +164,18 @@ module _ (v w : View) (s : Slot) (place : Place) (home : ℕ) (finds : Finds v w
 
   -- or was not
   module _ (told : Bool) (image : Option (List ℕ)) (scions : Scions) (end before after : ℕ) where
-    pub home_refused : (u : View) (n most : ℕ) (why : Refusal) → n + 1 ≤ most
+    pub home_refused : (u : View) (n most : ℕ) (why : Refusal) → home < end → n + 1 ≤ most
         → Brings told image scions end before after w u (search_for place home) n (Err why)
         → Resolves told image scions end before after v u s most (Err why)
-    home_refused u n most why few (inl (inl found)) = inl (record {
+    home_refused u n most why below few (inl (inl found)) = inl (record {
       words = found.words;
-      full = toward_full v w u 0 found.words found.words 1 n most why (omega arith) (omega arith) looked_toward found.full;
+      full = toward_full v w u 0 found.words found.words 1 n most why (omega arith) (omega arith)
+          looked_toward found.full;
+      read =
+          let began = ap (λ (b : Began). b.forwards) looked_toward.counts.began in
+          let look = ap (λ (x : View). x.steps) finds.reaches.is in
+          let all = found.read in
+          omega arith;
       claims = elim found.claims [
         | inl none ↦ inl none
         | inr some_ ↦ inr (
@@ -173,7 +185,7 @@ module _ (v w : View) (s : Slot) (place : Place) (home : ℕ) (finds : Finds v w
         )
       ];
     })
-    home_refused u n most why few (inl (inr lacks)) = inr (inl (record {
+    home_refused u n most why below few (inl (inr lacks)) = inr (inl (record {
       shape = lacks.shape;
       held = held_has v w u s place home lacks.shape finds looked_toward.counts.began lacks.sees.begins lacks.object;
       is = lacks.is;
@@ -181,8 +193,9 @@ module _ (v w : View) (s : Slot) (place : Place) (home : ℕ) (finds : Finds v w
       lacked = toward_lacked v w u (cost_of lacks.shape) 1 n most (omega arith) looked_toward lacks.lacked;
       over = lacks.over;
     }))
-    home_refused u n most why few (inr lost) = inr (inr (record {
+    home_refused u n most why below few (inr lost) = inr (inr (record {
       home = home;
+      below = below;
       stays = record {
         sees = looked_toward.on u.seen lost.0.sees;
         counts = subst (λ (c : ℕ). Counts v u c 0 most) (let e : 0 + 0 ≡ 0 = omega arith in e)
@@ -248,6 +261,11 @@ module _ (v u x : View) (s : Slot) (m n k : ℕ) (le : m + n ≤ k) (way : Way v
     refused_on why (inl full) = inl (record {
       words = full.words;
       full = toward_full v u x 0 full.words full.words m n k why (omega arith) le toward_way full.full;
+      read =
+          let began = ap (λ (b : Began). b.forwards) way.counts.began in
+          let before = way.counts.counted in
+          let all = full.read in
+          omega arith;
       claims = elim full.claims [
         | inl none ↦ inl none
         | inr some_ ↦ inr (some_.0, some_.1, held_on some_.0 some_.2)
@@ -263,6 +281,7 @@ module _ (v u x : View) (s : Slot) (m n k : ℕ) (le : m + n ≤ k) (way : Way v
     }))
     refused_on why (inr (inr lost)) = inr (inr (record {
       home = lost.home;
+      below = lost.below;
       stays = record {
         sees = toward_way.on x.seen lost.stays.sees;
         counts = counts_all 0 0 lost.stays.counts;
@@ -281,23 +300,23 @@ module _ (words : EpochWords) (v : View) (seat : Seat ℕ View) (s : Slot) (k : 
       (result : Result ℕ Refusal) → Resolves told image scions end before after v (knows_of seat) s k result
       → IsIdle words seat
   resolved_idle told image scions end before after (Ok address) loads =
-      idle_by (ap is_lacking loads.over)
+      idle_by (ap is_bound loads.over)
       (sound_adds v (knows_of seat) (Read s loads.value) loads.adds loads.counts.began)
   resolved_idle told image scions end before after (Err why) (inl full) =
-      idle_by (ap is_lacking full.full.over) (sound_sees v (knows_of seat) full.full.sees full.full.filled.began)
+      idle_by (ap is_bound full.full.over) (sound_sees v (knows_of seat) full.full.sees full.full.filled.began)
   resolved_idle told image scions end before after (Err why) (inr (inl lacks)) =
-      idle_by (ap is_lacking lacks.over) (sound_sees v (knows_of seat) lacks.sees lacks.lacked.began)
+      idle_by (ap is_bound lacks.over) (sound_sees v (knows_of seat) lacks.sees lacks.lacked.began)
   resolved_idle told image scions end before after (Err why) (inr (inr lost)) =
       idle_by lost.stays.goes_on (sound_sees v (knows_of seat) lost.stays.sees lost.stays.counts.began)
 
 -- the stop word was set
 pub asked_load : (v w : View) (k : ℕ) → 1 ≤ k → Polls v w true → LoadAsked v w k (Pause Asked)
 asked_load v w k some_ polls = record {
-  was = (refl, ap (λ (x : View). x.stopped) polls.1);
+  was = (refl, polls);
   stays = record {
     sees = polls.0;
     counts = (asked_plain v w [] Collect k some_ polls).counts;
-    goes_on = ap is_lacking (ap (λ (x : View). x.doing) polls.1);
+    goes_on = ap is_bound (ap (λ (x : View). x.doing) polls.1);
   };
 }
 
@@ -339,50 +358,49 @@ shaped_before v u x act n z all last_ thread at =
     at
 
 -- a load of a slot, behind the header of its object
-module _ (v w u : View) (address n : ℕ) (z : Shape) (sound : Sees v v.seen) (polls : Polls v w false)
-    (heads : Heads w u address n z) where
-  shaped_here : v.began.told ≡ true → shape u.seen n ≡ Some (record { refs = z.refs; nums = z.nums })
-  shaped_here told = heads.shaped (ap (λ (x : View). x.began.told) polls.0.is ∙ told)
+module _ {v w u : View} {address : ℕ} {z : Shape} {value : Value} (h : Opened v w u address z value) where
+  opened_way : Way v u 0 0 2
+  opened_way = headed_way v w u address h.object z h.sound h.polls h.heads
 
-  pub no_slot : (i k : ℕ) → 2 ≤ k → z.refs ≤ i → LacksSlot v u n i k
-  no_slot i k few none =
-      let way = headed_way v w u address n z sound polls heads in
-      record {
-        z = z;
-        few = none;
-        shaped = shaped_here;
-        stays = record {
-          sees = way.sees;
-          counts = counts_most v u 0 0 2 k few way.counts;
-          goes_on = ap is_lacking (ap (λ (x : View). x.doing) heads.reaches.is);
-        };
-      }
+  shaped_here : v.began.told ≡ true → shape u.seen h.object ≡ Some (record { refs = z.refs; nums = z.nums })
+  shaped_here told = h.heads.shaped (ap (λ (x : View). x.began.told) h.polls.0.is ∙ told)
 
-  pub slot_loads : (x : View) (i m k target : ℕ) → m + 2 ≤ k → i < z.refs → Loads u x (slot.Field n i) m target
-      → LoadsFrom v x n i k target
+  pub no_slot : (i k : ℕ) → 2 ≤ k → z.refs ≤ i → LacksSlot v u h.object i k
+  no_slot i k few none = record {
+    z = z;
+    few = none;
+    shaped = shaped_here;
+    stays = record {
+      sees = opened_way.sees;
+      counts = counts_most v u 0 0 2 k few opened_way.counts;
+      goes_on = ap is_bound (ap (λ (x : View). x.doing) h.heads.reaches.is);
+    };
+  }
+
+  pub slot_loads : (x : View) (i m k target : ℕ) → m + 2 ≤ k → i < z.refs → Loads u x (slot.Field h.object i) m target
+      → LoadsFrom v x h.object i k target
   unfolding loads_on
   slot_loads x i m k target le below loads =
-      let way = headed_way v w u address n z sound polls heads in
-      let all = loads_on v u x (slot.Field n i) 2 m k (omega arith) way target loads in
+      let all = loads_on v u x (slot.Field h.object i) 2 m k (omega arith) opened_way target loads in
       record {
         z = z;
         below = below;
         loads = all;
-        shaped = λ told. shaped_before v u x (Read (slot.Field n i) loads.value) n
+        shaped = λ told. shaped_before v u x (Read (slot.Field h.object i) loads.value) h.object
             (record { refs = z.refs; nums = z.nums })
-            all.adds loads.adds way.counts.thread (shaped_here told);
+            all.adds loads.adds opened_way.counts.thread (shaped_here told);
       }
 
   module _ (told : Bool) (image : Option (List ℕ)) (scions : Scions) (end before after : ℕ) where
     pub slot_refused : (x : View) (i m k : ℕ) (why : Refusal) → m + 2 ≤ k
-        → LoadRefused told image scions end before after u x (slot.Field n i) m why
-        → LoadRefused told image scions end before after v x (slot.Field n i) k why
+        → LoadRefused told image scions end before after u x (slot.Field h.object i) m why
+        → LoadRefused told image scions end before after v x (slot.Field h.object i) k why
     slot_refused x i m k why le refused =
-        refused_on v u x (slot.Field n i) 2 m k (omega arith) (headed_way v w u address n z sound polls heads) told image
-        scions end before after why refused
+        refused_on v u x (slot.Field h.object i) 2 m k (omega arith) opened_way told image scions end before after why
+        refused
 
   -- what a look asks and leaves
   pub slot_cause : (x : View) (s : Slot) (place : Place) (found : word.Ref) → Looks u x s place found
       → has_cause x ≡ false
   slot_cause x s place found looks =
-      looks_cause u x s place found looks ∙ (ap has_cause heads.reaches.is ∙ (ap has_cause polls.0.is ∙ polls.1))
+      looks_cause u x s place found looks ∙ (ap has_cause h.heads.reaches.is ∙ (ap has_cause h.polls.0.is ∙ h.polls.1))

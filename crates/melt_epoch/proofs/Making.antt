@@ -13,11 +13,13 @@ use Rattle.melt_rule.proofs.Loads.{snoc_here, snoc_old}
 use Rattle.melt_rule.specs.Making.{Claims, Lacks, Makes as Publishes}
 use Rattle.melt_rule.specs.Rule.{Has}
 use Rattle.melt_rule.specs.Tells.{Adds, HasAll, Polls, Reaches, Sees, Stops, behind}
+use Rattle.melt_rule.specs.declared.began.Began.{Began}
 use Rattle.melt_rule.specs.declared.began.Pair.{Pair}
 use Rattle.melt_rule.specs.declared.view.Doing.{Doing}
 use Rattle.melt_rule.specs.declared.view.Doing.TheVariants.{Claimed, Polled}
 use Rattle.melt_rule.specs.declared.view.View.{View}
-use Rattle.melt_epoch.proofs.Following.{Way, adds_on, counts_on, idle_way, no_counts, reach_way, sees_on, sound_sees, step_counts}
+use Rattle.melt_epoch.proofs.Following.{Way, adds_on, counts_on, first_on, idle_way, no_counts, reach_way, sees_on}
+use Rattle.melt_epoch.proofs.Following.{sound_sees, step_counts}
 use Rattle.melt_epoch.specs.Calls.{Counts, Fills, LacksRoom, Made}
 use Rattle.melt_core.specs.declared.answer.Pause.TheVariants.{Space}
 use Rattle.melt_core.specs.declared.answer.Refusal.TheVariants.{Pause}
@@ -51,6 +53,7 @@ claimed_counts v h doing cost = record {
   over = refl;
   won = omega arith;
   steps = omega arith;
+  counted = omega arith;
 }
 
 pub claimed_way : (v w u : View) (address cost : ℕ) → Sees v v.seen → Polls v w false → Claims w u address cost
@@ -110,6 +113,7 @@ made_it v w u x y address z claims sound polls fills publishes some_ =
       over = counts.over;
       won = let c = counts.won in omega arith;
       steps = let c = counts.steps in omega arith;
+      counted = counts.counted;
     }
 
 -- behind a claim that does not fit, and the stop word
@@ -134,7 +138,8 @@ lacked_it v w u x z sound polls lacks stops =
         known = λ a n has. subst (λ (k : View). Has k.known a n) (sym stops.is) (known_u a n has);
         asked = ap (λ (k : View). k.asked) stops.is ∙ (ap (λ (k : View). k.asked) lacks.is ∙ first.asked);
         spaced = ap (λ (k : View). k.spaced) stops.is ∙ ap (λ (k : View). k.spaced) lacks.is;
-        forwarded = ap (λ (k : View). k.forwarded) stops.is ∙ (ap (λ (k : View). k.forwarded) lacks.is ∙ first.forwarded);
+        forwarded = ap (λ (k : View). k.forwarded) stops.is
+            ∙ (ap (λ (k : View). k.forwarded) lacks.is ∙ first.forwarded);
         claimed =
             let a = ap (λ (k : View). k.claimed) stops.is in
             let b = ap (λ (k : View). k.claimed) lacks.is in
@@ -155,6 +160,14 @@ lacked_it v w u x z sound polls lacks stops =
             let b = ap (λ (k : View). k.steps) lacks.is in
             let c = first.steps in
             omega arith;
+        counted =
+            let a = ap (λ (k : View). k.steps) stops.is in
+            let b = ap (λ (k : View). k.steps) lacks.is in
+            let c = first.counted in
+            omega arith;
+        found = lacks.found;
+        first = first_on v w 1 lacks.found first lacks.first;
+        past = let b = ap (λ (b : Began). b.size) first.began in let p = lacks.past in omega arith;
       };
     }
 

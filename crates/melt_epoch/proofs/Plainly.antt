@@ -19,12 +19,13 @@ use Rattle.melt_core.specs.Answering.{Answers, entry}
 use Rattle.melt_core.specs.declared.answer.Pause.TheVariants.{Asked}
 use Rattle.melt_core.specs.declared.answer.Refusal.TheVariants.{Pause}
 use Rattle.melt_rule.specs.Rule.{Has}
-use Rattle.melt_rule.specs.Seats.{EpochWords, IsSeat, knows_of}
-use Rattle.melt_rule.specs.Tells.{Adds, Ends, Heads, Names, Polls, Sees, behind}
+use Rattle.melt_rule.specs.Seats.{EpochWords, IsSeat, SpeaksOf, knows_of}
+use Rattle.melt_rule.specs.Tells.{Adds, Ends, HasAll, Heads, Names, Polls, Sees, behind}
 use Rattle.melt_rule.specs.declared.began.Began.{Began}
 use Rattle.melt_rule.specs.declared.view.Doing.TheVariants.{Headed, Polled}
 use Rattle.melt_rule.specs.declared.view.View.{View}
-use Rattle.melt_epoch.proofs.Following.{Way, adds_on, between_own, idle_seat, idle_way, counts_most, counts_on, reach_way}
+use Rattle.melt_epoch.proofs.Following.{Way, adds_on, between_own, idle_seat, idle_way, counts_most, counts_on}
+use Rattle.melt_epoch.proofs.Following.{reach_way}
 use Rattle.melt_epoch.proofs.Following.{shape_stays, sound_adds, sound_sees, step_counts}
 use Rattle.melt_epoch.specs.Calls.{Counts, Plain, Replies}
 use Rattle.melt_epoch.specs.Mutators.{IsIdle}
@@ -93,6 +94,7 @@ asked_counts v w is = record {
   over = ap (λ (x : View). x.over) is;
   won = let e = ap (λ (x : View). x.won) is in omega arith;
   steps = let s = ap (λ (x : View). x.steps) is in omega arith;
+  counted = let s = ap (λ (x : View). x.steps) is in omega arith;
 }
 
 -- the stop word was set
@@ -101,7 +103,7 @@ pub asked_plain : (v w : View) (rs : List Value) (o : Op) (most : ℕ) → 1 ≤
 asked_plain v w rs o most some_ polls = record {
   comes = (polls.0, refl);
   counts = counts_most v w 0 0 1 most some_ (asked_counts v w polls.1);
-  refused = (refl, ap (λ (x : View). x.stopped) polls.1);
+  refused = (refl, polls);
 }
 
 pub asked_idle : (words : EpochWords) (v : View) (seat : Seat ℕ View) → IsSeat words seat → Polls v (knows_of seat) true
@@ -189,3 +191,59 @@ pub headed_knows : (v w u : View) (a n address m : ℕ) (z : word.Shape) → Pol
     → Has v.known a n → Has u.known a n
 headed_knows v w u a n address m z polls heads has =
     subst (λ (x : View). Has x.known a n) (sym heads.reaches.is) (polled_knows v w a n polls has)
+
+-- What a call knows of the object in a register, behind the load of its header.
+pub record Opened (v w u : View) (address : ℕ) (z : word.Shape) (value : Value) : Type 0 where
+  pub object : ℕ
+  pub is : value ≡ Ref object
+  pub sound : Sees v v.seen
+  pub polls : Polls v w false
+  pub heads : Heads w u address object z
+  pub known : Has u.known address object
+  pub more : HasAll v.known u.known
+
+pub opened : (words : EpochWords) (seat : Seat ℕ View) (w u : View) (address : ℕ) (z : word.Shape) (value : Value)
+    → IsIdle words seat → Names (knows_of seat).known address value → (address ≡ 0 → ⊥)
+    → Polls (knows_of seat) w false → ((n : ℕ) → Has w.known address n → Heads w u address n z)
+    → Opened (knows_of seat) w u address z value
+opened words seat w u address z value idle names some_ polls loads =
+    let v = knows_of seat in
+    let found = held_object words seat address value idle names some_ in
+    let heads = loads found.0 (polled_knows v w address found.0 polls found.2) in
+    let more : HasAll v.known u.known = λ a n has. headed_knows v w u a n address found.0 z polls heads has in
+    record {
+      object = found.0;
+      is = found.1;
+      sound = idle.sound;
+      polls = polls;
+      heads = heads;
+      known = more address found.0 found.2;
+      more = more;
+    }
+
+module _ {v w u : View} {address : ℕ} {z : word.Shape} {value : Value} where
+  -- the object lacks the part
+  pub opened_range : (rs : List Value) (o : Op) (most : ℕ) (h : Opened v w u address z value) → 2 ≤ most
+      → LacksPart rs o h.object z → Plain v u rs rs o most (Ok reply.Range)
+  opened_range rs o most h many lacks =
+      range_plain v w u rs o most address h.object z many h.sound h.polls h.heads lacks
+
+  -- the call may speak of it
+  pub opened_speaks : (P : word.Shape → Type 0) → Opened v w u address z value → P z → SpeaksOf u address P
+  opened_speaks P h has = ((h.object, h.known), (z, ap (λ (x : View). x.doing) h.heads.reaches.is, has))
+
+  -- and then ends with an entry
+  pub opened_ends : (x : View) (act : Act) (h : Opened v w u address z value) → Ends u x act
+      → EndsBehind v x act h.object z
+  opened_ends x act h ends = ends_behind v w u x act address h.object z h.sound h.polls h.heads ends
+
+  pub opened_ended : (words : EpochWords) (seat : Seat ℕ View) (act : Act) → Opened v w u address z value
+      → Ends u (knows_of seat) act → IsSeat words seat → IsIdle words seat
+  opened_ended words seat act h ends is_seat =
+      let behind = opened_ends (knows_of seat) act h ends in
+      ended_idle words v u seat act behind.adds behind.counts ends is_seat
+
+pub opened_idle : {v w : View} {address : ℕ} {z : word.Shape} {value : Value} (words : EpochWords) (seat : Seat ℕ View)
+    → Opened v w (knows_of seat) address z value → IsSeat words seat → IsIdle words seat
+opened_idle {v} {w} {address} {z} words seat h is_seat =
+    headed_idle words v w seat address h.object z h.sound h.polls h.heads is_seat

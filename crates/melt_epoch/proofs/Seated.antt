@@ -4,7 +4,7 @@ use Rattle.std.proofs.Math.ListN.{set, length-set}
 use Rattle.std.proofs.lemmas.List.{get_or-set_same, get_or-set_other}
 use native.Mathlib.Decide.{ℕ_discrete}
 use Rattle.melt_model.specs.declared.history.Value.TheVariants.{Nil}
-use Rattle.std.specs.Prelude.{Some, slice_index}
+use Rattle.std.specs.Prelude.{Option, Some, slice_index}
 use Rattle.atomic_table.specs.declared.shared.Seat.{Seat}
 use Rattle.melt_model.specs.Thread.{value_in}
 use Rattle.melt_model.specs.declared.history.Value.{Value}
@@ -44,6 +44,16 @@ stand_set known regs values r address value has_value has_reg stand names q = el
       (subst (Names known (slice_index regs q)) (sym val) (stand q))
 ]
 
+-- what is so of two seats is so of those that a mutator has before and behind
+pub by_seats : (P : View → View → Type 0) (seat new s t : Seat ℕ View) (before after : Option (Seat ℕ View))
+    → Some seat ≡ before → after ≡ Some new → before ≡ Some s → after ≡ Some t → P (knows_of seat) (knows_of new)
+    → P (knows_of s) (knows_of t)
+by_seats P seat new s t before after is there at_s at_t holds =
+    let one : seat ≡ s = let both : Some seat ≡ Some s = is ∙ at_s in cc in
+    let two : new ≡ t = let both : Some new ≡ Some t = sym there ∙ at_t in cc in
+    subst (λ (x : Seat ℕ View). P (knows_of x) (knows_of t)) one
+    (subst (λ (y : Seat ℕ View). P (knows_of seat) (knows_of y)) two holds)
+
 module _ {R : Type 0} (words : EpochWords) (m : Mutator R) (seated : IsSeated words m) (seat : Seat ℕ View)
     (is : Some seat ≡ m.seat) where
   same_seat : seated.seat ≡ seat
@@ -54,8 +64,8 @@ module _ {R : Type 0} (words : EpochWords) (m : Mutator R) (seated : IsSeated wo
 
   pub names_here : (r : ℕ) → Names (knows_of seat).known (slice_index m.registers.regs r) (value_in m.values r)
   names_here r =
-      subst (λ (s : Seat ℕ View). Names (knows_of s).known (slice_index m.registers.regs r) (value_in m.values r)) same_seat
-      (seated.registers r)
+      subst (λ (s : Seat ℕ View). Names (knows_of s).known (slice_index m.registers.regs r) (value_in m.values r))
+      same_seat (seated.registers r)
 
   -- the mutator behind a call that leaves its registers
   pub seated_by : (new : Seat ℕ View) → IsIdle words new → (knows_of new).thread ≡ (knows_of seat).thread
@@ -104,9 +114,6 @@ module _ {R : Type 0} (words : EpochWords) (m : Mutator R) (seated : IsSeated wo
       → IsPlain m (record m { seat = Some new }) o most result
   plain_again new o most result plain = (
     refl,
-    λ s t at_s at_t.
-        let one : seat ≡ s = let both : Some seat ≡ Some s = is ∙ at_s in cc in
-        let two : new ≡ t = let both : Some new ≡ Some t = at_t in cc in
-        subst (λ (x : Seat ℕ View). Plain (knows_of x) (knows_of t) m.values m.values o most result) one
-        (subst (λ (y : Seat ℕ View). Plain (knows_of seat) (knows_of y) m.values m.values o most result) two plain),
+    λ s t at_s at_t. by_seats (λ (v w : View). Plain v w m.values m.values o most result) seat new s t
+        m.seat (Some new) is refl at_s at_t plain,
   )

@@ -15,7 +15,7 @@ use Rattle.melt_rule.specs.declared.began.Began.{Began}
 use Rattle.melt_rule.specs.declared.view.Doing.{Doing}
 use Rattle.melt_rule.specs.declared.view.Doing.TheVariants.{Searching}
 use Rattle.melt_rule.specs.declared.view.View.{View}
-use Rattle.melt_epoch.proofs.Following.{counts_most, counts_on, no_counts, sees_on, step_counts}
+use Rattle.melt_epoch.proofs.Following.{counts_most, counts_on, first_on, no_counts, sees_on, step_counts}
 use Rattle.melt_epoch.specs.Bringing.{IsFull, reached}
 use Rattle.melt_epoch.specs.Calls.{Counts, Filled, Goes, Lacked}
 
@@ -81,6 +81,7 @@ toward_filled v w u a m k le toward fills =
       over = ap (λ (x : View). x.over) is ∙ so.over;
       won = let e = ap (λ (x : View). x.won) is in let s = so.won in omega arith;
       steps = let e = ap (λ (x : View). x.steps) is in let s = so.steps in omega arith;
+      counted = let e = ap (λ (x : View). x.steps) is in let s = so.counted in omega arith;
     }
 
 -- a copy became the object of its home
@@ -105,6 +106,7 @@ toward_wins v w u a m k activation le toward wins =
         over = ap (λ (x : View). x.over) is ∙ so.over;
         won = let e = ap (λ (x : View). x.won) is in let s = so.won in omega arith;
         steps = let e = ap (λ (x : View). x.steps) is in let s = so.steps in omega arith;
+        counted = let e = ap (λ (x : View). x.steps) is in let s = so.counted in omega arith;
       };
       at = ap (λ (x : View). x.doing) is;
     }
@@ -162,6 +164,7 @@ toward_full v w u a c all m n k refusal sum le toward full =
         over = more.over ∙ so.over;
         won = let e = more.won in let s = so.won in omega arith;
         steps = let e = more.steps in let s = so.steps in omega arith;
+        counted = let e = more.counted in let s = so.counted in omega arith;
       };
       over = full.over;
     }
@@ -176,7 +179,8 @@ goes_then v w u a b m n k doing le toward goes = record {
   at = goes.at;
 }
 
-pub toward_lacked : (v w u : View) (need m n k : ℕ) → m + n ≤ k → Toward v w 0 0 m → Lacked w u need n → Lacked v u need k
+pub toward_lacked : (v w u : View) (need m n k : ℕ) → m + n ≤ k → Toward v w 0 0 m → Lacked w u need n
+    → Lacked v u need k
 toward_lacked v w u need m n k le toward more =
     let so = toward.counts in
     record {
@@ -192,4 +196,8 @@ toward_lacked v w u need m n k le toward more =
       over = let e = more.over in let s = so.over in omega arith;
       won = let e = more.won in let s = so.won in omega arith;
       steps = let e = more.steps in let s = so.steps in omega arith;
+      counted = let e = more.counted in let s = so.counted in omega arith;
+      found = more.found;
+      first = first_on v w m more.found so more.first;
+      past = let b = ap (λ (b : Began). b.size) so.began in let p = more.past in omega arith;
     }

@@ -39,6 +39,10 @@ pub record IsFull (v w : View) (words most : ℕ) (refusal : Refusal) : Type 0 w
   pub filled : Filled v w words most
   pub over : w.doing ≡ None
 
+-- Each of so many forwarding words was read, and then the stop word was set: the call made so many steps at least.
+abbrev pub ReadsAll : View → View → ℕ → Type 0
+ReadsAll v w words = v.steps + words + 1 ≤ w.steps
+
 -- What a search comes to: the address to which a word sends its home, or an empty word, or that there is none. Each word is
 -- read once.
 abbrev pub Seeks : View → View → Search → ℕ → Result Sought Refusal → Type 0
@@ -46,7 +50,9 @@ Seeks v w search forwards (Ok (sought.At address)) = Goes v w 0 0 (forwards - se
 Seeks v w search forwards (Ok (sought.Missed missed)) =
     Goes v w 0 0 (missed.tried + 1 - search.tried) (Missed missed) × (search.tried ≤ missed.tried)
     × (missed.tried < forwards) × (missed ≡ tried_to search missed.tried)
-Seeks v w search forwards (Err refusal) = IsFull v w 0 (forwards + 1 - search.tried) refusal
+    × (v.steps + (missed.tried + 1 - search.tried) ≤ w.steps)
+Seeks v w search forwards (Err refusal) =
+    IsFull v w 0 (forwards + 1 - search.tried) refusal × ReadsAll v w (forwards - search.tried)
 
 -- A copy is at hand: the next forwarding word was found empty, or is to be read.
 abbrev pub at_hand : Bool → Activation → Doing
@@ -67,7 +73,8 @@ pub record Settled (v w : View) (a : Activation) (forwards address : ℕ) : Type
 
 abbrev pub Settles : View → View → Activation → ℕ → Result ℕ Refusal → Type 0
 Settles v w a forwards (Ok address) = Settled v w a forwards address
-Settles v w a forwards (Err refusal) = IsFull v w 0 (2 * (forwards - a.search.tried) + 1) refusal
+Settles v w a forwards (Err refusal) =
+    IsFull v w 0 (2 * (forwards - a.search.tried) + 1) refusal × ReadsAll v w (forwards - a.search.tried)
 
 -- The words that a copy wants end past the last one, so that the call was refused.
 pub record LacksRoom (v w : View) (search : Search) (most : ℕ) (refusal : Refusal) : Type 0 where
@@ -92,15 +99,17 @@ pub record CopiedIn (v w : View) (search : Search) (z : Shape) (forwards address
   pub goes : Goes v w (cost_of z) wins (cost_of z + 1 + 2 * (forwards - search.tried)) (reached search address)
 
 -- The copy found no forwarding word.
-pub record FullBehind (v w : View) (search : Search) (z : Shape) (most : ℕ) (refusal : Refusal) : Type 0 where
+pub record FullBehind (v w : View) (search : Search) (z : Shape) (forwards most : ℕ) (refusal : Refusal) : Type 0 where
   pub object : HomeHas v w.seen search.home z
   pub full : IsFull v w (cost_of z) most refusal
+  pub read : ReadsAll v w (forwards - search.tried)
 
 -- what a copy of a Body that was read comes to
 abbrev pub Copies : View → View → Search → Shape → ℕ → Result ℕ Refusal → Type 0
 Copies v w search z forwards (Ok address) = CopiedIn v w search z forwards address
 Copies v w search z forwards (Err refusal) =
-    FullBehind v w search z (cost_of z + 2 + 2 * (forwards - search.tried)) refusal ⊎ LacksRoom v w search 2 refusal
+    FullBehind v w search z forwards (cost_of z + 2 + 2 * (forwards - search.tried)) refusal
+    ⊎ LacksRoom v w search 2 refusal
 
 -- What bringing an object back comes to, behind a home that was found. It claims words for one copy at most, of the object
 -- of that home.
@@ -115,6 +124,7 @@ pub record Brought (v w : View) (search : Search) (most address : ℕ) : Type 0 
 pub record FoundFull (v w : View) (search : Search) (most : ℕ) (refusal : Refusal) : Type 0 where
   pub words : ℕ
   pub full : IsFull v w words most refusal
+  pub read : ReadsAll v w (v.began.forwards - search.tried)
   pub claims : (words ≡ 0) ⊎ ((z : Shape) × (words ≡ cost_of z) × HomeHas v w.seen search.home z)
 
 -- the call was refused for want of forwarding words or of words

@@ -1,5 +1,5 @@
 -- What a call of a thread comes to.
-use Rattle.std.specs.Prelude.{◌≡◌, ◌⊎◌, ℕ, ◌+◌, ◌≤◌, true, false, List, ◌++◌, Some}
+use Rattle.std.specs.Prelude.{◌≡◌, ◌⊎◌, ℕ, ◌+◌, ◌<◌, ◌≤◌, true, false, List, ◌++◌, None, Some}
 use Rattle.std.specs.Prelude.{Result, Ok, Err, IfErr}
 use Rattle.atomic_table.specs.declared.shared.Seat.{Seat}
 use Rattle.melt_model.specs.History.{Legal, made}
@@ -9,18 +9,21 @@ use Rattle.melt_model.specs.declared.history.Entry.{Entry}
 use Rattle.melt_model.specs.declared.history.Value.{Value}
 use Rattle.melt_model.specs.declared.operations.Op.{Op}
 use Rattle.melt_model.specs.declared.operations.Reply.{Reply}
+use Rattle.melt_model.specs.declared.operations.Reply.TheVariants.{Nil, Range}
 use Rattle.melt_word.specs.Words.{cost_of}
 use Rattle.melt_word.specs.declared.header.Shape.{Shape}
 use Rattle.melt_core.specs.Answering.{Answers}
 use Rattle.melt_core.specs.declared.answer.Pause.TheVariants.{Asked, Space}
 use Rattle.melt_core.specs.declared.answer.Refusal.{Refusal}
 use Rattle.melt_core.specs.declared.answer.Refusal.TheVariants.{Pause}
+use Rattle.melt_rule.specs.Making.{FirstFree}
 use Rattle.melt_rule.specs.Rule.{Has, has_cause}
 use Rattle.melt_rule.specs.Seats.{knows_of}
-use Rattle.melt_rule.specs.Tells.{Adds, HasAll, Sees, Since}
+use Rattle.melt_rule.specs.Tells.{Adds, HasAll, Polls, Sees, Since, behind, caused}
 use Rattle.melt_rule.specs.declared.view.Doing.{Doing}
 use Rattle.melt_rule.specs.declared.view.Doing.TheVariants.{Claimed}
 use Rattle.melt_rule.specs.declared.view.View.{View}
+use Rattle.melt_epoch.specs.Mutators.{with_held}
 use Rattle.melt_epoch.specs.declared.mutator.Mutator.{Mutator}
 
 -- A call was answered. Behind all that was seen before and what others added since, history, registers and reply are those
@@ -38,7 +41,7 @@ Comes v w old new o (Ok reply) = Replies v w old new o reply
 Comes v w old new o (Err refusal) = Sees v w.seen × (new ≡ old)
 
 -- What a call leaves of the causes and counts of its seat: it claimed so many words, and won so many commits, in at most so
--- many steps. It may know more.
+-- many steps, all of which are counted. It may know more.
 pub record Counts (v w : View) (words wins most : ℕ) : Type 0 where
   pub thread : w.thread ≡ v.thread
   pub parts : w.parts ≡ v.parts
@@ -52,8 +55,10 @@ pub record Counts (v w : View) (words wins most : ℕ) : Type 0 where
   pub over : w.over ≡ v.over
   pub won : w.won ≡ v.won + wins
   pub steps : w.steps ≤ v.steps + most
+  pub counted : v.steps ≤ w.steps
 
--- The words that the call claimed end past the last one: it has the cause space since.
+-- The words that the call claimed, from the first free place that it found on, end past the last one: it has the cause
+-- space since.
 pub record Lacked (v w : View) (need most : ℕ) : Type 0 where
   pub thread : w.thread ≡ v.thread
   pub parts : w.parts ≡ v.parts
@@ -67,6 +72,10 @@ pub record Lacked (v w : View) (need most : ℕ) : Type 0 where
   pub over : w.over ≡ v.over + 1
   pub won : w.won ≡ v.won
   pub steps : w.steps ≤ v.steps + most
+  pub counted : v.steps ≤ w.steps
+  pub found : ℕ
+  pub first : FirstFree v found
+  pub past : v.began.size + 1 < found + need
 
 -- All forwarding words send other homes: the call has the cause forward since. It may have claimed words before.
 pub record Filled (v w : View) (words most : ℕ) : Type 0 where
@@ -82,6 +91,7 @@ pub record Filled (v w : View) (words most : ℕ) : Type 0 where
   pub over : w.over ≡ v.over
   pub won : w.won ≡ v.won
   pub steps : w.steps ≤ v.steps + most
+  pub counted : v.steps ≤ w.steps
 
 -- On its way the call came to this: it has no entry yet.
 pub record Goes (v w : View) (words wins most : ℕ) (doing : Doing) : Type 0 where
@@ -89,15 +99,15 @@ pub record Goes (v w : View) (words wins most : ℕ) (doing : Doing) : Type 0 wh
   pub counts : Counts v w words wins most
   pub at : w.doing ≡ Some doing
 
--- the call was refused as the stop word was found set
-abbrev pub WasAsked : View → Refusal → Type 0
-WasAsked w refusal = (refusal ≡ Pause Asked) × (w.stopped ≡ true)
+-- The call was refused as its first step, which was its only one, found the stop word set.
+abbrev pub WasAsked : View → View → Refusal → Type 0
+WasAsked v w refusal = (refusal ≡ Pause Asked) × Polls v w true
 
 -- A call that claims no words: what it comes to, which it does in so many steps, and why it is refused.
 pub record Plain (v w : View) (old new : List Value) (o : Op) (steps : ℕ) (result : Result Reply Refusal) : Type 0 where
   pub comes : Comes v w old new o result
   pub counts : Counts v w 0 0 steps
-  pub refused : IfErr result (WasAsked w)
+  pub refused : IfErr result (WasAsked v w)
 
 -- the same of the seats of a mutator before and after, which else stays
 abbrev pub IsPlain : {R : Type 0} → Mutator R → Mutator R → Op → ℕ → Result Reply Refusal → Type 0
@@ -124,7 +134,7 @@ pub record LacksRoom (v w : View) (z : Shape) (refusal : Refusal) : Type 0 where
 
 -- The call found the stop word set.
 pub record Asks (v w : View) (refusal : Refusal) : Type 0 where
-  pub was : WasAsked w refusal
+  pub was : WasAsked v w refusal
   pub sees : Sees v w.seen
   pub counts : Counts v w 0 0 1
 
@@ -144,9 +154,19 @@ IsMade m n o z result = (n.thread ≡ m.thread) × (n.reader ≡ m.reader)
     × ((s t : Seat ℕ View) → m.seat ≡ Some s → n.seat ≡ Some t
     → MakesFor (knows_of s) (knows_of t) m.values n.values o z result)
 
--- The thread asked all to stop. It has that cause, where it had none.
+-- What a call leaves of its mutator, but for the seat and the reader: one that was answered lets this register hold an
+-- address, and stand for a value, and changes no other; one that was refused changes none.
+abbrev pub HoldsOnly : {R : Type 0} → Mutator R → Mutator R → ℕ → Result Reply Refusal → Type 0
+HoldsOnly m n dst (Ok Nil) = n ≡ record m { seat = n.seat; reader = n.reader }
+HoldsOnly m n dst (Ok Range) = n ≡ record m { seat = n.seat; reader = n.reader }
+HoldsOnly m n dst (Ok answer) =
+    (address : ℕ) × (value : Value) × (n ≡ with_held (record m { seat = n.seat; reader = n.reader }) dst address value)
+HoldsOnly m n dst (Err refusal) = n ≡ record m { seat = n.seat; reader = n.reader }
+
+-- The thread asked all to stop, by one step. It has that cause, where it had none.
 pub record HasAsked (v w : View) : Type 0 where
   pub sees : Sees v w.seen
+  pub is : w ≡ caused (behind v w.seen v.known None)
   pub thread : w.thread ≡ v.thread
   pub began : w.began ≡ v.began
   pub known : w.known ≡ v.known

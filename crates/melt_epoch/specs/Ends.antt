@@ -13,11 +13,12 @@ use Rattle.melt_scion.specs.Placed.{Holds, Maps, MayHold, value_at}
 use Rattle.melt_scion.specs.Scions.{EachOnce}
 use Rattle.melt_scion.specs.State.{IsFresh, State}
 use Rattle.melt_scion.specs.declared.heap.Heap.{Heap}
-use Rattle.melt_rule.specs.Beginning.{maps_of}
+use Rattle.melt_core.specs.StaleBits.{BitsTold}
 use Rattle.melt_rule.specs.Giving.{spent_view}
-use Rattle.melt_rule.specs.Rule.{Begins, Has, Saw, filled}
+use Rattle.melt_rule.specs.Rule.{Begins, Has, Saw, filled, has_cause}
 use Rattle.melt_rule.specs.Seats.{EpochWords, knows_of}
-use Rattle.melt_rule.specs.Shown.{home_of}
+use Rattle.melt_rule.specs.Shown.{home_of, maps_of}
+use Rattle.melt_rule.specs.Sights.{first_sight, last_sight}
 use Rattle.melt_rule.specs.declared.began.Began.{Began}
 use Rattle.melt_rule.specs.declared.began.Start.{Start}
 use Rattle.melt_rule.specs.declared.view.View.{View}
@@ -40,8 +41,8 @@ unseated m = record m { seat = None }
 abbrev pub disk_of : Began → OnDisk
 disk_of b = record { end = b.end; homes = map home_of b.homes; free_homes = b.free_homes; image = slice_index b.image }
 
--- The epoch begins with this heap, which keeps no names, and in which no forwarding word is filled. It is small enough
--- for the words of an epoch, and each scion names one of its addresses.
+-- The epoch begins with this heap and its words. The heap keeps no names, and no forwarding word is filled. It is small
+-- enough for the words of an epoch, and each scion names one of its addresses.
 pub record HeapBegins (b : Began) (heap : Heap) (end : ℕ) : Type 0 where
   pub size : length heap.space.list ≡ b.size
   pub globals : length heap.globals ≡ b.globals
@@ -49,6 +50,7 @@ pub record HeapBegins (b : Began) (heap : Heap) (end : ℕ) : Type 0 where
   pub scions : heap.scions ≡ b.scions
   pub ends : end ≡ b.end
   pub free : heap.space.used + 1 ≡ b.free
+  pub words : heap.space.list ≡ b.words
   pub maps : heap.maps ≡ b.maps
   pub nameless : heap.names ≡ None
   pub settled : IsSettled heap
@@ -109,12 +111,20 @@ pub record HistoryEnds {R : Type 0} (b : Began) (ms : List (Mutator R)) (h : Lis
   pub saw : All (λ (m : Mutator R). Saw h m.thread (view_of m).seen) ms
   pub strangers : (t : ℕ) → (Contains (map (λ (m : Mutator R). m.thread) ms) t → ⊥) → own h t ≡ own b.history t
 
--- some mutator knows the pair
-pub record SomeKnows {R : Type 0} (ms : List (Mutator R)) (address n : ℕ) : Type 0 where
+-- the view of some mutator is so
+pub record SomeView {R : Type 0} (ms : List (Mutator R)) (Is : View → Type 0) : Type 0 where
   pub place : ℕ
   pub mutator : Mutator R
   pub at : get_elem? ms place ≡ some mutator
-  pub knows : Has (view_of mutator).known address n
+  pub is : Is (view_of mutator)
+
+-- some mutator knows the pair
+abbrev pub SomeKnows : {R : Type 0} → List (Mutator R) → ℕ → ℕ → Type 0
+SomeKnows ms address n = SomeView ms (λ (v : View). Has v.known address n)
+
+-- some mutator has a cause to stop
+abbrev pub SomeCause : {R : Type 0} → List (Mutator R) → Type 0
+SomeCause ms = SomeView ms (λ (v : View). has_cause v ≡ true)
 
 -- The maps have what they had at the beginning and what some mutator knows, and no more.
 pub record MapsEnd {R : Type 0} (b : Began) (ms : List (Mutator R)) (maps : Maps) : Type 0 where
@@ -129,7 +139,8 @@ abbrev pub free_behind : {R : Type 0} → Began → List (Mutator R) → ℕ
 free_behind {R} b ms = b.free + sum_by (λ (m : Mutator R). (view_of m).claimed) ms
 
 -- The heap has the sizes and the scions with which the epoch began, and no names. In use are the words before the first
--- free place, or all, where a claim ended past the last one. What mutators have counted and found is so.
+-- free place, or all, where a claim ended past the last one. What mutators have counted and found is so; and where one
+-- found the stop word set, one had a cause: it asked all to stop, or lacked words in the space or a forwarding word.
 pub record HeapEnds {R : Type 0} (b : Began) (ms : List (Mutator R)) (heap : Heap) : Type 0 where
   pub size : length heap.space.list ≡ b.size
   pub globals : length heap.globals ≡ b.globals
@@ -141,13 +152,15 @@ pub record HeapEnds {R : Type 0} (b : Began) (ms : List (Mutator R)) (heap : Hea
   pub spaced : All (λ (m : Mutator R). (view_of m).spaced ≡ true → b.size + 1 < free_behind b ms) ms
   pub forwarded : All (λ (m : Mutator R). (view_of m).forwarded ≡ true → (p : ℕ) → p < b.forwards
       → slice_index heap.forward p ≢ 0) ms
+  pub stops : All (λ (m : Mutator R). (view_of m).stopped ≡ true → SomeCause ms) ms
 
 -- The registers stand for their values by these maps, and what they hold are objects without the stale bit.
 pub record HoldsValues {R : Type 0} (maps : Maps) (s : State) (m : Mutator R) : Type 0 where
   pub stand : (r : ℕ) → value_at maps (slice_index m.registers.regs r) ≡ Some (value_in m.values r)
   pub hold : (r : ℕ) → MayHold maps s (slice_index m.registers.regs r)
 
--- The epoch has ended, with these mutators: the heap stands for the history, by its own maps.
+-- The epoch has ended, with these mutators: the heap stands for the history, by its own maps. Where it is told, an
+-- object has the stale bit only if it had it at the beginning, and one that has it no more was used or looked at since.
 pub record HasEnded {R : Type 0} (b : Began) (ms : List (Mutator R)) (heap : Heap) (h : List Entry) : Type 0 where
   pub history : HistoryEnds b ms h
   pub heap_ends : HeapEnds b ms heap
@@ -156,3 +169,4 @@ pub record HasEnded {R : Type 0} (b : Began) (ms : List (Mutator R)) (heap : Hea
   pub named : MapsEnd b ms maps
   pub holds : Holds b.told h maps (state_of heap [] (disk_of b))
   pub registers : All (HoldsValues maps (state_of heap [] (disk_of b))) ms
+  pub bits : b.told ≡ true → BitsTold (first_sight b) (last_sight h maps (state_of heap [] (disk_of b)))

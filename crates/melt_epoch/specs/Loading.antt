@@ -27,7 +27,7 @@ use Rattle.melt_rule.specs.Seats.{knows_of}
 use Rattle.melt_rule.specs.Tells.{Adds, Looks, Names, Sees}
 use Rattle.melt_rule.specs.declared.began.Pair.{Pair}
 use Rattle.melt_rule.specs.declared.view.View.{View}
-use Rattle.melt_epoch.specs.Bringing.{IsFull, IsLost, Stays}
+use Rattle.melt_epoch.specs.Bringing.{IsFull, IsLost, ReadsAll, Stays}
 use Rattle.melt_epoch.specs.Calls.{Counts, Lacked, Replies, WasAsked}
 use Rattle.melt_epoch.specs.declared.mutator.Mutator.{Mutator}
 use Rattle.melt_epoch.specs.declared.load.Loaded.{Loaded}
@@ -74,10 +74,11 @@ pub record Loads (v w : View) (s : Slot) (most address : ℕ) : Type 0 where
   pub claims : ((words ≡ 0) × (wins ≡ 0)) ⊎ ((z : Shape) × (words ≡ cost_of z) × (wins ≤ 1) × HeldHas v w s z)
   pub over : w.doing ≡ None
 
--- It was refused, as all forwarding words send other homes.
+-- It was refused, as all forwarding words send other homes: the look and each of these words was read.
 pub record LoadFull (v w : View) (s : Slot) (most : ℕ) (refusal : Refusal) : Type 0 where
   pub words : ℕ
   pub full : IsFull v w words most refusal
+  pub read : ReadsAll v w (v.began.forwards + 1)
   pub claims : (words ≡ 0) ⊎ ((z : Shape) × (words ≡ cost_of z) × HeldHas v w s z)
 
 -- Or as the words for a copy end past the last one.
@@ -89,10 +90,11 @@ pub record LoadLacks (v w : View) (s : Slot) (most : ℕ) (refusal : Refusal) : 
   pub lacked : Lacked v w (cost_of shape) most
   pub over : w.doing ≡ None
 
--- Or as no record was read of a home.
+-- Or as no record was read of a home before the end of the disk.
 pub record LoadLost (told : Bool) (image : Option (List ℕ)) (scions : Scions) (end before after : ℕ) (v w : View)
     (most : ℕ) (refusal : Refusal) : Type 0 where
   pub home : ℕ
+  pub below : home < end
   pub stays : Stays v w most
   pub lost : IsLost told image scions end home before after refusal
 
@@ -110,7 +112,7 @@ Resolves told image scions end before after v w s most (Err refusal) =
 
 -- The call found the stop word set.
 pub record LoadAsked (v w : View) (most : ℕ) (refusal : Refusal) : Type 0 where
-  pub was : WasAsked w refusal
+  pub was : WasAsked v w refusal
   pub stays : Stays v w most
 
 -- what a load of a global comes to
@@ -201,3 +203,7 @@ IsSlotLoaded {R} image faults told scions end m n dst src i most result = (s t :
 -- its reader reads two runs of words at most
 abbrev pub ReadsTwice : {R : Type 0} → (R → ℕ) → Mutator R → Mutator R → Type 0
 ReadsTwice {R} reads m n = (p q : R) → m.reader ≡ Some p → n.reader ≡ Some q → reads q ≤ reads p + 2
+
+-- and its count of faults does not fall
+abbrev pub KeepsCount : {R : Type 0} → (R → ℕ) → Mutator R → Mutator R → Type 0
+KeepsCount {R} faults m n = (p q : R) → m.reader ≡ Some p → n.reader ≡ Some q → faults p ≤ faults q

@@ -136,16 +136,16 @@ fn bring_missed<R: RecordReader>(
     ensures reads_rise { R.reads reader.old ≤ R.reads reader.new }
     ensures two_reads { R.reads reader.new ≤ R.reads reader.old + 2 }
 {
-    match read_record(reader, &heap.scions, end, search.home) {
-        Ok(Fetched::Stub { scion, target }) => {
+    let fetched = read_record(reader, &heap.scions, end, search.home)?;
+    match fetched {
+        Fetched::Stub { scion, target } => {
             words.clear_stub(seat, search, scion, target);
             Ok(target)
         }
-        Ok(Fetched::Body { shape, rest }) => {
+        Fetched::Body { shape, rest } => {
             let len = usize::from(shape.refs) + usize::from(shape.nums);
             copy_in(words, seat, forwards, search, shape, &rest[..len])
         }
-        Err(refusal) => Err(refusal),
     }
 }
 
@@ -176,11 +176,9 @@ pub(crate) fn bring<R: RecordReader>(
     ensures two_reads { R.reads reader.new ≤ R.reads reader.old + 2 }
 {
     let forwards = heap.forward.items.len() as u32;
-    match seek(words, seat, forwards, search) {
-        Ok(Sought::At(address)) => Ok(address),
-        Ok(Sought::Missed(missed)) => {
-            bring_missed(words, seat, heap, end, reader, forwards, missed)
-        }
-        Err(refusal) => Err(refusal),
+    let sought = seek(words, seat, forwards, search)?;
+    match sought {
+        Sought::At(address) => Ok(address),
+        Sought::Missed(missed) => bring_missed(words, seat, heap, end, reader, forwards, missed),
     }
 }

@@ -1,9 +1,9 @@
 //! The calls of threads on an epoch.
 ghost use Rattle.std.specs.Prelude.{◌≡◌, ◌≢◌, ◌+◌, ◌*◌, ◌<◌, ◌≤◌};
 ghost use Rattle.melt_model.specs.declared.operations.Op.TheVariants.{Get, GStore, New, Put, Store};
-ghost use Rattle.melt_epoch.specs.Calls.{IsAsked, IsMade, IsPlain};
+ghost use Rattle.melt_epoch.specs.Calls.{HoldsOnly, IsAsked, IsMade, IsPlain};
 ghost use Rattle.melt_epoch.specs.Mutators.{HasReader, IsSeated};
-ghost use Rattle.melt_epoch.specs.Loading.{IsGlobalLoaded, IsSlotLoaded, ReadsTwice};
+ghost use Rattle.melt_epoch.specs.Loading.{IsGlobalLoaded, IsSlotLoaded, KeepsCount, ReadsTwice};
 
 use crate::epoch::Epoch;
 use crate::load::{Loaded, load_global, load_slot};
@@ -81,6 +81,7 @@ impl Epoch {
         requires shape { (refs ≤ 62) × (nums ≤ 62) }
         ensures seated { IsSeated self.now.words m.new }
         ensures made { IsMade m.old m.new (New dst refs nums) (record { refs = refs; nums = nums }) result }
+        ensures holds { HoldsOnly m.old m.new dst result }
     {
         let Some(seat) = m.seat.as_mut() else {
             unreachable!();
@@ -106,17 +107,15 @@ impl Epoch {
         ensures loaded { IsGlobalLoaded R.image R.faults self.now.words.start.began.told self.now.heap.scions self.now.end
             m.old m.new dst g (2 * self.now.words.start.began.forwards + 133) result }
         ensures two_reads { ReadsTwice R.reads m.old m.new }
+        ensures count { KeepsCount R.faults m.old m.new }
+        ensures holds { HoldsOnly m.old m.new dst result }
     {
         let (Some(seat), Some(reader)) = (m.seat.as_mut(), m.reader.as_mut()) else {
             unreachable!();
         };
-        match load_global(&self.words, seat, &self.heap, self.end, reader, g) {
-            Ok(target) => {
-                m.hold(dst, target);
-                Ok(reply_of(target))
-            }
-            Err(refusal) => Err(refusal),
-        }
+        let target = load_global(&self.words, seat, &self.heap, self.end, reader, g)?;
+        m.hold(dst, target);
+        Ok(reply_of(target))
     }
 
     /// Loads reference slot `i` of the object in register `src` into register `dst`.
@@ -135,6 +134,8 @@ impl Epoch {
         ensures loaded { IsSlotLoaded R.image R.faults self.now.words.start.began.told self.now.heap.scions self.now.end
             m.old m.new dst src i (2 * self.now.words.start.began.forwards + 134) result }
         ensures two_reads { ReadsTwice R.reads m.old m.new }
+        ensures count { KeepsCount R.faults m.old m.new }
+        ensures holds { HoldsOnly m.old m.new dst result }
     {
         let address = m.registers.regs[src as usize];
         let (Some(seat), Some(reader)) = (m.seat.as_mut(), m.reader.as_mut()) else {

@@ -2,7 +2,7 @@
 //! end all seats are taken back, and the words are put where they came from.
 ghost use Rattle.std.specs.Prelude.{◌≡◌, ◌+◌, ◌^◌, ◌<◌, ◌≤◌, length, map, take, drop, All, IfOk, OnErr};
 ghost use Rattle.melt_rule.specs.Rule.{first_view};
-ghost use Rattle.melt_rule.specs.Seats.{IsSeat, Sits, knows_of};
+ghost use Rattle.melt_rule.specs.Seats.{IsSeat, MayGoOn, Sits, knows_of};
 ghost use Rattle.melt_rule.specs.declared.began.Start.{Start};
 ghost use Rattle.melt_epoch.specs.Ends.{HasEnded, HasJoined, HeapBegins, HistoryBegins, MayEnd, MutatorsBegin};
 ghost use Rattle.melt_epoch.specs.Ends.{unseated, view_of};
@@ -79,6 +79,7 @@ fn give_seats<R>(words: &Words, first: Seated, mutators: &mut [Mutator<R>])
 fn take_seats<R>(words: &Words, mutators: &mut [Mutator<R>]) -> Seated
     requires all { MayEnd words.now mutators.old }
     ensures seat { Sits words.now result }
+    ensures goes_on { MayGoOn (knows_of result) }
     ensures gathers { knows_of result ≡ gathered_all (map view_of mutators.old) }
     ensures left { mutators.new ≡ map unseated mutators.old }
 {
@@ -113,11 +114,32 @@ impl Epoch {
         ensures kept { map unseated mutators.new ≡ mutators.old }
         ensures refused { OnErr result (mutators.new ≡ mutators.old) }
     {
-        let _ = pass;
         let start: Ghost<Start> = Ghost::pick(&());
+        Epoch::begin_with(alloc, &start, heap, pass, end, mutators)
+    }
+
+    /// The same, where the caller has at hand what the epoch begins with: a value that takes no bytes.
+    pub fn begin_with<R: RecordReader>(
+        alloc: Global,
+        start: &Ghost<Start>,
+        heap: Heap,
+        pass: Pass,
+        end: u32,
+        mutators: &mut [Mutator<R>],
+    ) -> Result<Epoch, NoMemory>
+        requires heap { HeapBegins start.now.began heap end }
+        requires history { HistoryBegins start.now heap pass }
+        requires mutators { MutatorsBegin R.image start.now mutators.old }
+        ensures start { IfOk result (λ epoch. epoch.words.start ≡ start.now) }
+        ensures joined { IfOk result (λ epoch. All (HasJoined epoch.words) mutators.new) }
+        ensures readers { IfOk result (λ epoch. All (HasReader R.image epoch.words) mutators.new) }
+        ensures kept { map unseated mutators.new ≡ mutators.old }
+        ensures refused { OnErr result (mutators.new ≡ mutators.old) }
+    {
+        let _ = pass;
         let laid = lay_out(alloc, &heap)?;
         let globals = heap.globals.items.len() as u8;
-        let (words, seat) = Words::begin(alloc, &laid, heap.space.words(), globals, &start)?;
+        let (words, seat) = Words::begin(alloc, &laid, heap.space.words(), globals, start)?;
         give_seats(&words, seat, mutators);
         Ok(Epoch { words, heap, end })
     }

@@ -104,19 +104,16 @@ pub(crate) fn read_record<R: RecordReader>(
     ensures reads_rise { R.reads reader.old ≤ R.reads reader.new }
     ensures two_reads { R.reads reader.new ≤ R.reads reader.old + 2 }
 {
-    let head = match read_head(reader, end, home) {
-        Ok(head) => head,
-        Err(refusal) => return Err(refusal),
-    };
+    let head = read_head(reader, end, home)?;
     let shape = head.shape;
     match head.kind {
         Kind::Stub { scion } => match find_stub(scions, home, scion) {
             Ok(target) => Ok(Fetched::Stub { scion, target }),
             Err(damaged) => Err(Refusal::Damaged(damaged)),
         },
-        Kind::Body => match read_rest(reader, end, home, shape) {
-            Ok(rest) => Ok(Fetched::Body { shape, rest }),
-            Err(refusal) => Err(refusal),
-        },
+        Kind::Body => {
+            let rest = read_rest(reader, end, home, shape)?;
+            Ok(Fetched::Body { shape, rest })
+        }
     }
 }

@@ -74,10 +74,8 @@ pub(crate) fn resolve<R: RecordReader>(
                 tried: 0,
                 dst: 0,
             };
-            match bring(words, seat, heap, end, reader, search) {
-                Ok(target) => Ok(untag(words, seat, place, Ref::Disk(home), target)),
-                Err(refusal) => Err(refusal),
-            }
+            let target = bring(words, seat, heap, end, reader, search)?;
+            Ok(untag(words, seat, place, Ref::Disk(home), target))
         }
     }
 }
@@ -157,8 +155,6 @@ pub(crate) fn load_slot<R: RecordReader>(
     }
     let found = words.load_slot(seat, address, i);
     let place = Place::Field { object: address, i };
-    match resolve(words, seat, heap, end, reader, place, found) {
-        Ok(target) => Ok(Loaded::At(target)),
-        Err(refusal) => Err(refusal),
-    }
+    let target = resolve(words, seat, heap, end, reader, place, found)?;
+    Ok(Loaded::At(target))
 }

@@ -16,6 +16,7 @@ use std::collections::LinkedList;
 
 /// The registers of a thread, with the values that they stand for, which contracts alone see; its seat while it takes part
 /// in an epoch; and its reader of the disk.
+#[derive(Drop)]
 pub struct Mutator<R> {
     pub(crate) thread: u32,
     pub(crate) registers: Registers,
@@ -41,6 +42,13 @@ impl<R> Mutator<R> {
             seat: None,
             reader: None,
         }
+    }
+
+    /// The number of its thread.
+    pub fn thread(&self) -> u32
+        ensures { result ≡ self.now.thread }
+    {
+        self.thread
     }
 
     /// Writes an address into a register.
@@ -131,21 +139,33 @@ impl<R> Mutator<R> {
         self.registers = registers;
     }
 
-    /// Takes the reader back, where there is one. The mutator takes part in no epoch.
+    /// Takes the reader, where there is one.
     pub fn take_reader(&mut self) -> Option<R>
-        requires { self.old.seat ≡ None }
         ensures reader { result ≡ self.old.reader }
         ensures none { self.new ≡ record self.old { reader = None } }
     {
         self.reader.take()
     }
+
+    /// Gives the mutator up, which takes part in no epoch, and its reader back, where there is one.
+    pub fn into_reader(self) -> Option<R>
+        requires { self.seat ≡ None }
+        ensures { result ≡ self.reader }
+    {
+        let Mutator {
+            thread: _,
+            registers: _,
+            values: _,
+            seat: _,
+            reader,
+        } = self;
+        reader
+    }
 }
 
 impl<R: Drop> Mutator<R> {
-    /// Gives the mutator a reader of the disk. A reader that it has is dropped. It takes part in
-    /// no epoch.
+    /// Gives the mutator a reader of the disk. A reader that it has is dropped.
     pub fn set_reader(&mut self, reader: R)
-        requires { self.old.seat ≡ None }
         ensures { self.new ≡ record self.old { reader = Some reader } }
     {
         self.reader = Some(reader);

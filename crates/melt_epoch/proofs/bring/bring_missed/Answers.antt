@@ -9,18 +9,18 @@ pub copy_in-requires-clause-body : goal.copy_in-requires-clause-body
 copy_in-requires-clause-body g c =
     let words = c.args.words.now in
     let image = g.R.RecordReader.image c.args.reader.now in
-    let z = c.in-Ok-Body.shape in
+    let z = c.in-Body.shape in
     subst (λ (n : ℕ). HasBody words.start.began.told (base_of words.start.began) c.args.search.home z
-    (take n c.in-Ok-Body.rest))
-    (let first = c.from.ensures in let more = c.from-in-Ok-Body.ensures in
-    let e : z.refs + z.nums ≡ c.from.result + c.from-in-Ok-Body.result = omega arith in e)
+    (take n c.in-Body.rest))
+    (let first = c.from.ensures in let more = c.from-in-Body.ensures in
+    let e : z.refs + z.nums ≡ c.from.result + c.from-in-Body.result = omega arith in e)
     ((body_of image c.args.heap.now.scions c.args.end c.args.search.home
-    (g.R.RecordReader.faults c.args.reader.now) (g.R.RecordReader.faults c.read_record.new.reader) c.in-Ok-Body.field-0 z
-    c.in-Ok-Body.rest
-    c.in-Ok-Body.field-0-is c.in-Ok-Body.ensures.fetches).has words.start.began
+    (g.R.RecordReader.faults c.args.reader.now) (g.R.RecordReader.faults c.read_record.new.reader)
+    c.in_ok-fetched.fetched z c.in-Body.rest
+    c.in-Body.is c.in_ok-fetched.ensures.fetches).has words.start.began
     (of_disk words c.args.heap.now image c.args.end c.requires.fits c.requires.reader))
 
-pub returns-in-Ok-Stub-clause-misses : goal.returns-in-Ok-Stub-clause-misses
-returns-in-Ok-Stub-clause-misses g c =
-    stub_brings (knows_of c.args.seat.now) (knows_of c.clear_stub.new.seat) c.args.search c.in-Ok-Stub.target
+pub returns-in-Stub-clause-misses : goal.returns-in-Stub-clause-misses
+returns-in-Stub-clause-misses g c =
+    stub_brings (knows_of c.args.seat.now) (knows_of c.clear_stub.new.seat) c.args.search c.in-Stub.target
     (128 + 2 * (c.args.forwards - c.args.search.tried)) (omega arith) c.clear_stub.ensures.clears

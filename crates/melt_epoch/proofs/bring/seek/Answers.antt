@@ -20,6 +20,8 @@ returns-in-None-clause-seeks c =
       loop.from,
       (let more = c.loop-search-test.true in omega arith),
       loop.search,
+      (let s = ap (λ (x : View). x.steps) c.in-None.ensures.probes.is in let r = loop.read in let f = loop.from in
+          omega arith),
     )
 
 pub returns-in-Some-clause-seeks : goal.returns-in-Some-clause-seeks
@@ -48,6 +50,7 @@ loop-search-preserved c =
           (t - c.args.search.tried) (t + 1 - c.args.search.tried) (Searching (further c.loop-search.search))
           (let f = loop.from in omega arith) loop.toward step;
       at = ap (λ (x : View). x.doing) step.is;
+      read = let s = ap (λ (x : View). x.steps) step.is in let r = loop.read in let f = loop.from in omega arith;
       from = let f = loop.from in omega arith;
       search = ap further loop.search;
     }
@@ -56,16 +59,20 @@ pub returns-clause-seeks : goal.returns-clause-seeks
 returns-clause-seeks c =
     let loop = c.loop-search.invariant in
     let fills = c.stop_filled.ensures.fills in
-    let within = searches_within c.args.words.now c.loop-search.seat c.loop-search.search loop.seat loop.at in
-    record {
-      is = refl;
-      sees = loop.toward.on (knows_of c.stop_filled.new.seat).seen fills.0;
-      filled = toward_filled (knows_of c.args.seat.now) (knows_of c.loop-search.seat) (knows_of c.stop_filled.new.seat) 0
-          (c.loop-search.search.tried - c.args.search.tried) (c.args.forwards + 1 - c.args.search.tried)
-          (let f = loop.from in let all = c.requires.forwards in let w = within in omega arith)
-          loop.toward fills;
-      over = ap (λ (x : View). x.doing) fills.1;
-    }
+    let within = searches_within c.args.words.now c.loop-search.seat c.loop-search.search loop.seat loop.at in (
+      record {
+        is = refl;
+        sees = loop.toward.on (knows_of c.stop_filled.new.seat).seen fills.0;
+        filled = toward_filled (knows_of c.args.seat.now) (knows_of c.loop-search.seat)
+            (knows_of c.stop_filled.new.seat) 0
+            (c.loop-search.search.tried - c.args.search.tried) (c.args.forwards + 1 - c.args.search.tried)
+            (let f = loop.from in let all = c.requires.forwards in let w = within in omega arith)
+            loop.toward fills;
+        over = ap (λ (x : View). x.doing) fills.1;
+      },
+      (let s = ap (λ (x : View). x.steps) fills.1 in let r = loop.read in let all = c.loop-search-test.false in
+          omega arith),
+    )
 
 pub returns-in-None-clause-own : goal.returns-in-None-clause-own
 returns-in-None-clause-own c = ap (λ (x : View). x.mine) c.in-None.ensures.probes.is

@@ -1,4 +1,4 @@
-use Rattle.std.proofs.Common.{◌≡◌, ◌-◌, ◌≤◌}
+use Rattle.std.proofs.Common.{◌≡◌, ◌+◌, ◌-◌, ◌≤◌}
 use Rattle.melt_rule.specs.Seats.{IsSeat, knows_of}
 use Rattle.melt_rule.specs.declared.view.Doing.TheVariants.{Searching}
 use Rattle.std.specs.Prelude.{Some}
@@ -11,6 +11,7 @@ invariant-loop-search l = record {
   seat : IsSeat l.words l.seat;
   toward : Toward (knows_of l.initial.seat) (knows_of l.seat) 0 0 (l.search.tried - l.initial.search.tried);
   at : (knows_of l.seat).doing ≡ Some (Searching l.search);
+  read : (knows_of l.initial.seat).steps + (l.search.tried - l.initial.search.tried) ≤ (knows_of l.seat).steps;
   from : l.initial.search.tried ≤ l.search.tried;
   search : l.search ≡ tried_to l.initial.search l.search.tried;
 }

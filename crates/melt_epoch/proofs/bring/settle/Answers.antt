@@ -5,7 +5,8 @@ use Rattle.melt_rule.specs.Seats.{knows_of}
 use Rattle.melt_rule.specs.declared.view.Doing.{Doing}
 use Rattle.melt_rule.specs.declared.view.Doing.TheVariants.{Copied, Retrying}
 use Rattle.melt_rule.specs.declared.view.View.{View}
-use Rattle.melt_epoch.proofs.Settling.{finds_empty, finds_filled, finds_won, hand_within, spent, spent_again, spent_most}
+use Rattle.melt_epoch.proofs.Settling.{finds_empty, finds_filled, finds_won, hand_within, spent, spent_again}
+use Rattle.melt_epoch.proofs.Settling.{spent_most}
 use Rattle.melt_epoch.proofs.Settling.{spent_next}
 use Rattle.melt_epoch.proofs.Toward.{toward_filled, toward_goes, toward_on, toward_wins}
 use Rattle.melt_epoch.specs.Bringing.{reached}
@@ -47,6 +48,7 @@ loop-activation-preserved-in-None-2 c =
       toward = toward_on (knows_of c.args.seat.now) w u 0 0 (spent c.loop-activation.empty passed) (spent true passed)
           (Copied a) (spent_again c.loop-activation.empty passed c.if-empty.false (omega arith)) loop.toward step;
       at = ap (λ (x : View). x.doing) step.is;
+      read = let s = ap (λ (x : View). x.steps) step.is in let r = loop.read in omega arith;
       from = loop.from;
       more = λ none. absurd (cc);
       activation = loop.activation;
@@ -61,7 +63,8 @@ returns-in-Some-clause-settles c =
     let a = c.loop-activation.activation in
     let passed = a.search.tried - c.args.activation.search.tried in
     let most = 2 * (c.args.forwards - c.args.activation.search.tried) in
-    let finds = finds_filled w u c.loop-activation.empty a (c.in-Some.home, c.in-Some.address) c.in-Some.ensures.finds in
+    let finds = finds_filled w u c.loop-activation.empty a (c.in-Some.home, c.in-Some.address)
+    c.in-Some.ensures.finds in
     record {
       wins = 0;
       one = omega arith;
@@ -81,14 +84,15 @@ loop-activation-preserved c =
     let a = c.loop-activation.activation in
     let from = loop.from in
     let passed = a.search.tried - c.args.activation.search.tried in
-    let step = (finds_filled w u c.loop-activation.empty a (c.in-Some.home, c.in-Some.address) c.in-Some.ensures.finds).1
-    c.if-home-activation.false in
+    let step = (finds_filled w u c.loop-activation.empty a (c.in-Some.home, c.in-Some.address)
+    c.in-Some.ensures.finds).1 c.if-home-activation.false in
     record {
       seat = c.in-Some.ensures.seat;
       toward = toward_on (knows_of c.args.seat.now) w u 0 0 (spent c.loop-activation.empty passed)
           (spent false (a.search.tried + 1 - c.args.activation.search.tried)) (Retrying (retried a))
           (let s = spent_next c.loop-activation.empty passed in omega arith) loop.toward step;
       at = ap (λ (x : View). x.doing) step.is;
+      read = let s = ap (λ (x : View). x.steps) step.is in let r = loop.read in omega arith;
       from = omega arith;
       more = λ none. omega arith;
       activation = ap retried loop.activation;
@@ -102,17 +106,20 @@ returns-clause-settles c =
     let a = c.loop-activation.activation in
     let passed = a.search.tried - c.args.activation.search.tried in
     let fills = c.stop_filled.ensures.fills in
-    let within = hand_within c.args.words.now c.loop-activation.seat c.loop-activation.empty a loop.seat loop.at in
-    record {
-      is = refl;
-      sees = loop.toward.on u.seen fills.0;
-      filled = toward_filled (knows_of c.args.seat.now) w u 0 (spent c.loop-activation.empty passed)
-          (2 * (c.args.forwards - c.args.activation.search.tried) + 1)
-          (let s = spent_most c.loop-activation.empty passed in let from = loop.from in let f = c.requires.forwards in
-          omega arith)
-          loop.toward fills;
-      over = ap (λ (x : View). x.doing) fills.1;
-    }
+    let within = hand_within c.args.words.now c.loop-activation.seat c.loop-activation.empty a loop.seat loop.at in (
+      record {
+        is = refl;
+        sees = loop.toward.on u.seen fills.0;
+        filled = toward_filled (knows_of c.args.seat.now) w u 0 (spent c.loop-activation.empty passed)
+            (2 * (c.args.forwards - c.args.activation.search.tried) + 1)
+            (let s = spent_most c.loop-activation.empty passed in let from = loop.from in let f = c.requires.forwards in
+            omega arith)
+            loop.toward fills;
+        over = ap (λ (x : View). x.doing) fills.1;
+      },
+      (let s = ap (λ (x : View). x.steps) fills.1 in let r = loop.read in let all = c.loop-activation-test.false in
+          omega arith),
+    )
 
 pub returns-in-None-clause-own : goal.returns-in-None-clause-own
 returns-in-None-clause-own c =

@@ -12,6 +12,8 @@ invariant-loop-activation l = record {
   toward : Toward (knows_of l.initial.seat) (knows_of l.seat) 0 0
       (spent l.empty (l.activation.search.tried - l.initial.activation.search.tried));
   at : (knows_of l.seat).doing ≡ Some (at_hand l.empty l.activation);
+  read : (knows_of l.initial.seat).steps + (l.activation.search.tried - l.initial.activation.search.tried)
+      ≤ (knows_of l.seat).steps;
   from : l.initial.activation.search.tried ≤ l.activation.search.tried;
   more : l.empty ≡ false → l.initial.activation.search.tried < l.activation.search.tried;
   activation : l.activation ≡ record l.initial.activation {

@@ -18,7 +18,8 @@ returns-in_default-clause-copies c =
 pub returns-clause-copies : goal.returns-clause-copies
 returns-clause-copies c =
     copy_settles (knows_of c.args.seat.now) (knows_of c.claim_copy.new.seat) (knows_of c.fill_copy.new.seat)
-    (knows_of c.head_copy.new.seat) (knows_of c.settle.new.seat) c.args.search c.args.shape c.args.rest.now c.in-Some.address
+    (knows_of c.head_copy.new.seat) (knows_of c.settle.new.seat) c.args.search c.args.shape c.args.rest.now
+    c.in-Some.address
     c.args.forwards c.in-Some.ensures.tells c.fill_copy.ensures.fills c.head_copy.ensures.heads c.settle.result
     c.settle.ensures.settles
 

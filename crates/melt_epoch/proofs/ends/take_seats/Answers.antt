@@ -3,7 +3,7 @@ use Rattle.std.proofs.Math.ListN.{length-set, set}
 use Rattle.std.specs.Prelude.{Option, Some}
 use Rattle.atomic_table.specs.declared.shared.Seat.{Seat}
 use Rattle.melt_rule.specs.Giving.{joined_view}
-use Rattle.melt_rule.specs.Rule.{is_lacking}
+use Rattle.melt_rule.specs.Rule.{is_bound}
 use Rattle.melt_rule.specs.Seats.{knows_of}
 use Rattle.melt_rule.specs.declared.view.View.{View}
 use Rattle.melt_epoch.proofs.Mutating.{drop_map, get_half, set_half}
@@ -40,7 +40,7 @@ loop-k-preserved g c =
     ∙ ap (gathered (knows_of c.loop-k.seat)) (sym (drop_map view_of olds k d below)))) in
     record {
       seat = c.take_seat.ensures.seat;
-      goes_on = ap (λ (v : View). is_lacking v.doing) c.take_seat.ensures.takes ∙ i.goes_on;
+      goes_on = ap (λ (v : View). is_bound v.doing) c.take_seat.ensures.takes ∙ i.goes_on;
       gathers = step ∙ i.gathers;
       left =
           let without : M = record (get_or ms k d) { seat = c.take-in-loop-k.new.self } in

@@ -11,7 +11,8 @@ use Rattle.melt_epoch.proofs.load.load_global.Goals as goal
 
 pub returns-then-poll-clause-seat : goal.returns-then-poll-clause-seat
 returns-then-poll-clause-seat g c =
-    asked_idle c.args.words.now (knows_of c.args.seat.now) c.poll.new.seat c.if-poll.ensures.seat c.if-poll.ensures.polls
+    asked_idle c.args.words.now (knows_of c.args.seat.now) c.poll.new.seat c.if-poll.ensures.seat
+    c.if-poll.ensures.polls
 
 pub returns-then-poll-clause-loads : goal.returns-then-poll-clause-loads
 returns-then-poll-clause-loads g c =
@@ -30,7 +31,8 @@ returns-clause-seat g c =
     (2 * c.args.words.now.start.began.forwards + 132) c.resolve.ensures.seat c.resolve.ensures.own
     c.args.words.now.start.began.told (g.R.RecordReader.image c.args.reader.now) c.args.heap.now.scions c.args.end
     (g.R.RecordReader.faults c.args.reader.now) (g.R.RecordReader.faults c.resolve.new.reader) c.resolve.result
-    (c.resolve.ensures.resolves (knows_of c.poll.new.seat) (slot.Global c.args.g) refl c.load_global-found.ensures.looks)
+    (c.resolve.ensures.resolves (knows_of c.poll.new.seat) (slot.Global c.args.g) refl
+    c.load_global-found.ensures.looks)
 
 pub returns-clause-loads : goal.returns-clause-loads
 returns-clause-loads g c =

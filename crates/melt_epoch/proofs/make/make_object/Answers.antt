@@ -15,13 +15,14 @@ use Rattle.melt_epoch.proofs.make.make_object.Goals as goal
 
 pub returns-then-poll-clause-seat : goal.returns-then-poll-clause-seat
 returns-then-poll-clause-seat c =
-    asked_idle c.args.words.now (knows_of c.args.seat.now) c.poll.new.seat c.if-poll.ensures.seat c.if-poll.ensures.polls
+    asked_idle c.args.words.now (knows_of c.args.seat.now) c.poll.new.seat c.if-poll.ensures.seat
+    c.if-poll.ensures.polls
 
 pub returns-then-poll-clause-makes : goal.returns-then-poll-clause-makes
 returns-then-poll-clause-makes c =
     let plain = asked_counts (knows_of c.args.seat.now) (knows_of c.poll.new.seat) c.if-poll.ensures.polls.1 in
     inl (record {
-      was = (refl, ap (λ (x : View). x.stopped) c.if-poll.ensures.polls.1);
+      was = (refl, c.if-poll.ensures.polls);
       sees = c.if-poll.ensures.polls.0;
       counts = plain;
     })
@@ -34,8 +35,8 @@ returns-in_default-clause-seat c =
     let lacks = c.in_default.ensures.tells in
     let sees = stopped_sees v (knows_of c.poll.new.seat) u x c.cost-need.result c.requires.seat.sound
     c.if-poll.ensures.polls lacks c.stop.ensures.stops in
-    idle_seat c.args.words.now v c.stop.new.seat None c.stop.ensures.seat (ap (λ (k : View). k.doing) c.stop.ensures.stops.is)
-    refl sees (ap (λ (k : View). k.mine) c.stop.ensures.stops.is)
+    idle_seat c.args.words.now v c.stop.new.seat None c.stop.ensures.seat
+    (ap (λ (k : View). k.doing) c.stop.ensures.stops.is) refl sees (ap (λ (k : View). k.mine) c.stop.ensures.stops.is)
 
 pub returns-in_default-clause-makes : goal.returns-in_default-clause-makes
 returns-in_default-clause-makes c =
@@ -50,8 +51,8 @@ returns-in_default-clause-makes c =
 
 pub fill-requires-clause-sound : goal.fill-requires-clause-sound
 fill-requires-clause-sound c =
-    let way = claimed_way (knows_of c.args.seat.now) (knows_of c.poll.new.seat) (knows_of c.claim.new.seat) c.in-Some.address
-    c.cost-need.result c.requires.seat.sound c.if-poll.ensures.polls c.in-Some.ensures.tells in
+    let way = claimed_way (knows_of c.args.seat.now) (knows_of c.poll.new.seat) (knows_of c.claim.new.seat)
+    c.in-Some.address c.cost-need.result c.requires.seat.sound c.if-poll.ensures.polls c.in-Some.ensures.tells in
     sound_sees (knows_of c.args.seat.now) (knows_of c.claim.new.seat) way.sees way.counts.began
 
 pub returns-clause-makes : goal.returns-clause-makes

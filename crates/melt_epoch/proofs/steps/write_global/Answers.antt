@@ -14,7 +14,8 @@ use Rattle.melt_epoch.proofs.steps.write_global.Goals as goal
 
 pub returns-then-poll-clause-seat : goal.returns-then-poll-clause-seat
 returns-then-poll-clause-seat c =
-    asked_idle c.args.words.now (knows_of c.args.seat.now) c.poll.new.seat c.if-poll.ensures.seat c.if-poll.ensures.polls
+    asked_idle c.args.words.now (knows_of c.args.seat.now) c.poll.new.seat c.if-poll.ensures.seat
+    c.if-poll.ensures.polls
 
 pub returns-then-poll-clause-plain : goal.returns-then-poll-clause-plain
 returns-then-poll-clause-plain c rs src names =
@@ -45,8 +46,8 @@ returns-clause-seat c =
     c.requires.held.1) in
     let act = Write (Global c.args.g) c.requires.held.0 in
     let behind = ends_polled v w x act c.requires.seat.sound polls ends in
-    ended_idle c.args.words.now v w c.store_global.new.seat act behind.0 (counts_most v x 0 0 2 3 (omega arith) behind.1) ends
-    c.store_global.ensures.seat
+    ended_idle c.args.words.now v w c.store_global.new.seat act behind.0
+    (counts_most v x 0 0 2 3 (omega arith) behind.1) ends c.store_global.ensures.seat
 
 pub returns-clause-plain : goal.returns-clause-plain
 returns-clause-plain c rs src names =

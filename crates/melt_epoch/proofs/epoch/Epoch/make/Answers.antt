@@ -1,6 +1,5 @@
 use Rattle.std.proofs.Common.{◌≡◌, ℕ, ◌+◌, ◌++◌, Ok, refl, sym, ◌∙◌, ap, subst, inl, inr}
 use Rattle.std.specs.Prelude.{Some, slice_set}
-use Rattle.atomic_table.specs.declared.shared.Seat.{Seat}
 use Rattle.melt_core.proofs.Answers.{new_answers}
 use Rattle.melt_core.specs.Answering.{entry}
 use Rattle.melt_model.specs.History.{made}
@@ -12,9 +11,9 @@ use Rattle.melt_word.specs.Words.{cost_of}
 use Rattle.melt_word.specs.declared.header.Shape.{Shape}
 use Rattle.melt_rule.specs.Seats.{knows_of}
 use Rattle.melt_rule.specs.declared.view.View.{View}
-use Rattle.melt_epoch.proofs.Holding.{last_given-push}
+use Rattle.melt_epoch.proofs.Holding.{holds_only, last_given-push}
 use Rattle.melt_epoch.proofs.Plainly.{adds_replies}
-use Rattle.melt_epoch.proofs.Seated.{seated_by, seated_held}
+use Rattle.melt_epoch.proofs.Seated.{by_seats, seated_by, seated_held}
 use Rattle.melt_epoch.specs.Calls.{Made, MakesFor}
 use Rattle.melt_epoch.specs.Mutators.{IsSeated, last_given}
 use Rattle.melt_epoch.specs.declared.mutator.Mutator.{Mutator}
@@ -70,17 +69,27 @@ returns-clause-made g c = (
       let z : Shape = record { refs = c.args.refs; nums = c.args.nums } in
       let is = c.in_ok-address.ensures.makes in
       let o = New c.args.dst c.args.refs c.args.nums in
-      let one : seat ≡ s = let both : Some seat ≡ Some s = c.in-Some.ensures.value ∙ at_s in cc in
       let there : c.hold.new.self.seat ≡ Some new = ap (λ (x : Mutator _). x.seat) c.hold.ensures.holds in
-      let two : new ≡ t = let both : Some new ≡ Some t = sym there ∙ at_t in cc in
-      let values : c.hold.new.self.values ≡ slice_set m.values c.args.dst (Ref (made ((knows_of seat).seen ++ is.adds.between))) =
+      let values : c.hold.new.self.values ≡ slice_set m.values c.args.dst
+      (Ref (made ((knows_of seat).seen ++ is.adds.between))) =
       ap (λ (x : Mutator _). x.values) c.hold.ensures.holds
       ∙ ap (slice_set m.values c.args.dst) (value_made (knows_of seat) (knows_of new) z c.in_ok-address.address is) in
-      subst (λ (x : Seat ℕ View). MakesFor (knows_of x) (knows_of t) m.values c.hold.new.self.values o z (Ok reply.Done)) one
-      (subst (λ (y : Seat ℕ View). MakesFor (knows_of seat) (knows_of y) m.values c.hold.new.self.values o z (Ok reply.Done)) two (
-        adds_replies (knows_of seat) (knows_of new) (Make z.refs z.nums) m.values c.hold.new.self.values o reply.Done is.adds
+      by_seats (λ (v w : View). MakesFor v w m.values c.hold.new.self.values o z (Ok reply.Done)) seat new s t m.seat
+      c.hold.new.self.seat c.in-Some.ensures.value there at_s at_t (
+        adds_replies (knows_of seat) (knows_of new) (Make z.refs z.nums) m.values c.hold.new.self.values o
+        reply.Done is.adds
             (λ told. new_answers (knows_of seat).thread ((knows_of seat).seen ++ is.adds.between) m.values c.args.dst
             c.args.refs c.args.nums reply.Done _ c.hold.new.self.values refl values refl),
         is.counts,
-      )),
+      ),
 )
+
+pub returns-clause-holds : goal.returns-clause-holds
+returns-clause-holds g c =
+    let m = c.args.m.now in
+    let new = c.make_object.new.seat in
+    let value = last_given (knows_of new).seen in (
+      c.in_ok-address.address,
+      value,
+      holds_only m c.hold.new.self (Some new) m.reader c.args.dst c.in_ok-address.address value c.hold.ensures.holds,
+    )

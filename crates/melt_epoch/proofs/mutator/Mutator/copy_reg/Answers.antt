@@ -12,8 +12,8 @@ returns-clause-seated g c words seated =
     let m = c.args.self.now in
     let dst = c.args.dst in
     let src = c.args.src in
-    let next = seated_set words m dst (slice_index m.registers.regs src) (value_in m.values src) seated c.set.ensures.sixteen
-    c.requires.registers.0 (seated.registers src) in
+    let next = seated_set words m dst (slice_index m.registers.regs src) (value_in m.values src) seated
+    c.set.ensures.sixteen c.requires.registers.0 (seated.registers src) in
     subst (λ (x : Mutator _). IsSeated words (record x { values = c.pick-values.result })) (sym c.set.ensures.sets)
     (subst (λ (l : List Value).
     IsSeated words (record (with_held m dst (slice_index m.registers.regs src) (value_in m.values src)) { values = l }))

@@ -1,9 +1,9 @@
 use Rattle.std.proofs.Common.{refl, ◌∙◌, ap}
 use Rattle.std.specs.Prelude.{Some, []}
 use Rattle.melt_epoch.specs.declared.mutator.Mutator.{Mutator}
-use Rattle.melt_epoch.specs.declared.tests.NoDisk.{NoDisk}
+use Rattle.melt_epoch.specs.declared.tests.given.NoDisk.{NoDisk}
 use Rattle.melt_epoch.proofs.Empty.{new_may_start}
-use Rattle.melt_epoch.proofs.tests.new_mutator.Goals as goal
+use Rattle.melt_epoch.proofs.tests.given.new_mutator.Goals as goal
 
 pub returns-clause-may_start : goal.returns-clause-may_start
 returns-clause-may_start c =

@@ -1,8 +1,8 @@
 use Rattle.std.proofs.Common.{◌≡◌, sym, ◌∙◌}
 use Rattle.std.specs.Prelude.{Some, []}
-use Rattle.melt_epoch.specs.declared.tests.NoDisk.{NoDisk}
+use Rattle.melt_epoch.specs.declared.tests.given.NoDisk.{NoDisk}
 use Rattle.melt_epoch.proofs.Empty.{two_may_start}
-use Rattle.melt_epoch.proofs.tests.two_mutators.Goals as goal
+use Rattle.melt_epoch.proofs.tests.given.two_mutators.Goals as goal
 
 pub returns : goal.returns
 returns c =

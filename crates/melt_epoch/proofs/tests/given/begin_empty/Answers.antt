@@ -4,8 +4,8 @@ use Rattle.melt_model.specs.declared.history.Entry.{Entry}
 use Rattle.melt_rule.specs.declared.began.Start.{Start}
 use Rattle.melt_epoch.specs.declared.mutator.Mutator.{Mutator}
 use Rattle.melt_epoch.specs.Ends.{HistoryBegins}
-use Rattle.melt_epoch.proofs.Empty.{begun_end, empty_start, new_heap_begins, no_history_begins}
-use Rattle.melt_epoch.proofs.tests.begin_empty.Goals as goal
+use Rattle.melt_epoch.proofs.Empty.{begun_all, empty_start, new_heap_begins, no_history_begins}
+use Rattle.melt_epoch.proofs.tests.given.begin_empty.Goals as goal
 
 pub begin-requires : goal.begin-requires
 begin-requires g c = λ κs within.
@@ -23,7 +23,7 @@ pub returns : goal.returns
 returns g c =
     let threads : List ℕ = map (λ (m : Mutator g.row.R.Denot). m.thread) c.args.mutators.now in
     let start : Start = empty_start threads c.args.heap in
-    begun_end c.begin.result start c.begin.new.mutators c.args.mutators.now
+    begun_all (g.R.RecordReader.image) c.begin.result start c.begin.new.mutators c.args.mutators.now
     (c.requires.mutators start refl refl).some_thread
     (length-map c.args.mutators.now (λ (m : Mutator g.row.R.Denot). m.thread))
-    c.begin.ensures.kept c.begin.ensures.start c.begin.ensures.joined
+    c.begin.ensures.kept c.begin.ensures.start c.begin.ensures.joined c.begin.ensures.readers
