@@ -1,8 +1,7 @@
 -- What an event or a reply makes of a thread.
-use Rattle.std.proofs.Common.{true, ◌≡◌, ◌≢◌, ℕ, ◌<◌, ◌≤◌, ◌^◌, ◌-◌, false, List, length, refl, sym, ◌∙◌, ap, subst}
+use Rattle.std.proofs.Common.{true, ◌≡◌, ◌≢◌, ℕ, ◌<◌, ◌≤◌, false, List, length, refl, sym, ◌∙◌, ap, subst}
 use Rattle.std.proofs.Common.{arith, inl, inr}
-use Rattle.std.specs.Prelude.{Bool, if◌then◌else◌, Option, None, Some, ◌⊎◌}
-use Rattle.std.proofs.lemmas.Bool.{cases_lt}
+use Rattle.std.specs.Prelude.{Bool, Option, None, Some, ◌⊎◌}
 use Rattle.std.proofs.lemmas.Option.{same_Some}
 use Rattle.melt_model.specs.declared.history.Entry.{Entry}
 use Rattle.melt_model.specs.declared.history.Value.{Value}
@@ -11,7 +10,6 @@ use Rattle.melt_model.specs.declared.operations.Op.TheVariants.{Collect}
 use Rattle.melt_model.specs.declared.operations.Reply.{Reply}
 use Rattle.melt_model.specs.declared.reports.ThreadEnd.{ThreadEnd}
 use Rattle.melt_model.specs.declared.reports.ThreadEnd.TheVariants as end
-use Rattle.melt_io.specs.Outside.{Rose}
 use Rattle.melt_record.specs.declared.damage.Damaged.{Damaged}
 use Rattle.melt_scion.specs.Heaps.{OnDisk, register_in}
 use Rattle.melt_core.specs.Answering.{Answers, with_entry}
@@ -35,15 +33,18 @@ use Rattle.melt_core.specs.Changed.{stopped}
 use Rattle.melt_core.specs.Epochs.{HasDropped}
 use Rattle.melt_core.proofs.Resting.{stands_stopped}
 use Rattle.melt_core.proofs.Tasks.{load_is, gload_is}
-use Rattle.melt_step.specs.Needs.{IsLoad}
-use Rattle.melt_step.specs.Shown.{Underlies}
-use Rattle.melt_step.specs.declared.thread.ThreadState.{ThreadState}
-use Rattle.melt_step.specs.declared.thread.Mode.{Mode}
-use Rattle.melt_step.specs.declared.thread.Mode.TheVariants.{Running, Due, Silent, Collecting, Asked, Lacking, Ended}
-use Rattle.melt_step.specs.Threads.{most_forwards, owes_silent, Waits, IsEnded, TakesReply, DropsIfEnded, ThreadTold}
-use Rattle.melt_step.specs.Threads.{ThreadStep, ThreadWaits, ThreadGoes, ThreadRefused, ThreadLost, SeesDamage}
-use Rattle.melt_step.specs.Threads.{IsLostBy, SetsStop, mode_for, lost, lost_mode}
-use Rattle.melt_step.specs.Threads.{CountsLoss, IsReady}
+use Rattle.melt_safepoint.specs.declared.thread.ThreadState.{ThreadState}
+use Rattle.melt_safepoint.specs.declared.thread.Mode.{Mode}
+use Rattle.melt_safepoint.specs.declared.thread.Mode.TheVariants.{Running, Due, Silent, Collecting, Asked, Lacking}
+use Rattle.melt_safepoint.specs.declared.thread.Mode.TheVariants.{Ended}
+use Rattle.melt_safepoint.specs.Needs.{IsLoad}
+use Rattle.melt_safepoint.specs.Shown.{Underlies}
+use Rattle.melt_safepoint.specs.Threads.{most_forwards, TakesReply}
+use Rattle.melt_safepoint.specs.Modes.{owes_silent, Waits, IsEnded, mode_for, lost}
+use Rattle.melt_safepoint.specs.Endings.{SeesDamage, IsLostBy}
+use Rattle.melt_safepoint.proofs.Modes.{told_runs, told_goes, NoPause}
+use Rattle.melt_step.specs.Threads.{DropsIfEnded, ThreadTold, ThreadStep, ThreadWaits, ThreadGoes, ThreadRefused}
+use Rattle.melt_step.specs.Threads.{ThreadLost, SetsStop, IsReady}
 use Rattle.melt_step.proofs.Modes.{dropped_keeps, nothing_keeps, stop_keeps}
 
 -- a thread waits for a collection
@@ -180,30 +181,6 @@ stop_dropped w x t mode drops = elim (drop_cases w x t mode drops) [
   | inr goes ↦ ap (λ (y : View). y.stop) goes.1
 ]
 
--- a thread that got a reply does not wait for the stop word
-told_runs : (s after : ThreadState) (reply : Reply) → TakesReply s after reply → after.mode ≡ Asked → ⊥
-told_runs s after reply takes asked = elim takes.fits [
-  | inl runs ↦ let is : after.mode ≡ Running = runs.0 in cc
-  | inr rest ↦ elim rest [
-    | inl due ↦ let is : after.mode ≡ Due = due in cc
-    | inr ended ↦ let is : after.mode ≡ Ended end.Done = ended.0 in cc
-  ]
-]
-
--- nor for anything else
-told_goes : (s after : ThreadState) (reply : Reply) → TakesReply s after reply → Waits after.mode → ⊥
-told_goes s after reply takes waits = elim takes.fits [
-  | inl runs ↦ subst Waits runs.0 waits
-  | inr rest ↦ elim rest [ inl due ↦ subst Waits due waits | inr ended ↦ subst Waits ended.0 waits ]
-]
-
--- nor is it lost
-pub told_kept : (s after : ThreadState) (reply : Reply) → TakesReply s after reply → lost_mode after.mode ≡ false
-told_kept s after reply takes = elim takes.fits [
-  | inl runs ↦ ap lost_mode runs.0
-  | inr rest ↦ elim rest [ inl due ↦ ap lost_mode due | inr ended ↦ ap lost_mode ended.0 ]
-]
-
 -- what an event is that leaves the stop word, of a thread that waits for nothing behind it
 pub stop_same : (v w : View) (after : ThreadState) → w.stop ≡ v.stop → (Waits after.mode → ⊥)
     → (after.mode ≡ Asked → ⊥) → SetsStop v w after
@@ -313,11 +290,6 @@ reads_load told disk v t home o stands continued reads = by_call (call_of v t) r
         by_stage c.stage
         (subst (λ (p : Op). Fits (register_in v.held t) p c.stage) (sym continued) (stands.fits t c is))
         (stands.known t c is) reads
-
--- the call of a thread did not pause
-abbrev pub NoPause : Refusal → Type 0
-NoPause (refusal.Pause cause) = ⊥
-NoPause why = Unit {0}
 
 -- where and with what the event of a call began that was refused
 pub record Begins (told : Bool) (image : Option (List ℕ)) (disk : OnDisk) (v : View) (t : ℕ) (o : Op) (why : Refusal)
@@ -463,40 +435,6 @@ refused_sets tells disk v w x t o s (refusal.Damaged damaged) is drops =
     stop_same v x (record s { mode = over }) (stop_dropped w x t over drops ∙ is.lost.stop) (λ waits. waits)
     (λ asked. cc)
 
--- A thread that is not lost, and an event that counts no fault less.
-pub counts_none : (s after : ThreadState) (faults faults_after : ℕ) → lost_mode after.mode ≡ false
-    → faults ≤ faults_after → CountsLoss s after faults faults_after
-counts_none s after faults faults_after kept rises =
-    let none : lost after.mode ≡ 0 = ap (λ (b : Bool). if b then 1 else 0) kept in
-    record { counted = inl (omega (arith, none, rises)); rises = rises }
-
--- a thread that is lost, and the fault that was counted
-counts_one : (s after : ThreadState) (faults faults_after : ℕ) → lost after.mode ≡ 1 → Rose faults faults_after
-    → faults ≤ faults_after → CountsLoss s after faults faults_after
-counts_one s after faults faults_after one rose rises = record {
-  counted =
-      elim (cases_lt faults (2 ^ 64 - 1)) [
-        | inl below ↦ let more : faults < faults_after = rose below in inl (omega (arith, one, more))
-        | inr above ↦ inr (omega (arith, above, rises))
-      ];
-  rises = rises;
-}
-
--- each fault for which a call was refused is counted
-pub refused_counts : (s : ThreadState) (why : Refusal) (faults faults_after : ℕ)
-    → (Refused why ≡ Refused refusal.DiskFault → Rose faults faults_after) → faults ≤ faults_after
-    → CountsLoss s (record s { mode = mode_for why }) faults faults_after
-refused_counts s (refusal.Pause pause.Asked) faults faults_after fault rises =
-    counts_none s (record s { mode = Asked }) faults faults_after refl rises
-refused_counts s (refusal.Pause (pause.Space need)) faults faults_after fault rises =
-    counts_none s (record s { mode = Lacking }) faults faults_after refl rises
-refused_counts s (refusal.Pause pause.Forward) faults faults_after fault rises =
-    counts_none s (record s { mode = Lacking }) faults faults_after refl rises
-refused_counts s refusal.DiskFault faults faults_after fault rises =
-    counts_one s (record s { mode = Ended end.DiskFault }) faults faults_after refl (fault refl) rises
-refused_counts s (refusal.Damaged damaged) faults faults_after fault rises =
-    counts_none s (record s { mode = mode_for (refusal.Damaged damaged) }) faults faults_after refl rises
-
 -- the call is over
 pub refused_call : (tells : Type 0) (disk : OnDisk) (v w : View) (t : ℕ) (o : Op) (why : Refusal)
     → Refuses tells disk v w t o why → call_of w t ≡ None
@@ -524,9 +462,3 @@ begins_ready told image finish disk v t o s why ready next under stands damage =
   tells = under.tells;
   damage = λ damaged is. subst (λ (k : ℕ). IsDamage image k v t damaged) (sym under.ends) (damage damaged is);
 }
-
--- what is not told is seen of each disk with this end
-pub under_untold : (finish : ℕ) (image : Option (List ℕ)) (disk : OnDisk) → disk.end ≡ finish
-    → Underlies false finish image disk
-under_untold finish image disk ends =
-    record { ends = ends; tells = λ told. absurd (let e : false ≡ true = told in cc) }

@@ -38,7 +38,7 @@ use Rattle.melt_step.specs.Choices.{SoFar, nothing_yet, with_reply, SetsSoFar, S
 use Rattle.melt_step.proofs.Modes.{dropped_keeps}
 use Rattle.melt_step.proofs.PlannedRest.{RestCarried, planned_rest}
 use Rattle.melt_step.proofs.Starting.{registers_new}
-use Rattle.melt_step.proofs.Telling.{told_with, with_own, Stands_answers}
+use Rattle.melt_safepoint.proofs.Telling.{told_with, with_own, Stands_answers}
 
 -- a thread stands in the history, and until it drops its registers these hold what it was told
 record StandsSoFar (v : View) (t : ℕ) (s : SoFar) : Type 0 where

@@ -1,8 +1,7 @@
--- The collections for which threads wait: each goes on behind its own.
-use Rattle.std.proofs.Common.{◌≡◌, ℕ, ◌+◌, ◌*◌, ◌<◌, ◌≤◌, suc, true, false, ◌⊎◌, List, [], ◌∷◌, ◌++◌, length, get_or}
-use Rattle.std.proofs.Common.{length-append, replicate, refl, sym, ◌∙◌, ap, subst, arith, inl, inr}
+-- A run goes on behind the collection for which a thread waits.
+use Rattle.std.proofs.Common.{◌≡◌, ℕ, ◌+◌, ◌*◌, ◌<◌, ◌≤◌, true, false, ◌⊎◌, List, [], ◌∷◌, length, get_or}
+use Rattle.std.proofs.Common.{replicate, refl, sym, ◌∙◌, ap, subst, arith, inl, inr}
 use Rattle.std.proofs.Math.ListN.{set}
-use Rattle.std.proofs.lemmas.List.{append-nil}
 use Rattle.std.proofs.lemmas.Option.{get_or_from_slice_get}
 use Rattle.std.specs.Prelude.{Bool, Option, None, Some, IsSome, slice_get, vec_capacity}
 use Rattle.melt_model.specs.declared.config.Config.{Config}
@@ -10,7 +9,6 @@ use Rattle.melt_model.specs.declared.history.Entry.{Entry}
 use Rattle.melt_model.specs.declared.history.Value.TheVariants.{Nil}
 use Rattle.melt_model.specs.declared.operations.Op.{Op}
 use Rattle.melt_model.specs.declared.operations.Op.TheVariants.{Collect}
-use Rattle.melt_model.specs.declared.operations.Reply.{Reply}
 use Rattle.melt_model.specs.declared.operations.Reply.TheVariants as reply
 use Rattle.melt_model.specs.declared.reports.Journal.{Journal}
 use Rattle.melt_model.specs.declared.reports.ThreadEnd.TheVariants as end
@@ -18,28 +16,32 @@ use Rattle.melt_trace.specs.Script.{Script}
 use Rattle.melt_scion.specs.Heaps.{OnDisk}
 use Rattle.melt_core.specs.Views.{View, view, values_of, call_of, IsQuiet, Standing}
 use Rattle.melt_core.specs.Epochs.{HasDropped}
+use Rattle.melt_safepoint.specs.declared.thread.ThreadState.{ThreadState}
+use Rattle.melt_safepoint.specs.declared.thread.Mode.{Mode}
+use Rattle.melt_safepoint.specs.declared.thread.Mode.TheVariants.{Running, Due, Silent, Collecting, Asked, Lacking}
+use Rattle.melt_safepoint.specs.declared.thread.Mode.TheVariants.{Ended}
+use Rattle.melt_safepoint.specs.Counts.{CountsCollections}
+use Rattle.melt_safepoint.specs.Journals.{IsTight, Planned}
+use Rattle.melt_safepoint.specs.Shown.{Shown}
+use Rattle.melt_safepoint.specs.Threads.{DueBy, GoesOn, TakesReply, with_first}
+use Rattle.melt_safepoint.specs.Modes.{FitsMode, ForCollection, IsEnded, MayGo, owes, owes_silent}
+use Rattle.melt_safepoint.specs.Endings.{HaveCuts}
+use Rattle.melt_safepoint.proofs.Counting.{Adds, Spare, adds_silent, counts_taken, open_over}
+use Rattle.melt_safepoint.proofs.Journals.{may_owe}
+use Rattle.melt_safepoint.proofs.Modes.{cuts_mode}
+use Rattle.melt_safepoint.proofs.Collections.{cuts_reply, goes_on_mode, TakesCollection, waits_cases, own_open, own_one}
+use Rattle.melt_safepoint.proofs.Collections.{own_none}
 use Rattle.melt_step.specs.declared.collector.Collector.{Collector}
 use Rattle.melt_step.specs.declared.run.Run.{Run}
-use Rattle.melt_step.specs.declared.thread.ThreadState.{ThreadState}
-use Rattle.melt_step.specs.declared.thread.Mode.{Mode}
-use Rattle.melt_step.specs.declared.thread.Mode.TheVariants.{Running, Due, Silent, Collecting, Asked, Lacking, Ended}
-use Rattle.melt_step.specs.Counts.{CountsCollections}
-use Rattle.melt_step.specs.Journals.{IsTight, Planned}
 use Rattle.melt_step.specs.Safepoints.{CollectorStands, KeepsRun, MakesCollection, MakesFor, RunStands, StandsBut}
 use Rattle.melt_step.specs.Safepoints.{MakesPlanned, journal_of, last_of}
 use Rattle.melt_step.specs.Made.{MadeSoFar}
-use Rattle.melt_step.specs.Shown.{Shown}
-use Rattle.melt_step.specs.Threads.{CollectedFor, DropsIfEnded, DueBy, FitsMode, ForCollection, GoesOn}
-use Rattle.melt_step.specs.Threads.{HaveCuts, IsEnded, IsPaused, MayGo, TableStands, TakesReply, ThreadStep, ThreadTold}
-use Rattle.melt_step.specs.Threads.{collections_for, jobs, jobs_of, left, lost, losses, owes, owes_silent, with_first}
-use Rattle.melt_step.proofs.Counting.{Adds, Spare, adds_silent, adds_told, counts_taken, losses_same, open_over}
-use Rattle.melt_step.proofs.Counting.{told_lost}
-use Rattle.melt_step.proofs.Cuts.{HaveCuts_later}
-use Rattle.melt_step.proofs.Journals.{collected_over, collected_table, just_behind, may_owe, spare_collected}
-use Rattle.melt_step.proofs.Journals.{planned_one, stands_collected}
-use Rattle.melt_step.proofs.Modes.{Table_gone, Table_runs, cuts_mode, dropped_keeps, ends_done, nothing_keeps}
+use Rattle.melt_step.specs.Threads.{DropsIfEnded, TableStands, ThreadStep, ThreadTold}
+use Rattle.melt_step.proofs.Counting.{adds_told}
+use Rattle.melt_step.proofs.Journals.{collected_over, collected_table, just_behind, spare_collected, planned_one}
+use Rattle.melt_step.proofs.Journals.{stands_collected}
+use Rattle.melt_step.proofs.Modes.{Table_gone, Table_runs, dropped_keeps, ends_done, nothing_keeps}
 use Rattle.melt_step.proofs.Tables.{Table_step, Table_untold, table_ready}
-use Rattle.melt_step.proofs.Telling.{later_set}
 use Rattle.melt_step.proofs.WordsMade.{made_same}
 
 -- a thread that has ended has dropped its registers, and else nothing has changed
@@ -186,16 +188,6 @@ set_stands told script config shown mid new t after stands sets table cuts spare
           (subst (λ (js : List Journal). CountsCollections script config 0 states (length js)) same counts);
     }
 
--- the moments of the collections stay those of a run in which a thread got a reply
-cuts_reply : (script : Script) (config : Config) (log : List Entry) (states : List ThreadState) (t : ℕ)
-    (s after : ThreadState) (extra : List Reply) (journal : List Journal) → slice_get states t ≡ Some s
-    → (IsEnded s.mode → ⊥) → after.replies.items ≡ s.replies.items ++ extra → HaveCuts script log states config journal
-    → HaveCuts script log (set states t after) config journal
-cuts_reply script config log states t s after extra journal at goes grown cuts =
-    subst (λ (h : List Entry). HaveCuts script h (set states t after) config journal) (append-nil log)
-    (HaveCuts_later script log [] states (set states t after) config journal
-    (later_set states t s after extra at goes grown) cuts)
-
 -- the collection that is the next operation of a thread was made, and the thread got its reply
 Run_answered : (told : Bool) (script : Script) (config : Config) (shown : Shown) (mid new : Run) (t : ℕ)
     (s after : ThreadState) → StandsBut 1 told script config shown mid → HasSpare script config mid
@@ -242,14 +234,6 @@ Table_goes_on told script config disk v w states t s after table at goes no_call
       (ends_done told script config disk v states t s table at ended.0))
 ]
 
--- it only has another mode
-goes_on_mode : (s after : ThreadState) → GoesOn s after → (mode : Mode) × (after ≡ record s { mode = mode })
-    × (owes mode ≡ 0) × (lost mode ≡ 0)
-goes_on_mode s after on = elim on [
-  | inl runs ↦ (Running, runs.1, refl, refl)
-  | inr ended ↦ (Ended end.Done, ended.1, refl, refl)
-]
-
 -- the silent collection for which a thread waits was made, and the thread goes on
 Run_goes_on : (told : Bool) (script : Script) (config : Config) (shown : Shown) (mid new : Run) (t : ℕ)
     (s after : ThreadState) → StandsBut 1 told script config shown mid → HasSpare script config mid
@@ -271,29 +255,6 @@ Run_goes_on told script config shown mid new t s after stands spare quiet at mod
     (subst (λ (x : ThreadState). Adds script config states (set states t x) 1 0) (sym by.1)
     (adds_silent script config states t s by.0 at stands.table.count one (open_over s.mode goes)))
 
--- How a thread goes on behind the collection for which it waited.
-pub record TakesCollection (every : ℕ) (s after : ThreadState) : Type 0 where
-  pub takes : s.mode ≡ Collecting → TakesReply s after reply.Done
-  pub due : s.mode ≡ Collecting → DueBy every s after
-  pub silent : s.mode ≡ Silent → GoesOn s after
-
--- a thread that waits for a collection waits for a silent one or for its own
-pub waits_cases : (mode : Mode) → ForCollection mode → (mode ≡ Silent) ⊎ (mode ≡ Collecting)
-waits_cases Running waits = absurd waits
-waits_cases Due waits = absurd waits
-waits_cases Silent waits = inl refl
-waits_cases Collecting waits = inr refl
-waits_cases Asked waits = absurd waits
-waits_cases Lacking waits = absurd waits
-waits_cases (Ended e) waits = absurd waits
-
--- and it has not ended
-own_open : (mode : Mode) → ForCollection mode → IsEnded mode → ⊥
-own_open mode waits ended = elim (waits_cases mode waits) [
-  | inl silent ↦ subst IsEnded silent ended
-  | inr own ↦ subst IsEnded own ended
-]
-
 -- a run stands where the thread goes on
 pub Run_taken : (told : Bool) (script : Script) (config : Config) (shown : Shown) (mid new : Run) (t : ℕ)
     (s after : ThreadState) → StandsBut 1 told script config shown mid → HasSpare script config mid
@@ -307,98 +268,6 @@ Run_taken told script config shown mid new t s after stands spare quiet at waits
       | inr own ↦ Run_answered told script config shown mid new t s after stands spare quiet at own (takes.takes own)
           (takes.due own) drops sets
     ]
-
--- what a thread has to do, told by its mode and its operations
-jobs_by : (s : ThreadState) (mode : Mode) (n : ℕ) → s.mode ≡ mode → length (left s) ≡ n → jobs_of s ≡ jobs mode n
-jobs_by s mode n is to_come = rw (is, to_come) refl
-
--- a thread that got the reply to its collection has less to do
-answered_fewer : (s after : ThreadState) → s.mode ≡ Collecting → s.op ≡ Some Collect → TakesReply s after reply.Done
-    → CollectedFor s after
-answered_fewer s after mode next takes =
-    let n : ℕ = length s.cursor.operations in
-    let had : jobs_of s ≡ jobs Collecting (suc n) =
-    jobs_by s Collecting (suc n) mode (ap (λ (o : Option Op). length (with_first o s.cursor.operations)) next) in
-    let to_come : length (left after) ≡ n = ap length takes.to_come in
-    let less : jobs_of after < jobs_of s = elim takes.fits [
-      | inl runs ↦ omega (arith, had, jobs_by after Running n runs.0 to_come)
-      | inr rest ↦ elim rest [
-        | inl due ↦ omega (arith, had, jobs_by after Due n due to_come)
-        | inr ended ↦ omega (arith, had, jobs_by after (Ended end.Done) n ended.0 to_come)
-      ]
-    ] in
-    record {
-      fewer = λ waits. less;
-      goes = λ waits paused. elim takes.fits [
-        | inl runs ↦ subst IsPaused runs.0 paused
-        | inr rest ↦ elim rest [ inl due ↦ subst IsPaused due paused | inr ended ↦ subst IsPaused ended.0 paused ]
-      ];
-      owes =
-          λ waits owes. (next, omega (arith, ap length takes.replies, length-append s.replies.items (reply.Done ∷ [])));
-      same = λ never. absurd (never (subst ForCollection (sym mode) tt));
-    }
-
--- and so has one that goes on
-goes_on_fewer : (s after : ThreadState) → s.mode ≡ Silent → GoesOn s after → CollectedFor s after
-goes_on_fewer s after mode on =
-    let n : ℕ = length (left s) in
-    let had : jobs_of s ≡ jobs Silent n = jobs_by s Silent n mode refl in
-    let less : jobs_of after < jobs_of s = elim on [
-      | inl runs ↦ omega (arith, had, ap jobs_of runs.1)
-      | inr ended ↦ omega (arith, had, ap jobs_of ended.1)
-    ] in
-    record {
-      fewer = λ waits. less;
-      goes = λ waits paused. elim on [
-        | inl runs ↦ subst (λ (x : ThreadState). IsPaused x.mode) runs.1 paused
-        | inr ended ↦ subst (λ (x : ThreadState). IsPaused x.mode) ended.1 paused
-      ];
-      owes = λ waits owes. absurd (elim on [
-        | inl runs ↦ let wrong : false ≡ true = sym (ap (λ (x : ThreadState). owes_silent x.mode) runs.1) ∙ owes in cc
-        | inr ended ↦ let wrong : false ≡ true = sym (ap (λ (x : ThreadState). owes_silent x.mode) ended.1) ∙ owes in cc
-      ]);
-      same = λ never. absurd (never (subst ForCollection (sym mode) tt));
-    }
-
--- a thread whose collection was made has less to do
-pub taken_fewer : (every : ℕ) (s after : ThreadState) → ForCollection s.mode → TakesCollection every s after
-    → (s.mode ≡ Collecting → s.op ≡ Some Collect) → CollectedFor s after
-taken_fewer every s after waits takes next = elim (waits_cases s.mode waits) [
-  | inl silent ↦ goes_on_fewer s after silent (takes.silent silent)
-  | inr own ↦ answered_fewer s after own (next own) (takes.takes own)
-]
-
--- it is not lost
-taken_lost : (every : ℕ) (s after : ThreadState) → ForCollection s.mode → TakesCollection every s after
-    → lost after.mode ≡ lost s.mode
-taken_lost every s after waits takes = elim (waits_cases s.mode waits) [
-  | inl silent ↦
-      let by = goes_on_mode s after (takes.silent silent) in
-      ap (λ (x : ThreadState). lost x.mode) by.1 ∙ (by.3 ∙ sym (ap lost silent))
-  | inr own ↦ told_lost s after reply.Done (takes.takes own) ∙ sym (ap lost own)
-]
-
--- so as many are lost as before
-pub taken_losses : (every : ℕ) (states mid : List ThreadState) (t : ℕ) (s after : ThreadState) → mid ≡ states
-    → slice_get states t ≡ Some s → ForCollection s.mode → TakesCollection every s after
-    → losses (set mid t after) ≡ losses states
-taken_losses every states mid t s after same at waits takes =
-    ap (λ (xs : List ThreadState). losses (set xs t after)) same
-    ∙ losses_same states t s after at (taken_lost every s after waits takes)
-
--- a thread that waits for no collection stays as it is
-pub other_stays : (s : ThreadState) → (ForCollection s.mode → ⊥) → CollectedFor s s
-other_stays s never = record {
-  fewer = λ waits. absurd (never waits);
-  goes = λ waits. absurd (never waits);
-  owes = λ waits. absurd (never waits);
-  same = λ stays. refl;
-}
-
--- of other modes none waits for a collection
-pub waits_none : (mode : Mode) → (mode ≡ Silent → ⊥) → (mode ≡ Collecting → ⊥) → ForCollection mode → ⊥
-waits_none mode silent own waits =
-    elim (waits_cases mode waits) [ inl is ↦ silent is | inr is ↦ own is ]
 
 -- the state that was read is that of the thread
 pub state_read : (states items : List ThreadState) (t : ℕ) (s x d : ThreadState) → slice_get states t ≡ Some s
@@ -453,22 +322,6 @@ collected_thread script config shown later old mid t stands made below =
     collected_table false script config false shown later old mid
     (collected_over false script config false shown later old mid stands made) in
     omega (arith, below, behind.threads, stands.table.count)
-
--- one is due to a thread that waits for one, and none to another
-own_one : (mode : Mode) → ForCollection mode → collections_for mode ≡ 1
-own_one mode waits = elim (waits_cases mode waits) [
-  | inl silent ↦ ap collections_for silent
-  | inr own ↦ ap collections_for own
-]
-
-own_none : (mode : Mode) → (ForCollection mode → ⊥) → collections_for mode ≡ 0
-own_none Running never = refl
-own_none Due never = refl
-own_none Silent never = absurd (never tt)
-own_none Collecting never = absurd (never tt)
-own_none Asked never = refl
-own_none Lacking never = refl
-own_none (Ended e) never = refl
 
 -- a collection was made for a thread that waits for one
 pub made_for : (shown later : Shown) (old mid new : Run) (s : ThreadState) → MakesCollection false shown later old mid

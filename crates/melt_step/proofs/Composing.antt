@@ -1,26 +1,28 @@
 -- The parts of a safepoint, and of a run, one after the other.
-use Rattle.std.proofs.Common.{◌≡◌, ◌≢◌, ℕ, zero, suc, ◌+◌, ◌-◌, ◌^◌, ◌<◌, ◌≤◌, Bool, true, false, ◌⊎◌, List, length}
-use Rattle.std.proofs.Common.{refl, sym, ◌∙◌, ap, subst, arith, inl, inr}
+use Rattle.std.proofs.Common.{◌≡◌, ◌≢◌, ℕ, zero, suc, ◌-◌, ◌^◌, ◌<◌, ◌≤◌, Bool, true, false, ◌⊎◌, List, length}
+use Rattle.std.proofs.Common.{refl, sym, subst, arith, inl, inr}
 use Rattle.std.proofs.lemmas.Bool.{cases_lt}
-use Rattle.std.specs.Prelude.{Result, Ok, Err, IfOk, Option, None}
-use Rattle.melt_io.specs.Outside.{Rose, counted}
+use Rattle.std.specs.Prelude.{Result, Ok, Err, IfOk, Option}
+use Rattle.melt_io.specs.Outside.{Rose}
 use Rattle.melt_model.specs.declared.config.Config.{Config}
 use Rattle.melt_trace.specs.Script.{Script}
 use Rattle.melt_core.specs.Views.{IsQuiet, view}
+use Rattle.melt_safepoint.specs.declared.thread.ThreadState.{ThreadState}
+use Rattle.melt_safepoint.specs.Threads.{AllEnded, AllWait, OweBehindCollects, SomeGoesOn}
+use Rattle.melt_safepoint.specs.Passing.{WaitsForRoom, CollectedAll}
+use Rattle.melt_safepoint.specs.Shown.{Shown}
+use Rattle.melt_safepoint.specs.Losses.{CountsLosses}
+use Rattle.melt_safepoint.proofs.Lends.{all_not_some}
+use Rattle.melt_safepoint.proofs.Counting.{counts_more, overs_less}
+use Rattle.melt_safepoint.proofs.Losses.{counts_then}
+use Rattle.melt_safepoint.proofs.Journals.{may_owe}
 use Rattle.melt_step.specs.declared.ending.Stop.{Stop}
 use Rattle.melt_step.specs.declared.ending.Stop.TheVariants.{NoMemory, Halted}
 use Rattle.melt_step.specs.declared.run.Run.{Run}
-use Rattle.melt_step.specs.declared.thread.ThreadState.{ThreadState}
-use Rattle.melt_step.specs.Endings.{AllEnded}
-use Rattle.melt_step.specs.Safepoints.{AwaitsCall, CountsOpen, IsNearer, JustCollected, KeepsRun, MakesCollection}
-use Rattle.melt_step.specs.Safepoints.{MakesPlanned}
+use Rattle.melt_step.specs.Safepoints.{AwaitsCall, IsNearer, JustCollected, KeepsRun, MakesCollection, MakesPlanned}
+use Rattle.melt_step.specs.Safepoints.{RunStands, StandsBut, StopCounts, StopsBut, StopsForced, StopsRun}
 use Rattle.melt_step.specs.Makes.{if_none_was}
-use Rattle.melt_step.specs.Safepoints.{RunStands, StandsBut, StopCounts, StopsBut, StopsForced, StopsRun, WaitsForRoom}
-use Rattle.melt_step.specs.Safepoints.{open_faults}
-use Rattle.melt_step.specs.Shown.{Shown}
-use Rattle.melt_step.specs.Threads.{AllWait, CollectedAll, CountsLosses, IsEnded, OweBehindCollects, SomeGoesOn}
-use Rattle.melt_step.proofs.Counting.{counts_back, counts_more, counts_open, counts_then, overs_less}
-use Rattle.melt_step.proofs.Journals.{just_collected, may_owe, planned_one, stands_collected}
+use Rattle.melt_step.proofs.Journals.{just_collected, planned_one, stands_collected}
 use Rattle.melt_step.proofs.Passing.{owe_behind}
 
 -- what holds of a result by two things that hold of it
@@ -126,10 +128,6 @@ before_same due shown run was just quiet some = record {
       (λ told script config stands. refl);
 }
 
--- a thread that waits for room has not ended
-pub room_goes : (states : List ThreadState) (t : ℕ) → WaitsForRoom states t → SomeGoesOn states
-room_goes states t waits = (t, (waits.0, waits.1, λ ended. subst IsEnded waits.2 ended))
-
 -- a thread that lacks room may make its call then
 pub awaits_call : (due : ℕ) (shown mid_shown later : Shown) (old mid run : Run) (t : ℕ)
     → KeepsRun shown mid_shown old mid → AllWait old.states.items → CollectedAll old.states.items mid.states.items
@@ -147,31 +145,13 @@ awaits_call due shown mid_shown later old mid run t keeps waits all before lacks
   left = λ is. tt;
 }
 
--- What was counted of the disk and of the threads since a run began to pass a safepoint.
-pub record CountsBefore (states after : List ThreadState) (faults faults_after reads reads_after : ℕ) : Type 0 where
-  pub count : faults ≤ faults_after
-  pub lost : CountsLosses states after reads reads_after
-
--- behind one collection more, no thread more is lost, and no read more failed
-pub counts_made : (states mid after : List ThreadState) (a b c x y z : ℕ) → after ≡ mid → a ≤ b → b ≤ c
-    → CountsLosses states mid x y → z ≡ y → CountsBefore states after a c x z
-counts_made states mid after a b c x y z same first second lost reads = record {
-  count = omega (arith, first, second);
-  lost = subst (CountsLosses states after x) (sym reads)
-      (subst (λ (xs : List ThreadState). CountsLosses states xs x y) (sym same) lost);
-}
-
--- some thread has not ended, or all have
-all_or_some : (states : List ThreadState) → SomeGoesOn states → AllEnded states → ⊥
-all_or_some states some all = some.1.2 (all some.0 some.1.0 some.1.1)
-
 -- An epoch and a safepoint bring a run nearer to its end, in which some thread has not ended.
 pub round_nearer : (head mid next : Run) → SomeGoesOn head.states.items → (mid ≡ head) ⊎ IsNearer head mid
     → IsNearer mid next ⊎ (AllEnded mid.states.items × (next ≡ mid)) → IsNearer head next
 round_nearer head mid next some epoch safepoint = elim epoch [
   | inl same ↦ elim safepoint [
     | inl near ↦ subst (λ (run : Run). IsNearer run next) same near
-    | inr over ↦ absurd (all_or_some head.states.items some
+    | inr over ↦ absurd (all_not_some head.states.items some
         (subst (λ (run : Run). AllEnded run.states.items) same over.0))
   ]
   | inr near ↦ elim safepoint [
@@ -179,13 +159,6 @@ round_nearer head mid next some epoch safepoint = elim epoch [
     | inr over ↦ subst (IsNearer head) (sym over.1) near
   ]
 ]
-
--- what is seen of a disk is told by its parts
-pub shown_is : (a b : Shown) → a.end ≡ b.end → a.limit ≡ b.limit → a.image ≡ b.image → a ≡ b
-shown_is a b ends limits images =
-    let by : ℕ → ℕ → Option (List ℕ) → Shown = λ n m i. record { end = n; limit = m; image = i } in
-    ap (λ (n : ℕ). by n a.limit a.image) ends
-    ∙ (ap (λ (m : ℕ). by b.end m a.image) limits ∙ ap (λ (i : Option (List ℕ)). by b.end b.limit i) images)
 
 -- the same run over what is seen the same
 pub keeps_same : (first shown later : Shown) (old run next : Run) → later ≡ shown → next ≡ run
@@ -200,21 +173,3 @@ pub keeps_on : (first shown : Shown) (end : ℕ) (image : Option (List ℕ)) (ol
     → shown.image ≡ image → KeepsRun first shown old run → KeepsRun first shown old next
 keeps_on first shown end image old run next keeps ends images before told script config stands =
     keeps shown ends images told script config (before told script config stands)
-
--- no reader is lent, so none more was lost than reads failed on those that were given back
-pub counts_closed : {Reader : Type 0} (faults : Reader → ℕ) (lent : Option Reader) (states after : List ThreadState)
-    (a b : ℕ) → lent ≡ None → CountsOpen states after a b (open_faults faults lent) → CountsLosses states after a b
-counts_closed faults lent states after a b none counts =
-    let no_more : open_faults faults lent ≡ 0 = ap (open_faults faults) none in
-    subst (CountsLosses states after a) (omega (arith, no_more)) counts
-
--- what was counted where the reader of an epoch is given back
-pub epoch_counts : (states mid begun after : List ThreadState) (a b c d e f g : ℕ) → begun ≡ mid → c ≡ b → f ≡ e
-    → CountsLosses states mid a (b + e) → CountsLosses begun after f g → d ≡ counted c g
-    → CountsLosses states after a d
-epoch_counts states mid begun after a b c d e f g same reads faults first second back =
-    let before : CountsLosses states mid a (c + f) =
-    subst (CountsLosses states mid a) (omega (arith, reads, faults)) first in
-    let epoch : CountsLosses mid after f g = subst (λ (xs : List ThreadState). CountsLosses xs after f g) same second in
-    subst (CountsLosses states after a) (sym back)
-    (counts_back states after a c g (counts_open states mid after a c f g before epoch))

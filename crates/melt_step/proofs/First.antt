@@ -1,9 +1,9 @@
 -- The call that a thread that lacked room makes alone, behind a collection.
 use Rattle.std.proofs.Common.{◌≡◌, ◌≢◌, ℕ, ◌+◌, ◌*◌, ◌<◌, ◌≤◌, zero, suc, true, false, List, ◌∷◌, length}
-use Rattle.std.proofs.Common.{get_or, refl, sym, ◌∙◌, ap, subst, arith, inl, inr}
+use Rattle.std.proofs.Common.{refl, sym, ◌∙◌, ap, subst, arith, inl, inr}
 use Rattle.std.proofs.Math.ListN.{set}
 use Rattle.std.proofs.lemmas.Bool.{cases_eq}
-use Rattle.std.proofs.lemmas.Option.{get_or_from_slice_get, same_Some}
+use Rattle.std.proofs.lemmas.Option.{same_Some}
 use Rattle.std.specs.Prelude.{Bool, Option, None, Some, IsSome, IfSome, IfNone, slice_get, ◌⊎◌}
 use Rattle.melt_model.specs.Alive.{Held, words_of, CostsSum}
 use Rattle.melt_model.specs.Thread.{value_in}
@@ -13,7 +13,6 @@ use Rattle.melt_model.specs.declared.history.Value.{Value}
 use Rattle.melt_model.specs.declared.operations.Op.{Op}
 use Rattle.melt_model.specs.declared.operations.Op.TheVariants as op
 use Rattle.melt_model.specs.declared.operations.Op.TheVariants.{Collect}
-use Rattle.melt_model.specs.declared.operations.Reply.{Reply}
 use Rattle.melt_model.specs.declared.reports.Journal.{Journal}
 use Rattle.melt_model.proofs.Sums.{CostsSum-one}
 use Rattle.melt_trace.specs.Grammar.{InRange}
@@ -21,29 +20,33 @@ use Rattle.melt_trace.specs.Script.{Script}
 use Rattle.melt_scion.specs.Heaps.{OnDisk}
 use Rattle.melt_core.specs.Advances.{InBounds, KeepsOthers, TellsDisk}
 use Rattle.melt_core.specs.Views.{View, Standing, view, call_of, value, values_of, IsQuiet}
-use Rattle.melt_step.specs.Journals.{IsTight, before}
+use Rattle.melt_safepoint.specs.declared.thread.Mode.{Mode}
+use Rattle.melt_safepoint.specs.declared.thread.Mode.TheVariants.{Lacking}
+use Rattle.melt_safepoint.specs.declared.thread.ThreadState.{ThreadState}
+use Rattle.melt_safepoint.specs.Journals.{IsTight, before}
+use Rattle.melt_safepoint.specs.Passing.{IsLacking, CalledAt, WaitsForRoom}
+use Rattle.melt_safepoint.specs.Needs.{NeedsWords}
+use Rattle.melt_safepoint.specs.Shown.{Shown, Underlies}
+use Rattle.melt_safepoint.specs.Threads.{DueBy, OweBehindCollects, jobs_of, left, with_first}
+use Rattle.melt_safepoint.specs.Modes.{FitsMode, IsEnded, jobs, mode_for}
+use Rattle.melt_safepoint.specs.Endings.{HaveCuts}
+use Rattle.melt_safepoint.proofs.Counting.{Adds, counts_paid}
+use Rattle.melt_safepoint.proofs.Cuts.{held_words_same, needs_same}
+use Rattle.melt_safepoint.proofs.Journals.{before_end}
+use Rattle.melt_safepoint.proofs.Modes.{lost_ends}
+use Rattle.melt_safepoint.proofs.Threads.{set_got}
+use Rattle.melt_safepoint.proofs.Lacking.{lacking_open, Frees, frees_ended, told_goes, called_at}
 use Rattle.melt_step.specs.Lone.{IsAloneReady, IsMarked, CalledAlone, CalledOver, LacksAlone}
-use Rattle.melt_step.specs.Makes.{IsLacking, MakesCall}
-use Rattle.melt_step.specs.Needs.{NeedsWords}
-use Rattle.melt_step.specs.Safepoints.{Awaited, AwaitsCall, CalledAt, CollectorStands, JustCollected, LackedWords}
-use Rattle.melt_step.specs.Safepoints.{LacksBy, LacksWords, LeftBy, MadeCall, OnlyHeld, RunStands, SomeAwaits}
-use Rattle.melt_step.specs.Safepoints.{StandsBut, WaitsForRoom, last_of}
-use Rattle.melt_step.specs.Shown.{Shown}
+use Rattle.melt_step.specs.Makes.{MakesCall}
+use Rattle.melt_step.specs.Safepoints.{Awaited, AwaitsCall, CollectorStands, JustCollected, LackedWords, LacksBy}
+use Rattle.melt_step.specs.Safepoints.{LacksWords, LeftBy, MadeCall, OnlyHeld, RunStands, SomeAwaits, StandsBut}
+use Rattle.melt_step.specs.Safepoints.{last_of}
 use Rattle.melt_step.specs.Made.{MadeSoFar, MakesInUse}
-use Rattle.melt_step.specs.Shown.{Underlies}
-use Rattle.melt_step.specs.Threads.{DueBy, FitsMode, HaveCuts, IsEnded, IsPaused, IsReady, TableStands, TakesReply}
-use Rattle.melt_step.specs.Threads.{OweBehindCollects, ThreadLost, ThreadStep, ThreadTold, jobs, jobs_of, left}
-use Rattle.melt_step.specs.Threads.{mode_for, with_first}
+use Rattle.melt_step.specs.Threads.{IsReady, TableStands, ThreadLost, ThreadStep, ThreadTold}
 use Rattle.melt_step.specs.declared.collector.Collector.{Collector}
 use Rattle.melt_step.specs.declared.run.Run.{Run}
-use Rattle.melt_step.specs.declared.thread.Mode.{Mode}
-use Rattle.melt_step.specs.declared.thread.Mode.TheVariants.{Running, Due, Silent, Collecting, Asked, Lacking, Ended}
-use Rattle.melt_step.specs.declared.thread.ThreadState.{ThreadState}
-use Rattle.melt_step.proofs.Counting.{Adds, adds_got, adds_lost, counts_of, counts_paid}
-use Rattle.melt_step.proofs.Cuts.{held_words_same, needs_same}
-use Rattle.melt_step.proofs.Journals.{before_end}
-use Rattle.melt_step.proofs.Tables.{Table_lacks, Table_step, cuts_step, lost_ends, table_ready}
-use Rattle.melt_step.proofs.Telling.{set_got}
+use Rattle.melt_step.proofs.Counting.{adds_got, adds_lost, counts_of}
+use Rattle.melt_step.proofs.Tables.{Table_lacks, Table_step, cuts_step, table_ready}
 
 -- what holds where an option is nothing
 pub if_none : {A : Type 0} (o : Option A) (P : Type 0) → (o ≡ None → P) → IfNone o P
@@ -54,20 +57,6 @@ if_none (Some x) P holds = tt
 pub if_some : {A : Type 0} (o : Option A) (P : A → Type 0) → ((x : A) → o ≡ Some x → P x) → IfSome o P
 if_some None P holds = tt
 if_some (Some x) P holds = holds x refl
-
--- the state that was read is that of the thread
-pub lacking_here : (states : List ThreadState) (t : ℕ) (x d : ThreadState) → x ≡ get_or states t d
-    → WaitsForRoom states t → IsLacking states t x
-lacking_here states t x d is waits =
-    let same : x ≡ waits.0 = is ∙ get_or_from_slice_get states t waits.0 d waits.1 in
-    record {
-      at = waits.1 ∙ ap Some (sym same);
-      lacking = ap (λ (y : ThreadState). y.mode) same ∙ waits.2;
-    }
-
--- it has not ended
-pub lacking_open : {states : List ThreadState} {t : ℕ} {s : ThreadState} → IsLacking states t s → IsEnded s.mode → ⊥
-lacking_open {states} {t} {s} was ended = subst IsEnded was.lacking ended
 
 -- what it has next
 pub lacking_next : {told : Bool} {script : Script} {config : Config} {disk : OnDisk} {v : View}
@@ -268,45 +257,6 @@ pub made_stop : {told : Bool} {script : Script} {config : Config} {shown : Shown
 made_stop {told} {script} {config} {shown} {forced} {old} {new} {t} {lacks} awaits m none =
     (came none (call_over awaits m)).0
 
--- a thread that has ended has nothing to do
-ended_jobs : (mode : Mode) (n : ℕ) → IsEnded mode → jobs mode n ≡ 0
-ended_jobs Running n over = absurd over
-ended_jobs Due n over = absurd over
-ended_jobs Silent n over = absurd over
-ended_jobs Collecting n over = absurd over
-ended_jobs Asked n over = absurd over
-ended_jobs Lacking n over = absurd over
-ended_jobs (Ended e) n over = refl
-
--- and does not wait
-ended_goes : (mode : Mode) → IsEnded mode → IsPaused mode → ⊥
-ended_goes Running over paused = over
-ended_goes Due over paused = over
-ended_goes Silent over paused = over
-ended_goes Collecting over paused = over
-ended_goes Asked over paused = over
-ended_goes Lacking over paused = over
-ended_goes (Ended e) over paused = paused
-
--- one that waits for room has something to do
-lacking_jobs : (s : ThreadState) → s.mode ≡ Lacking → jobs_of s ≡ 1 + 2 * length (left s)
-lacking_jobs s is = ap (λ (m : Mode). jobs m (length (left s))) is
-
--- Of a thread that waited for room: it has less to do, and does not wait.
-pub record Frees (s after : ThreadState) : Type 0 where
-  pub fewer : jobs_of after < jobs_of s
-  pub goes : IsPaused after.mode → ⊥
-
--- so it is where it has ended
-pub frees_ended : (s : ThreadState) (mode : Mode) → s.mode ≡ Lacking → IsEnded mode → Frees s (record s { mode = mode })
-frees_ended s mode lacking over = record {
-  fewer =
-      let none : jobs mode (length (left s)) ≡ 0 = ended_jobs mode (length (left s)) over in
-      let less : jobs mode (length (left s)) < jobs_of s = omega (arith, none, lacking_jobs s lacking) in
-      less;
-  goes = ended_goes mode over;
-}
-
 -- a thread that got its reply has less to do
 told_jobs : (told : Bool) (v w : View) (t : ℕ) (s after : ThreadState) → s.mode ≡ Lacking
     → ThreadTold told v w t s after → jobs_of after < jobs_of s
@@ -327,13 +277,6 @@ told_jobs told v w t s after lacking got =
       ]
     ])
 
--- and does not wait
-told_goes : (s after : ThreadState) (reply : Reply) → TakesReply s after reply → IsPaused after.mode → ⊥
-told_goes s after reply takes paused = elim takes.fits [
-  | inl runs ↦ subst IsPaused runs.0 paused
-  | inr rest ↦ elim rest [ inl due ↦ subst IsPaused due paused | inr ended ↦ subst IsPaused ended.0 paused ]
-]
-
 -- so it is behind a call that was answered, or ended its thread
 frees_call : {told : Bool} {finish : ℕ} {v w : View} {t : ℕ} {s after : ThreadState} → s.mode ≡ Lacking
     → ThreadLost told finish v w t s after ⊎ ThreadTold told v w t s after → Frees s after
@@ -345,16 +288,6 @@ frees_call {told} {finish} {v} {w} {t} {s} {after} lacking what = elim what [
     goes = told_goes s after got.reply got.takes;
   }
 ]
-
--- a thread that waited for room, and was set to a state that has less to do
-pub called_at : {states behind : List ThreadState} {t : ℕ} {s after : ThreadState} → IsLacking states t s
-    → behind ≡ set states t after → Frees s after → CalledAt states behind t
-called_at {states} {behind} {t} {s} {after} was is frees = λ x here. (
-  after,
-  is,
-  subst (λ (z : ThreadState). jobs_of after < jobs_of z) (same_Some s x (sym was.at ∙ here)) frees.fewer,
-  frees.goes,
-)
 
 -- so it is of the thread whose call was made
 pub made_called : {told : Bool} {script : Script} {config : Config} {shown : Shown} {forced : ℕ} {old new : Run} {t : ℕ}

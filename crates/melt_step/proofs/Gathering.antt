@@ -30,9 +30,9 @@ use Rattle.melt_core.specs.Lending.{with_held}
 use Rattle.melt_core.proofs.Alive.{alive_sum}
 use Rattle.melt_core.proofs.Disks.{stands_over}
 use Rattle.melt_core.proofs.OnDiskCosts.{alive_within}
+use Rattle.melt_safepoint.specs.Shown.{Shown, Underlies}
 use Rattle.melt_step.specs.Choices.{OnlyRegisters}
 use Rattle.melt_step.specs.Collections.{MayCollect, Gathers, CollectedOver, CollectsCore}
-use Rattle.melt_step.specs.Shown.{Shown, Underlies}
 use Rattle.melt_step.specs.Threads.{Renewed}
 use Rattle.melt_step.specs.declared.collector.Collector.{Collector}
 use Rattle.melt_step.proofs.Collecting.{placed_told, formed_now, maps_after, in_use_costs}

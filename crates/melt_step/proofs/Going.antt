@@ -7,16 +7,21 @@ use Rattle.melt_model.specs.declared.operations.Op.TheVariants.{Collect}
 use Rattle.melt_trace.specs.Script.{Script}
 use Rattle.melt_scion.specs.Heaps.{OnDisk}
 use Rattle.melt_core.specs.Views.{View, view, IsQuiet, Standing}
+use Rattle.melt_safepoint.specs.declared.thread.ThreadState.{ThreadState}
+use Rattle.melt_safepoint.specs.Shown.{Shown, Underlies}
+use Rattle.melt_safepoint.specs.Threads.{DueBy}
+use Rattle.melt_safepoint.specs.Endings.{HaveCuts}
+use Rattle.melt_safepoint.specs.Modes.{MayGo}
+use Rattle.melt_safepoint.specs.Passing.{Passed}
+use Rattle.melt_safepoint.proofs.Modes.{goes_on}
+use Rattle.melt_safepoint.proofs.Counting.{Adds, counts_on}
 use Rattle.melt_step.specs.declared.run.Run.{Run}
-use Rattle.melt_step.specs.declared.thread.ThreadState.{ThreadState}
 use Rattle.melt_step.specs.declared.collector.Collector.{Collector}
 use Rattle.melt_step.specs.Safepoints.{CollectorStands, KeepsRun, RunStands}
 use Rattle.melt_step.specs.Made.{MadeSoFar, MakesInUse}
-use Rattle.melt_step.specs.Shown.{Shown, Underlies}
-use Rattle.melt_step.specs.Threads.{DueBy, HaveCuts, MayGo, Passed, TakesTurn, ThreadStep, ThreadTold, TableStands}
-use Rattle.melt_step.specs.Threads.{potential}
-use Rattle.melt_step.proofs.Tables.{Table_step, cuts_step, goes_on}
-use Rattle.melt_step.proofs.Counting.{Adds, collections_step, counts_of, counts_on}
+use Rattle.melt_step.specs.Threads.{TakesTurn, ThreadStep, ThreadTold, TableStands, potential}
+use Rattle.melt_step.proofs.Tables.{Table_step, cuts_step}
+use Rattle.melt_step.proofs.Counting.{collections_step, counts_of}
 use Rattle.melt_step.proofs.Potentials.{step_nearer, safepoint_nearer}
 
 -- a run stands on behind an event of a thread that can go on

@@ -14,22 +14,28 @@ use Rattle.melt_core.specs.Epochs.{HasDropped, HasFinished}
 use Rattle.melt_core.specs.Views.{View, view, call_in, call_of, value, held_values, registers_in, IsQuiet}
 use Rattle.melt_core.specs.Views.{Standing}
 use Rattle.melt_core.specs.declared.call.Call.{Call}
+use Rattle.melt_safepoint.specs.declared.thread.Mode.{Mode}
+use Rattle.melt_safepoint.specs.declared.thread.Mode.TheVariants.{Ended}
+use Rattle.melt_safepoint.specs.declared.thread.ThreadState.{ThreadState}
+use Rattle.melt_safepoint.specs.Shown.{Shown}
+use Rattle.melt_safepoint.specs.Counts.{over}
+use Rattle.melt_safepoint.specs.Endings.{HaveCuts, LacksNow}
+use Rattle.melt_safepoint.specs.Losses.{losses}
+use Rattle.melt_safepoint.specs.Modes.{lost, owes}
+use Rattle.melt_safepoint.specs.Passing.{IsLacking}
+use Rattle.melt_safepoint.proofs.Counting.{Adds, adds_mode, counts_paid}
+use Rattle.melt_safepoint.proofs.Losses.{losses_same}
+use Rattle.melt_safepoint.proofs.Lacking.{called_at, frees_ended, lacking_open}
+use Rattle.melt_safepoint.proofs.Modes.{cuts_mode}
 use Rattle.melt_step.specs.Safepoints.{CollectorStands, LacksWords, MadeCall, NoRoom, RunStands, SomeLacksWords}
-use Rattle.melt_step.specs.Made.{MadeSoFar}
 use Rattle.melt_step.specs.Safepoints.{StandsBut}
-use Rattle.melt_step.specs.Shown.{Shown}
-use Rattle.melt_step.specs.Counts.{over}
-use Rattle.melt_step.specs.Threads.{HaveCuts, LacksNow, Renewed, TableStands, losses, lost, owes}
+use Rattle.melt_step.specs.Made.{MadeSoFar}
+use Rattle.melt_step.specs.Threads.{Renewed, TableStands}
 use Rattle.melt_step.specs.declared.collector.Collector.{Collector}
 use Rattle.melt_step.specs.declared.run.Run.{Run}
-use Rattle.melt_step.specs.declared.thread.Mode.{Mode}
-use Rattle.melt_step.specs.declared.thread.Mode.TheVariants.{Ended}
-use Rattle.melt_step.specs.declared.thread.ThreadState.{ThreadState}
-use Rattle.melt_step.proofs.Counting.{Adds, adds_mode, counts_of, counts_paid, losses_same}
+use Rattle.melt_step.proofs.Counting.{counts_of}
 use Rattle.melt_step.proofs.Cuts.{lacks_room}
-use Rattle.melt_step.specs.Makes.{IsLacking}
-use Rattle.melt_step.proofs.First.{called_at, frees_ended, lacking_open}
-use Rattle.melt_step.proofs.Modes.{Table_gone, cuts_mode}
+use Rattle.melt_step.proofs.Modes.{Table_gone}
 use Rattle.melt_step.proofs.Tables.{Table_renewed}
 use Rattle.melt_step.proofs.WordsMade.{made_dropped, made_same}
 

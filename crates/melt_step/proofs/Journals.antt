@@ -1,16 +1,15 @@
 -- A journal grows by collections that were planned or forced, and a run stands behind each of them.
-use Rattle.std.proofs.Common.{◌≡◌, ◌≢◌, ℕ, ◌+◌, ◌<◌, ◌≤◌, zero, suc, true, false, ◌⊎◌, List, [], ◌∷◌, ◌++◌, length}
+use Rattle.std.proofs.Common.{◌≡◌, ℕ, ◌+◌, ◌<◌, ◌≤◌, suc, true, false, List, [], ◌∷◌, ◌++◌, length}
 use Rattle.std.proofs.Common.{refl, sym, ◌∙◌, ap, subst, arith, length-append, inl, inr}
 use Rattle.std.proofs.lemmas.List.Elements.{All-push}
-use Rattle.std.specs.Prelude.{Bool, Option, None, Some, slice_get}
+use Rattle.std.specs.Prelude.{Bool, Option, None, Some}
 use Rattle.melt_model.specs.declared.config.Config.{Config}
 use Rattle.melt_model.specs.declared.history.Entry.{Entry}
 use Rattle.melt_model.specs.declared.reports.Halt.{Halt}
 use Rattle.melt_model.specs.declared.reports.Halt.TheVariants as halt
 use Rattle.melt_model.specs.declared.reports.Journal.{Journal}
 use Rattle.melt_model.specs.declared.reports.Phase.{Phase}
-use Rattle.melt_model.specs.declared.reports.Phase.TheVariants.{Inactive, Mark, Move}
-use Rattle.melt_model.proofs.Histories.{last_place, slice_get-append_seam}
+use Rattle.melt_model.specs.declared.reports.Phase.TheVariants.{Move}
 use Rattle.melt_policy.specs.Policy.{planned}
 use Rattle.melt_trace.specs.Script.{Script}
 use Rattle.melt_disk.specs.declared.space.DiskFull.{DiskFull}
@@ -24,93 +23,32 @@ use Rattle.melt_core.specs.Epochs.{core_of}
 use Rattle.melt_core.specs.Views.{View, view, IsQuiet}
 use Rattle.melt_core.specs.declared.machine.Rest.{Rest}
 use Rattle.melt_core.proofs.Disks.{stands_untold}
+use Rattle.melt_safepoint.specs.declared.thread.ThreadState.{ThreadState}
+use Rattle.melt_safepoint.specs.Threads.{AreHalted}
+use Rattle.melt_safepoint.specs.Journals.{next_of, before, end_of, IsTight, MayMove, IsJournalOf, OneMore, Planned}
+use Rattle.melt_safepoint.specs.Counts.{CountsCollections}
+use Rattle.melt_safepoint.specs.Made.{MakesWithin}
+use Rattle.melt_safepoint.specs.Shown.{Shown}
+use Rattle.melt_safepoint.specs.Endings.{HasCut, HaveCuts}
+use Rattle.melt_safepoint.proofs.Counting.{Spare, counts_made_more, counts_spare}
+use Rattle.melt_safepoint.proofs.Journals.{before_end, MayBe, journal_push, may_be, may_move, phase_cases, plan_for}
+use Rattle.melt_safepoint.proofs.Journals.{MayOwe}
 use Rattle.melt_step.specs.Collections.{CollectsCore, CollectedOver, FullOver, Gathers, IsFullCore, IsRefusedCore}
 use Rattle.melt_step.specs.Collections.{MayCollect}
-use Rattle.melt_step.specs.Endings.{AreHalted, EndsBy, EndsFull, EndedStands}
-use Rattle.melt_step.specs.Journals.{next_of, before, end_of, IsTight, MayMove, IsJournalOf, OneMore, Planned}
+use Rattle.melt_step.specs.Endings.{EndsBy, EndsFull, EndedStands}
 use Rattle.melt_step.specs.Lone.{NoneForwarded}
-use Rattle.melt_step.specs.Counts.{CountsCollections, overs}
 use Rattle.melt_step.specs.Safepoints.{CollectorStands, JustCollected, MakesCollection, RunStands, StandsBut, last_of}
 use Rattle.melt_step.specs.Safepoints.{journal_of}
-use Rattle.melt_step.specs.Made.{MadeSoFar, MakesWithin}
-use Rattle.melt_step.specs.Shown.{Shown}
-use Rattle.melt_step.specs.Threads.{CountsLosses, HasCut, HaveCuts, IsEnded, TableStands, losses}
+use Rattle.melt_step.specs.Made.{MadeSoFar}
+use Rattle.melt_step.specs.Threads.{TableStands}
 use Rattle.melt_step.specs.declared.collector.Collector.{Collector}
 use Rattle.melt_step.specs.declared.collector.CollectRefusal.{CollectRefusal}
 use Rattle.melt_step.specs.declared.collector.CollectRefusal.TheVariants as refused
 use Rattle.melt_step.specs.declared.ending.Ended.{Ended}
 use Rattle.melt_step.specs.declared.run.Run.{Run}
-use Rattle.melt_step.specs.declared.thread.ThreadState.{ThreadState}
-use Rattle.melt_step.proofs.Counting.{Spare, counts_made_more, counts_same, counts_spare, losses_halted, overs_less}
 use Rattle.melt_step.proofs.Cuts.{cut_now}
 use Rattle.melt_step.proofs.Tables.{Table_renewed}
 use Rattle.melt_step.proofs.WordsMade.{made_collected, run_within}
-
--- one more at the end leaves those before
-get_before : (js : List Journal) (e : Journal) (k : ℕ) → k < length js → slice_get (js ++ e ∷ []) k ≡ slice_get js k
-get_before [] e k below = absurd (omega arith)
-get_before (j ∷ js) e zero below = refl
-get_before (j ∷ js) e (suc k) below = get_before js e k (omega arith)
-
-before_push : (js : List Journal) (e : Journal) (k : ℕ) → k ≤ length js → before (js ++ e ∷ []) k ≡ before js k
-before_push js e zero within = refl
-before_push js e (suc k) within = get_before js e k (omega arith)
-
--- it is the last one now
-pub before_end : (js : List Journal) (e : Journal) → before (js ++ e ∷ []) (length (js ++ e ∷ [])) ≡ Some e
-before_end js e =
-    let count : length (js ++ e ∷ []) ≡ suc (length js) = omega (arith, length-append js (e ∷ [])) in
-    ap (before (js ++ e ∷ [])) count ∙ slice_get-append_seam js e []
-
--- What holds of each collection and the one before it, of these collections.
-abbrev FollowEach : (Journal → Option Journal → Type 0) → List Journal → Type 0
-FollowEach P js = (k : ℕ) (j : Journal) → slice_get js k ≡ Some j → P j (before js k)
-
--- and so of one more
-follow_push : (P : Journal → Option Journal → Type 0) (js : List Journal) (e : Journal) → FollowEach P js
-    → P e (before js (length js)) → FollowEach P (js ++ e ∷ [])
-follow_push P js e each last = λ k j at. elim (last_place js e k j at) [
-  | inl old ↦ subst (P j) (sym (before_push js e k (omega (arith, old.0)))) (each k j old.1)
-  | inr new ↦
-      let place : length js ≡ k = omega (arith, new.0) in
-      let here : P e (before js k) = subst (λ (n : ℕ). P e (before js n)) place last in
-      subst (P j) (sym (before_push js e k (omega (arith, place))))
-      (subst (λ (x : Journal). P x (before js k)) new.1 here)
-]
-
--- how a collection may follow the one before it
-abbrev pub MayBe : Config → Option Journal → Phase → Type 0
-MayBe config last phase = (phase ≡ next_of config last) ⊎ ((phase ≡ Move) × IsTight config last)
-
--- one collection more
-journal_push : (config : Config) (js : List Journal) (e : Journal) → IsJournalOf config js
-    → MayBe config (before js (length js)) e.phase → (e.held ≤ e.live) × (e.live ≤ config.heap)
-    → end_of (before js (length js)) ≤ e.end → e.end ≤ config.disk → IsJournalOf config (js ++ e ∷ [])
-journal_push config js e is may words grows within = record {
-  phases = follow_push (λ j last. MayBe config last j.phase) js e is.phases may;
-  words = All-push (λ (j : Journal). (j.held ≤ j.live) × (j.live ≤ config.heap)) js e is.words words;
-  ends = follow_push (λ j last. end_of last ≤ j.end) js e is.ends grows;
-  limit = All-push (λ (j : Journal). j.end ≤ config.disk) js e is.limit within;
-}
-
--- a collection is the one that was planned, or a Move that was forced
-may_be : (config : Config) (last : Option Journal) (force : Bool) (next : Phase) → (force ≡ true → IsTight config last)
-    → next ≡ next_of config last → MayBe config last (phase_done force next)
-may_be config last true next tight plan = inr (refl, tight refl)
-may_be config last false next tight plan = inl plan
-
--- a Move may be made so
-may_move : (config : Config) (last : Option Journal) (force : Bool) (next : Phase)
-    → (force ≡ true → IsTight config last) → next ≡ next_of config last → phase_done force next ≡ Move
-    → MayMove config last
-may_move config last true next tight plan is = inr (tight refl)
-may_move config last false next tight plan is = inl (sym plan ∙ is)
-
--- a phase is Move or another
-phase_cases : (phase : Phase) → (phase ≡ Move) ⊎ (phase ≢ Move)
-phase_cases Inactive = inr (λ is. cc)
-phase_cases Mark = inr (λ is. cc)
-phase_cases Move = inl refl
 
 -- the disk ends within its limit behind a collection
 ends_within : (phase : Phase) (shown later : Shown) (v w : View) (old new : Collector)
@@ -119,10 +57,6 @@ ends_within phase shown later v w old new collects within = elim (phase_cases ph
   | inl move ↦ collects.fits move
   | inr other ↦ subst (λ (n : ℕ). n ≤ shown.limit) (sym (collects.stays other)) within
 ]
-
--- the plan by the numbers of a configuration
-abbrev plan_for : Config → Phase → Plan
-plan_for config next = record { next = next; mark = config.mark; move_ = config.move_ }
 
 -- behind a collection the next one is planned by it
 plan_more : (config : Config) (phase : Phase) (shown later : Shown) (v w : View) (old new : Collector) (was : Phase)
@@ -266,16 +200,6 @@ spare_collected told script config force shown later old new stands made =
     subst (λ (xs : List ThreadState). Spare script config xs (length new.collector.journal.items)) (sym made.states)
     (counts_spare script config old.states.items (length old.collector.journal.items)
     (length new.collector.journal.items) (journal_more made) stands.counts)
-
--- So many collections are unpaid, and one more may be, as a thread has not ended.
-pub record MayOwe (unpaid : ℕ) (states : List ThreadState) : Type 0 where
-  pub few : unpaid ≤ 2
-  pub open_ : overs states + 1 ≤ length states
-
--- so it may where this thread has not ended
-pub may_owe : (unpaid : ℕ) (states : List ThreadState) (t : ℕ) (s : ThreadState) → unpaid ≤ 2
-    → slice_get states t ≡ Some s → (IsEnded s.mode → ⊥) → MayOwe unpaid states
-may_owe unpaid states t s few at goes = record { few = few; open_ = overs_less states t s at goes }
 
 -- a run stands behind a collection, which is still to be paid for
 pub stands_collected : {unpaid : ℕ} (told : Bool) (script : Script) (config : Config) (force : Bool)
@@ -446,9 +370,3 @@ stands_failed {unpaid} told script config shown later run rest ended stands hist
       log = ap (λ (r : Rest). r.log.items) halts.rest_is ∙ history;
       cause = ends_by told config later stands.disk v run None rest halt.DiskFault ended halts halts.states;
     }
-
--- no more are lost where all are halted and no read failed
-pub halted_counts : (states after : List ThreadState) (a b : ℕ) → AreHalted states after → b ≡ a
-    → CountsLosses states after a b
-halted_counts states after a b halts same =
-    counts_same states after a b (ap losses halts ∙ losses_halted states) (omega (arith, same))

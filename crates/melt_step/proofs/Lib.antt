@@ -9,7 +9,6 @@ pub mod First
 pub mod Gathering
 pub mod Going
 pub mod Gone
-pub mod Halting
 pub mod Journals
 pub mod Lone
 pub mod LoneCalls
@@ -26,7 +25,6 @@ pub mod Reporting
 pub mod Safepoints
 pub mod Starting
 pub mod Tables
-pub mod Telling
 pub mod Tightening
 pub mod Turning
 pub mod TwoMoves

@@ -4,7 +4,6 @@ use Rattle.std.proofs.Common.{subst, arith, inl, inr}
 use Rattle.std.specs.Prelude.{Bool, if◌then◌else◌, ◌==◌, Option, None, Some, slice_index}
 use Rattle.std.proofs.Math.Path.{fun_ext}
 use Rattle.std.proofs.lemmas.Bool.{cases_eq, cases_lt}
-use Rattle.std.proofs.lemmas.Option.{same_Some}
 use Rattle.melt_model.specs.Thread.{value_in}
 use Rattle.melt_model.specs.declared.history.Entry.{Entry}
 use Rattle.melt_model.specs.declared.history.Value.{Value}
@@ -51,14 +50,17 @@ use Rattle.melt_core.specs.declared.call.Stage.TheVariants.{Polled, Headed, Look
 use Rattle.melt_core.specs.declared.call.Stage.TheVariants.{HeadRead, BodyRead, Copying, Copied, Retrying, LackingCopy}
 use Rattle.melt_core.specs.declared.call.Task.TheVariants.{Make, Use, LoadGlobal, StoreGlobal}
 use Rattle.melt_core.proofs.Tasks.{new_is}
-use Rattle.melt_step.specs.Lone.{CalledOver, IsAloneReady, IsMarked, NoneForwarded, words_lacked_by}
-use Rattle.melt_step.specs.Needs.{NeedsWords}
-use Rattle.melt_step.specs.Shown.{Underlies}
-use Rattle.melt_step.specs.Threads.{DropsIfEnded, IsEnded, TakesReply, mode_for, most_forwards, owes_silent}
-use Rattle.melt_step.specs.declared.thread.Mode.TheVariants.{Lacking}
-use Rattle.melt_step.specs.declared.thread.ThreadState.{ThreadState}
-use Rattle.melt_step.proofs.Calling.{Begins, KeepsOthers_both, NoPause, dropped_stands, lost_state, stop_dropped}
-use Rattle.melt_step.proofs.Calling.{thread_there, told_state}
+use Rattle.melt_safepoint.specs.declared.thread.Mode.TheVariants.{Lacking}
+use Rattle.melt_safepoint.specs.declared.thread.ThreadState.{ThreadState}
+use Rattle.melt_safepoint.specs.Modes.{words_lacked_by, IsEnded, mode_for, owes_silent}
+use Rattle.melt_safepoint.specs.Needs.{NeedsWords}
+use Rattle.melt_safepoint.specs.Shown.{Underlies}
+use Rattle.melt_safepoint.specs.Threads.{TakesReply, most_forwards}
+use Rattle.melt_safepoint.proofs.Modes.{NoPause}
+use Rattle.melt_step.specs.Lone.{CalledOver, IsAloneReady, IsMarked, NoneForwarded}
+use Rattle.melt_step.specs.Threads.{DropsIfEnded}
+use Rattle.melt_step.proofs.Calling.{Begins, KeepsOthers_both, dropped_stands, lost_state, stop_dropped, thread_there}
+use Rattle.melt_step.proofs.Calling.{told_state}
 use Rattle.melt_step.proofs.Lone.{load_needs}
 
 -- Names, words, globals and forwarding words are as they were when the call began.
@@ -576,16 +578,6 @@ never_pauses tells disk v w x t o (refusal.Pause pause.Forward) some on is lacks
     absurd (never_full v w x t o some on is)
 never_pauses tells disk v w x t o refusal.DiskFault some on is lacks = tt
 never_pauses tells disk v w x t o (refusal.Damaged damaged) some on is lacks = tt
-
--- one that lacks words was refused for them
-pub lacks_space : (why : Refusal) (need : ℕ) → words_lacked_by why ≡ Some need
-    → why ≡ refusal.Pause (pause.Space need)
-lacks_space (refusal.Pause pause.Asked) need is = absurd (cc)
-lacks_space (refusal.Pause (pause.Space words)) need is =
-    ap (λ (n : ℕ). refusal.Pause (pause.Space n)) (same_Some words need is)
-lacks_space (refusal.Pause pause.Forward) need is = absurd (cc)
-lacks_space refusal.DiskFault need is = absurd (cc)
-lacks_space (refusal.Damaged damaged) need is = absurd (cc)
 
 -- what may be read of the disk in an event of the call
 pub call_reads : (told : Bool) (image : Option (List ℕ)) (finish : ℕ) (disk : OnDisk) (v w : View) (t : ℕ) (o : Op)

@@ -9,7 +9,6 @@ use Rattle.std.specs.Prelude.{Bool, replicate, Option, None, Some, IsSome, slice
 use Rattle.melt_model.specs.declared.config.Config.{Config}
 use Rattle.melt_model.specs.declared.history.Entry.{Entry}
 use Rattle.melt_model.specs.declared.operations.Op.{Op}
-use Rattle.melt_model.specs.declared.reports.Journal.{Journal}
 use Rattle.melt_model.specs.declared.reports.ThreadEnd.{ThreadEnd}
 use Rattle.melt_model.specs.declared.reports.ThreadEnd.TheVariants as end
 use Rattle.melt_trace.specs.Script.{Script}
@@ -18,14 +17,17 @@ use Rattle.melt_core.specs.Views.{View, call_of, rest_of, registers_in}
 use Rattle.melt_core.proofs.Registers.{registers_other}
 use Rattle.melt_core.specs.Advances.{KeepsOthers}
 use Rattle.melt_core.specs.Epochs.{HasDropped, no_registers}
-use Rattle.melt_step.specs.declared.thread.ThreadState.{ThreadState}
-use Rattle.melt_step.specs.declared.thread.Mode.{Mode}
-use Rattle.melt_step.specs.declared.thread.Mode.TheVariants.{Running, Due, Silent, Collecting, Asked, Lacking, Ended}
-use Rattle.melt_step.specs.Run.{LoadsNext}
-use Rattle.melt_step.specs.Threads.{with_first, left, MayGo, IsEnded, ThreadStands, EndsSo, LacksNow, HaveCuts, Later}
-use Rattle.melt_step.specs.Threads.{TableStands, AllWait, Waits, KnowsStop, SetsStop, SomeGoesOn}
-use Rattle.melt_step.proofs.Cuts.{replies_here, LacksNow_same, HaveCuts_later}
-use Rattle.melt_step.proofs.Telling.{get_set_same, get_set_other, replies_same, later_set}
+use Rattle.melt_safepoint.specs.declared.thread.ThreadState.{ThreadState}
+use Rattle.melt_safepoint.specs.declared.thread.Mode.{Mode}
+use Rattle.melt_safepoint.specs.declared.thread.Mode.TheVariants.{Running, Due, Silent, Collecting, Asked, Lacking}
+use Rattle.melt_safepoint.specs.declared.thread.Mode.TheVariants.{Ended}
+use Rattle.melt_safepoint.specs.Threads.{with_first, left, AllWait, SomeGoesOn}
+use Rattle.melt_safepoint.specs.Modes.{MayGo, IsEnded, Waits}
+use Rattle.melt_safepoint.specs.Endings.{EndsSo}
+use Rattle.melt_safepoint.proofs.Cuts.{replies_here}
+use Rattle.melt_safepoint.proofs.Threads.{get_set_same, get_set_other}
+use Rattle.melt_safepoint.proofs.Modes.{ends_gone, goes_waits}
+use Rattle.melt_step.specs.Threads.{ThreadStands, TableStands, KnowsStop, SetsStop}
 use Rattle.melt_step.proofs.Tables.{Moves, Table_moves, mode_stands, same_moves, stands_so, told_so}
 
 -- the stop word is of no thread
@@ -83,49 +85,6 @@ dropped_keeps v w t dropped = record {
   values = dropped.others;
 }
 
--- a mode that was set leaves each thread its replies
-pub later_mode : (states : List ThreadState) (t : ℕ) (s : ThreadState) (mode : Mode) → slice_get states t ≡ Some s
-    → (IsEnded s.mode → ⊥) → Later states (set states t (record s { mode = mode }))
-later_mode states t s mode at goes =
-    later_set states t s (record s { mode = mode }) [] at goes (sym (append-nil s.replies.items))
-
--- and the moments of collections are those that they were
-pub cuts_mode : (script : Script) (config : Config) (log : List Entry) (states : List ThreadState) (t : ℕ)
-    (s : ThreadState) (mode : Mode) (journal : List Journal) → slice_get states t ≡ Some s → (IsEnded s.mode → ⊥)
-    → HaveCuts script log states config journal
-    → HaveCuts script log (set states t (record s { mode = mode })) config journal
-cuts_mode script config log states t s mode journal at goes have =
-    let after : List ThreadState = set states t (record s { mode = mode }) in
-    subst (λ (h : List Entry). HaveCuts script h after config journal) (append-nil log)
-    (HaveCuts_later script log [] states after config journal (later_mode states t s mode at goes) have)
-
--- why a thread ends is so when it has ended
-pub ends_gone : (told : Bool) (script : Script) (log : List Entry) (states : List ThreadState) (config : Config) (t : ℕ)
-    (s : ThreadState) (e : ThreadEnd) → slice_get states t ≡ Some s → (IsEnded s.mode → ⊥)
-    → EndsSo told script log states config t (Ended e)
-    → EndsSo told script log (set states t (record s { mode = Ended e })) config t (Ended e)
-ends_gone told script log states config t s end.Done at goes ends =
-    let after : ThreadState = record s { mode = Ended end.Done } in
-    ap length (replies_same states t s after at ∙ sym (replies_here states t s at)) ∙ ends
-ends_gone told script log states config t s (end.OutOfHeap held_words need) at goes ends = λ tells.
-    let after : ThreadState = record s { mode = Ended (end.OutOfHeap held_words need) } in
-    let later : Later states (set states t after) =
-    later_mode states t s (Ended (end.OutOfHeap held_words need)) at goes in
-    subst (λ (h : List Entry). LacksNow script h (set states t after) config t held_words need) (append-nil log)
-    (LacksNow_same script log [] states (set states t after) config t held_words need later
-    (replies_same states t s after at ∙ sym (replies_here states t s at)) (ends tells))
-ends_gone told script log states config t s end.DiskFault at goes ends =
-    let after : ThreadState = record s { mode = Ended end.DiskFault } in
-    subst (LoadsNext script t) (ap length (replies_here states t s at ∙ sym (replies_same states t s after at))) ends
-ends_gone told script log states config t s (end.Damaged home place word) at goes ends =
-    let after : ThreadState = record s { mode = Ended (end.Damaged home place word) } in (
-      ends.0,
-      subst (LoadsNext script t) (ap length (replies_here states t s at ∙ sym (replies_same states t s after at)))
-          ends.1,
-      ends.2,
-    )
-ends_gone told script log states config t s end.Halted at goes ends = absurd ends
-
 -- a thread that has ended stands, with registers that were dropped
 gone_stands : (told : Bool) (script : Script) (v w : View) (t : ℕ) (s : ThreadState) (e : ThreadEnd)
     → ThreadStands told script v t s → HasDropped v w t → call_of v t ≡ None
@@ -158,16 +117,6 @@ Table_gone told script config disk v w states t s e table at goes dropped no_cal
     } in
     Table_moves told script config disk v w states t s after table at goes (dropped.keeps told disk table.stands)
     (dropped_keeps v w t dropped) moves
-
--- a thread that can go on does not wait
-goes_waits : (mode : Mode) → MayGo mode → Waits mode → ⊥
-goes_waits Running goes waits = waits
-goes_waits Due goes waits = waits
-goes_waits Silent goes waits = goes
-goes_waits Collecting goes waits = goes
-goes_waits Asked goes waits = goes
-goes_waits Lacking goes waits = goes
-goes_waits (Ended e) goes waits = goes
 
 -- some thread of the run waits
 abbrev SomeWaits : List ThreadState → Type 0

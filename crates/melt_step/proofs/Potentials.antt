@@ -12,12 +12,16 @@ use Rattle.melt_core.specs.declared.answer.Refusal.TheVariants as refusal
 use Rattle.melt_scion.specs.Heaps.{OnDisk}
 use Rattle.melt_core.specs.declared.call.Call.{Call}
 use Rattle.melt_core.specs.Views.{View, call_of}
-use Rattle.melt_step.specs.declared.thread.Mode.{Mode}
-use Rattle.melt_step.specs.declared.thread.Mode.TheVariants.{Running, Due, Silent, Collecting, Asked, Lacking, Ended}
-use Rattle.melt_step.specs.declared.thread.ThreadState.{ThreadState}
-use Rattle.melt_step.specs.Threads.{mode_for, Passed, jobs_of, MayGo, ThreadWaits, ThreadGoes, ThreadRefused}
-use Rattle.melt_step.specs.Threads.{ThreadLost, ThreadTold, ThreadStep, IsEnded, owes_silent, TableStands, left, with_first, jobs, turn_left, potential}
-use Rattle.melt_step.proofs.Tables.{lost_ends, paused_cases}
+use Rattle.melt_safepoint.specs.declared.thread.Mode.{Mode}
+use Rattle.melt_safepoint.specs.declared.thread.Mode.TheVariants.{Running, Due, Silent, Collecting, Asked, Lacking}
+use Rattle.melt_safepoint.specs.declared.thread.Mode.TheVariants.{Ended}
+use Rattle.melt_safepoint.specs.declared.thread.ThreadState.{ThreadState}
+use Rattle.melt_safepoint.specs.Modes.{mode_for, MayGo, IsEnded, owes_silent, jobs}
+use Rattle.melt_safepoint.specs.Passing.{Passed}
+use Rattle.melt_safepoint.specs.Threads.{jobs_of, left, with_first}
+use Rattle.melt_safepoint.proofs.Modes.{lost_ends, paused_cases, running_or_due}
+use Rattle.melt_step.specs.Threads.{ThreadWaits, ThreadGoes, ThreadRefused, ThreadLost, ThreadTold, ThreadStep}
+use Rattle.melt_step.specs.Threads.{TableStands, turn_left, potential}
 
 -- what a thread in this mode with so many operations to come has still to do
 abbrev amount : Mode → ℕ → Option Call → ℕ
@@ -70,16 +74,6 @@ potential-less (x ∷ states) a b (suc t) s after at same less =
     potential-less states (drop 1 a) (drop 1 b) t s after at
     (λ u differ. get_or-drop_first b u ∙ (same (suc u) (omega (arith, differ)) ∙ sym (get_or-drop_first a u))) lower in
     omega (arith, potential-first x states a, potential-first x (set states t after) b, behind, here)
-
--- a thread that can go on runs, or a silent collection is due
-running_or_due : (mode : Mode) → MayGo mode → (mode ≡ Running) ⊎ (mode ≡ Due)
-running_or_due Running goes = inl refl
-running_or_due Due goes = inr refl
-running_or_due Silent goes = absurd goes
-running_or_due Collecting goes = absurd goes
-running_or_due Asked goes = absurd goes
-running_or_due Lacking goes = absurd goes
-running_or_due (Ended e) goes = absurd goes
 
 -- what a thread has to do, told by what its mode and its operations are
 part_less : (s after : ThreadState) (c d : Option Call) (m k : Mode) (n p : ℕ) → s.mode ≡ m → length (left s) ≡ n

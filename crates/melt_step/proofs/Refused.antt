@@ -25,9 +25,9 @@ use Rattle.melt_core.specs.declared.machine.Rest.{Rest}
 use Rattle.melt_core.specs.Views.{View, view, maps_of, values_of, InUse, Bounded, Standing, IsQuiet}
 use Rattle.melt_core.specs.Epochs.{AtRest, core_of, HasFinished}
 use Rattle.melt_core.specs.Lending.{with_held}
+use Rattle.melt_safepoint.specs.Shown.{Shown, shown_by}
 use Rattle.melt_step.specs.Choices.{OnlyRegisters}
 use Rattle.melt_step.specs.Collections.{FullOver, IsFullCore}
-use Rattle.melt_step.specs.Shown.{Shown, shown_by}
 use Rattle.melt_step.proofs.Collecting.{InUseOf, StandsFor, collected_view, names_are, same_maps, same_view}
 use Rattle.melt_step.proofs.Collecting.{standing_for, values_for}
 use Rattle.melt_step.proofs.Gathering.{SeenDisk, seen_disk, renewed_by, given_back, only_lent}

@@ -17,7 +17,6 @@ use Rattle.melt_model.specs.declared.reports.Halt.TheVariants as halt
 use Rattle.melt_model.specs.declared.reports.Journal.{Journal}
 use Rattle.melt_model.specs.declared.reports.Report.{Report}
 use Rattle.melt_model.specs.declared.reports.ThreadEnd.{ThreadEnd}
-use Rattle.melt_model.specs.declared.reports.ThreadEnd.TheVariants as end
 use Rattle.melt_model.specs.declared.reports.ThreadReport.{ThreadReport}
 use Rattle.melt_model.proofs.Transcripts.{registers_so_far, one_reply_each}
 use Rattle.melt_trace.specs.Script.{Script, operations}
@@ -35,23 +34,27 @@ use Rattle.melt_core.specs.Views.{View, Standing, view, maps, maps_of, state, va
 use Rattle.melt_core.specs.Epochs.{core_of}
 use Rattle.melt_core.proofs.Alive.{placed}
 use Rattle.melt_core.proofs.Values.{get_or_replicate}
+use Rattle.melt_safepoint.specs.declared.thread.ThreadState.{ThreadState}
+use Rattle.melt_safepoint.specs.declared.thread.Mode.{Mode}
+use Rattle.melt_safepoint.specs.declared.thread.Mode.TheVariants as mode
+use Rattle.melt_safepoint.specs.Threads.{AllEnded}
+use Rattle.melt_safepoint.specs.Journals.{MayMove, before, end_of}
+use Rattle.melt_safepoint.specs.Run.{answered, is_halted, lost_in, MayHalt, register_left, IsLeft, IsFull, Leaves}
+use Rattle.melt_safepoint.specs.Run.{HasRun, CountsFaults}
+use Rattle.melt_safepoint.specs.Shown.{Shown, Underlies}
+use Rattle.melt_safepoint.specs.Modes.{IsEnded}
+use Rattle.melt_safepoint.specs.Endings.{EndsSo}
+use Rattle.melt_safepoint.specs.Losses.{losses}
+use Rattle.melt_safepoint.proofs.Cuts.{replies_here}
+use Rattle.melt_safepoint.proofs.Halting.{halted_ended}
+use Rattle.melt_safepoint.proofs.Reporting.{Reported}
+use Rattle.melt_safepoint.proofs.Outcomes.{state_at, EndsAs, not_halted}
 use Rattle.melt_step.specs.declared.ending.Ended.{Ended}
 use Rattle.melt_step.specs.declared.ending.Stop.TheVariants.{Halted}
-use Rattle.melt_step.specs.declared.thread.ThreadState.{ThreadState}
-use Rattle.melt_step.specs.declared.thread.Mode.{Mode}
-use Rattle.melt_step.specs.declared.thread.Mode.TheVariants as mode
-use Rattle.melt_step.specs.Endings.{AllEnded, EndedStands, EndsBy, EndsFull}
-use Rattle.melt_step.specs.Journals.{MayMove, before, end_of}
-use Rattle.melt_step.specs.Run.{answered, is_halted, lost_in, MayHalt, register_left, IsLeft, IsFull, Leaves, HasRun}
-use Rattle.melt_step.specs.Run.{CountsFaults}
+use Rattle.melt_step.specs.Endings.{EndedStands, EndsBy, EndsFull}
 use Rattle.melt_step.specs.Safepoints.{StopCounts}
-use Rattle.melt_step.specs.Shown.{Shown, Underlies}
-use Rattle.melt_step.specs.Threads.{IsEnded, IsTold, ThreadStands, EndsSo, TableStands, losses}
-use Rattle.melt_step.proofs.Cuts.{replies_here}
-use Rattle.melt_step.proofs.Halting.{halted_ended}
-use Rattle.melt_step.proofs.Reporting.{Reported}
-use Rattle.melt_step.proofs.Outcomes.{state_at, EndsAs, Reports, reports_ended, reports_halted, replies_same, as_told}
-use Rattle.melt_step.proofs.Outcomes.{step_report}
+use Rattle.melt_step.specs.Threads.{IsTold, ThreadStands, TableStands}
+use Rattle.melt_step.proofs.Outcomes.{Reports, reports_ended, reports_halted, replies_same, as_told, step_report}
 
 -- names that are there are the two maps
 names_are : (names : Option name_table.Names) (pairs : NamePairs) → IsSome names → HasNames names pairs (maps_of names)
@@ -115,15 +118,6 @@ held_left script v t r s stands goes =
     let held : is.registers ≡ values_of v t =
     elim is.in_registers [ inl ended ↦ absurd (goes ended) | inr same ↦ same ] in
     ap (λ (vs : List Value). value_in vs r) (told ∙ held)
-
--- a thread that has ended by itself is not halted
-not_halted : (told : Bool) (script : Script) (log : List Entry) (states : List ThreadState) (config : Config) (t : ℕ)
-    (e : ThreadEnd) → EndsSo told script log states config t (mode.Ended e) → is_halted e ≡ false
-not_halted told script log states config t end.Done ends = refl
-not_halted told script log states config t (end.OutOfHeap held_words need) ends = refl
-not_halted told script log states config t end.DiskFault ends = refl
-not_halted told script log states config t (end.Damaged home at word) ends = refl
-not_halted told script log states config t end.Halted ends = absurd ends
 
 -- what a register holds, by how its thread ended and how many replies it got
 abbrev left_by : Script → List Entry → ℕ → ℕ → Bool → ℕ → Value

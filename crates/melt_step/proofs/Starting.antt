@@ -1,16 +1,12 @@
 -- A run begins, over what is shown of a disk without homes.
-use Rattle.std.proofs.Common.{◌≡◌, ℕ, ◌+◌, ◌*◌, ◌/◌, ◌%◌, ◌^◌, ◌<◌, ◌≤◌, zero, suc, true, false, List, [], ◌∷◌, length, take}
+use Rattle.std.proofs.Common.{◌≡◌, ℕ, ◌^◌, ◌<◌, ◌≤◌, zero, suc, true, false, List, [], length, take}
 use Rattle.std.proofs.Common.{drop, refl, sym, ◌∙◌, ap, subst, arith, inl, inr}
-use Rattle.std.proofs.Math.Nat.{div-add-mod, mul-le-mul_left}
-use Rattle.std.proofs.lemmas.Bool.{cases_lt}
 use Rattle.std.proofs.lemmas.List.{length-replicate}
 use Rattle.std.proofs.lemmas.List.Elements.{All-nil}
-use Rattle.std.proofs.lemmas.List.Sums.{sum-map, sum_by-cons}
-use Rattle.std.proofs.lemmas.Option.{slice_get_cases, slice_get_within}
+use Rattle.std.proofs.lemmas.Option.{slice_get_within}
 use Rattle.std.specs.FinMap.{get-empty}
 use Rattle.std.specs.Ordering.{nat_cmp}
-use Rattle.std.specs.Prelude.{Bool, Option, None, Some, IsSome, All, slice_get, slice_index, replicate}
-use Rattle.std.specs.List.{count_by}
+use Rattle.std.specs.Prelude.{Bool, Option, None, Some, All, replicate}
 use Rattle.melt_model.specs.History.{IsReference}
 use Rattle.melt_model.specs.Standing.{Stands}
 use Rattle.melt_model.specs.declared.config.Config.{Config}
@@ -20,7 +16,7 @@ use Rattle.melt_model.specs.declared.operations.Op.{Op}
 use Rattle.melt_model.specs.declared.operations.Reply.{Reply}
 use Rattle.melt_model.specs.declared.reports.ThreadEnd.TheVariants as end
 use Rattle.melt_trace.specs.Script.{Script, operations}
-use Rattle.melt_scion.specs.Heaps.{OnDisk, no_homes_on, no_names, state_of, IsNewHeap}
+use Rattle.melt_scion.specs.Heaps.{no_homes_on, no_names, state_of, IsNewHeap}
 use Rattle.melt_scion.specs.Names.{name_at}
 use Rattle.melt_scion.specs.Placed.{Tells}
 use Rattle.melt_scion.specs.declared.heap.Heap.{Heap}
@@ -35,33 +31,14 @@ use Rattle.melt_core.specs.Epochs.{no_registers, IsNewRest, AtRest, core_of}
 use Rattle.melt_core.proofs.Disks.{stands_over, stands_untold}
 use Rattle.melt_core.proofs.Resting.{start_at_rest}
 use Rattle.melt_core.proofs.Values.{get_or_replicate}
-use Rattle.melt_step.specs.declared.thread.ThreadState.{ThreadState}
-use Rattle.melt_step.specs.declared.thread.Mode.{Mode}
-use Rattle.melt_step.specs.declared.thread.Mode.TheVariants.{Running, Asked, Ended}
-use Rattle.melt_step.specs.Counts.{CountsCollections}
-use Rattle.melt_step.specs.Run.{collects, is_collect, silent_in, collections}
-use Rattle.melt_step.specs.Shown.{Underlies}
-use Rattle.melt_step.specs.Threads.{most_forwards, owes_silent, Waits, AreNewThreads, IsNewThread, FitsMode, KnowsStop}
-use Rattle.melt_step.specs.Threads.{ThreadStands, EndsSo, TableStands, replies_of, lost, losses, owes, owing}
-use Rattle.melt_step.proofs.Counting.{overs_most}
-use Rattle.melt_step.proofs.Cuts.{replies_here, replies_past}
-
--- the words of an image that tells them; else they may be any
-abbrev image_in : Option (List ℕ) → ℕ → ℕ
-image_in None k = 0
-image_in (Some words) k = slice_index words k
-
--- a disk without homes that has these words
-abbrev pub bare : Option (List ℕ) → OnDisk
-bare image = record { end = 1; homes = []; free_homes = []; image = image_in image }
-
--- it is seen so
-pub bare_shown : (told : Bool) (image : Option (List ℕ)) (finish : ℕ) → finish ≡ 1 → (told ≡ true → IsSome image)
-    → Underlies told finish image (bare image)
-bare_shown told None finish is some =
-    let none : Option (List ℕ) = None in
-    record { ends = sym is; tells = λ t. absurd (let wrong : IsSome none = some t in cc) }
-bare_shown told (Some words) finish is some = record { ends = sym is; tells = λ t. (refl, λ k. refl) }
+use Rattle.melt_safepoint.specs.declared.thread.ThreadState.{ThreadState}
+use Rattle.melt_safepoint.specs.declared.thread.Mode.{Mode}
+use Rattle.melt_safepoint.specs.declared.thread.Mode.TheVariants.{Running, Asked, Ended}
+use Rattle.melt_safepoint.specs.Threads.{most_forwards, AreNewThreads, IsNewThread}
+use Rattle.melt_safepoint.specs.Modes.{owes_silent, Waits, FitsMode, owes}
+use Rattle.melt_safepoint.proofs.Shown.{bare}
+use Rattle.melt_safepoint.proofs.Starting.{ends_new}
+use Rattle.melt_step.specs.Threads.{KnowsStop, ThreadStands, TableStands}
 
 -- no address has a name
 no_name : (words k : ℕ) → name_at (replicate words None) k ≡ None
@@ -126,14 +103,6 @@ bare_stands told image config globals threads entries heap rest small few new_he
       counts = λ is. s.counts refl;
     }
 
--- no thread has a reply
-no_replies : (script : Script) (entries t : ℕ) (states : List ThreadState) → AreNewThreads script states entries
-    → replies_of states t ≡ []
-no_replies script entries t states new_states = elim (slice_get_cases states t).1 [
-  | inl w ↦ replies_here states t w.0 w.2 ∙ (new_states.each t w.0 w.2).replies
-  | inr w ↦ replies_past states t w.0
-]
-
 -- the registers of a new thread
 pub registers_new : (threads t : ℕ) → t < threads → registers_in (replicate threads no_registers) t ≡ replicate 16 0
 registers_new zero t below = absurd (omega arith)
@@ -189,18 +158,6 @@ Thread_new told script entries t heap rest s at_rest new_rest below new =
       room = omega (arith, ap length new.replies, ap length new.to_come, new.capacity);
     }
 
--- a thread that has ended at once has no operations
-ends_new : (told : Bool) (script : Script) (log : List Entry) (config : Config) (entries t : ℕ)
-    (states : List ThreadState) (s : ThreadState) → AreNewThreads script states entries → slice_get states t ≡ Some s
-    → EndsSo told script log states config t s.mode
-ends_new told script log config entries t states s new_states at =
-    let new : IsNewThread (operations script t) script.globals s = new_states.each t s at in
-    elim new.mode [
-      | inl runs ↦ subst (EndsSo told script log states config t) (sym runs.0) tt
-      | inr over ↦ subst (EndsSo told script log states config t) (sym over.0)
-          (ap length (no_replies script entries t states new_states) ∙ ap length (sym over.1 ∙ new.to_come))
-    ]
-
 -- all threads stand before their first events
 pub Table_new : (told : Bool) (script : Script) (config : Config) (entries : ℕ) (image : Option (List ℕ)) (heap : Heap)
     (rest : Rest) (states : List ThreadState) → config.heap < 2 ^ 30 → 1 ≤ config.forward
@@ -249,86 +206,3 @@ stop_new script entries heap rest states new_states = record {
     | inr over ↦ let wrong : Ended end.Done ≡ Asked = sym over.0 ∙ is in cc
   ]);
 }
-
--- no silent collection comes without a reply
-silent_none : (every : ℕ) → silent_in every 0 ≡ 0
-silent_none zero = refl
-silent_none (suc e) =
-    let some : 0 < suc e = omega arith in
-    let by : suc e * (0 / suc e) + 0 % suc e ≡ 0 = div-add-mod 0 (suc e) in
-    elim (cases_lt 0 (0 / suc e)) [
-      | inl more ↦ absurd (let one : 1 ≤ 0 / suc e = omega (arith, more) in
-          let large : suc e * 1 ≤ suc e * (0 / suc e) = mul-le-mul_left (suc e) one in omega (arith, large, by))
-      | inr none ↦ omega (arith, none)
-    ]
-
--- no `collect` was answered
-asked_new : (script : Script) (entries n : ℕ) (states : List ThreadState) → AreNewThreads script states entries
-    → collects script (replies_of states) n ≡ 0
-asked_new script entries zero states new_states = refl
-asked_new script entries (suc n) states new_states =
-    let none : length (replies_of states n) ≡ 0 = ap length (no_replies script entries n states new_states) in
-    let own : count_by is_collect (take (length (replies_of states n)) (operations script n)) ≡ 0 =
-    ap (λ (k : ℕ). count_by is_collect (take k (operations script n))) none in
-    omega (arith, asked_new script entries n states new_states, own)
-
--- no silent collection is to come
-owing_none : (states : List ThreadState) → ((t : ℕ) (s : ThreadState) → slice_get states t ≡ Some s → owes s.mode ≡ 0)
-    → owing states ≡ 0
-owing_none [] each = refl
-owing_none (s ∷ states) each =
-    let f : ThreadState → ℕ = λ (x : ThreadState). owes x.mode in
-    let here : owes s.mode ≡ 0 = each 0 s refl in
-    let others : owing states ≡ 0 = owing_none states (λ t x at. each (suc t) x at) in
-    omega (arith, here, others, sum-map f states, sum-map f (s ∷ states), sum_by-cons f s states)
-
--- no collection was answered
-pub collections_new : (script : Script) (config : Config) (entries n : ℕ) (states : List ThreadState)
-    → AreNewThreads script states entries → collections script config (replies_of states) n ≡ 0
-collections_new script config entries zero states new_states = refl
-collections_new script config entries (suc n) states new_states =
-    let none : length (replies_of states n) ≡ 0 = ap length (no_replies script entries n states new_states) in
-    let own : count_by is_collect (take (length (replies_of states n)) (operations script n)) ≡ 0 =
-    ap (λ (k : ℕ). count_by is_collect (take k (operations script n))) none in
-    omega (
-      arith,
-      collections_new script config entries n states new_states,
-      own,
-      ap (silent_in config.every) none,
-      silent_none config.every,
-    )
-
--- so all that is counted is nothing
-pub counts_new : (script : Script) (config : Config) (entries : ℕ) (states : List ThreadState)
-    → AreNewThreads script states entries → CountsCollections script config 0 states 0
-counts_new script config entries states new_states = record {
-  collected = omega (arith, collections_new script config entries (length script.programs) states new_states);
-  asked = omega (arith, asked_new script entries (length script.programs) states new_states);
-  bounded = omega (
-    arith,
-    owing_none states (λ t s at. elim (new_states.each t s at).mode [
-      | inl runs ↦ ap owes runs.0
-      | inr ends ↦ ap owes ends.0
-    ]),
-  );
-  pays = omega (arith, overs_most states);
-}
-
--- where no thread is lost, none is counted
-none_lost : (states : List ThreadState) → ((t : ℕ) (s : ThreadState) → slice_get states t ≡ Some s → lost s.mode ≡ 0)
-    → losses states ≡ 0
-none_lost [] each = refl
-none_lost (s ∷ states) each =
-    let f : ThreadState → ℕ = λ (x : ThreadState). lost x.mode in
-    let here : lost s.mode ≡ 0 = each 0 s refl in
-    let others : losses states ≡ 0 = none_lost states (λ t x at. each (suc t) x at) in
-    omega (arith, here, others, sum-map f states, sum-map f (s ∷ states), sum_by-cons f s states)
-
--- no new thread is
-pub losses_new : (script : Script) (entries : ℕ) (states : List ThreadState) → AreNewThreads script states entries
-    → losses states ≡ 0
-losses_new script entries states new_states =
-    none_lost states (λ t s at. elim (new_states.each t s at).mode [
-      | inl runs ↦ ap lost runs.0
-      | inr over ↦ ap lost over.0
-    ])

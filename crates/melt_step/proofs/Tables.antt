@@ -18,7 +18,6 @@ use Rattle.melt_model.specs.declared.operations.Op.{Op}
 use Rattle.melt_model.specs.declared.operations.Op.TheVariants.{Collect}
 use Rattle.melt_model.specs.declared.operations.Reply.{Reply}
 use Rattle.melt_model.specs.declared.reports.Journal.{Journal}
-use Rattle.melt_model.specs.declared.reports.ThreadEnd.TheVariants as end
 use Rattle.melt_trace.specs.Grammar.{InRange}
 use Rattle.melt_trace.specs.Script.{Script, operations}
 use Rattle.melt_scion.specs.Heaps.{OnDisk}
@@ -29,21 +28,25 @@ use Rattle.melt_core.specs.Views.{View, values_of, call_of, IsQuiet, Standing}
 use Rattle.melt_core.proofs.Disks.{stands_untold}
 use Rattle.melt_core.specs.declared.answer.Pause.{Pause}
 use Rattle.melt_core.specs.declared.answer.Pause.TheVariants as pause
-use Rattle.melt_core.specs.declared.answer.Refusal.{Refusal}
 use Rattle.melt_core.specs.declared.answer.Refusal.TheVariants as refusal
 use Rattle.melt_core.specs.Advances.{KeepsOthers, Pauses}
-use Rattle.melt_step.specs.declared.thread.ThreadState.{ThreadState}
-use Rattle.melt_step.specs.declared.thread.Mode.{Mode}
-use Rattle.melt_step.specs.declared.thread.Mode.TheVariants.{Running, Due, Silent, Collecting, Asked, Lacking, Ended}
-use Rattle.melt_step.specs.Run.{IsDue, LoadsNext}
-use Rattle.melt_step.specs.Threads.{DueBy, owes_silent, owes, mode_for, with_first, left, MayGo, IsEnded, FitsMode}
-use Rattle.melt_step.specs.Threads.{IsTold, ThreadStands, replies_of, EndsSo, HaveCuts, to_reply, Later, TableStands}
-use Rattle.melt_step.specs.Threads.{ThreadWaits, ThreadGoes, ThreadRefused, IsLostBy, ThreadLost, TakesReply}
-use Rattle.melt_step.specs.Threads.{ThreadTold, IsReady, ThreadStep, Renewed, AllWait, most_forwards}
-use Rattle.melt_step.proofs.Cuts.{replies_here, LacksNow_later, HaveCuts_later, first_left}
-use Rattle.melt_step.proofs.Telling.{get_set_same, get_set_other, set_got, drop_next, take_next}
-use Rattle.melt_step.proofs.Telling.{replies_other, replies_same, later_set, to_reply_set, to_reply_one, with_more}
-use Rattle.melt_step.proofs.Telling.{with_length, with_own, told_with, Stands_answers}
+use Rattle.melt_safepoint.specs.declared.thread.ThreadState.{ThreadState}
+use Rattle.melt_safepoint.specs.declared.thread.Mode.{Mode}
+use Rattle.melt_safepoint.specs.declared.thread.Mode.TheVariants.{Running, Due, Asked, Lacking}
+use Rattle.melt_safepoint.specs.Cuts.{IsDue}
+use Rattle.melt_safepoint.specs.Run.{LoadsNext}
+use Rattle.melt_safepoint.specs.Threads.{DueBy, with_first, left, replies_of, to_reply, Later, TakesReply, AllWait}
+use Rattle.melt_safepoint.specs.Threads.{most_forwards}
+use Rattle.melt_safepoint.specs.Modes.{owes_silent, owes, mode_for, MayGo, IsEnded, FitsMode}
+use Rattle.melt_safepoint.specs.Endings.{EndsSo, HaveCuts}
+use Rattle.melt_safepoint.proofs.Cuts.{replies_here, HaveCuts_later, first_left}
+use Rattle.melt_safepoint.proofs.Threads.{get_set_same, get_set_other, set_got, drop_next, take_next, replies_other}
+use Rattle.melt_safepoint.proofs.Threads.{replies_same, later_set, to_reply_set, to_reply_one}
+use Rattle.melt_safepoint.proofs.Modes.{ends_later, ends_open, paused_cases, lost_ends, ended_fits, refused_owes}
+use Rattle.melt_safepoint.proofs.Modes.{lost_so, told_fits, told_due, first_counts, ends_untold}
+use Rattle.melt_step.specs.Threads.{IsTold, ThreadStands, TableStands, ThreadWaits, ThreadGoes, ThreadRefused}
+use Rattle.melt_step.specs.Threads.{ThreadLost, ThreadTold, IsReady, ThreadStep, Renewed}
+use Rattle.melt_safepoint.proofs.Telling.{with_more, with_length, with_own, told_with, Stands_answers}
 
 -- A thread stands so too with another mode, where it is told so.
 pub stands_so : (told : Bool) (script : Script) (v w : View) (t : ℕ) (s : ThreadState) (mode : Mode)
@@ -113,38 +116,6 @@ mode_stands told script v w t s mode st runs waits history values fits call =
     (λ tells. told_so script v w t s mode (st.is_told tells) history
     (inr (held_now script v t s (st.is_told tells) runs ∙ sym values)))
     (λ over. absurd (waits over)) call fits
-
--- why a thread has ended stays so
-pub ends_later : (told : Bool) (script : Script) (log more : List Entry) (states after : List ThreadState)
-    (config : Config) (u : ℕ) (s : ThreadState) (mode : Mode) → Later states after → slice_get states u ≡ Some s
-    → replies_of after u ≡ replies_of states u → s.mode ≡ mode → EndsSo told script log states config u mode
-    → EndsSo told script (log ++ more) after config u mode
-ends_later told script log more states after config u s Running later at same is ends = tt
-ends_later told script log more states after config u s Due later at same is ends = tt
-ends_later told script log more states after config u s Silent later at same is ends = tt
-ends_later told script log more states after config u s Collecting later at same is ends = tt
-ends_later told script log more states after config u s Asked later at same is ends = tt
-ends_later told script log more states after config u s Lacking later at same is ends = tt
-ends_later told script log more states after config u s (Ended end.Done) later at same is ends = ap length same ∙ ends
-ends_later told script log more states after config u s (Ended (end.OutOfHeap held_words need)) later at same is ends =
-    λ tells. LacksNow_later script log more states after config u held_words need s later at
-    (let over : IsEnded (Ended (end.OutOfHeap held_words need)) = tt in subst IsEnded (sym is) over) (ends tells)
-ends_later told script log more states after config u s (Ended end.DiskFault) later at same is ends =
-    subst (LoadsNext script u) (ap length (sym same)) ends
-ends_later told script log more states after config u s (Ended (end.Damaged home place word)) later at same is ends =
-    (ends.0, subst (LoadsNext script u) (ap length (sym same)) ends.1, ends.2)
-ends_later told script log more states after config u s (Ended end.Halted) later at same is ends = absurd ends
-
--- a thread that has not ended need not say why
-pub ends_open : (told : Bool) (script : Script) (log : List Entry) (states : List ThreadState) (config : Config) (t : ℕ)
-    (mode : Mode) → (IsEnded mode → ⊥) → EndsSo told script log states config t mode
-ends_open told script log states config t Running free = tt
-ends_open told script log states config t Due free = tt
-ends_open told script log states config t Silent free = tt
-ends_open told script log states config t Collecting free = tt
-ends_open told script log states config t Asked free = tt
-ends_open told script log states config t Lacking free = tt
-ends_open told script log states config t (Ended e) free = absurd (free tt)
 
 -- What an event of a thread shows of it, so that all threads stand behind the event: its entry, if it has one, and the
 -- replies that it got.
@@ -310,13 +281,6 @@ paused_view v w t o pause.Asked pauses = (
 paused_view v w t o (pause.Space need) pauses = (pauses.call, pauses.own.history, pauses.own.values)
 paused_view v w t o pause.Forward pauses = (pauses.call, pauses.own.history, pauses.own.values)
 
--- how a thread whose call paused waits
-pub paused_cases : (cause : Pause)
-    → (mode_for (refusal.Pause cause) ≡ Asked) ⊎ (mode_for (refusal.Pause cause) ≡ Lacking)
-paused_cases pause.Asked = inl refl
-paused_cases (pause.Space need) = inr refl
-paused_cases pause.Forward = inr refl
-
 -- a thread that waits for its call to be made again
 again_moves : (told : Bool) (script : Script) (config : Config) (v w : View) (states : List ThreadState) (t : ℕ)
     (s : ThreadState) (mode : Mode) → ThreadStands told script v t s → (IsEnded s.mode → ⊥)
@@ -372,39 +336,6 @@ Table_lacks told script config disk v w states t s table at lacking stands other
     (Table_moves told script config disk v w states t s (record s { mode = Lacking }) table at runs stands others
     moves))
 
--- a thread that could not read the disk has ended
-pub lost_ends : (told : Bool) (finish : ℕ) (r : Refusal) → IsLostBy told finish r → IsEnded (mode_for r)
-lost_ends told finish (refusal.Pause cause) cause_is = absurd cause_is
-lost_ends told finish refusal.DiskFault cause_is = tt
-lost_ends told finish (refusal.Damaged damaged) cause_is = tt
-
--- whatever the operation is, a thread that has ended fits it
-pub ended_fits : (mode : Mode) (o : Option Op) → IsEnded mode → FitsMode mode o
-ended_fits Running o over = absurd over
-ended_fits Due o over = tt
-ended_fits Silent o over = tt
-ended_fits Collecting o over = absurd over
-ended_fits Asked o over = absurd over
-ended_fits Lacking o over = absurd over
-ended_fits (Ended e) o over = tt
-
--- no refusal leaves a silent collection to come
-pub refused_owes : (r : Refusal) → owes_silent (mode_for r) ≡ false
-refused_owes (refusal.Pause pause.Asked) = refl
-refused_owes (refusal.Pause (pause.Space need)) = refl
-refused_owes (refusal.Pause pause.Forward) = refl
-refused_owes refusal.DiskFault = refl
-refused_owes (refusal.Damaged damaged) = refl
-
--- why a thread has ended that could not read the disk
-lost_so : (told : Bool) (script : Script) (log : List Entry) (states : List ThreadState) (config : Config)
-    (t finish : ℕ) (r : Refusal) → finish ≤ config.disk → LoadsNext script t (length (replies_of states t))
-    → IsLostBy told finish r → EndsSo told script log states config t (mode_for r)
-lost_so told script log states config t finish (refusal.Pause cause) within loads is = absurd is
-lost_so told script log states config t finish refusal.DiskFault within loads is = loads
-lost_so told script log states config t finish (refusal.Damaged damaged) within loads is =
-    (is.untold, loads, is.read config within)
-
 -- it stands, with registers that hold nothing
 lost_stands : (told : Bool) (script : Script) (finish : ℕ) (v w : View) (t : ℕ) (s after : ThreadState)
     → ThreadStands told script v t s → (lost : ThreadLost told finish v w t s after)
@@ -445,17 +376,6 @@ lost_moves told script config finish v w states t s after within st at lost =
 pub told_left : (told : Bool) (v w : View) (t : ℕ) (s after : ThreadState) (got : ThreadTold told v w t s after)
     → left s ≡ got.op ∷ s.cursor.operations
 told_left told v w t s after got = ap (λ (o : Option Op). with_first o s.cursor.operations) got.next
-
--- its mode fits its next operation
-told_fits : (s after : ThreadState) (reply : Reply) → TakesReply s after reply → FitsMode after.mode after.op
-told_fits s after reply takes =
-    elim takes.fits [
-      | inl runs ↦ subst (λ (m : Mode). FitsMode m after.op) (sym runs.0) runs.1
-      | inr rest ↦ elim rest [
-        | inl due ↦ subst (λ (m : Mode). FitsMode m after.op) (sym due) tt
-        | inr ended ↦ subst (λ (m : Mode). FitsMode m after.op) (sym ended.0) tt
-      ]
-    ]
 
 -- the operations to which it has replies
 told_taken : (told : Bool) (script : Script) (v w : View) (t : ℕ) (s after : ThreadState)
@@ -552,23 +472,6 @@ told_ends told script config w states t s after reply at st takes =
       ]
     ]
 
--- if a silent collection is due behind the reply, it is by the number of replies
-told_due : (config : Config) (s after : ThreadState) (reply : Reply) → DueBy config.every s after
-    → TakesReply s after reply → owes_silent after.mode ≡ true → IsDue config (length after.replies.items)
-told_due config s after reply due takes owes =
-    let count : length after.replies.items ≡ length s.replies.items + 1 =
-    ap length takes.replies ∙ length-append s.replies.items (reply ∷ []) in
-    let more : after.replies.items ≢ s.replies.items = λ same. omega (arith, ap length same, count) in
-    let is : after.mode ≡ Due = elim takes.fits [
-      | inl runs ↦ absurd (let wrong : false ≡ true = sym (ap owes_silent runs.0) ∙ owes in cc)
-      | inr rest ↦ elim rest [
-        | inl due ↦ due
-        | inr ended ↦ absurd (let wrong : false ≡ true = sym (ap owes_silent ended.0) ∙ owes in cc)
-      ]
-    ] in
-    let by = (due more).0 is in
-    record { asked = by.0; some = λ none. omega (arith, none, count); divides = by.1 }
-
 -- so all threads stand behind its reply
 pub told_moves : (told : Bool) (script : Script) (config : Config) (disk : OnDisk) (v w : View)
     (states : List ThreadState) (t : ℕ) (s after : ThreadState) → DueBy config.every s after
@@ -596,16 +499,6 @@ told_moves told script config disk v w states t s after due table at runs behind
             ap length got.takes.to_come,
           );
     }
-
--- a thread that can go on has not ended
-pub goes_on : (mode : Mode) → MayGo mode → IsEnded mode → ⊥
-goes_on Running goes over = over
-goes_on Due goes over = over
-goes_on Silent goes over = over
-goes_on Collecting goes over = over
-goes_on Asked goes over = over
-goes_on Lacking goes over = over
-goes_on (Ended e) goes over = goes
 
 -- what an event of one thread that has not ended shows of it
 pub step_moves : (told : Bool) (script : Script) (config : Config) (disk : OnDisk) (v w : View)
@@ -648,11 +541,6 @@ pub cuts_step : (told : Bool) (script : Script) (config : Config) (disk : OnDisk
 cuts_step told script config disk v w states t s after journal within table at runs step due have =
     cuts_moves told script config v w states t s after journal at runs
     (step_moves told script config disk v w states t s after within table at runs step due) have
-
--- a next operation is one of those that are left
-first_counts : (o : Option Op) (ops : List Op) → IsSome o → 0 < length (with_first o ops)
-first_counts None ops is = absurd (cc)
-first_counts (Some o) ops is = omega arith
 
 -- what an event needs
 pub table_ready : (script : Script) (config : Config) (disk : OnDisk) (v : View) (states : List ThreadState) (t : ℕ)
@@ -741,23 +629,6 @@ Table_renewed told script config disk later v w states table renewed = record {
       omega (arith, e, c, ap length renewed.history);
   few = let e : length v.log + to_reply states ≤ 8388608 = table.few in omega (arith, e, ap length renewed.history);
 }
-
--- why a thread may have ended, untold
-ends_untold : (told : Bool) (script : Script) (log : List Entry) (states : List ThreadState) (config : Config) (t : ℕ)
-    (mode : Mode) → EndsSo told script log states config t mode → EndsSo false script log states config t mode
-ends_untold told script log states config t Running ends = tt
-ends_untold told script log states config t Due ends = tt
-ends_untold told script log states config t Silent ends = tt
-ends_untold told script log states config t Collecting ends = tt
-ends_untold told script log states config t Asked ends = tt
-ends_untold told script log states config t Lacking ends = tt
-ends_untold told script log states config t (Ended end.Done) ends = ends
-ends_untold told script log states config t (Ended (end.OutOfHeap held_words need)) ends =
-    λ (tells : false ≡ true). absurd (cc)
-ends_untold told script log states config t (Ended end.DiskFault) ends = ends
-ends_untold told script log states config t (Ended (end.Damaged home at word)) ends =
-    (λ (tells : false ≡ true). absurd (cc), ends.1, ends.2)
-ends_untold told script log states config t (Ended end.Halted) ends = absurd ends
 
 -- all threads stand untold where they stand told or not
 pub Table_untold : (told : Bool) (script : Script) (config : Config) (disk : OnDisk) (v : View)

@@ -10,34 +10,29 @@ use Rattle.melt_model.specs.declared.config.Config.{Config}
 use Rattle.melt_model.specs.declared.history.Entry.{Entry}
 use Rattle.melt_model.specs.declared.reports.Journal.{Journal}
 use Rattle.melt_model.specs.declared.reports.Phase.TheVariants.{Move}
-use Rattle.melt_io.specs.Outside.{counted}
 use Rattle.melt_trace.specs.Script.{Script}
 use Rattle.melt_scion.specs.Heaps.{OnDisk}
 use Rattle.melt_core.specs.Views.{View, view, value, Standing}
+use Rattle.melt_safepoint.specs.declared.thread.ThreadState.{ThreadState}
+use Rattle.melt_safepoint.specs.Run.{HasRisen}
+use Rattle.melt_safepoint.specs.Passing.{CalledAt, WaitsForRoom}
+use Rattle.melt_safepoint.specs.Shown.{Shown}
+use Rattle.melt_safepoint.specs.Losses.{CountsLosses, losses}
+use Rattle.melt_safepoint.specs.Threads.{OweBehindCollects}
+use Rattle.melt_safepoint.proofs.Cuts.{held_words_same}
+use Rattle.melt_safepoint.proofs.Losses.{counts_risen}
+use Rattle.melt_safepoint.proofs.Lacking.{room_owes}
 use Rattle.melt_step.specs.Collections.{CollectedOver, Gathers}
-use Rattle.melt_step.specs.Run.{HasRisen}
-use Rattle.melt_step.specs.Safepoints.{Attempted, Awaited, AwaitsCall, CalledAt, Forced, LackedWords, LacksBy}
-use Rattle.melt_step.specs.Safepoints.{LacksWords, LeftBy, MadeCall, MakesCollection, MayForce, NoRoom, StandsBut}
-use Rattle.melt_step.specs.Safepoints.{Standpoint, StopCounts, StopsBut, StopsForced, StopsFrom, WaitsForRoom}
-use Rattle.melt_step.specs.Shown.{Shown}
-use Rattle.melt_step.specs.Threads.{CountsLosses, IsEnded, OweBehindCollects, losses}
+use Rattle.melt_step.specs.Safepoints.{Attempted, Awaited, AwaitsCall, Forced, LackedWords, LacksBy, LacksWords, LeftBy}
+use Rattle.melt_step.specs.Safepoints.{MadeCall, MakesCollection, MayForce, NoRoom, StandsBut, Standpoint, StopCounts}
+use Rattle.melt_step.specs.Safepoints.{StopsBut, StopsForced, StopsFrom}
 use Rattle.melt_step.specs.declared.ending.Stop.{Stop}
 use Rattle.melt_step.specs.declared.run.Run.{Run}
 use Rattle.melt_step.specs.declared.safepoint.Attempt.{Attempt}
 use Rattle.melt_step.specs.declared.safepoint.Attempt.TheVariants.{Made, Lacks}
-use Rattle.melt_step.specs.declared.thread.ThreadState.{ThreadState}
 use Rattle.melt_step.proofs.Composing.{stop_counts_then}
-use Rattle.melt_step.proofs.Counting.{counted_cases, counts_open, counts_same}
-use Rattle.melt_step.proofs.Cuts.{held_words_same}
 use Rattle.melt_step.proofs.Gone.{HasNoRoom}
-use Rattle.melt_step.proofs.Journals.{MayOwe, just_collected, may_owe, stands_collected}
-
--- what is seen of a disk is told by its parts
-pub same_shown : (a b : Shown) → a.end ≡ b.end → a.limit ≡ b.limit → a.image ≡ b.image → a ≡ b
-same_shown a b ends limits images =
-    ap {B = Shown} (λ (n : ℕ). record { end = n; limit = a.limit; image = a.image }) ends
-    ∙ (ap {B = Shown} (λ (n : ℕ). record { end = b.end; limit = n; image = a.image }) limits
-    ∙ ap {B = Shown} (λ (x : Option (List ℕ)). record { end = b.end; limit = b.limit; image = x }) images)
+use Rattle.melt_step.proofs.Journals.{just_collected, stands_collected}
 
 -- a call that was made, told of another run with the same threads and from another standpoint
 pub made_from : {Before Wider : Standpoint} {later : Shown} {old mid new : Run} {t : ℕ}
@@ -60,28 +55,6 @@ lacked_from {Again} {Further} {later} {old} {mid} {new} {t} {need} lacked same f
   keeps = λ told script config forced further.
       lacked.keeps told script config forced (from forced told script config further);
   states = lacked.states ∙ same;
-}
-
--- no thread was lost before a reader that was lent anew
-pub fresh_counts : (states mid after : List ThreadState) (a b f g : ℕ) → mid ≡ states → b ≡ a → f ≡ 0
-    → CountsLosses mid after f g → CountsLosses states after a (b + g)
-fresh_counts states mid after a b f g same reads none counts =
-    counts_open states mid after a b f g
-    (counts_same states mid a (b + f) (ap losses same) (omega (arith, reads))) counts
-
--- a count that was added to, has risen
-pub risen_back : (a b c f : ℕ) → c ≡ counted b f → b ≡ a → HasRisen a c
-risen_back a b c f is same = elim (counted_cases b f) [
-  | inl more ↦ inl (omega (arith, is, more, same))
-  | inr full ↦ inr (omega (arith, is, full))
-]
-
--- where no thread is lost, the count of them that has risen is enough
-pub counts_risen : (states after : List ThreadState) (a b : ℕ) → losses after ≡ losses states → HasRisen a b
-    → CountsLosses states after a b
-counts_risen states after a b same risen = record {
-  counted = elim risen [ inl up ↦ inl (omega (arith, up, same)) | inr full ↦ inr full ];
-  rises = risen;
 }
 
 -- what a call came to, told of another run with the same threads and from other standpoints
@@ -118,12 +91,6 @@ left_again told config (suc zero) later v w entry need tells few left free over 
       free = let all : entry.live ≡ entry.held = over.tight tells refl left in omega (arith, free, all);
     }
 left_again told config (suc (suc k)) later v w entry need tells few left free over = absurd (omega (arith, few))
-
--- a thread that waits for room has not ended, so that one more collection may be unpaid
-room_owes : {unpaid : ℕ} (states : List ThreadState) (t : ℕ) → WaitsForRoom states t → unpaid ≤ 2
-    → MayOwe unpaid states
-room_owes {unpaid} states t waits few =
-    may_owe unpaid states t waits.0 few waits.1 (λ ended. subst IsEnded waits.2 ended)
 
 -- behind it the thread may make its call once more
 pub awaits_again : {told : Bool} {script : Script} {config : Config} {shown later : Shown} {forced : ℕ} {old new : Run}

@@ -13,12 +13,13 @@ use Rattle.melt_core.specs.Epochs.{HasDropped}
 use Rattle.melt_core.specs.Made.{made_words, HasMade, KeepsMade}
 use Rattle.melt_core.specs.Views.{View, Counts, InUse, view, maps, maps_of}
 use Rattle.melt_trace.specs.Script.{Script}
-use Rattle.melt_step.specs.Made.{MadeSoFar, MakesWithin}
+use Rattle.melt_safepoint.specs.declared.thread.Mode.{Mode}
+use Rattle.melt_safepoint.specs.Made.{MakesWithin}
+use Rattle.melt_safepoint.specs.Shown.{Shown}
+use Rattle.melt_step.specs.Made.{MadeSoFar}
 use Rattle.melt_step.specs.Safepoints.{StandsBut}
-use Rattle.melt_step.specs.Shown.{Shown}
 use Rattle.melt_step.specs.Threads.{DropsIfEnded}
 use Rattle.melt_step.specs.declared.run.Run.{Run}
-use Rattle.melt_step.specs.declared.thread.Mode.{Mode}
 use Rattle.melt_step.proofs.Calling.{drop_cases}
 
 -- the same history, and the same objects in use

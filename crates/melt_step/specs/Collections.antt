@@ -13,8 +13,8 @@ use Rattle.melt_move.specs.Plans.{WantsHome}
 use Rattle.melt_core.specs.Epochs.{core_of}
 use Rattle.melt_core.specs.Views.{View, view, value, Standing, IsQuiet}
 use Rattle.melt_core.specs.declared.machine.Rest.{Rest}
+use Rattle.melt_safepoint.specs.Shown.{Shown, Underlies}
 use Rattle.melt_step.specs.Lone.{IsMarked, NoneForwarded}
-use Rattle.melt_step.specs.Shown.{Shown, Underlies}
 use Rattle.melt_step.specs.Threads.{Renewed}
 use Rattle.melt_step.specs.declared.collector.Collector.{Collector}
 use Rattle.melt_step.specs.declared.collector.CollectRefusal.{CollectRefusal}

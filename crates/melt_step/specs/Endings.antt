@@ -1,9 +1,8 @@
 -- What is left of a run that has ended, or was halted.
-use Rattle.std.specs.Prelude.{◌≡◌, ℕ, ◌+◌, ◌<◌, Bool, true, false, List, length, map, slice_get, Option, None, Some}
+use Rattle.std.specs.Prelude.{◌≡◌, ℕ, ◌+◌, ◌<◌, Bool, true, false, List, length, Option, None, Some}
 use Rattle.melt_model.specs.declared.config.Config.{Config}
 use Rattle.melt_model.specs.declared.reports.Halt.{Halt}
 use Rattle.melt_model.specs.declared.reports.Halt.TheVariants as halt
-use Rattle.melt_model.specs.declared.reports.ThreadEnd.TheVariants as end
 use Rattle.melt_trace.specs.Script.{Script}
 use Rattle.melt_scion.specs.Collected.{CountsWords}
 use Rattle.melt_scion.specs.Heaps.{OnDisk, state_of}
@@ -11,33 +10,17 @@ use Rattle.melt_scion.specs.declared.heap.Heap.{Heap}
 use Rattle.melt_move.specs.Plans.{WantsHome}
 use Rattle.melt_core.specs.Epochs.{core_of}
 use Rattle.melt_core.specs.Views.{View, view}
-use Rattle.melt_step.specs.Journals.{IsJournalOf, MayMove, before, end_of}
-use Rattle.melt_step.specs.Counts.{CountsCollections}
-use Rattle.melt_step.specs.Made.{MakesWithin}
-use Rattle.melt_step.specs.Shown.{Shown, Underlies}
-use Rattle.melt_step.specs.Threads.{HaveCuts, IsEnded, TableStands}
+use Rattle.melt_safepoint.specs.declared.thread.ThreadState.{ThreadState}
+use Rattle.melt_safepoint.specs.Journals.{IsJournalOf, MayMove, before, end_of}
+use Rattle.melt_safepoint.specs.Counts.{CountsCollections}
+use Rattle.melt_safepoint.specs.Made.{MakesWithin}
+use Rattle.melt_safepoint.specs.Shown.{Shown, Underlies}
+use Rattle.melt_safepoint.specs.Endings.{HaveCuts}
+use Rattle.melt_safepoint.specs.Threads.{AreHalted, AllEnded}
+use Rattle.melt_step.specs.Threads.{TableStands}
 use Rattle.melt_step.specs.declared.ending.Ended.{Ended}
 use Rattle.melt_step.specs.declared.ending.Stop.{Stop}
 use Rattle.melt_step.specs.declared.ending.Stop.TheVariants.{NoMemory, Halted}
-use Rattle.melt_step.specs.declared.thread.Mode.{Mode}
-use Rattle.melt_step.specs.declared.thread.Mode.TheVariants as mode
-use Rattle.melt_step.specs.declared.thread.ThreadState.{ThreadState}
-
--- a thread that has not ended is halted
-abbrev pub halted_mode : Mode → Mode
-halted_mode (mode.Ended e) = mode.Ended e
-halted_mode m = mode.Ended end.Halted
-
-abbrev pub halted : ThreadState → ThreadState
-halted s = record s { mode = halted_mode s.mode }
-
--- and so all threads
-abbrev pub AreHalted : List ThreadState → List ThreadState → Type 0
-AreHalted states after = after ≡ map halted states
-
--- all threads have ended
-abbrev pub AllEnded : List ThreadState → Type 0
-AllEnded states = (t : ℕ) (s : ThreadState) → slice_get states t ≡ Some s → IsEnded s.mode
 
 -- The disk had no room for the new homes of a Move of this heap, which was planned or forced.
 pub record EndsFull (told : Bool) (config : Config) (shown : Shown) (disk : OnDisk) (ended : Ended) (heap : Heap)

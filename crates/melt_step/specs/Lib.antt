@@ -1,10 +1,5 @@
-pub mod Shown
-pub mod Journals
-pub mod Needs
 pub mod Made
-pub mod Run
 pub mod Threads
-pub mod Counts
 pub mod Lone
 pub mod Collections
 pub mod Endings

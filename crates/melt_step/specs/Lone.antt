@@ -9,20 +9,13 @@ use Rattle.melt_scion.specs.Placed.{IsNamed}
 use Rattle.melt_scion.specs.State.{HeaderAt, HoldsAt}
 use Rattle.melt_core.specs.Advances.{InBounds, KeepsOthers}
 use Rattle.melt_core.specs.Changed.{HasRoomForEntry}
-use Rattle.melt_core.specs.declared.answer.Pause.TheVariants as pause
-use Rattle.melt_core.specs.declared.answer.Refusal.{Refusal}
-use Rattle.melt_core.specs.declared.answer.Refusal.TheVariants as refusal
 use Rattle.melt_core.specs.Views.{View, maps, state, value, values_of, registers_in, call_of, Standing}
-use Rattle.melt_step.specs.Needs.{NeedsWords}
-use Rattle.melt_step.specs.Shown.{Underlies}
-use Rattle.melt_step.specs.Threads.{most_forwards, ThreadLost, ThreadTold}
-use Rattle.melt_step.specs.declared.thread.Mode.TheVariants.{Lacking}
-use Rattle.melt_step.specs.declared.thread.ThreadState.{ThreadState}
-
--- the words for want of which a call was refused, if it was
-abbrev pub words_lacked_by : Refusal → Option ℕ
-words_lacked_by (refusal.Pause (pause.Space need)) = Some need
-words_lacked_by why = None
+use Rattle.melt_safepoint.specs.declared.thread.Mode.TheVariants.{Lacking}
+use Rattle.melt_safepoint.specs.declared.thread.ThreadState.{ThreadState}
+use Rattle.melt_safepoint.specs.Needs.{NeedsWords}
+use Rattle.melt_safepoint.specs.Shown.{Underlies}
+use Rattle.melt_safepoint.specs.Threads.{most_forwards}
+use Rattle.melt_step.specs.Threads.{ThreadLost, ThreadTold}
 
 -- no forwarding word is filled
 abbrev pub NoneForwarded : View → Type 0

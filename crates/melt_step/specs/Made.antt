@@ -1,16 +1,11 @@
--- How the words that a run makes are bounded by its collections.
-use Rattle.std.specs.Prelude.{ℕ, ◌+◌, ◌*◌, ◌≤◌, true, List, length, Option}
+-- Which of the words that a run makes are in use.
+use Rattle.std.specs.Prelude.{ℕ, ◌*◌, true, List, length, Option}
 use Rattle.melt_model.specs.declared.config.Config.{Config}
-use Rattle.melt_model.specs.declared.history.Entry.{Entry}
 use Rattle.melt_model.specs.declared.reports.Journal.{Journal}
 use Rattle.melt_scion.specs.Heaps.{OnDisk}
-use Rattle.melt_core.specs.Made.{made_words, HasMade, KeepsMade}
+use Rattle.melt_core.specs.Made.{HasMade, KeepsMade}
 use Rattle.melt_core.specs.Views.{View, Standing}
-use Rattle.melt_step.specs.Shown.{Underlies}
-
--- Before the first collection, and behind each, no more words were made than the heap has.
-abbrev pub MakesWithin : Config → List Entry → List Journal → Type 0
-MakesWithin config log journal = made_words log ≤ config.heap * (length journal + 1)
+use Rattle.melt_safepoint.specs.Shown.{Underlies}
 
 -- and of those that were made behind the last collection, all are in use
 abbrev pub MadeSoFar : Config → View → List Journal → Type 0

@@ -1,5 +1,5 @@
 -- Which collections a safepoint makes.
-use Rattle.std.specs.Prelude.{◌≡◌, ℕ, zero, suc, ◌≤◌, ◌⊎◌, Bool, List, Option, None, Some, slice_get, slice_set}
+use Rattle.std.specs.Prelude.{◌≡◌, ℕ, zero, suc, ◌≤◌, ◌⊎◌, Bool, List, Option, None, Some, slice_set}
 use Rattle.melt_model.specs.declared.config.Config.{Config}
 use Rattle.melt_model.specs.declared.operations.Op.{Op}
 use Rattle.melt_model.specs.declared.reports.Journal.{Journal}
@@ -8,22 +8,18 @@ use Rattle.melt_model.specs.declared.reports.ThreadEnd.TheVariants.{OutOfHeap}
 use Rattle.melt_trace.specs.Script.{Script}
 use Rattle.melt_core.specs.Epochs.{HasDropped, HasFinished}
 use Rattle.melt_core.specs.Views.{View, view}
-use Rattle.melt_step.specs.Journals.{OneMore, Planned}
+use Rattle.melt_safepoint.specs.declared.thread.Mode.TheVariants.{Ended}
+use Rattle.melt_safepoint.specs.declared.thread.ThreadState.{ThreadState}
+use Rattle.melt_safepoint.specs.Journals.{OneMore, Planned}
+use Rattle.melt_safepoint.specs.Passing.{WaitsForRoom, Resumed, IsLacking, NoneLacks}
+use Rattle.melt_safepoint.specs.Shown.{Shown}
+use Rattle.melt_safepoint.specs.Threads.{DueBy, collections_due}
 use Rattle.melt_step.specs.Lone.{CalledAlone}
 use Rattle.melt_step.specs.Made.{MakesInUse}
-use Rattle.melt_step.specs.Safepoints.{AwaitsCall, WaitsForRoom, journal_of}
-use Rattle.melt_step.specs.Shown.{Shown}
-use Rattle.melt_step.specs.Threads.{DueBy, Resumed, collections_due}
+use Rattle.melt_step.specs.Safepoints.{AwaitsCall, journal_of}
 use Rattle.melt_step.specs.declared.run.Run.{Run}
 use Rattle.melt_step.specs.declared.safepoint.Attempt.{Attempt}
 use Rattle.melt_step.specs.declared.safepoint.Attempt.TheVariants.{Made, Lacks}
-use Rattle.melt_step.specs.declared.thread.Mode.TheVariants.{Ended, Lacking}
-use Rattle.melt_step.specs.declared.thread.ThreadState.{ThreadState}
-
--- The state of the thread that waits for room.
-pub record IsLacking (states : List ThreadState) (t : ℕ) (s : ThreadState) : Type 0 where
-  pub at : slice_get states t ≡ Some s
-  pub lacking : s.mode ≡ Lacking
 
 -- A call that was made alone for the thread, over what is seen, and may have lacked so many words: its core and the
 -- state of the thread are new, and what it made is in use.
@@ -92,10 +88,6 @@ MakesRoom told script config shown old new t = MakesCall shown old new t None
 abbrev pub if_none_was : ℕ → ℕ
 if_none_was zero = 1
 if_none_was (suc n) = 0
-
--- no thread waits for room
-abbrev pub NoneLacks : List ThreadState → Type 0
-NoneLacks states = (t : ℕ) (s : ThreadState) → slice_get states t ≡ Some s → s.mode ≡ Lacking → ⊥
 
 -- What is collected for a thread that waits for room: one collection as it was planned, where no thread waited for one
 -- of its own; and Moves. In between, over what is shown, it awaits its call, which is made alone. The run goes on with

@@ -1,6 +1,6 @@
 -- A run between two events, and what the parts of a safepoint do to it.
-use Rattle.std.specs.Prelude.{◌≡◌, ◌≢◌, ℕ, zero, suc, ◌+◌, ◌*◌, ◌<◌, ◌≤◌, Bool, true, false, List, [], ◌∷◌, ◌++◌}
-use Rattle.std.specs.Prelude.{length, slice_get, slice_set, Option, None, Some}
+use Rattle.std.specs.Prelude.{◌≡◌, ◌≢◌, ℕ, zero, suc, ◌+◌, ◌<◌, ◌≤◌, Bool, true, false, List, [], ◌∷◌, ◌++◌}
+use Rattle.std.specs.Prelude.{length, slice_get, Option, Some}
 use Rattle.melt_model.specs.Alive.{Held, words_of, CostsSum}
 use Rattle.melt_model.specs.declared.config.Config.{Config}
 use Rattle.melt_model.specs.declared.operations.Op.{Op}
@@ -11,26 +11,29 @@ use Rattle.melt_trace.specs.Script.{Script}
 use Rattle.melt_move.specs.Planned.{phase_done}
 use Rattle.melt_scion.specs.Heaps.{OnDisk}
 use Rattle.melt_core.specs.Views.{View, view, value, IsQuiet}
+use Rattle.melt_safepoint.specs.declared.thread.ThreadState.{ThreadState}
+use Rattle.melt_safepoint.specs.Counts.{CountsCollections}
+use Rattle.melt_safepoint.specs.Journals.{IsJournalOf, IsTight, Planned, before, end_of, next_of}
+use Rattle.melt_safepoint.specs.Needs.{NeedsWords}
+use Rattle.melt_safepoint.specs.Run.{HasRisen}
+use Rattle.melt_safepoint.specs.Shown.{Shown, Underlies}
+use Rattle.melt_safepoint.specs.Losses.{CountsLosses, CountsOpen}
+use Rattle.melt_safepoint.specs.Modes.{ForCollection, collections_for}
+use Rattle.melt_safepoint.specs.Endings.{HaveCuts}
+use Rattle.melt_safepoint.specs.Threads.{OweBehindCollects, collections_due}
+use Rattle.melt_safepoint.specs.Lends.{LendsFew, LendsTwice}
+use Rattle.melt_safepoint.specs.Passing.{WaitsForRoom, CalledAt}
 use Rattle.melt_step.specs.Collections.{CollectsCore}
-use Rattle.melt_step.specs.Counts.{CountsCollections}
 use Rattle.melt_step.specs.Endings.{StopsSo}
-use Rattle.melt_step.specs.Journals.{IsJournalOf, IsTight, Planned, before, end_of, next_of}
 use Rattle.melt_step.specs.Lone.{IsMarked, NoneForwarded}
 use Rattle.melt_step.specs.Made.{MadeSoFar}
-use Rattle.melt_step.specs.Needs.{NeedsWords}
-use Rattle.melt_step.specs.Run.{HasRisen}
-use Rattle.melt_step.specs.Shown.{Shown, Underlies}
-use Rattle.melt_step.specs.Threads.{CountsLosses, ForCollection, HaveCuts}
-use Rattle.melt_step.specs.Threads.{IsPaused, OweBehindCollects, TableStands, jobs_of, potential, collections_due}
-use Rattle.melt_step.specs.Threads.{collections_for}
+use Rattle.melt_step.specs.Threads.{TableStands, potential}
 use Rattle.melt_step.specs.declared.collector.Collector.{Collector}
 use Rattle.melt_step.specs.declared.ending.Stop.{Stop}
 use Rattle.melt_step.specs.declared.ending.Stop.TheVariants.{NoMemory, Halted}
 use Rattle.melt_step.specs.declared.run.Run.{Run}
 use Rattle.melt_step.specs.declared.safepoint.Attempt.{Attempt}
 use Rattle.melt_step.specs.declared.safepoint.Attempt.TheVariants.{Made, Lacks}
-use Rattle.melt_step.specs.declared.thread.Mode.TheVariants.{Lacking}
-use Rattle.melt_step.specs.declared.thread.ThreadState.{ThreadState}
 
 -- the last collection, if there was one
 abbrev pub last_of : Collector → Option Journal
@@ -99,21 +102,10 @@ StopsForced force shown later old stop =
     StopsFrom (λ told script config. ((unpaid : ℕ) × StandsBut unpaid told script config shown old)
     × (force ≡ true → IsTight config (last_of old.collector))) later stop
 
--- Readers were lent no oftener than collections were made, but for so many.
-pub record LendsFew (more lends lends_after : ℕ) (js later : List Journal) : Type 0 where
-  pub few : lends_after + length js ≤ lends + length later + more
-  pub grows : length js ≤ length later
-  pub rises : HasRisen lends lends_after
-
 -- and so where a run was stopped
 abbrev pub StopLends : (more lends lends_after : ℕ) → List Journal → Stop → Type 0
 StopLends more lends lends_after js NoMemory = Unit {0}
 StopLends more lends lends_after js (Halted ended) = LendsFew more lends lends_after js ended.journal.items
-
--- no oftener than twice for each collection, and once more
-pub record LendsTwice (lends lends_after : ℕ) (js later : List Journal) : Type 0 where
-  pub few : lends_after + 2 * length js ≤ lends + 2 * length later + 1
-  pub rises : HasRisen lends lends_after
 
 abbrev pub StopTwice : (lends lends_after : ℕ) → List Journal → Stop → Type 0
 StopTwice lends lends_after js NoMemory = Unit {0}
@@ -162,10 +154,6 @@ LeftBy zero v = Unit {0}
 LeftBy (suc zero) v = IsMarked v
 LeftBy (suc (suc k)) v = OnlyHeld v
 
--- the thread waits for room
-abbrev pub WaitsForRoom : List ThreadState → ℕ → Type 0
-WaitsForRoom states t = (s : ThreadState) × (slice_get states t ≡ Some s) × (s.mode ≡ Lacking)
-
 -- A run at a safepoint, behind a collection, and behind so many that were forced in a row: a thread that lacked room is to
 -- make its call, which pays for these collections.
 pub record AwaitsCall (told : Bool) (script : Script) (config : Config) (shown : Shown) (forced : ℕ) (run : Run)
@@ -210,25 +198,6 @@ pub record LacksWords (told : Bool) (script : Script) (config : Config) (shown :
 abbrev pub SomeLacksWords : Shown → ℕ → Run → ℕ → ℕ → Type 0
 SomeLacksWords shown forced run t need = (script : Script) × (config : Config)
     × LacksWords false script config shown forced run t need
-
--- only this thread changed, has less to do, and does not wait
-abbrev pub CalledAt : List ThreadState → List ThreadState → ℕ → Type 0
-CalledAt states after t = (s : ThreadState) → slice_get states t ≡ Some s
-    → (x : ThreadState) × (after ≡ slice_set states t x) × (jobs_of x < jobs_of s) × (IsPaused x.mode → ⊥)
-
--- the faults of a reader that is lent still, if one is
-abbrev pub open_faults : {Reader : Type 0} → (Reader → ℕ) → Option Reader → ℕ
-open_faults faults None = 0
-open_faults faults (Some reader) = faults reader
-
--- A reader is lent of what is seen, if one is.
-abbrev pub LentOf : {Reader : Type 0} → (Reader → Option (List ℕ)) → Shown → Option Reader → Type 0
-LentOf image shown None = Unit {0}
-LentOf image shown (Some reader) = image reader ≡ shown.image
-
--- no more threads were lost than reads failed, on readers that were given back and on one that is lent still
-abbrev pub CountsOpen : List ThreadState → List ThreadState → (lost lost_after more : ℕ) → Type 0
-CountsOpen states after lost lost_after more = CountsLosses states after lost (lost_after + more)
 
 -- a thread that lacked room is to make its call
 abbrev pub Awaited : Shown → Run → ℕ → Standpoint

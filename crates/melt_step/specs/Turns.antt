@@ -1,8 +1,8 @@
 -- Which thread has the next event.
 use Rattle.std.specs.Prelude.{◌≡◌, ◌≢◌, ℕ, ◌+◌, ◌<◌, ◌≤◌, ◌⊎◌, List, length, slice_get, Some}
-use Rattle.melt_step.specs.declared.thread.ThreadState.{ThreadState}
+use Rattle.melt_safepoint.specs.declared.thread.ThreadState.{ThreadState}
+use Rattle.melt_safepoint.specs.Modes.{MayGo}
 use Rattle.melt_step.specs.declared.turns.Turns.{Turns}
-use Rattle.melt_step.specs.Threads.{MayGo}
 
 -- a thread can go on
 abbrev pub GoesAt : List ThreadState → ℕ → Type 0

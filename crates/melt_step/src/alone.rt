@@ -6,26 +6,16 @@
 ghost use Rattle.std.specs.Prelude.{◌≡◌, ◌≢◌, ◌<◌, length, vec_capacity, Some};
 ghost use Rattle.melt_model.specs.declared.operations.Op.{Op};
 ghost use Rattle.melt_core.specs.Views.{view};
-ghost use Rattle.melt_step.specs.Lone.{IsAloneReady, CalledAlone, words_lacked_by};
+ghost use Rattle.melt_safepoint.specs.Losses.{CountsLoss};
+ghost use Rattle.melt_safepoint.specs.Threads.{DueBy};
+ghost use Rattle.melt_step.specs.Lone.{IsAloneReady, CalledAlone};
 ghost use Rattle.melt_step.specs.Made.{MakesInUse};
-ghost use Rattle.melt_step.specs.Threads.{CountsLoss, DueBy};
 
-use crate::events::{answered, drop_if_ended, mode_after};
-use crate::thread::ThreadState;
-use melt_core::{Core, Pause, Refusal, StepResult};
+use crate::events::{answered, drop_if_ended};
+use melt_core::{Core, StepResult};
 use melt_io::RecordReader;
 use melt_model::Op;
-
-/// The words for want of which a call was refused, if it was.
-fn words_lacked(refusal: Refusal) -> Option<u32>
-    ensures { result ≡ words_lacked_by refusal }
-{
-    match refusal {
-        Refusal::Pause(Pause::Space { need }) => Some(need),
-        Refusal::Pause(Pause::Asked | Pause::Forward) => None,
-        Refusal::DiskFault | Refusal::Damaged(_) => None,
-    }
-}
+use melt_safepoint::{ThreadState, mode_after, words_lacked};
 
 /// Makes the call of a thread alone, over a disk whose homes end before `end`. Answers the words that it lacked, if it
 /// was refused for want of room.

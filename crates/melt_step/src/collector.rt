@@ -10,8 +10,8 @@ ghost use Rattle.melt_move.specs.Collecting.{IsFormedOn};
 ghost use Rattle.melt_move.specs.KeptDisk.{KeepsDisk};
 ghost use Rattle.melt_move.specs.Planned.{CollectsPlanned, IsRefusedPlanned, phase_done, plan_after};
 ghost use Rattle.melt_move.specs.declared.planned.Plan.{Plan};
+ghost use Rattle.melt_safepoint.specs.Shown.{shown_by};
 ghost use Rattle.melt_step.specs.Collections.{CollectsCore, IsRefusedCore, MayCollect};
-ghost use Rattle.melt_step.specs.Shown.{shown_by};
 
 use melt_core::{Core, Rest};
 use melt_disk::{DiskFull, StaleSpace};

@@ -5,16 +5,16 @@
 ghost use Rattle.std.specs.Prelude.{◌≡◌, ℕ, Bool, IfOk, Some, slice_get};
 ghost use Rattle.melt_model.specs.declared.config.Config.{Config};
 ghost use Rattle.melt_trace.specs.Script.{Script};
-ghost use Rattle.melt_step.specs.Endings.{AreHalted, EndedStands, SomeEnded, halted};
-ghost use Rattle.melt_step.specs.Run.{HasRun, lost_in};
-ghost use Rattle.melt_step.specs.Shown.{Shown};
-ghost use Rattle.melt_step.specs.Threads.{losses};
+ghost use Rattle.melt_safepoint.specs.Run.{HasRun, lost_in};
+ghost use Rattle.melt_safepoint.specs.Shown.{Shown};
+ghost use Rattle.melt_safepoint.specs.Losses.{losses};
+ghost use Rattle.melt_step.specs.Endings.{EndedStands, SomeEnded};
 
-use crate::thread::{Mode, ThreadState};
 use melt_core::Rest;
 use melt_model::{
     Halt, Journal, Journals, NoMemory, Replies, Report, ThreadEnd, ThreadReport, ThreadReports,
 };
+use melt_safepoint::{Mode, ThreadState};
 use melt_scion::Heap;
 use std::alloc::Global;
 
@@ -40,15 +40,6 @@ pub enum Stop<'a> {
 impl<'a> From<NoMemory> for Stop<'a> {
     fn from(_: NoMemory) -> Stop<'a> {
         Stop::NoMemory
-    }
-}
-
-/// Each thread that has not ended is halted.
-pub fn halt_all(states: &mut [ThreadState<'_>])
-    ensures { AreHalted states.old states.new }
-{
-    for state in states.iter_mut() {
-        state.halt();
     }
 }
 

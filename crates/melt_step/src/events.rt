@@ -6,31 +6,16 @@
 ghost use Rattle.std.specs.Prelude.{◌≡◌, ◌<◌, ◌≤◌, length, vec_capacity, Some, None, Bool, true};
 ghost use Rattle.melt_scion.specs.Heaps.{OnDisk};
 ghost use Rattle.melt_core.specs.Views.{Standing, call_of, view};
-ghost use Rattle.melt_core.specs.declared.answer.Refusal.{Refusal};
+ghost use Rattle.melt_safepoint.specs.Losses.{CountsLoss};
+ghost use Rattle.melt_safepoint.specs.Threads.{DueBy, TakesReply};
+ghost use Rattle.melt_safepoint.specs.Modes.{MayGo};
 ghost use Rattle.melt_step.specs.Made.{MakesInUse};
-ghost use Rattle.melt_step.specs.Threads.{CountsLoss, DropsIfEnded, DueBy, IsReady, MayGo, SetsStop, TakesReply};
-ghost use Rattle.melt_step.specs.Threads.{TakesTurn, mode_for};
+ghost use Rattle.melt_step.specs.Threads.{DropsIfEnded, IsReady, SetsStop, TakesTurn};
 
-use crate::thread::{Mode, ThreadState};
-use melt_core::{Core, Pause, Refusal, StepResult};
+use melt_core::{Core, StepResult};
 use melt_io::RecordReader;
-use melt_model::{Op, Reply, ThreadEnd};
-
-/// What a thread does behind a call that was refused. One whose record could not be read, or is none, has ended.
-pub fn mode_after(refusal: Refusal) -> Mode
-    ensures { result ≡ mode_for refusal }
-{
-    match refusal {
-        Refusal::Pause(Pause::Asked) => Mode::Asked,
-        Refusal::Pause(Pause::Space { .. } | Pause::Forward) => Mode::Lacking,
-        Refusal::DiskFault => Mode::Ended(ThreadEnd::DiskFault),
-        Refusal::Damaged(damaged) => Mode::Ended(ThreadEnd::Damaged {
-            home: damaged.home,
-            at: damaged.at,
-            word: damaged.word,
-        }),
-    }
-}
+use melt_model::{Op, Reply};
+use melt_safepoint::{Mode, ThreadState, mode_after};
 
 /// Makes the next event of a thread that can go on, over a disk whose homes end before `end`.
 pub fn make_event<R: RecordReader>(

@@ -8,7 +8,6 @@ mod ending;
 mod events;
 mod run;
 mod safepoint;
-pub mod thread;
 mod turns;
 
 pub use choices::any_choices;

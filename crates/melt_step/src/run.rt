@@ -3,32 +3,33 @@
 //! A run is a row of epochs. In an epoch the threads take their events, over the disk as it was when a reader was lent;
 //! it is over when no thread can go on. Between two epochs no call is in flight, so that heap and registers are all there
 //! is, and collections are made there.
-ghost use Rattle.std.specs.Prelude.{◌≡◌, ◌≢◌, ◌⊎◌, ℕ, ◌+◌, ◌<◌, ◌≤◌, [], length, slice_get, Some, None, Ok, Err};
+ghost use Rattle.std.specs.Prelude.{◌≡◌, ◌≢◌, ◌⊎◌, ℕ, ◌<◌, ◌≤◌, [], length, slice_get, Some, None, Ok, Err};
 ghost use Rattle.std.specs.Prelude.{IsSome, IfSome, true, false, Bool, IfOk, IfErr, IsErrOf};
 ghost use Rattle.melt_io.specs.Outside.{Rose, counted};
 ghost use Rattle.melt_model.specs.Config.{InRanges};
 ghost use Rattle.melt_model.specs.declared.config.Config.{Config};
 ghost use Rattle.melt_trace.specs.Script.{Script};
 ghost use Rattle.melt_core.specs.Views.{IsQuiet, view};
-ghost use Rattle.melt_step.specs.declared.thread.ThreadState.{ThreadState};
-ghost use Rattle.melt_step.specs.Endings.{AllEnded, EndedStands, StopsSo};
-ghost use Rattle.melt_step.specs.Run.{CountsFaults, CountsLends, HasNoOperations, HasRun};
-ghost use Rattle.melt_step.specs.Safepoints.{CountsOpen, IsNearer, KeepsRun, LentOf, RunStands, SomeStands, StopCounts};
-ghost use Rattle.melt_step.specs.Safepoints.{LendsFew, LendsTwice, StandsBut, StopLends, StopTwice, StopsBut, StopsRun};
-ghost use Rattle.melt_step.specs.Safepoints.{journal_of, open_faults};
-ghost use Rattle.melt_step.specs.Shown.{Shown, shown_by};
-ghost use Rattle.melt_step.specs.Threads.{AllWait, AreNewThreads, CountsLosses, KnowsStop, SomeGoesOn};
-ghost use Rattle.melt_step.specs.Threads.{losses};
+ghost use Rattle.melt_safepoint.specs.declared.thread.ThreadState.{ThreadState};
+ghost use Rattle.melt_safepoint.specs.Threads.{AllEnded, AllWait, SomeGoesOn};
+ghost use Rattle.melt_safepoint.specs.Run.{CountsFaults, CountsLends, HasNoOperations, HasRun};
+ghost use Rattle.melt_safepoint.specs.Losses.{CountsOpen, open_faults, CountsLosses, losses};
+ghost use Rattle.melt_safepoint.specs.Lends.{LentOf, LendsFew, LendsTwice};
+ghost use Rattle.melt_safepoint.specs.Shown.{Shown, shown_by};
+ghost use Rattle.melt_step.specs.Endings.{EndedStands, StopsSo};
+ghost use Rattle.melt_step.specs.Safepoints.{IsNearer, KeepsRun, RunStands, SomeStands, StopCounts, StandsBut};
+ghost use Rattle.melt_step.specs.Safepoints.{StopLends, StopTwice, StopsBut, StopsRun, journal_of};
+ghost use Rattle.melt_step.specs.Threads.{KnowsStop};
 
 use crate::collector::Collector;
-use crate::ending::{Ended, Stop, halt_all};
+use crate::ending::{Ended, Stop};
 use crate::events::make_event;
-use crate::thread::ThreadState;
 use crate::turns::Turns;
 use melt_core::{Core, Rest};
 use melt_disk::StaleSpace;
 use melt_io::{LendRefusal, RecordReader, StaleDisk};
 use melt_model::{Config, Halt, NoMemory, Report};
+use melt_safepoint::{ThreadState, halt_all, new_states};
 use melt_scion::Heap;
 use melt_trace::Trace;
 use std::alloc::Global;
@@ -289,19 +290,6 @@ impl<'a> Run<'a> {
         }
         Ok(run.end())
     }
-}
-
-/// The threads of a trace before their first events.
-fn new_states<'a>(alloc: Global, trace: &'a Trace) -> Result<(Vec<ThreadState<'a>>, u64), NoMemory>
-    ensures { IfOk result (λ made. AreNewThreads trace.now made.0.items made.1) }
-{
-    let mut states = Vec::with_capacity(alloc, trace.threads() as usize)?;
-    let mut entries = 0;
-    for t in 0..trace.threads() {
-        states.push(ThreadState::new(alloc, trace, t)?)?;
-        entries += trace.count(t);
-    }
-    Ok((states, entries))
 }
 
 /// A run of a trace before its first event, over a disk without homes.

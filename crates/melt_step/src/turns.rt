@@ -1,10 +1,10 @@
 //! The order in which threads take their events.
 ghost use Rattle.std.specs.Prelude.{◌≡◌, ℕ, ◌+◌, ◌<◌, ◌≤◌, ◌⊎◌, length, slice_get, Some, None, IfSome, IfNone};
-ghost use Rattle.melt_step.specs.Threads.{MayGo};
+ghost use Rattle.melt_safepoint.specs.declared.thread.ThreadState.{ThreadState};
+ghost use Rattle.melt_safepoint.specs.Modes.{MayGo};
 ghost use Rattle.melt_step.specs.Turns.{InTurn, NoLine, NoTurn, NoneGoes, OfLine};
-ghost use Rattle.melt_step.specs.declared.thread.ThreadState.{ThreadState};
 
-use crate::thread::ThreadState;
+use melt_safepoint::ThreadState;
 use melt_trace::Trace;
 
 /// Where the giving out of events stands: at a line of the trace's orders, of whose events some are left if it was

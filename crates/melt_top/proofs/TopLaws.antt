@@ -18,7 +18,6 @@ use Rattle.melt_model.specs.declared.reports.ThreadReport.{ThreadReport}
 use Rattle.melt_model.specs.declared.reports.ThreadEnd.{ThreadEnd}
 use Rattle.melt_model.specs.declared.reports.ThreadEnd.TheVariants as end
 use Rattle.melt_trace.specs.Script.{Script}
-use Rattle.melt_step.specs.Run.{MayEnd, CountsLost, is_lost, lost_in}
 use Rattle.melt_trace.specs.Language.{max_bytes, script_of}
 use Rattle.melt_top.specs.Text.{read_fault_text, refused_text}
 use Rattle.melt_top.specs.Command.{number_of, status_of, ended, is_disk_fault, is_damaged, is_out_of_heap}
@@ -30,6 +29,7 @@ use Rattle.melt_top.specs.declared.command.Run.{Run}
 use Rattle.melt_top.specs.declared.command.Command.TheVariants.{Gen, Step}
 use Rattle.melt_top.specs.declared.status.Status.{Status}
 use Rattle.melt_top.specs.declared.status.Status.TheVariants as status
+use Rattle.melt_safepoint.specs.Run.{MayEnd, CountsLost, is_lost, lost_in}
 
 -- the bytes that were taken, by their number
 taken : (old new : Option (List ℕ)) (n : ℕ) → TakesCount old n new

@@ -8,8 +8,6 @@ use Rattle.melt_trace.specs.Script.{Script}
 use Rattle.melt_trace.specs.Language.{max_bytes, operation_count, script_of}
 use Rattle.melt_top.specs.Text.{text, usage_text, read_fault_text, refused_text}
 use Rattle.melt_top.specs.Command.{status_of}
-use Rattle.melt_step.specs.Run.{HasRun, CountsFaults}
-use Rattle.melt_step.specs.Shown.{Shown}
 use Rattle.melt_top.specs.declared.command.Command.{Command}
 use Rattle.melt_top.specs.declared.command.Command.TheVariants.{Gen, Step}
 use Rattle.melt_top.specs.declared.command.Recipe.{Recipe}
@@ -18,6 +16,8 @@ use Rattle.melt_gen.specs.Workloads.{generated}
 use Rattle.melt_trace.specs.Grammar.{canonical}
 use Rattle.melt_top.specs.declared.status.Status.{Status}
 use Rattle.melt_top.specs.declared.status.Status.TheVariants as status
+use Rattle.melt_safepoint.specs.Run.{HasRun, CountsFaults}
+use Rattle.melt_safepoint.specs.Shown.{Shown}
 
 -- What a source or a sink had before a call and after it: its bytes, where it tells them, and its faults.
 pub record Change : Type 0 where

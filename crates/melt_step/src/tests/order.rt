@@ -1,8 +1,8 @@
 ghost use Rattle.std.specs.Prelude.{◌≡◌, false};
 ghost use Rattle.melt_model.specs.declared.config.Config.{Config};
 ghost use Rattle.melt_core.specs.Views.{view};
+ghost use Rattle.melt_safepoint.specs.Shown.{Shown};
 ghost use Rattle.melt_step.specs.Safepoints.{RunStands};
-ghost use Rattle.melt_step.specs.Shown.{Shown};
 ghost use Rattle.melt_step.specs.Threads.{KnowsStop};
 
 use super::given::{Wanted, copied, emptied, expect, leaving, run_over, usual};

@@ -10,15 +10,17 @@ use Rattle.melt_core.specs.declared.answer.StepResult.{StepResult}
 use Rattle.melt_core.specs.declared.answer.StepResult.TheVariants.{Refused}
 use Rattle.melt_model.specs.declared.operations.Op.{Op}
 use Rattle.melt_scion.specs.Heaps.{OnDisk}
+use Rattle.melt_safepoint.specs.declared.thread.Mode.{Mode}
+use Rattle.melt_safepoint.specs.declared.thread.ThreadState.{ThreadState}
+use Rattle.melt_safepoint.specs.Shown.{Underlies}
+use Rattle.melt_safepoint.proofs.Shown.{under_untold}
+use Rattle.melt_safepoint.proofs.Modes.{lacks_space}
 use Rattle.melt_step.specs.Lone.{CalledOver}
 use Rattle.melt_step.specs.Made.{MakesInUse}
-use Rattle.melt_step.specs.Shown.{Underlies}
 use Rattle.melt_step.specs.Threads.{DropsIfEnded}
-use Rattle.melt_step.specs.declared.thread.Mode.{Mode}
-use Rattle.melt_step.specs.declared.thread.ThreadState.{ThreadState}
-use Rattle.melt_step.proofs.Calling.{KeepsOthers_both, goes_nearer, refused_call, thread_there, under_untold}
-use Rattle.melt_step.proofs.LoneCalls.{call_asks, call_goes, call_lacks, call_lost, call_reads, call_told}
-use Rattle.melt_step.proofs.LoneCalls.{few_still, lacks_space, never_pauses}
+use Rattle.melt_step.proofs.Calling.{KeepsOthers_both, goes_nearer, refused_call, thread_there}
+use Rattle.melt_step.proofs.LoneCalls.{call_asks, call_goes, call_lacks, call_lost, call_reads, call_told, few_still}
+use Rattle.melt_step.proofs.LoneCalls.{never_pauses}
 use Rattle.melt_step.proofs.WordsMade.{made_ended}
 use Rattle.melt_step.proofs.alone.call_alone.Goals as goal
 

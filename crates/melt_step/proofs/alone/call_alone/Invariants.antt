@@ -4,9 +4,9 @@ use Rattle.std.specs.Prelude.{Bool}
 use Rattle.melt_scion.specs.Heaps.{OnDisk}
 use Rattle.melt_core.specs.Views.{Standing, call_of, stage_in, view}
 use Rattle.melt_core.specs.Stages.{events_left}
+use Rattle.melt_safepoint.specs.Shown.{Underlies}
+use Rattle.melt_safepoint.specs.Threads.{most_forwards}
 use Rattle.melt_step.specs.Made.{MakesInUse}
-use Rattle.melt_step.specs.Shown.{Underlies}
-use Rattle.melt_step.specs.Threads.{most_forwards}
 use Rattle.melt_step.proofs.LoneCalls.{OnCall}
 use Rattle.melt_step.proofs.alone.call_alone.Given as goal
 

@@ -6,11 +6,12 @@ use Rattle.melt_core.specs.declared.answer.Refusal.TheVariants.{Damaged}
 use Rattle.melt_core.specs.Views.{view}
 use Rattle.melt_core.specs.Advances.{IsDamage}
 use Rattle.melt_core.specs.declared.answer.StepResult.TheVariants.{Refused}
-use Rattle.melt_step.specs.Threads.{CountsLoss, DropsIfEnded, SetsStop, TakesTurn}
-use Rattle.melt_step.specs.declared.thread.Mode.{Mode}
-use Rattle.melt_step.proofs.Calling.{begins_ready, counts_none, goes_sets, goes_step, refused_call, refused_counts}
-use Rattle.melt_step.proofs.Calling.{refused_sets, refused_step, thread_there, told_kept, told_sets, told_step}
-use Rattle.melt_step.proofs.Calling.{waits_step}
+use Rattle.melt_safepoint.specs.declared.thread.Mode.{Mode}
+use Rattle.melt_safepoint.specs.Losses.{CountsLoss}
+use Rattle.melt_safepoint.proofs.Losses.{counts_none, refused_counts, told_kept}
+use Rattle.melt_step.specs.Threads.{DropsIfEnded, SetsStop, TakesTurn}
+use Rattle.melt_step.proofs.Calling.{begins_ready, goes_sets, goes_step, refused_call, refused_sets, refused_step}
+use Rattle.melt_step.proofs.Calling.{thread_there, told_sets, told_step, waits_step}
 use Rattle.melt_step.proofs.WordsMade.{made_ended, made_stopped}
 use Rattle.melt_step.proofs.events.make_event.Goals as goal
 

@@ -2,10 +2,10 @@
 use Rattle.std.proofs.Common.{refl, sym, subst}
 use Rattle.melt_core.specs.Views.{view}
 use Rattle.melt_core.specs.declared.machine.Core.{Core}
+use Rattle.melt_safepoint.proofs.Starting.{losses_new, idle_new}
 use Rattle.melt_step.specs.Threads.{KnowsStop}
-use Rattle.melt_step.proofs.Starting.{stop_new, losses_new}
+use Rattle.melt_step.proofs.Starting.{stop_new}
 use Rattle.melt_step.proofs.Reporting.{Run_new}
-use Rattle.melt_step.proofs.Lends.{idle_new}
 use Rattle.melt_step.proofs.run.new_run.Goals as goal
 
 pub returns-clause-stands : goal.returns-clause-stands

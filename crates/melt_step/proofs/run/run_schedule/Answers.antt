@@ -3,12 +3,13 @@ use Rattle.std.proofs.Common.{◌≡◌, true, false, Some, None, sym, ◌∙◌
 use Rattle.std.proofs.lemmas.Result.{IfOk-weaker}
 use Rattle.std.specs.Prelude.{Bool, IsSome}
 use Rattle.melt_model.specs.declared.reports.Halt.TheVariants as halt
-use Rattle.melt_step.specs.Safepoints.{LendsTwice, RunStands, StopCounts, StopTwice, StopsRun, journal_of}
-use Rattle.melt_step.specs.Shown.{shown_by}
+use Rattle.melt_safepoint.specs.Lends.{LendsTwice}
+use Rattle.melt_safepoint.specs.Shown.{shown_by}
+use Rattle.melt_safepoint.proofs.Lends.{counts_lends}
+use Rattle.melt_step.specs.Safepoints.{RunStands, StopCounts, StopTwice, StopsRun, journal_of}
 use Rattle.melt_step.specs.declared.ending.Ended.{Ended}
 use Rattle.melt_step.specs.declared.ending.Stop.{Stop}
 use Rattle.melt_step.specs.declared.ending.Stop.TheVariants.{Halted}
-use Rattle.melt_step.proofs.Lends.{counts_lends}
 use Rattle.melt_step.proofs.Remaining.{counts_faults, both_ok}
 use Rattle.melt_step.proofs.run.run_schedule.Given.{Over}
 use Rattle.melt_step.proofs.run.run_schedule.Goals as goal

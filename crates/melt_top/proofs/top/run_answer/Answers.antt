@@ -1,7 +1,7 @@
 -- What the run left of the disk is what the disk has once the space has handed it back.
 use Rattle.std.proofs.Common.{rules}
-use Rattle.melt_step.specs.Shown.{shown_by}
 use Rattle.melt_top.proofs.top.run_answer.Goals as goal
+use Rattle.melt_safepoint.specs.Shown.{shown_by}
 
 pub returns : goal.returns
 returns g c = record {

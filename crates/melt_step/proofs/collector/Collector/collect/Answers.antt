@@ -9,8 +9,8 @@ use Rattle.melt_core.specs.Views.{view}
 use Rattle.melt_core.specs.Lending.{with_held}
 use Rattle.melt_core.specs.declared.machine.Core.{Core}
 use Rattle.melt_core.specs.declared.machine.Rest.{Rest}
+use Rattle.melt_safepoint.specs.Shown.{Shown, shown_by}
 use Rattle.melt_step.specs.Collections.{CollectsCore}
-use Rattle.melt_step.specs.Shown.{Shown, shown_by}
 use Rattle.melt_step.specs.declared.collector.Collector.{Collector}
 use Rattle.melt_step.proofs.Collecting.{rest_formed}
 use Rattle.melt_step.proofs.Gathering.{IsMade, collects_core, begins_named, begins_settled, only_lent, planned_lent}

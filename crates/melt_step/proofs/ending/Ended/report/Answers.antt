@@ -2,11 +2,12 @@
 use Rattle.std.proofs.Common.{false, ◌≡◌, ◌∷◌, ◌++◌, [], List, refl, sym, ◌∙◌, ap, subst}
 use Rattle.std.proofs.lemmas.List.{append-nil, append_assoc, nil_from_length}
 use Rattle.melt_model.specs.declared.reports.ThreadReport.{ThreadReport}
-use Rattle.melt_step.specs.Threads.{IsEnded}
-use Rattle.melt_step.specs.declared.thread.ThreadState.{ThreadState}
-use Rattle.melt_step.proofs.Outcomes.{lost_same}
+use Rattle.melt_safepoint.specs.declared.thread.ThreadState.{ThreadState}
+use Rattle.melt_safepoint.specs.Modes.{IsEnded}
+use Rattle.melt_safepoint.proofs.Outcomes.{lost_same}
+use Rattle.melt_safepoint.proofs.Reporting.{Reported, reported_more, ended_next}
+use Rattle.melt_safepoint.proofs.Modes.{ended_so}
 use Rattle.melt_step.proofs.Remaining.{has_run, all_over}
-use Rattle.melt_step.proofs.Reporting.{Reported, reported_more, ended_so, ended_next}
 use Rattle.melt_step.proofs.ending.Ended.report.Goals as goal
 use Rattle.melt_step.proofs.ending.Ended.report.Goals.{In-None}
 

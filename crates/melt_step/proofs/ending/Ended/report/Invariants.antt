@@ -1,6 +1,6 @@
 -- The threads so far are reported, and the others are to come.
 use Rattle.std.proofs.Common.{◌≡◌, ◌++◌}
-use Rattle.melt_step.proofs.Reporting.{Reported}
+use Rattle.melt_safepoint.proofs.Reporting.{Reported}
 use Rattle.melt_step.proofs.ending.Ended.report.Given as goal
 
 abbrev pub invariant-loop-state : goal.invariant-loop-state

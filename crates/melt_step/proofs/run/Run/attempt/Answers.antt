@@ -1,11 +1,12 @@
 -- The call over a reader that was lent anew is made, or lacks words.
 use Rattle.std.proofs.Common.{◌≡◌, ℕ, sym, ◌∙◌, ap, subst}
 use Rattle.std.specs.Prelude.{Option}
+use Rattle.melt_safepoint.specs.Shown.{Shown, shown_by}
+use Rattle.melt_safepoint.proofs.Losses.{fresh_counts, risen_back}
+use Rattle.melt_safepoint.proofs.Shown.{shown_is}
 use Rattle.melt_step.specs.Safepoints.{Awaited, AwaitsCall, LackedWords, MadeCall}
 use Rattle.melt_step.specs.Makes.{MakesCall}
-use Rattle.melt_step.specs.Shown.{Shown, shown_by}
 use Rattle.melt_step.specs.declared.run.Run.{Run}
-use Rattle.melt_step.proofs.TwoMoves.{same_shown, fresh_counts, risen_back}
 use Rattle.melt_step.proofs.run.Run.attempt.Goals as goal
 
 -- a call of a run that was lent a reader
@@ -46,7 +47,7 @@ returns-in-Some-clause-attempted g c =
     let later : Shown = shown_by g.D.StaleDisk.image c.give_back.new.self in
     let is = c.in_ok-run.ensures in
     let back : later ≡ mid =
-    same_shown later mid c.give_back.ensures.end c.give_back.ensures.limit c.give_back.ensures.image in (
+    shown_is later mid c.give_back.ensures.end c.give_back.ensures.limit c.give_back.ensures.image in (
       lacked_so shown later c.args.self c.in_ok-run.run' c.call.new.self c.args.thread c.in-Some.need (back ∙ is.shown)
           is.same
           (c.in-Some.ensures.lacks shown (sym (ap (λ (x : Shown). x.end) is.shown) ∙ sym c.end.ensures) (sym is.image)),

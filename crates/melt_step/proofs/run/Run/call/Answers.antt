@@ -2,13 +2,14 @@
 use Rattle.std.proofs.Common.{◌≡◌, ℕ, refl, subst}
 use Rattle.std.specs.Vec.{with_item}
 use Rattle.melt_core.specs.Views.{view}
+use Rattle.melt_safepoint.specs.Shown.{Shown}
+use Rattle.melt_safepoint.specs.Passing.{IsLacking}
+use Rattle.melt_safepoint.proofs.Losses.{counts_set}
+use Rattle.melt_safepoint.proofs.Lacking.{lacking_here}
 use Rattle.melt_step.specs.Lone.{IsAloneReady}
-use Rattle.melt_step.specs.Shown.{Shown}
 use Rattle.melt_step.specs.declared.run.Run.{Run}
-use Rattle.melt_step.proofs.Counting.{counts_set}
-use Rattle.melt_step.specs.Makes.{IsLacking, MakesCall}
-use Rattle.melt_step.proofs.First.{if_none, if_some, lacking_here, has_next, alone_ready}
-use Rattle.melt_step.proofs.First.{call_lacked, call_made, called_by, makes_by}
+use Rattle.melt_step.specs.Makes.{MakesCall}
+use Rattle.melt_step.proofs.First.{if_none, if_some, has_next, alone_ready, call_lacked, call_made, called_by, makes_by}
 use Rattle.melt_step.proofs.run.Run.call.Given.{Over}
 use Rattle.melt_step.proofs.run.Run.call.Goals as goal
 use Rattle.melt_step.proofs.run.Run.call.Goals.{After-call_alone, After-index_mut-state}

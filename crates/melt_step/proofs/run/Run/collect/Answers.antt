@@ -3,8 +3,9 @@ use Rattle.std.proofs.Common.{◌≡◌, List, Vec, Global, length, ◌∙◌, a
 use Rattle.melt_model.specs.declared.reports.Journal.{Journal}
 use Rattle.melt_move.specs.Planned.{phase_done}
 use Rattle.melt_core.specs.Views.{view}
-use Rattle.melt_step.proofs.Journals.{halted_counts, refused_failed, refused_full, stands_failed, stands_full}
-use Rattle.melt_step.proofs.Lends.{lends_none}
+use Rattle.melt_safepoint.proofs.Journals.{halted_counts}
+use Rattle.melt_safepoint.proofs.Lends.{lends_none}
+use Rattle.melt_step.proofs.Journals.{refused_failed, refused_full, stands_failed, stands_full}
 use Rattle.melt_step.proofs.run.Run.collect.Goals as goal
 
 -- the journal of a run that is halted is that of before

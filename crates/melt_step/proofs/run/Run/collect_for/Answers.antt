@@ -5,17 +5,19 @@ use Rattle.std.proofs.lemmas.Option.{same_Some, slice_get_read}
 use Rattle.std.proofs.lemmas.Result.{err_from_is_err_and}
 use Rattle.std.specs.Prelude.{Some, slice_get, vec_capacity}
 use Rattle.melt_core.specs.Views.{view}
+use Rattle.melt_safepoint.specs.declared.thread.Mode.TheVariants.{Collecting}
+use Rattle.melt_safepoint.specs.declared.thread.ThreadState.{ThreadState}
+use Rattle.melt_safepoint.specs.Shown.{shown_by}
+use Rattle.melt_safepoint.specs.Passing.{CollectedFor}
+use Rattle.melt_safepoint.specs.Modes.{ForCollection}
+use Rattle.melt_safepoint.proofs.Collections.{other_stays, taken_fewer, taken_losses, waits_none}
+use Rattle.melt_safepoint.proofs.Threads.{set_got}
 use Rattle.melt_step.specs.declared.run.Run.{Run}
-use Rattle.melt_step.specs.declared.thread.Mode.TheVariants.{Collecting}
-use Rattle.melt_step.specs.declared.thread.ThreadState.{ThreadState}
 use Rattle.melt_step.specs.Safepoints.{MakesFor}
-use Rattle.melt_step.specs.Shown.{shown_by}
-use Rattle.melt_step.specs.Threads.{CollectedFor, ForCollection}
 use Rattle.melt_step.proofs.Collections.{SameEpoch, WasCollected, collected_thread, collecting_op, collecting_room}
-use Rattle.melt_step.proofs.Collections.{drops_same, keeps_taken, made_for, made_none, other_stays, same_quiet}
-use Rattle.melt_step.proofs.Collections.{state_read, taken_fewer, taken_losses, waits_none, was_collected}
+use Rattle.melt_step.proofs.Collections.{drops_same, keeps_taken, made_for, made_none, same_quiet, state_read}
+use Rattle.melt_step.proofs.Collections.{was_collected}
 use Rattle.melt_step.proofs.Composing.{stops_planned}
-use Rattle.melt_step.proofs.Telling.{set_got}
 use Rattle.melt_step.proofs.run.Run.collect_for.Given.{Over}
 use Rattle.melt_step.proofs.run.Run.collect_for.Goals as goal
 use Rattle.melt_step.proofs.run.Run.collect_for.Goals.{After-index, After-drop_if_ended}

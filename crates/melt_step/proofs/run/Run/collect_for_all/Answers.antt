@@ -2,14 +2,16 @@
 use Rattle.std.proofs.Common.{◌≡◌, ◌+◌, ◌<◌, false, List, length, refl, ◌∙◌, arith}
 use Rattle.std.proofs.lemmas.Result.{err_from_is_err_and}
 use Rattle.std.specs.Prelude.{Some, slice_get}
-use Rattle.melt_step.specs.declared.thread.ThreadState.{ThreadState}
+use Rattle.melt_safepoint.specs.declared.thread.ThreadState.{ThreadState}
+use Rattle.melt_safepoint.proofs.Losses.{counts_same}
+use Rattle.melt_safepoint.proofs.Outcomes.{state_at}
+use Rattle.melt_safepoint.proofs.Passing.{CollectedBelow, collected_none, collected_more, collected_all}
+use Rattle.melt_safepoint.proofs.Safepoints.{none_below}
+use Rattle.melt_safepoint.proofs.Lends.{planned_longer}
 use Rattle.melt_step.proofs.Composing.{stop_counts_then, stops_then}
-use Rattle.melt_step.proofs.Counting.{counts_same}
-use Rattle.melt_step.proofs.Outcomes.{state_at}
-use Rattle.melt_step.proofs.Passing.{CollectedBelow, collected_none, collected_more, collected_all}
-use Rattle.melt_step.proofs.Safepoints.{below_none, below_more, below_all, none_below}
+use Rattle.melt_step.proofs.Safepoints.{below_none, below_more, below_all}
 use Rattle.melt_step.specs.Safepoints.{journal_of}
-use Rattle.melt_step.proofs.Lends.{planned_longer, stop_after}
+use Rattle.melt_step.proofs.Lends.{stop_after}
 use Rattle.melt_step.proofs.run.Run.collect_for_all.Goals as goal
 
 pub collect_for-requires-clause-stands : goal.collect_for-requires-clause-stands

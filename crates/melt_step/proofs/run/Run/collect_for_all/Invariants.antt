@@ -1,10 +1,10 @@
 -- The threads before this one have their collections, and the run stands.
 use Rattle.std.proofs.Common.{◌≡◌, ◌≤◌}
 use Rattle.melt_core.specs.Views.{IsQuiet, view}
+use Rattle.melt_safepoint.specs.Shown.{shown_by}
+use Rattle.melt_safepoint.specs.Losses.{losses}
+use Rattle.melt_safepoint.proofs.Passing.{CollectedBelow}
 use Rattle.melt_step.specs.Safepoints.{KeepsRun}
-use Rattle.melt_step.specs.Shown.{shown_by}
-use Rattle.melt_step.specs.Threads.{losses}
-use Rattle.melt_step.proofs.Passing.{CollectedBelow}
 use Rattle.melt_step.proofs.Safepoints.{MadeBelow}
 use Rattle.melt_step.proofs.run.Run.collect_for_all.Given as goal
 

@@ -1,6 +1,6 @@
 -- All threads stand as they did, and are halted.
 use Rattle.std.proofs.Common.{refl}
-use Rattle.melt_step.proofs.Halting.{halted_written, halted_losses}
+use Rattle.melt_safepoint.proofs.Halting.{halted_written, halted_losses}
 use Rattle.melt_step.proofs.Journals.{stands_failed}
 use Rattle.melt_step.proofs.run.Run.give_up.Goals as goal
 

@@ -3,8 +3,8 @@ use Rattle.std.proofs.Common.{◌≡◌, ℕ, ◌<◌, List, length, get_or, inl
 use Rattle.std.proofs.lemmas.Bool.{cases_eq}
 use Rattle.std.proofs.lemmas.Option.{slice_get_read, slice_get_within, get_or_from_slice_get}
 use Rattle.std.specs.Prelude.{true, false, Some, slice_get}
-use Rattle.melt_step.specs.Threads.{IsEnded}
-use Rattle.melt_step.specs.declared.thread.ThreadState.{ThreadState}
+use Rattle.melt_safepoint.specs.declared.thread.ThreadState.{ThreadState}
+use Rattle.melt_safepoint.specs.Modes.{IsEnded}
 use Rattle.melt_step.proofs.run.Run.has_ended.Goals as goal
 
 pub loop-state-init : goal.loop-state-init

@@ -1,7 +1,7 @@
 -- The threads before this one have ended.
 use Rattle.std.proofs.Common.{◌≡◌, ℕ, ◌<◌, slice_get, Some}
-use Rattle.melt_step.specs.Threads.{IsEnded}
-use Rattle.melt_step.specs.declared.thread.ThreadState.{ThreadState}
+use Rattle.melt_safepoint.specs.declared.thread.ThreadState.{ThreadState}
+use Rattle.melt_safepoint.specs.Modes.{IsEnded}
 use Rattle.melt_step.proofs.run.Run.has_ended.Given as goal
 
 abbrev pub invariant-loop-state : goal.invariant-loop-state

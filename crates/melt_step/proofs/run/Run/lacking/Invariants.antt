@@ -1,7 +1,7 @@
 -- No thread before this one waits for room.
 use Rattle.std.proofs.Common.{◌≡◌, ◌<◌, ℕ, slice_get, Some}
-use Rattle.melt_step.specs.declared.thread.Mode.TheVariants.{Lacking}
-use Rattle.melt_step.specs.declared.thread.ThreadState.{ThreadState}
+use Rattle.melt_safepoint.specs.declared.thread.Mode.TheVariants.{Lacking}
+use Rattle.melt_safepoint.specs.declared.thread.ThreadState.{ThreadState}
 use Rattle.melt_step.proofs.run.Run.lacking.Given as goal
 
 abbrev pub invariant-loop-t : goal.invariant-loop-t

@@ -1,10 +1,10 @@
 use Rattle.std.proofs.Common.{◌≡◌, sym, ap, ℕ, subst, Err, Vec, Global}
 use Rattle.melt_model.specs.declared.reports.Journal.{Journal}
-use Rattle.melt_step.specs.Threads.{CountsLosses}
-use Rattle.melt_step.proofs.Lends.{lends_one}
+use Rattle.melt_safepoint.specs.Losses.{CountsLosses}
+use Rattle.melt_safepoint.specs.Shown.{Shown, shown_by}
+use Rattle.melt_safepoint.proofs.Lends.{lends_one}
+use Rattle.melt_safepoint.proofs.Shown.{shown_is}
 use Rattle.melt_step.specs.Endings.{EndedStands}
-use Rattle.melt_step.specs.Shown.{Shown, shown_by}
-use Rattle.melt_step.proofs.TwoMoves.{same_shown}
 use Rattle.melt_step.proofs.run.Run.lend.Goals as goal
 
 pub returns-clause-stop_counts : goal.returns-clause-stop_counts
@@ -23,6 +23,6 @@ returns-clause-stop_lends g c =
 pub returns-clause-stopped : goal.returns-clause-stopped
 returns-clause-stopped g c = λ told script config before.
     let same : shown_by g.D.StaleDisk.image c.lend.new.self ≡ shown_by g.D.StaleDisk.image c.args.space.now =
-    same_shown _ _ c.lend.ensures.end c.lend.ensures.limit c.lend.ensures.image in
+    shown_is _ _ c.lend.ensures.end c.lend.ensures.limit c.lend.ensures.image in
     subst (λ (shown : Shown). EndedStands told script config shown c.give_up.result) (sym same)
     (c.give_up.ensures.stands told script config before.0 (shown_by g.D.StaleDisk.image c.args.space.now) before.1)

@@ -1,7 +1,7 @@
 -- A reader is lent, or one was.
 use Rattle.std.proofs.Common.{refl, arith}
+use Rattle.melt_safepoint.proofs.Lends.{lends_one, risen_same}
 use Rattle.melt_step.specs.Safepoints.{journal_of}
-use Rattle.melt_step.proofs.Lends.{lends_one, risen_same}
 use Rattle.melt_step.proofs.TwoMoves.{if_ok_from}
 use Rattle.melt_step.proofs.run.Run.lend_on.Goals as goal
 

@@ -1,11 +1,13 @@
 -- The call is made, at once or behind forced Moves, or its thread ends.
 use Rattle.std.proofs.Common.{ap, inl, inr}
 use Rattle.std.proofs.lemmas.Result.{err_from_is_err_and}
-use Rattle.melt_step.specs.Run.{HasRisen}
-use Rattle.melt_step.specs.Safepoints.{Awaited, AwaitsCall, LackedWords, LendsFew, MadeCall, journal_of}
-use Rattle.melt_step.specs.Shown.{shown_by}
+use Rattle.melt_safepoint.specs.Run.{HasRisen}
+use Rattle.melt_safepoint.specs.Lends.{LendsFew}
+use Rattle.melt_safepoint.specs.Shown.{shown_by}
+use Rattle.melt_safepoint.proofs.Lends.{lends_one, lends_then}
+use Rattle.melt_step.specs.Safepoints.{Awaited, AwaitsCall, LackedWords, MadeCall, journal_of}
 use Rattle.melt_step.specs.declared.collector.Collector.{Collector}
-use Rattle.melt_step.proofs.Lends.{lends_one, lends_then, stop_then}
+use Rattle.melt_step.proofs.Lends.{stop_then}
 use Rattle.melt_step.proofs.TwoMoves.{if_err_from, if_ok_from, made_at_once, made_first, stops_first, stop_counts_since}
 use Rattle.melt_step.proofs.run.Run.make_room.Given.{Over}
 use Rattle.melt_step.proofs.run.Run.make_room.Goals as goal

@@ -1,12 +1,12 @@
 -- Behind a second Move the call is made, or its thread ends.
 use Rattle.std.proofs.Common.{ℕ, ◌<◌, length, refl, ap, arith, inl, inr}
 use Rattle.std.proofs.lemmas.Result.{err_from_is_err_and}
+use Rattle.melt_safepoint.specs.Shown.{shown_by}
+use Rattle.melt_safepoint.proofs.Lends.{lends_none, lends_then}
 use Rattle.melt_step.specs.Safepoints.{LackedWords, LacksWords, Forced, MadeCall, journal_of}
-use Rattle.melt_step.specs.Shown.{shown_by}
 use Rattle.melt_step.proofs.TwoMoves.{made_behind, made_further, made_gone, stops_behind, unfit, unfit_twice}
 use Rattle.melt_step.specs.declared.collector.Collector.{Collector}
 use Rattle.melt_step.specs.declared.run.Run.{Run}
-use Rattle.melt_step.proofs.Lends.{lends_none, lends_then}
 use Rattle.melt_step.proofs.run.Run.move_again.Given.{Over}
 use Rattle.melt_step.proofs.run.Run.move_again.Goals as goal
 use Rattle.melt_step.proofs.run.Run.move_again.Goals.{In-Lacks, In-Made}

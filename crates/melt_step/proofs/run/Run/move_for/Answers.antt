@@ -1,14 +1,14 @@
 -- Behind a Move the call is made, or is made once more behind a second one.
 use Rattle.std.proofs.Common.{ℕ, ◌<◌, ◌≤◌, suc, length, refl, ap, arith, inl, inr}
 use Rattle.std.proofs.lemmas.Result.{err_from_is_err_and}
-use Rattle.melt_step.specs.Run.{HasRisen}
+use Rattle.melt_safepoint.specs.Run.{HasRisen}
+use Rattle.melt_safepoint.specs.Shown.{shown_by}
+use Rattle.melt_safepoint.proofs.Lends.{lends_none, lends_then}
 use Rattle.melt_step.specs.Safepoints.{LackedWords, LacksWords, Forced, MadeCall, journal_of}
-use Rattle.melt_step.specs.Shown.{shown_by}
-use Rattle.melt_step.proofs.TwoMoves.{if_err_from, if_ok_from, made_behind, made_further, made_gone}
-use Rattle.melt_step.proofs.TwoMoves.{stops_behind, stop_counts_since}
-use Rattle.melt_step.proofs.TwoMoves.{unfit}
+use Rattle.melt_step.proofs.TwoMoves.{if_err_from, if_ok_from, made_behind, made_further, made_gone, stops_behind}
+use Rattle.melt_step.proofs.TwoMoves.{stop_counts_since, unfit}
 use Rattle.melt_step.specs.declared.collector.Collector.{Collector}
-use Rattle.melt_step.proofs.Lends.{lends_none, lends_then, stop_then}
+use Rattle.melt_step.proofs.Lends.{stop_then}
 use Rattle.melt_step.proofs.run.Run.move_for.Given.{Over}
 use Rattle.melt_step.proofs.run.Run.move_for.Goals as goal
 use Rattle.melt_step.proofs.run.Run.move_for.Goals.{In-Lacks, In-Made}

@@ -3,9 +3,9 @@ use Rattle.std.proofs.Common.{false, refl}
 use Rattle.std.specs.Vec.{with_item}
 use Rattle.melt_model.specs.declared.reports.ThreadEnd.TheVariants as end
 use Rattle.melt_core.specs.Views.{view}
+use Rattle.melt_safepoint.specs.declared.thread.Mode.TheVariants.{Ended}
+use Rattle.melt_safepoint.proofs.Lacking.{lacking_here}
 use Rattle.melt_step.specs.declared.run.Run.{Run}
-use Rattle.melt_step.specs.declared.thread.Mode.TheVariants.{Ended}
-use Rattle.melt_step.proofs.First.{lacking_here}
 use Rattle.melt_step.proofs.Gone.{EndsCall, gone_made, gone_lost}
 use Rattle.melt_step.proofs.run.Run.out_of_heap.Goals as goal
 use Rattle.melt_step.proofs.run.Run.out_of_heap.Goals.{After-renew}

@@ -1,12 +1,12 @@
 -- Nothing is done where all threads have ended, and else a safepoint is passed.
 use Rattle.std.proofs.Common.{false, refl, arith, inl, inr}
 use Rattle.melt_core.specs.Views.{IsQuiet, view}
-use Rattle.melt_step.specs.Threads.{Passed}
+use Rattle.melt_safepoint.specs.Passing.{Passed}
+use Rattle.melt_safepoint.proofs.Lends.{lends_none}
 use Rattle.melt_step.proofs.Composing.{ok_both}
 use Rattle.melt_step.proofs.Going.{safepoint_less}
 use Rattle.melt_step.proofs.Tables.{waiting_quiet}
 use Rattle.melt_step.specs.Safepoints.{journal_of}
-use Rattle.melt_step.proofs.Lends.{lends_none}
 use Rattle.melt_step.proofs.TwoMoves.{if_ok_from}
 use Rattle.melt_step.proofs.run.Run.pass.Goals as goal
 

@@ -5,27 +5,32 @@ use Rattle.std.proofs.lemmas.Result.{err_from_is_err_and}
 use Rattle.melt_model.specs.declared.config.Config.{Config}
 use Rattle.melt_trace.specs.Script.{Script}
 use Rattle.melt_core.specs.Views.{view}
-use Rattle.melt_step.specs.Safepoints.{AwaitsCall, CalledAt, LendsFew, RunStands, journal_of}
+use Rattle.melt_safepoint.specs.declared.thread.ThreadState.{ThreadState}
+use Rattle.melt_safepoint.specs.Passing.{CalledAt}
+use Rattle.melt_safepoint.specs.Lends.{LendsFew}
+use Rattle.melt_safepoint.specs.Shown.{shown_by}
+use Rattle.melt_safepoint.specs.Losses.{CountsLosses}
+use Rattle.melt_safepoint.specs.Threads.{SomeGoesOn, collections_due}
+use Rattle.melt_safepoint.proofs.Losses.{CountsBefore, counts_made, counts_by, counts_same, counts_then}
+use Rattle.melt_safepoint.proofs.Lacking.{room_goes}
+use Rattle.melt_safepoint.proofs.Passing.{passed_called, passed_collected}
+use Rattle.melt_safepoint.proofs.Lends.{lends_after, lends_none, planned_longer}
+use Rattle.melt_safepoint.proofs.Safepoints.{OneWaits, called_own, none_lacks, none_own, room_before}
+use Rattle.melt_step.specs.Safepoints.{AwaitsCall, RunStands, journal_of}
 use Rattle.melt_step.specs.declared.collector.Collector.{Collector}
-use Rattle.melt_step.specs.Shown.{shown_by}
 use Rattle.melt_step.specs.Makes.{if_none_was}
-use Rattle.melt_step.specs.Threads.{CountsLosses, SomeGoesOn, collections_due}
 use Rattle.melt_step.specs.declared.run.Run.{Run}
-use Rattle.melt_step.specs.declared.thread.ThreadState.{ThreadState}
-use Rattle.melt_step.proofs.Composing.{BeforeCall, CountsBefore, awaits_call, before_made, before_same, counts_made}
-use Rattle.melt_step.proofs.Composing.{room_goes, stop_counts_then, stops_planned, stops_then}
-use Rattle.melt_step.proofs.Counting.{counts_by, counts_same, counts_then}
+use Rattle.melt_step.proofs.Composing.{BeforeCall, awaits_call, before_made, before_same, stop_counts_then}
+use Rattle.melt_step.proofs.Composing.{stops_planned, stops_then}
 use Rattle.melt_step.proofs.Journals.{may_collect}
 use Rattle.melt_step.proofs.Modes.{someone_waits}
-use Rattle.melt_step.proofs.Passing.{passed_called, passed_collected}
-use Rattle.melt_step.proofs.Lends.{lends_after, lends_none, planned_longer, stop_after}
-use Rattle.melt_step.proofs.Safepoints.{OneWaits, called_own, none_lacks, none_own, own_due, room_before, stop_due}
-use Rattle.melt_step.proofs.Safepoints.{stop_not_due}
+use Rattle.melt_step.proofs.Lends.{stop_after}
+use Rattle.melt_step.proofs.Safepoints.{own_due, stop_due, stop_not_due}
 use Rattle.melt_step.proofs.Tables.{waiting_quiet}
 use Rattle.melt_step.proofs.run.Run.pass_safepoint.Given.{Over}
 use Rattle.melt_step.proofs.run.Run.pass_safepoint.Goals as goal
-use Rattle.melt_step.proofs.run.Run.pass_safepoint.Goals.{In_ok-run, Joined-is_stopped}
-use Rattle.melt_step.proofs.run.Run.pass_safepoint.Goals.{then-is_stopped+in_ok-run-2, else-is_stopped}
+use Rattle.melt_step.proofs.run.Run.pass_safepoint.Goals.{In_ok-run, Joined-is_stopped, then-is_stopped+in_ok-run-2}
+use Rattle.melt_step.proofs.run.Run.pass_safepoint.Goals.{else-is_stopped}
 
 pub collect_for_all-requires-clause-quiet : goal.collect_for_all-requires-clause-quiet
 collect_for_all-requires-clause-quiet g c κs within =

@@ -3,7 +3,7 @@ use Rattle.std.proofs.Common.{◌<◌, ◌≤◌, length, get_or, refl, ap, arit
 use Rattle.std.proofs.lemmas.Option.{slice_get-get_or}
 use Rattle.std.specs.Vec.{with_items}
 use Rattle.melt_core.specs.Views.{view}
-use Rattle.melt_step.specs.declared.thread.ThreadState.{ThreadState}
+use Rattle.melt_safepoint.specs.declared.thread.ThreadState.{ThreadState}
 use Rattle.melt_step.proofs.Passing.{AgainBelow, again_more, again_done, again_resumed, again_knows, resumed_keeps}
 use Rattle.melt_step.proofs.run.Run.resume.Goals as goal
 

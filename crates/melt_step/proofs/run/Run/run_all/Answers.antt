@@ -1,18 +1,19 @@
 -- An epoch and a safepoint make a round, and less is to do behind it.
 use Rattle.std.proofs.Common.{◌≡◌, ℕ, ◌≤◌, ◌⊎◌, false, List, Vec, Global, refl, sym, ◌∙◌, ap, subst, arith}
 use Rattle.std.proofs.lemmas.Result.{err_from_is_err_and}
-use Rattle.melt_step.specs.Safepoints.{IsNearer, KeepsRun, LendsTwice, journal_of}
-use Rattle.melt_step.specs.Shown.{Shown, shown_by}
-use Rattle.melt_step.specs.Threads.{CountsLosses, SomeGoesOn}
-use Rattle.melt_step.specs.declared.run.Run.{Run}
-use Rattle.melt_step.proofs.Composing.{counts_closed, epoch_counts, keeps_on, keeps_same, round_nearer, shown_is}
-use Rattle.melt_step.proofs.Composing.{stop_counts_then, stops_paid, stops_then}
-use Rattle.melt_step.proofs.Counting.{counts_same, counts_then}
 use Rattle.melt_model.specs.declared.reports.Journal.{Journal}
+use Rattle.melt_safepoint.specs.Lends.{LendsTwice}
+use Rattle.melt_safepoint.specs.Shown.{Shown, shown_by}
+use Rattle.melt_safepoint.specs.Losses.{CountsLosses}
+use Rattle.melt_safepoint.specs.Threads.{SomeGoesOn, AllEnded}
+use Rattle.melt_safepoint.proofs.Losses.{counts_closed, epoch_counts, counts_same, counts_then}
+use Rattle.melt_safepoint.proofs.Shown.{shown_is}
+use Rattle.melt_safepoint.proofs.Lends.{all_not_some, lends_epoch, lends_first, lends_over, lends_passed}
+use Rattle.melt_step.specs.Safepoints.{IsNearer, KeepsRun, journal_of}
+use Rattle.melt_step.specs.declared.run.Run.{Run}
+use Rattle.melt_step.proofs.Composing.{keeps_on, keeps_same, round_nearer, stop_counts_then, stops_paid, stops_then}
 use Rattle.melt_step.specs.declared.collector.Collector.{Collector}
-use Rattle.melt_step.specs.Endings.{AllEnded}
-use Rattle.melt_step.proofs.Lends.{all_not_some, lends_epoch, lends_first, lends_over, lends_passed, stop_epoch}
-use Rattle.melt_step.proofs.Lends.{stop_passed}
+use Rattle.melt_step.proofs.Lends.{stop_epoch, stop_passed}
 use Rattle.melt_step.proofs.run.Run.run_all.Given.{Over}
 use Rattle.melt_step.proofs.run.Run.run_all.Goals as goal
 use Rattle.melt_step.proofs.run.Run.run_all.Goals.{In_ok-next, After-give_back, Joined-lent, in-Some, in_default}

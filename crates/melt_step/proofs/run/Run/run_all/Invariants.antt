@@ -1,11 +1,13 @@
 -- What stood at the start stands on behind each epoch, and less is to do each time.
 use Rattle.std.proofs.Common.{◌≡◌, ◌≤◌}
 use Rattle.melt_core.specs.Views.{IsQuiet, view}
-use Rattle.melt_step.specs.Endings.{AllEnded}
-use Rattle.melt_step.specs.Safepoints.{CountsOpen, KeepsRun, LentOf, journal_of, open_faults}
-use Rattle.melt_step.specs.Shown.{shown_by}
+use Rattle.melt_safepoint.specs.Threads.{AllEnded}
+use Rattle.melt_safepoint.specs.Losses.{CountsOpen, open_faults}
+use Rattle.melt_safepoint.specs.Lends.{LentOf}
+use Rattle.melt_safepoint.specs.Shown.{shown_by}
+use Rattle.melt_safepoint.proofs.Lends.{LendsSoFar}
+use Rattle.melt_step.specs.Safepoints.{KeepsRun, journal_of}
 use Rattle.melt_step.specs.Threads.{KnowsStop, potential}
-use Rattle.melt_step.proofs.Lends.{LendsSoFar}
 use Rattle.melt_step.proofs.run.Run.run_all.Given as goal
 
 abbrev pub decreases-loop-alloc : goal.decreases-loop-alloc

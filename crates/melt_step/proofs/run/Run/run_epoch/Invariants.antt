@@ -1,9 +1,10 @@
 -- What stood at the start of the epoch stands on, over the same words, and nothing or less is to do.
 use Rattle.std.proofs.Common.{◌≡◌, ◌⊎◌}
 use Rattle.melt_core.specs.Views.{view}
+use Rattle.melt_safepoint.specs.Shown.{Shown}
+use Rattle.melt_safepoint.specs.Losses.{CountsLosses}
 use Rattle.melt_step.specs.Safepoints.{IsNearer, KeepsRun}
-use Rattle.melt_step.specs.Shown.{Shown}
-use Rattle.melt_step.specs.Threads.{CountsLosses, KnowsStop, potential}
+use Rattle.melt_step.specs.Threads.{KnowsStop, potential}
 use Rattle.melt_step.proofs.run.Run.run_epoch.Given as goal
 
 abbrev pub decreases-loop : goal.decreases-loop

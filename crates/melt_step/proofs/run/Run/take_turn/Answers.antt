@@ -4,12 +4,13 @@ use Rattle.std.proofs.Math.ListN.{length-set}
 use Rattle.std.proofs.lemmas.Option.{get_or_from_slice_get, slice_get_within}
 use Rattle.std.specs.Prelude.{Some, slice_get}
 use Rattle.melt_core.specs.Views.{view}
-use Rattle.melt_step.specs.declared.thread.ThreadState.{ThreadState}
-use Rattle.melt_step.specs.Threads.{AllWait, MayGo}
+use Rattle.melt_safepoint.specs.declared.thread.ThreadState.{ThreadState}
+use Rattle.melt_safepoint.specs.Threads.{AllWait}
+use Rattle.melt_safepoint.specs.Modes.{MayGo}
+use Rattle.melt_safepoint.proofs.Losses.{counts_same, counts_set}
 use Rattle.melt_step.specs.Turns.{GoesAt}
 use Rattle.melt_step.proofs.Tables.{table_ready}
 use Rattle.melt_step.proofs.Modes.{stop_known}
-use Rattle.melt_step.proofs.Counting.{counts_same, counts_set}
 use Rattle.melt_step.proofs.Going.{step_keeps, step_less}
 use Rattle.melt_step.proofs.run.Run.take_turn.Goals as goal
 use Rattle.melt_step.proofs.run.Run.take_turn.Goals.{After-index_mut-state, In-Some}

@@ -2,11 +2,12 @@
 use Rattle.std.proofs.Common.{◌≡◌, ◌+◌, true, suc, List, length, ap, arith}
 use Rattle.melt_model.specs.declared.reports.Journal.{Journal}
 use Rattle.std.proofs.lemmas.Result.{err_from_is_err_and}
+use Rattle.melt_safepoint.specs.Shown.{Shown, shown_by}
+use Rattle.melt_safepoint.proofs.Lends.{lends_after, lends_one, one_longer}
 use Rattle.melt_step.specs.Safepoints.{MakesCollection, journal_of}
 use Rattle.melt_step.specs.declared.collector.Collector.{Collector}
 use Rattle.melt_step.proofs.Journals.{moved_one}
-use Rattle.melt_step.proofs.Lends.{lends_after, lends_one, one_longer, stop_after}
-use Rattle.melt_step.specs.Shown.{Shown, shown_by}
+use Rattle.melt_step.proofs.Lends.{stop_after}
 use Rattle.melt_step.proofs.TwoMoves.{again_attempted, awaits_again, forced_stops, if_err_from, if_ok_from}
 use Rattle.melt_step.proofs.TwoMoves.{unforced_stops}
 use Rattle.melt_step.proofs.run.Run.try_again.Goals as goal

@@ -1,7 +1,7 @@
 -- The run stands when it begins, over a disk without homes.
 use Rattle.std.proofs.Common.{Some, false, refl, sym, subst, ap, ◌∙◌, rules}
+use Rattle.melt_safepoint.specs.Shown.{Shown}
 use Rattle.melt_step.specs.Safepoints.{RunStands}
-use Rattle.melt_step.specs.Shown.{Shown}
 use Rattle.melt_step.specs.declared.run.Run.{Run}
 use Rattle.melt_step.proofs.tests.order.events_come_in_the_written_order.Goals as goal
 

@@ -1,8 +1,8 @@
 -- The run stands on, over the same words, and its threads are those of the trace.
 use Rattle.std.proofs.Common.{◌≡◌}
 use Rattle.melt_core.specs.Views.{view}
+use Rattle.melt_safepoint.specs.Shown.{Shown}
 use Rattle.melt_step.specs.Safepoints.{KeepsRun}
-use Rattle.melt_step.specs.Shown.{Shown}
 use Rattle.melt_step.specs.Threads.{KnowsStop}
 use Rattle.melt_step.proofs.tests.order.expect_events.Given as goal
 

@@ -1,5 +1,5 @@
-use Rattle.melt_step.proofs.Reporting.{NewSoFar}
-use Rattle.melt_step.proofs.run.new_states.Given as goal
+use Rattle.melt_safepoint.proofs.Reporting.{NewSoFar}
+use Rattle.melt_safepoint.proofs.thread.new_states.Given as goal
 
 abbrev pub invariant-loop-t : goal.invariant-loop-t
 invariant-loop-t l = NewSoFar l.trace l.t l.states.items l.entries

@@ -1,10 +1,9 @@
--- What a report of a run by the written order says of a trace.
-use Rattle.std.specs.Prelude.{◌≡◌, ◌≢◌, ℕ, zero, suc, ◌+◌, ◌*◌, ◌-◌, ◌/◌, ◌%◌, ◌^◌, ◌<◌, ◌≤◌, ◌⊎◌, Bool, true, false}
-use Rattle.std.specs.Prelude.{if◌then◌else◌}
-use Rattle.std.specs.Prelude.{List, [], length, map, sum, All, take, slice_get, Option, None, Some, IsSome}
+-- What the report of a run says of a trace, and which heap is left.
+use Rattle.std.specs.Prelude.{◌≡◌, ℕ, zero, suc, ◌+◌, ◌*◌, ◌-◌, ◌/◌, ◌^◌, ◌<◌, ◌≤◌, ◌⊎◌, Bool, true, false}
+use Rattle.std.specs.Prelude.{if◌then◌else◌, List, [], length, map, sum, All, take, slice_get, Option, None, Some}
+use Rattle.std.specs.Prelude.{IsSome}
 use Rattle.std.specs.List.{count_by}
 use Rattle.std.specs.Option.{option_map_or}
-use Rattle.melt_model.specs.Alive.{Alive, Held, words_of, CostsSum}
 use Rattle.melt_model.specs.History.{Legal}
 use Rattle.melt_model.specs.Thread.{Transcript, registers_after, value_in}
 use Rattle.melt_model.specs.declared.config.Config.{Config}
@@ -32,10 +31,11 @@ use Rattle.melt_scion.specs.declared.registers.Registers.{Registers}
 use Rattle.melt_move.specs.Plans.{WantsHome}
 use Rattle.melt_core.specs.Advances.{Breaks}
 use Rattle.melt_core.specs.declared.call.Stage.{Stage}
-use Rattle.melt_step.specs.Journals.{IsJournalOf, MayMove, before, end_of}
-use Rattle.melt_step.specs.Made.{MakesWithin}
-use Rattle.melt_step.specs.Needs.{IsLoad, NeedsWords}
-use Rattle.melt_step.specs.Shown.{Shown, Underlies}
+use Rattle.melt_safepoint.specs.Journals.{IsJournalOf, MayMove, before, end_of}
+use Rattle.melt_safepoint.specs.Made.{MakesWithin}
+use Rattle.melt_safepoint.specs.Needs.{IsLoad}
+use Rattle.melt_safepoint.specs.Shown.{Shown, Underlies}
+use Rattle.melt_safepoint.specs.Cuts.{LacksRoom, Cut, IsCut, IsCollectedAt}
 
 -- whether an operation asks for a collection
 abbrev pub is_collect : Op → Bool
@@ -58,87 +58,6 @@ replies_in report t = option_map_or (λ (r : ThreadReport). r.replies) (slice_ge
 -- how many replies a thread got
 abbrev pub answered : Report → ℕ → ℕ
 answered report t = length (replies_in report t)
-
--- A moment of a run: how many entries the history had then, how many replies each thread had got, and which threads
--- had ended.
-pub record Cut : Type 0 where
-  pub entries : ℕ
-  pub replies : ℕ → ℕ
-  pub ended : ℕ → Bool
-
--- the history at the moment
-abbrev pub history_at : List Entry → Cut → List Entry
-history_at log cut = take cut.entries log
-
--- the registers of a thread at the moment; one that had ended holds nothing
-abbrev pub registers_at : Script → List Entry → Cut → ℕ → ℕ → Value
-registers_at script log cut t r =
-    if cut.ended t then Nil else value_in (registers_after (history_at log cut) t (operations script t) (cut.replies t))
-    r
-
--- behind so many replies of a thread a silent collection is due
-pub record IsDue (config : Config) (count : ℕ) : Type 0 where
-  pub asked : config.every ≢ 0
-  pub some : count ≢ 0
-  pub divides : count % config.every ≡ 0
-
--- a thread has ended, or has its last silent collection still to come
-abbrev pub IsOver : Script → Config → Cut → ℕ → Type 0
-IsOver script config cut t = (cut.ended t ≡ true) ⊎ IsDue config (length (operations script t))
-
--- The replies that the threads had at the moment take exactly the entries that the history had. A thread that had ended
--- got no further one, and one with all its replies had ended, unless a silent collection was due behind the last.
-pub record IsCut (script : Script) (log : List Entry) (replies : ℕ → List Reply) (config : Config)
-    (cut : Cut) : Type 0 where
-  pub within : cut.entries ≤ length log
-  pub few : (t : ℕ) → cut.replies t ≤ length (replies t)
-  pub told : (t : ℕ) → Transcript (history_at log cut) t (operations script t) (take (cut.replies t) (replies t))
-  pub last : (t : ℕ) → cut.ended t ≡ true → cut.replies t ≡ length (replies t)
-  pub over : (t : ℕ) → cut.replies t ≡ length (operations script t) → IsOver script config cut t
-
--- the moment at which a thread that had not ended had got so many replies
-pub record IsCutAt (script : Script) (log : List Entry) (replies : ℕ → List Reply) (config : Config) (t k : ℕ)
-    (cut : Cut) : Type 0 where
-  pub is : IsCut script log replies config cut
-  pub count : cut.replies t ≡ k
-  pub alive : cut.ended t ≡ false
-
--- the words of the objects that registers hold at the moment
-abbrev pub HoldsWords : Script → List Entry → Cut → ℕ → Type 0
-HoldsWords script log cut words =
-    CostsSum (words_of (history_at log cut)) (Held (registers_at script log cut)) words
-
--- the words of the objects that registers and globals reach at the moment
-abbrev pub ReachesWords : Script → List Entry → Cut → ℕ → Type 0
-ReachesWords script log cut words =
-    CostsSum (words_of (history_at log cut)) (Alive (history_at log cut) (registers_at script log cut)) words
-
--- The moment of a collection. Its journal has the words that registers held then; and what registers and globals reached
--- had room in the words in use behind it and in those of all homes on disk, of which the first is word 1.
-pub record IsCollectedAt (script : Script) (log : List Entry) (entry : Journal) (cut : Cut) : Type 0 where
-  pub holds : HoldsWords script log cut entry.held
-  pub alive : ℕ
-  pub reach : ReachesWords script log cut alive
-  pub fits : alive + 1 ≤ entry.live + entry.end
-
--- the last operation of a thread is a collection
-abbrev pub EndsWithCollect : List Op → Type 0
-EndsWithCollect ops = (k : ℕ) × (length ops ≡ suc k) × (slice_get ops k ≡ Some Collect)
-
--- At some moment the next operation of the thread needs more words than the heap has beside those of the objects that
--- registers hold. All silent collections were made by then, but for those behind a `collect` that was answered at the
--- same safepoint.
-pub record LacksRoom (script : Script) (log : List Entry) (replies : ℕ → List Reply) (config : Config)
-    (t held_words need : ℕ) : Type 0 where
-  pub cut : Cut
-  pub is_cut : IsCutAt script log replies config t (length (replies t)) cut
-  pub over : (u : ℕ) → cut.replies u ≡ length (operations script u)
-      → (cut.ended u ≡ true) ⊎ (IsDue config (length (operations script u)) × EndsWithCollect (operations script u))
-  pub op : Op
-  pub next : slice_get (operations script t) (length (replies t)) ≡ Some op
-  pub needed : NeedsWords (history_at log cut) (registers_at script log cut) t op need
-  pub holds : HoldsWords script log cut held_words
-  pub above : config.heap < held_words + need
 
 -- the next operation of a thread that got so many replies loads a reference
 pub record LoadsNext (script : Script) (t count : ℕ) : Type 0 where
@@ -217,7 +136,8 @@ abbrev pub HasCuts : Script → Config → Report → Type 0
 HasCuts script config report = (k : ℕ) (entry : Journal) → slice_get report.journal k ≡ Some entry
     → (cut : Cut) × IsCut script report.log (replies_in report) config cut × IsCollectedAt script report.log entry cut
 
--- why a run may have been halted: by a disk that was full for a Move, which was planned or forced, or by one that failed
+-- why a run may have been halted: by a disk that was full for a Move, which was planned or forced, or by one that
+-- failed
 abbrev pub MayHalt : Config → Report → Option Halt → Type 0
 MayHalt config report None = Unit {0}
 MayHalt config report (Some (halt.DiskFull end need limit)) = (limit ≡ config.disk) × (limit < end + need)
@@ -226,7 +146,6 @@ MayHalt config report (Some (halt.DiskFull end need limit)) = (limit ≡ config.
 MayHalt config report (Some halt.DiskFault) = Unit {0}
 
 -- What a run reports of a trace, over a disk that tells its words or not. Its history is the one that it stored. The
--- journal has the collections, each of its phase: those that threads asked for, the silent ones, but for one of each
 -- journal has the collections, each of its phase: those that threads asked for, the silent ones, but for one of each
 -- thread that was halted, and those that were made for room, which are three at most for each reply and each thread.
 -- There is a bound of the words that were made by it.
@@ -258,8 +177,8 @@ pub record IsLeft (told : Bool) (script : Script) (config : Config) (shown : Sho
   pub globals : length heap.globals ≡ script.globals
   pub words : length heap.space.list ≡ config.heap
   pub named : IsSome heap.names
-  pub placed : told ≡ true → (maps : Maps) × ((disk : OnDisk) × Underlies told shown.end shown.image disk × HasMaps heap maps
-      × Placed report.log (λ t r. Nil) maps (state_of heap [] disk))
+  pub placed : told ≡ true → (maps : Maps) × ((disk : OnDisk) × Underlies told shown.end shown.image disk
+      × HasMaps heap maps × Placed report.log (λ t r. Nil) maps (state_of heap [] disk))
 
 -- The disk had no room for the new homes of a Move collection of the heap that is left, with what the halted threads
 -- hold: they need so many words from the end on.

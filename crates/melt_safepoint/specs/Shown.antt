@@ -1,7 +1,7 @@
 -- What a run sees of the disk under it, and over which disks it stands.
 use Rattle.std.specs.Prelude.{◌≡◌, ℕ, Bool, true, List, Option}
-use Rattle.melt_scion.specs.Heaps.{OnDisk}
 use Rattle.melt_disk.specs.Homes.{Stale}
+use Rattle.melt_scion.specs.Heaps.{OnDisk}
 use Rattle.melt_core.specs.Advances.{TellsDisk}
 
 -- The first word past all homes, the first word that no home may reach, and the words of the disk where it tells them.

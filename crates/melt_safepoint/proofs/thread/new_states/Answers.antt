@@ -1,7 +1,7 @@
 use Rattle.std.proofs.Common.{◌+◌, List, sym, subst, arith}
-use Rattle.melt_step.specs.declared.thread.ThreadState.{ThreadState}
-use Rattle.melt_step.proofs.Reporting.{NewSoFar, new_none, new_more, new_all}
-use Rattle.melt_step.proofs.run.new_states.Goals as goal
+use Rattle.melt_safepoint.specs.declared.thread.ThreadState.{ThreadState}
+use Rattle.melt_safepoint.proofs.Reporting.{NewSoFar, new_none, new_more, new_all}
+use Rattle.melt_safepoint.proofs.thread.new_states.Goals as goal
 
 pub loop-t-init : goal.loop-t-init
 loop-t-init c = subst (λ (xs : List ThreadState). NewSoFar c.args.trace.now 0 xs 0) (sym c.in_ok-states.ensures.items)

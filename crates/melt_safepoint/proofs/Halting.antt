@@ -1,20 +1,22 @@
 -- All threads that have not ended are halted.
-use Rattle.std.proofs.Common.{◌≡◌, ℕ, ◌+◌, ◌<◌, ◌≤◌, suc, List, [], ◌∷◌, length, refl, sym, ◌∙◌, ap, subst, arith}
-use Rattle.std.proofs.Common.{inl, inr, Vec, Global}
+use Rattle.std.specs.Vec.{with_items}
+use Rattle.std.specs.Prelude.{map, None, Some, slice_get}
+use Rattle.std.specs.Option.{option_map}
+use Rattle.std.proofs.Common.{◌≡◌, ℕ, ◌+◌, ◌<◌, ◌≤◌, suc, List, [], ◌∷◌, length, refl, sym, ◌∙◌, ap, subst, arith, inl}
+use Rattle.std.proofs.Common.{inr, Vec, Global}
 use Rattle.std.proofs.Math.ListN.{set, length-set, length-map}
 use Rattle.std.proofs.lemmas.Bool.{cases_eq}
 use Rattle.std.proofs.lemmas.List.{with_items_is}
 use Rattle.std.proofs.lemmas.List.Sums.{sum-map, sum_by-cons}
-use Rattle.std.specs.Vec.{with_items}
 use Rattle.std.proofs.lemmas.Option.{slice_get_cases, slice_get_within, slice_get-map, same_Some}
-use Rattle.std.specs.Prelude.{map, None, Some, slice_get}
-use Rattle.std.specs.Option.{option_map}
-use Rattle.melt_step.specs.Endings.{AllEnded, AreHalted, halted_mode, halted}
-use Rattle.melt_step.specs.Threads.{CountsLosses, IsEnded, lost, losses}
-use Rattle.melt_step.specs.declared.thread.Mode.{Mode}
-use Rattle.melt_step.specs.declared.thread.Mode.TheVariants.{Running, Due, Silent, Collecting, Asked, Lacking, Ended}
-use Rattle.melt_step.specs.declared.thread.ThreadState.{ThreadState}
-use Rattle.melt_step.proofs.Telling.{get_set_same, get_set_other}
+use Rattle.melt_safepoint.specs.declared.thread.Mode.{Mode}
+use Rattle.melt_safepoint.specs.declared.thread.Mode.TheVariants.{Running, Due, Silent, Collecting, Asked, Lacking}
+use Rattle.melt_safepoint.specs.declared.thread.Mode.TheVariants.{Ended}
+use Rattle.melt_safepoint.specs.declared.thread.ThreadState.{ThreadState}
+use Rattle.melt_safepoint.specs.Threads.{AllEnded, AreHalted, halted}
+use Rattle.melt_safepoint.specs.Modes.{halted_mode, IsEnded, lost}
+use Rattle.melt_safepoint.specs.Losses.{CountsLosses, losses}
+use Rattle.melt_safepoint.proofs.Threads.{get_set_same, get_set_other}
 
 -- So many threads are halted, and the others are as they were.
 pub record HaltedBelow (states after : List ThreadState) (n : ℕ) : Type 0 where
@@ -101,7 +103,8 @@ pub halted_losses : (states after : List ThreadState) (faults : ℕ) → AreHalt
     → CountsLosses states after faults faults
 halted_losses states after faults halts = record {
   counted = inl (let more : losses after ≤ losses states =
-      subst (λ (xs : List ThreadState). losses xs ≤ losses states) (sym halts) (losses_less states) in omega (arith, more));
+      subst (λ (xs : List ThreadState). losses xs ≤ losses states) (sym halts) (losses_less states) in
+      omega (arith, more));
   rises = inl (omega arith);
 }
 

@@ -2,11 +2,11 @@
 use Rattle.std.specs.Prelude.{ℕ, ◌+◌, ◌*◌, ◌≤◌, List, length, map, sum}
 use Rattle.melt_model.specs.declared.config.Config.{Config}
 use Rattle.melt_trace.specs.Script.{Script}
-use Rattle.melt_step.specs.Run.{collects, collections}
-use Rattle.melt_step.specs.Threads.{owing, replies_of}
-use Rattle.melt_step.specs.declared.thread.Mode.{Mode}
-use Rattle.melt_step.specs.declared.thread.Mode.TheVariants.{Ended}
-use Rattle.melt_step.specs.declared.thread.ThreadState.{ThreadState}
+use Rattle.melt_safepoint.specs.declared.thread.Mode.{Mode}
+use Rattle.melt_safepoint.specs.declared.thread.Mode.TheVariants.{Ended}
+use Rattle.melt_safepoint.specs.declared.thread.ThreadState.{ThreadState}
+use Rattle.melt_safepoint.specs.Run.{collects, collections}
+use Rattle.melt_safepoint.specs.Threads.{owing, replies_of}
 
 -- how many threads have ended
 abbrev pub over : Mode → ℕ

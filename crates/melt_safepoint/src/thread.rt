@@ -1,9 +1,11 @@
 //! The threads of a run.
 ghost use Rattle.std.specs.Prelude.{◌≡◌, ◌<◌, ◌↔◌, length, vec_capacity, IsTrue, IsSome, IfOk, true, Some, None};
 ghost use Rattle.melt_trace.specs.Script.{operations};
-ghost use Rattle.melt_step.specs.Endings.{halted};
-ghost use Rattle.melt_step.specs.Threads.{CallsAgain, DueBy, GoesOn, IsEnded, IsNewThread, MayGo, TakesReply};
+ghost use Rattle.melt_safepoint.specs.Modes.{CallsAgain, IsEnded, MayGo, mode_for, words_lacked_by};
+ghost use Rattle.melt_safepoint.specs.Threads.{AreHalted, AreNewThreads, DueBy, GoesOn, IsNewThread, TakesReply};
+ghost use Rattle.melt_safepoint.specs.Threads.{halted};
 
+use melt_core::{Pause, Refusal};
 use melt_model::{NoMemory, Op, Reply, ThreadEnd};
 use melt_trace::{Cursor, Trace};
 use std::alloc::Global;
@@ -133,5 +135,57 @@ impl<'a> ThreadState<'a> {
             Mode::Collecting => self.take_reply(Reply::Done, every),
             _ => self.go_on(),
         }
+    }
+}
+
+/// What a thread does behind a call that was refused. One whose record could not be read, or is none, has ended.
+pub fn mode_after(refusal: Refusal) -> Mode
+    ensures { result ≡ mode_for refusal }
+{
+    match refusal {
+        Refusal::Pause(Pause::Asked) => Mode::Asked,
+        Refusal::Pause(Pause::Space { .. } | Pause::Forward) => Mode::Lacking,
+        Refusal::DiskFault => Mode::Ended(ThreadEnd::DiskFault),
+        Refusal::Damaged(damaged) => Mode::Ended(ThreadEnd::Damaged {
+            home: damaged.home,
+            at: damaged.at,
+            word: damaged.word,
+        }),
+    }
+}
+
+/// The words for want of which a call was refused, if it was.
+pub fn words_lacked(refusal: Refusal) -> Option<u32>
+    ensures { result ≡ words_lacked_by refusal }
+{
+    match refusal {
+        Refusal::Pause(Pause::Space { need }) => Some(need),
+        Refusal::Pause(Pause::Asked | Pause::Forward) => None,
+        Refusal::DiskFault | Refusal::Damaged(_) => None,
+    }
+}
+
+/// The threads of a trace before their first events.
+pub fn new_states<'a>(
+    alloc: Global,
+    trace: &'a Trace,
+) -> Result<(Vec<ThreadState<'a>>, u64), NoMemory>
+    ensures { IfOk result (λ made. AreNewThreads trace.now made.0.items made.1) }
+{
+    let mut states = Vec::with_capacity(alloc, trace.threads() as usize)?;
+    let mut entries = 0;
+    for t in 0..trace.threads() {
+        states.push(ThreadState::new(alloc, trace, t)?)?;
+        entries += trace.count(t);
+    }
+    Ok((states, entries))
+}
+
+/// Each thread that has not ended is halted.
+pub fn halt_all(states: &mut [ThreadState<'_>])
+    ensures { AreHalted states.old states.new }
+{
+    for state in states.iter_mut() {
+        state.halt();
     }
 }

@@ -1,6 +1,6 @@
 use Rattle.std.proofs.Common.{arith}
-use Rattle.melt_step.proofs.Halting.{halted_all}
-use Rattle.melt_step.proofs.ending.halt_all.Goals as goal
+use Rattle.melt_safepoint.proofs.Halting.{halted_all}
+use Rattle.melt_safepoint.proofs.thread.halt_all.Goals as goal
 
 pub returns : goal.returns
 returns c =

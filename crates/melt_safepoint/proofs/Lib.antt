@@ -1,0 +1,17 @@
+pub mod Collections
+pub mod Counting
+pub mod Cuts
+pub mod Halting
+pub mod Journals
+pub mod Lacking
+pub mod Lends
+pub mod Losses
+pub mod Modes
+pub mod Outcomes
+pub mod Passing
+pub mod Reporting
+pub mod Safepoints
+pub mod Shown
+pub mod Starting
+pub mod Telling
+pub mod Threads

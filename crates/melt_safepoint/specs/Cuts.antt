@@ -1,0 +1,96 @@
+-- Moments of a run: what stood in its history, and what its threads held.
+use Rattle.std.specs.Prelude.{◌≡◌, ◌≢◌, ℕ, suc, ◌+◌, ◌%◌, ◌<◌, ◌≤◌, ◌⊎◌, Bool, true, false, if◌then◌else◌, List, length}
+use Rattle.std.specs.Prelude.{take, slice_get, Some}
+use Rattle.melt_model.specs.Alive.{Alive, Held, words_of, CostsSum}
+use Rattle.melt_model.specs.Thread.{Transcript, registers_after, value_in}
+use Rattle.melt_model.specs.declared.config.Config.{Config}
+use Rattle.melt_model.specs.declared.history.Entry.{Entry}
+use Rattle.melt_model.specs.declared.history.Value.{Value}
+use Rattle.melt_model.specs.declared.history.Value.TheVariants.{Nil}
+use Rattle.melt_model.specs.declared.operations.Op.{Op}
+use Rattle.melt_model.specs.declared.operations.Op.TheVariants.{Collect}
+use Rattle.melt_model.specs.declared.operations.Reply.{Reply}
+use Rattle.melt_model.specs.declared.reports.Journal.{Journal}
+use Rattle.melt_trace.specs.Script.{Script, operations}
+use Rattle.melt_safepoint.specs.Needs.{NeedsWords}
+
+-- A moment of a run: how many entries the history had then, how many replies each thread had got, and which threads
+-- had ended.
+pub record Cut : Type 0 where
+  pub entries : ℕ
+  pub replies : ℕ → ℕ
+  pub ended : ℕ → Bool
+
+-- the history at the moment
+abbrev pub history_at : List Entry → Cut → List Entry
+history_at log cut = take cut.entries log
+
+-- the registers of a thread at the moment; one that had ended holds nothing
+abbrev pub registers_at : Script → List Entry → Cut → ℕ → ℕ → Value
+registers_at script log cut t r =
+    if cut.ended t then Nil else value_in (registers_after (history_at log cut) t (operations script t) (cut.replies t))
+    r
+
+-- behind so many replies of a thread a silent collection is due
+pub record IsDue (config : Config) (count : ℕ) : Type 0 where
+  pub asked : config.every ≢ 0
+  pub some : count ≢ 0
+  pub divides : count % config.every ≡ 0
+
+-- a thread has ended, or has its last silent collection still to come
+abbrev pub IsOver : Script → Config → Cut → ℕ → Type 0
+IsOver script config cut t = (cut.ended t ≡ true) ⊎ IsDue config (length (operations script t))
+
+-- The replies that the threads had at the moment take exactly the entries that the history had. A thread that had ended
+-- got no further one, and one with all its replies had ended, unless a silent collection was due behind the last.
+pub record IsCut (script : Script) (log : List Entry) (replies : ℕ → List Reply) (config : Config)
+    (cut : Cut) : Type 0 where
+  pub within : cut.entries ≤ length log
+  pub few : (t : ℕ) → cut.replies t ≤ length (replies t)
+  pub told : (t : ℕ) → Transcript (history_at log cut) t (operations script t) (take (cut.replies t) (replies t))
+  pub last : (t : ℕ) → cut.ended t ≡ true → cut.replies t ≡ length (replies t)
+  pub over : (t : ℕ) → cut.replies t ≡ length (operations script t) → IsOver script config cut t
+
+-- the moment at which a thread that had not ended had got so many replies
+pub record IsCutAt (script : Script) (log : List Entry) (replies : ℕ → List Reply) (config : Config) (t k : ℕ)
+    (cut : Cut) : Type 0 where
+  pub is : IsCut script log replies config cut
+  pub count : cut.replies t ≡ k
+  pub alive : cut.ended t ≡ false
+
+-- the words of the objects that registers hold at the moment
+abbrev pub HoldsWords : Script → List Entry → Cut → ℕ → Type 0
+HoldsWords script log cut words =
+    CostsSum (words_of (history_at log cut)) (Held (registers_at script log cut)) words
+
+-- the words of the objects that registers and globals reach at the moment
+abbrev pub ReachesWords : Script → List Entry → Cut → ℕ → Type 0
+ReachesWords script log cut words =
+    CostsSum (words_of (history_at log cut)) (Alive (history_at log cut) (registers_at script log cut)) words
+
+-- The moment of a collection. Its journal has the words that registers held then; and what registers and globals
+-- reached had room in the words in use behind it and in those of all homes on disk, of which the first is word 1.
+pub record IsCollectedAt (script : Script) (log : List Entry) (entry : Journal) (cut : Cut) : Type 0 where
+  pub holds : HoldsWords script log cut entry.held
+  pub alive : ℕ
+  pub reach : ReachesWords script log cut alive
+  pub fits : alive + 1 ≤ entry.live + entry.end
+
+-- the last operation of a thread is a collection
+abbrev pub EndsWithCollect : List Op → Type 0
+EndsWithCollect ops = (k : ℕ) × (length ops ≡ suc k) × (slice_get ops k ≡ Some Collect)
+
+-- At some moment the next operation of the thread needs more words than the heap has beside those of the objects that
+-- registers hold. All silent collections were made by then, but for those behind a `collect` that was answered at the
+-- same safepoint.
+pub record LacksRoom (script : Script) (log : List Entry) (replies : ℕ → List Reply) (config : Config)
+    (t held_words need : ℕ) : Type 0 where
+  pub cut : Cut
+  pub is_cut : IsCutAt script log replies config t (length (replies t)) cut
+  pub over : (u : ℕ) → cut.replies u ≡ length (operations script u)
+      → (cut.ended u ≡ true) ⊎ (IsDue config (length (operations script u)) × EndsWithCollect (operations script u))
+  pub op : Op
+  pub next : slice_get (operations script t) (length (replies t)) ≡ Some op
+  pub needed : NeedsWords (history_at log cut) (registers_at script log cut) t op need
+  pub holds : HoldsWords script log cut held_words
+  pub above : config.heap < held_words + need

@@ -1,0 +1,13 @@
+pub mod Shown
+pub mod Journals
+pub mod Needs
+pub mod Made
+pub mod Cuts
+pub mod Run
+pub mod Modes
+pub mod Threads
+pub mod Losses
+pub mod Endings
+pub mod Passing
+pub mod Counts
+pub mod Lends
