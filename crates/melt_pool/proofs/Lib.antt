@@ -1,0 +1,12 @@
+pub mod Beginning
+pub mod Called
+pub mod Going
+pub mod Growing
+pub mod Holding
+pub mod Homes
+pub mod Passing
+pub mod Refused
+pub mod Resting
+pub mod Running
+pub mod Starting
+pub mod Working

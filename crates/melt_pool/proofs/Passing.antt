@@ -1,0 +1,250 @@
+-- A thread goes into an epoch, and comes out of it.
+use Rattle.std.proofs.Common.{◌≡◌, ℕ, ◌<◌, ◌≤◌, List, length, map, take, refl, sym, ◌∙◌, ap, subst, arith, inl, inr}
+use Rattle.std.proofs.Common.{true, false, get_or}
+use Rattle.std.specs.Prelude.{All, Option, Some, slice_get}
+use Rattle.std.specs.Option.{option_map}
+use Rattle.std.proofs.lemmas.Option.{get_or_from_slice_get, slice_get-get_or, slice_get-map, slice_get_within}
+use Rattle.std.proofs.lemmas.List.{length-map}
+use Rattle.melt_model.specs.Standing.{Stands}
+use Rattle.melt_model.specs.Thread.{own}
+use Rattle.melt_model.specs.declared.history.Entry.{Entry}
+use Rattle.melt_model.specs.declared.history.Value.{Value}
+use Rattle.melt_model.specs.declared.operations.Op.{Op}
+use Rattle.melt_trace.specs.Script.{Script, operations}
+use Rattle.melt_scion.specs.declared.heap.Heap.{Heap}
+use Rattle.melt_rule.specs.Rule.{Saw, has_cause}
+use Rattle.melt_rule.specs.Seats.{EpochWords}
+use Rattle.melt_epoch.specs.Ends.{HasEnded, HasJoined, MayEnd, MutatorsBegin, unseated, view_of}
+use Rattle.melt_epoch.specs.Mutators.{IsSeated}
+use Rattle.melt_epoch.specs.declared.mutator.Mutator.{Mutator}
+use Rattle.melt_safepoint.specs.Modes.{FitsMode, IsEnded}
+use Rattle.melt_safepoint.specs.declared.thread.Mode.{Mode}
+use Rattle.melt_safepoint.specs.declared.thread.Mode.TheVariants.{Running, Due, Silent, Collecting, Asked}
+use Rattle.melt_safepoint.specs.declared.thread.Mode.TheVariants.{Lacking, Ended}
+use Rattle.melt_safepoint.specs.declared.thread.ThreadState.{ThreadState}
+use Rattle.melt_pool.specs.Epochs.{AllMayRun, AllRest, AllRun, HasPassed, Passes, Rests}
+use Rattle.melt_pool.specs.Programs.{IsToldBy, ProgramStands, made_again, mode_again}
+use Rattle.melt_pool.specs.Workers.{HasRun, MayRun}
+use Rattle.melt_pool.specs.declared.worker.Worker.{Worker}
+use Rattle.melt_pool.proofs.Growing.{stands_more}
+use Rattle.melt_pool.proofs.Working.{program_stays}
+
+-- what holds of each element holds of one that stands somewhere
+pub all_at : {X : Type 0} (P : X → Type 0) (xs : List X) (k : ℕ) (x : X) → All P xs → slice_get xs k ≡ Some x → P x
+all_at P xs k x all at = subst P (get_or_from_slice_get xs k x x at) (all k x (slice_get_within xs k x at))
+
+pub all_by : {X : Type 0} (P : X → Type 0) (xs : List X)
+    → ((k : ℕ) (x : X) → slice_get xs k ≡ Some x → P x) → All P xs
+all_by P xs each k d below = each k (get_or xs k d) (slice_get-get_or xs k d below)
+
+-- a call that is made again has the operation that it had
+again_fits : (mode : Mode) (op : Option Op) → FitsMode mode op → FitsMode (mode_again mode) op
+again_fits Running op fits = fits
+again_fits Due op fits = fits
+again_fits Silent op fits = fits
+again_fits Collecting op fits = fits
+again_fits Asked op fits = fits.0
+again_fits Lacking op fits = fits.0
+again_fits (Ended e) op fits = fits
+
+again_ended : (mode : Mode) → IsEnded (mode_again mode) → IsEnded mode
+again_ended Running over = over
+again_ended Due over = over
+again_ended Silent over = over
+again_ended Collecting over = over
+again_ended Asked over = over
+again_ended Lacking over = over
+again_ended (Ended e) over = over
+
+ended_again : (mode : Mode) → IsEnded mode → IsEnded (mode_again mode)
+ended_again Running over = over
+ended_again Due over = over
+ended_again Silent over = over
+ended_again Collecting over = over
+ended_again Asked over = over
+ended_again Lacking over = over
+ended_again (Ended e) over = over
+
+again_not_asked : (mode : Mode) → mode_again mode ≡ Asked → ⊥
+again_not_asked Running is = let no : Running ≡ Asked = is in absurd (cc)
+again_not_asked Due is = let no : Due ≡ Asked = is in absurd (cc)
+again_not_asked Silent is = let no : Silent ≡ Asked = is in absurd (cc)
+again_not_asked Collecting is = let no : Collecting ≡ Asked = is in absurd (cc)
+again_not_asked Asked is = let no : Running ≡ Asked = is in absurd (cc)
+again_not_asked Lacking is = let no : Running ≡ Asked = is in absurd (cc)
+again_not_asked (Ended e) is = let no : Ended e ≡ Asked = is in absurd (cc)
+
+module _ {R : Type 0} where
+  -- a thread that rests may run, once it has joined an epoch
+  pub joined_works : (script : Script) (words : EpochWords) (s : ThreadState) (m n : Mutator (Worker R))
+      → words.start.began.globals ≡ script.globals
+      → Rests words.start.began.told script words.start.began.history s m → unseated n ≡ m → HasJoined words n
+      → MayRun script words n
+  joined_works script words s m n globals rests same joined =
+      let thread : n.thread ≡ m.thread = ap (λ (x : Mutator _). x.thread) same in
+      let values : n.values ≡ m.values = ap (λ (x : Mutator _). x.values) same in
+      record {
+        state = s;
+        brings = record {
+          worker = rests.brings.worker;
+          there = ap (λ (x : Mutator _). x.reader) same ∙ rests.brings.there;
+          state = rests.brings.state;
+        };
+        works = record {
+          seated = joined.seated;
+          program = subst (λ (t : ℕ). ProgramStands script t (made_again s)) (sym thread)
+              (program_stays script m.thread s (mode_again s.mode) rests.program
+              (again_fits s.mode s.op rests.program.fits));
+          told = λ tells.
+              let was : IsToldBy script words.start.began.history m.thread s m.values = rests.is_told tells in
+              let now : IsToldBy script words.start.began.history m.thread (made_again s) m.values = record {
+                registers = was.registers;
+                told = was.told;
+                in_registers = elim was.in_registers [
+                  | inl over ↦ inl (ended_again s.mode over)
+                  | inr held ↦ inr held
+                ];
+              } in
+              subst (λ (h : List Entry). IsToldBy script h n.thread (made_again s) n.values) (sym joined.seen)
+              (subst (λ (t : ℕ). IsToldBy script words.start.began.history t (made_again s) n.values) (sym thread)
+              (subst (λ (vs : List Value). IsToldBy script words.start.began.history m.thread (made_again s) vs)
+              (sym values) now));
+          dropped = λ over. values ∙ rests.dropped (again_ended s.mode over);
+          waits = λ cause. absurd (
+              let none : has_cause (view_of n) ≡ false = rw (joined.asked, joined.spaced, joined.forwarded) refl in
+              let both : true ≡ false = sym cause ∙ none in
+              cc);
+          asked = λ is. absurd (again_not_asked s.mode is);
+          globals = globals;
+        };
+      }
+
+  -- and rests behind it, by the history of all
+  pub run_passes : (faults : R → ℕ) (finish : ℕ) (script : Script) (words : EpochWords) (h : List Entry)
+      (s : ThreadState) (n : Mutator (Worker R)) → HasRun faults finish script words s n
+      → Saw h n.thread (view_of n).seen
+      → Passes faults finish words.start.began script h s (unseated n)
+  run_passes faults finish script words h s n run saw = record {
+    after = run.after;
+    rests = record {
+      brings = record { worker = run.brings.worker; there = run.brings.there; state = run.brings.state };
+      program = run.works.program;
+      is_told = λ tells.
+          let was = run.works.told tells in
+          record {
+            registers = was.registers;
+            told = subst
+                (λ (g : List Entry). Stands g n.thread
+                (take (length run.after.replies.items) (operations script n.thread)) run.after.replies.items
+                was.registers) saw.begins.1
+                (stands_more (view_of n).seen saw.begins.0 n.thread
+                (take (length run.after.replies.items) (operations script n.thread)) run.after.replies.items
+                was.registers (ap (λ (g : List Entry). own g n.thread) saw.begins.1 ∙ saw.own_same) was.told);
+            in_registers = was.in_registers;
+          };
+      dropped = run.works.dropped;
+    };
+    waits = run.waits;
+    ended = run.ended;
+    ends = run.ends;
+  }
+
+  -- all threads of the script may run
+  pub all_joined : (script : Script) (words : EpochWords) (ms ns : List (Mutator (Worker R)))
+      → AllRest script words.start.began ms → map unseated ns ≡ ms → All (HasJoined words) ns
+      → AllMayRun script words ns
+  all_joined script words ms ns rest kept joined = all_by (MayRun script words) ns (λ k n at.
+      let was : slice_get ms k ≡ Some (unseated n) =
+      ap (λ (xs : List (Mutator (Worker R))). slice_get xs k) (sym kept)
+      ∙ (slice_get-map unseated ns k ∙ ap (option_map unseated) at) in
+      let rests = rest.each k (unseated n) was in
+      joined_works script words rests.0 (unseated n) n rest.globals rests.1 refl
+      (all_at (HasJoined words) ns k n joined at))
+
+  -- behind their runs all have their seats
+  pub all_seated : (faults : R → ℕ) (finish : ℕ) (script : Script) (words : EpochWords)
+      (ns rs : List (Mutator (Worker R))) → AllMayRun script words ns → AllRun faults finish words ns rs
+      → All (IsSeated words) rs
+  all_seated faults finish script words ns rs may run = all_by (IsSeated words) rs (λ k r at.
+      let below : k < length ns = let w = slice_get_within rs k r at in omega (arith, w, run.count) in
+      let n : Mutator (Worker R) = get_or ns k r in
+      let was : slice_get ns k ≡ Some n = slice_get-get_or ns k r below in
+      let m = all_at (MayRun script words) ns k n may was in
+      ((run.each k n r was at).has_run script m.state m.brings m.works).works.seated)
+
+  -- so they may end the epoch
+  pub all_end : (image : Worker R → Option (List ℕ)) (faults : R → ℕ) (finish : ℕ) (script : Script)
+      (words : EpochWords) (ms ns rs : List (Mutator (Worker R))) → MutatorsBegin image words.start ms
+      → map unseated ns ≡ ms → AllMayRun script words ns → AllRun faults finish words ns rs → MayEnd words rs
+  all_end image faults finish script words ms ns rs begin kept may run =
+      let size : length rs ≡ length ms =
+      run.count ∙ (sym (length-map ns unseated) ∙ ap length kept) in
+      record {
+        some_thread = let some_ : 1 ≤ length ms = begin.some_thread in omega (arith, some_, size);
+        all = size
+            ∙ (sym (length-map ms (λ (m : Mutator (Worker R)). m.thread)) ∙ ap length begin.threads);
+        seated = all_seated faults finish script words ns rs may run;
+      }
+
+  -- A mutator before an epoch and behind it is, without its seat, the one that began it and the one that ran in it.
+  record StandsAt (ns rs : List (Mutator (Worker R))) (k : ℕ) (m q : Mutator (Worker R)) : Type 0 where
+    began : Mutator (Worker R)
+    ran : Mutator (Worker R)
+    began_at : slice_get ns k ≡ Some began
+    ran_at : slice_get rs k ≡ Some ran
+    was : unseated began ≡ m
+    is : unseated ran ≡ q
+
+  stands_at : (ms ns rs qs : List (Mutator (Worker R))) → map unseated ns ≡ ms → length rs ≡ length ns
+      → qs ≡ map unseated rs → (k : ℕ) (m q : Mutator (Worker R)) → slice_get ms k ≡ Some m → slice_get qs k ≡ Some q
+      → StandsAt ns rs k m q
+  stands_at ms ns rs qs kept count left k m q at there =
+      let below : k < length ns =
+      let w = slice_get_within ms k m at in omega (arith, w, length-map ns unseated, ap length kept) in
+      let over : k < length rs = omega (arith, below, count) in
+      let seat : Mutator (Worker R) → Mutator (Worker R) = unseated in
+      let n : Mutator (Worker R) = get_or ns k m in
+      let r : Mutator (Worker R) = get_or rs k m in
+      let n_at : slice_get ns k ≡ Some n = slice_get-get_or ns k m below in
+      let r_at : slice_get rs k ≡ Some r = slice_get-get_or rs k m over in
+      record {
+        began = n;
+        ran = r;
+        began_at = n_at;
+        ran_at = r_at;
+        was = let both : Some (unseated n) ≡ Some m =
+            sym (slice_get-map seat ns k ∙ ap (option_map seat) n_at)
+            ∙ (ap (λ (xs : List (Mutator (Worker R))). slice_get xs k) kept ∙ at) in cc;
+        is = let both : Some (unseated r) ≡ Some q =
+            sym (slice_get-map seat rs k ∙ ap (option_map seat) r_at)
+            ∙ (ap (λ (xs : List (Mutator (Worker R))). slice_get xs k) (sym left) ∙ there) in cc;
+      }
+
+  -- what the epoch came to
+  pub all_passed : (faults : R → ℕ) (finish : ℕ) (words : EpochWords) (ms ns rs qs : List (Mutator (Worker R)))
+      (heap : Heap) (h : List Entry) → map unseated ns ≡ ms → All (HasJoined words) ns
+      → AllRun faults finish words ns rs → qs ≡ map unseated rs → HasEnded words.start.began rs heap h
+      → HasPassed faults finish words.start.began ms qs heap h
+  unfolding joined_works
+  all_passed faults finish words ms ns rs qs heap h kept joined run left ended = record {
+    seats = rs;
+    left = left;
+    ended = ended;
+    count = ap length left
+        ∙ (length-map rs unseated ∙ (run.count ∙ (sym (length-map ns unseated) ∙ ap length kept)));
+    threads = λ k m q at there.
+        let it = stands_at ms ns rs qs kept run.count left k m q at there in
+        ap (λ (x : Mutator (Worker R)). x.thread) (sym it.is)
+        ∙ ((run.each k it.began it.ran it.began_at it.ran_at).thread
+        ∙ ap (λ (x : Mutator (Worker R)). x.thread) it.was);
+    each = λ script rest k s m q at there rests.
+        let it = stands_at ms ns rs qs kept run.count left k m q at there in
+        let may =
+        joined_works script words s m it.began rest.globals rests it.was
+            (all_at (HasJoined words) ns k it.began joined it.began_at) in
+        let saw =
+        all_at (λ (x : Mutator (Worker R)). Saw h x.thread (view_of x).seen) rs k it.ran ended.history.saw it.ran_at in
+        let runs = (run.each k it.began it.ran it.began_at it.ran_at).has_run in
+        subst (λ (x : Mutator (Worker R)). Passes faults finish words.start.began script h s x) it.is
+        (run_passes faults finish script words h s it.ran (runs script s may.brings may.works) saw);
+  }

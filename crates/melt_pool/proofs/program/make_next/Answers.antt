@@ -1,0 +1,67 @@
+use Rattle.std.proofs.Common.{◌≡◌, ◌≢◌, rules, sym, subst}
+use Rattle.std.specs.Prelude.{Some}
+use Rattle.melt_model.specs.declared.operations.Op.TheVariants.{Collect}
+use Rattle.melt_epoch.specs.Mutators.{HasReader}
+use Rattle.melt_epoch.specs.declared.mutator.Mutator.{Mutator}
+use Rattle.melt_safepoint.specs.declared.thread.Mode.TheVariants.{Collecting, Running, Silent}
+use Rattle.melt_safepoint.specs.declared.thread.ThreadState.{ThreadState}
+use Rattle.melt_pool.specs.Programs.{HasEndedWell, Works}
+use Rattle.melt_pool.proofs.Going.{asked_works, called_ends, called_nearer, called_thread, called_works, reader_stays}
+use Rattle.melt_pool.proofs.program.make_next.Goals as goal
+
+pub returns-in-Running-Some-Collect-clause-works : goal.returns-in-Running-Some-Collect-clause-works
+returns-in-Running-Some-Collect-clause-works g c script works =
+    let words = c.args.epoch.now.words in
+    let next : c.args.state.now.op ≡ Some Collect = search rules in
+    subst (λ (x : ThreadState). Works script words c.wait_for.new.m x) (sym c.wait_for.ensures.waits)
+    (asked_works script words c.args.m.now c.wait_for.new.m c.args.state.now Collecting works c.requires.goes
+    c.wait_for.ensures.seated c.wait_for.ensures.asked next tt)
+
+pub returns-in-Running-Some : goal.returns-in-Running-Some
+returns-in-Running-Some g c =
+    let words = c.args.epoch.now.words in
+    let heap = c.args.epoch.now.heap in
+    let finish = c.args.epoch.now.end in
+    let read = g.R.RecordReader in
+    let m = c.args.m.now in
+    let n = c.make_call-answer.new.m in
+    let s = c.args.state.now in
+    let after = c.take_result.new.state in
+    let op = c.in-Running-Some.op in
+    let answer = c.make_call-answer.result in
+    let runs : s.mode ≡ Running = search rules in
+    let next : s.op ≡ Some op = search rules in
+    let other : op ≢ Collect = search rules in
+    let p = c.requires.reader in
+    let q = c.make_call-answer.ensures.reader in
+    let seated = c.make_call-answer.ensures.seated in
+    let called = c.make_call-answer.ensures.called in
+    let took = c.take_result.ensures.took in
+    record {
+      works = λ script works.
+          subst (λ (x : Mutator _). Works script words x after) (sym c.take_result.ensures.dropped)
+          (called_works read.image read.faults script words heap.scions finish m n s p.reader q.reader after op answer
+          works runs next other seated p.there q.there called took);
+      ends = λ script works.
+          subst (λ (x : Mutator _). HasEndedWell read.faults words.start.began.told finish script x after)
+          (sym c.take_result.ensures.dropped)
+          (called_ends read.image read.faults script words heap.scions finish m n s p.reader q.reader after op answer
+          works runs next other seated p.there q.there called c.make_call-answer.ensures.count took);
+      reader = subst (HasReader read.image words) (sym c.take_result.ensures.dropped)
+          (reader_stays read.image words after.mode n q);
+      thread =
+          let same =
+          called_thread read.image read.faults c.requires.works.0 words heap.scions finish m n s p.reader q.reader
+          after.mode op answer c.requires.works.1.seated seated p.there q.there called in
+          subst (λ (x : Mutator _). x.thread ≡ m.thread) (sym c.take_result.ensures.dropped) same;
+      nearer = called_nearer read.image read.faults c.requires.works.0 words heap.scions finish m n s after op answer
+          runs next took;
+    }
+
+pub returns-in_default-clause-works : goal.returns-in_default-clause-works
+returns-in_default-clause-works g c script works =
+    let words = c.args.epoch.now.words in
+    subst (λ (x : ThreadState). Works script words c.wait_for-in_default.new.m x)
+    (sym c.wait_for-in_default.ensures.waits)
+    (asked_works script words c.args.m.now c.wait_for-in_default.new.m c.args.state.now Silent works c.requires.goes
+    c.wait_for-in_default.ensures.seated c.wait_for-in_default.ensures.asked tt tt)

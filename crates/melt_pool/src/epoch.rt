@@ -1,0 +1,73 @@
+//! An epoch of a run: its threads go on at once, each as far as it can.
+//!
+//! What is said of each thread in the epoch is said of what its own seat has seen. At the end all that was seen is the
+//! beginning of one history, with all entries of the thread in it: so its replies are those that this history gives it.
+ghost use Rattle.std.specs.Prelude.{◌≡◌, ◌<◌, length, IfOk, OnErr};
+ghost use Rattle.melt_trace.specs.Script.{Script};
+ghost use Rattle.melt_epoch.specs.Ends.{HeapBegins, HistoryBegins, MutatorsBegin};
+ghost use Rattle.melt_epoch.specs.Mutators.{HasReader};
+ghost use Rattle.melt_pool.specs.Epochs.{AllMayRun, AllRead, AllRest, AllRun, HasPassed};
+ghost use Rattle.melt_pool.specs.Workers.{MayRun, Runs, image_of};
+
+use crate::worker::{Worker, run_worker};
+use melt_epoch::{Epoch, Mutator};
+use melt_io::{Gate, RecordReader};
+use melt_model::{Ghost, NoMemory};
+use melt_rule::{Pass, Start};
+use melt_scion::Heap;
+use std::alloc::Global;
+use std::thread;
+use std::thread::Threads;
+
+/// Runs all threads of an epoch at once, each in a thread of its own, until each of them waits or has ended.
+fn run_all<X: Threads + Sync, R: RecordReader + Send + Drop, G: Gate + Sync>(
+    rt: &X,
+    epoch: &Epoch,
+    mutators: &mut [Mutator<Worker<'_, R>>],
+    every: u32,
+    gate: &G,
+)
+    requires some { 0 < length mutators.old }
+    requires runs { (script : Script) × AllMayRun script epoch.now.words mutators.old }
+    requires readers { AllRead (image_of R.image) epoch.now.words mutators.old }
+    ensures runs { AllRun R.faults epoch.now.end epoch.now.words mutators.old mutators.new }
+    ensures readers { AllRead (image_of R.image) epoch.now.words mutators.new }
+{
+    let threads = mutators.len();
+    let run = |_at: usize, m: &mut Mutator<Worker<'_, R>>|
+        requires runs { (script : Script) × MayRun script epoch.now.words m.now }
+        requires reader { HasReader (image_of R.image) epoch.now.words m.now }
+        ensures runs { Runs R.faults epoch.entry.now.end epoch.entry.now.words m.entry.now m.exit.now }
+        ensures reader { HasReader (image_of R.image) epoch.entry.now.words m.exit.now }
+    {
+        run_worker(epoch, m, every, gate);
+    };
+    thread::for_each_mut(rt, mutators, threads, &run);
+}
+
+/// Lets the threads of a run go through an epoch on a heap and the history that led to it, and answers both as they are
+/// behind it. Each mutator has its worker, with a reader of the disk as it is now. With what the epoch begins is given
+/// by a value that takes no bytes.
+pub(crate) fn run_epoch<X: Threads + Sync, R: RecordReader + Send + Drop, G: Gate + Sync>(
+    rt: &X,
+    alloc: Global,
+    start: &Ghost<Start>,
+    heap: Heap,
+    pass: Pass,
+    end: u32,
+    mutators: &mut [Mutator<Worker<'_, R>>],
+    every: u32,
+    gate: &G,
+) -> Result<(Heap, Pass), NoMemory>
+    requires heap { HeapBegins start.now.began heap end }
+    requires history { HistoryBegins start.now heap pass }
+    requires mutators { MutatorsBegin (image_of R.image) start.now mutators.old }
+    requires rest { (script : Script) × AllRest script start.now.began mutators.old }
+    ensures passed { IfOk result (λ done. HasPassed R.faults end start.now.began mutators.old mutators.new done.0
+        done.1) }
+    ensures refused { OnErr result (mutators.new ≡ mutators.old) }
+{
+    let epoch = Epoch::begin_with(alloc, start, heap, pass, end, mutators)?;
+    run_all(rt, &epoch, mutators, every, gate);
+    Ok(epoch.finish(mutators))
+}
