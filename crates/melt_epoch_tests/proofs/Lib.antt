@@ -1,0 +1,2 @@
+mod OtherDisk
+mod Untold

@@ -1,0 +1,79 @@
+use super::judge::{Deed, PLACES, stand_in_an_order};
+use std::alloc::Global;
+use std::test::Fail;
+
+/// A store, or a load, of place 0 by a call that was made from the first time to the second.
+const fn deed(is_store: bool, value: u64, begun: u64, ended: u64) -> Deed {
+    Deed {
+        is_store,
+        place: 0,
+        value,
+        begun,
+        ended,
+    }
+}
+
+const fn stores(value: u64, begun: u64, ended: u64) -> Deed {
+    deed(true, value, begun, ended)
+}
+
+const fn loads(value: u64, begun: u64, ended: u64) -> Deed {
+    deed(false, value, begun, ended)
+}
+
+/// Whether the calls of two threads stand in one order.
+fn is_legal(alloc: Global, first: [Deed; 2], second: [Deed; 2]) -> Result<bool, Fail> {
+    let mut threads = Vec::new(alloc);
+    threads.push(Vec::from_slice(alloc, &first)?)?;
+    threads.push(Vec::from_slice(alloc, &second)?)?;
+    Ok(stand_in_an_order(alloc, &threads, [0; PLACES])?)
+}
+
+#[test]
+fn an_order_is_found_where_there_is_one(rt: HostRuntime) -> Result<(), Fail> {
+    for (first, second, wanted) in [
+        (
+            [stores(1, 0, 9), loads(1, 10, 19)],
+            [stores(2, 1, 8), loads(2, 11, 18)],
+            false,
+        ),
+        (
+            [stores(1, 0, 9), loads(1, 10, 19)],
+            [stores(2, 1, 8), loads(1, 11, 18)],
+            true,
+        ),
+        (
+            [stores(1, 0, 9), loads(1, 10, 19)],
+            [stores(2, 1, 18), loads(2, 20, 21)],
+            true,
+        ),
+        (
+            [stores(1, 0, 9), loads(1, 10, 19)],
+            [loads(0, 1, 18), loads(1, 20, 21)],
+            true,
+        ),
+        (
+            [stores(1, 0, 9), loads(1, 10, 19)],
+            [loads(0, 11, 18), loads(1, 20, 21)],
+            false,
+        ),
+        (
+            [stores(1, 0, 9), loads(2, 10, 19)],
+            [stores(2, 11, 18), loads(2, 20, 21)],
+            true,
+        ),
+        (
+            [stores(1, 0, 9), loads(2, 10, 12)],
+            [stores(2, 13, 18), loads(2, 20, 21)],
+            false,
+        ),
+        (
+            [stores(1, 0, 9), loads(3, 10, 19)],
+            [stores(2, 11, 18), loads(2, 20, 21)],
+            false,
+        ),
+    ] {
+        assert_eq!(rt; is_legal(rt.alloc(), first, second)?, wanted);
+    }
+    Ok(())
+}

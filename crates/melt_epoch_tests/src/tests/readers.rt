@@ -1,0 +1,155 @@
+use super::given::{
+    Before, Ended, Flaw, fine, gload, gstore, load, result, run, store, told, world_behind,
+};
+use crate::play::Step::{self, Await, Call, Raise};
+use melt_core::Refusal;
+use melt_io::MemDisk;
+use melt_model::{Op, Reply};
+use melt_record::Damaged;
+use std::alloc::Global;
+use std::sync::Wait;
+use std::test::Fail;
+use std::thread::Threads;
+
+/// Runs two threads over what was done before. The first has a reader with a flaw. Looks at a register of each in the
+/// end.
+fn run_two<'d, T: Threads + Wait + Sync>(
+    rt: &T,
+    alloc: Global,
+    disk: &'d mut MemDisk,
+    before: &Before<'_>,
+    flaw: Flaw,
+    programs: &[&[Step]],
+    r: usize,
+) -> Result<Ended<'d>, Fail> {
+    let world = fine(world_behind(alloc, disk, before))?;
+    fine(run(rt, alloc, world, flaw, programs, r))
+}
+
+/// Object 1 refers to object 2. Global 0 holds the first, and global 1 the second, which is used, and so stays.
+const STUB: Before<'static> = Before {
+    forwards: 4,
+    objects: 2,
+    stored: &[
+        Op::Store {
+            obj: 1,
+            i: 0,
+            src: 2,
+        },
+        Op::GStore { g: 0, src: 1 },
+        Op::GStore { g: 1, src: 2 },
+    ],
+    used: &[Op::GLoad { dst: 0, g: 1 }],
+};
+
+#[test]
+fn the_object_of_a_stub_is_cleared_while_the_stub_is_read(rt: HostRuntime) -> Result<(), Fail> {
+    let alloc = rt.alloc();
+    let mut disk = MemDisk::new(alloc);
+    let first = [Call(gload(0, 0)), Call(load(1, 0))];
+    let second = [Await(0), Call(gload(1, 1)), Raise(1)];
+    let Ended { logs, held, world } = run_two(
+        &rt,
+        alloc,
+        &mut disk,
+        &STUB,
+        Flaw::Waits(3),
+        &[&first, &second],
+        1,
+    )?;
+    assert_eq!(rt; told(&rt, &logs, 0, 1).found, Some(2));
+    assert_eq!(rt; told(&rt, &logs, 1, 0).found, Some(2));
+    let [first, second] = [told(&rt, &logs, 0, 1), told(&rt, &logs, 1, 0)];
+    assert!(rt; first.begun < second.begun && second.ended < first.ended);
+    assert_eq!(rt; held[0], held[1]);
+    assert_eq!(rt; world.returned(), Some(1));
+    Ok(())
+}
+
+/// Two objects, each of which is held by a global.
+const TWO: Before<'static> = Before {
+    forwards: 4,
+    objects: 2,
+    stored: &[Op::GStore { g: 0, src: 1 }, Op::GStore { g: 1, src: 2 }],
+    used: &[],
+};
+
+#[test]
+fn a_reader_fails_or_lies_for_one_thread_alone(rt: HostRuntime) -> Result<(), Fail> {
+    let alloc = rt.alloc();
+    let damaged = |at, word| Refusal::Damaged(Damaged { home: 1, at, word });
+    for (flaw, refusal) in [
+        (Flaw::Fails(1), Refusal::DiskFault),
+        (Flaw::Fails(2), Refusal::DiskFault),
+        (Flaw::Lies(1, 0), damaged(0, 0)),
+        (Flaw::Lies(2, 4), damaged(2, 4)),
+    ] {
+        let first = [Call(gload(0, 0)), Call(gload(0, 0))];
+        let second = [Call(gload(0, 1)), Call(gload(1, 1))];
+        let mut disk = MemDisk::new(alloc);
+        let Ended {
+            logs,
+            held: _,
+            world,
+        } = run_two(&rt, alloc, &mut disk, &TWO, flaw, &[&first, &second], 0)?;
+        assert_eq!(rt; result(&rt, &logs, 0, 0), Err(refusal));
+        assert_eq!(rt; told(&rt, &logs, 0, 1).found, Some(1));
+        assert_eq!(rt; told(&rt, &logs, 1, 0).found, Some(2));
+        assert_eq!(rt; told(&rt, &logs, 1, 1).found, Some(2));
+        assert_eq!(rt; world.returned(), Some(2));
+    }
+    Ok(())
+}
+
+/// Object 1 refers to object 2, which leaves. Globals hold objects 1 and 3, which stay, and global 2 object 2.
+const SLOT: Before<'static> = Before {
+    forwards: 4,
+    objects: 3,
+    stored: &[
+        Op::Store {
+            obj: 1,
+            i: 0,
+            src: 2,
+        },
+        Op::GStore { g: 0, src: 1 },
+        Op::GStore { g: 1, src: 3 },
+        Op::GStore { g: 2, src: 2 },
+    ],
+    used: &[Op::GLoad { dst: 0, g: 0 }, Op::GLoad { dst: 0, g: 1 }],
+};
+
+#[test]
+fn a_load_finds_what_was_stored_while_it_read_the_record(rt: HostRuntime) -> Result<(), Fail> {
+    let alloc = rt.alloc();
+    let hold = [Call(gload(0, 0)), Call(gload(1, 1)), Await(0)];
+    for (looked, stored, found) in [
+        (load(3, 0), store(0, 1), Some(3)),
+        (load(3, 0), store(0, 0), Some(1)),
+        (load(3, 0), store(0, 5), None),
+        (gload(3, 2), gstore(2, 1), Some(3)),
+        (gload(3, 2), gstore(2, 5), None),
+    ] {
+        let first = [Call(gload(0, 0)), Call(looked), Call(load(4, 3))];
+        let second = [hold[0], hold[1], hold[2], Call(stored), Raise(1)];
+        let mut disk = MemDisk::new(alloc);
+        let programs: [&[Step]; 2] = [&first, &second];
+        let Ended {
+            logs,
+            held: _,
+            world,
+        } = run_two(&rt, alloc, &mut disk, &SLOT, Flaw::Waits(1), &programs, 3)?;
+        let reply = if found.is_some() {
+            Reply::Ref
+        } else {
+            Reply::Null
+        };
+        assert_eq!(rt; result(&rt, &logs, 0, 1), Ok(reply));
+        assert_eq!(rt; told(&rt, &logs, 0, 1).found, found);
+        assert_eq!(rt; result(&rt, &logs, 1, 2), Ok(Reply::Done));
+        let [looked, stored] = [told(&rt, &logs, 0, 1), told(&rt, &logs, 1, 2)];
+        assert!(rt; looked.begun < stored.begun && stored.ended < looked.ended);
+        // The copy came into use all the same.
+        assert_eq!(rt; world.returned(), Some(1));
+    }
+    Ok(())
+}

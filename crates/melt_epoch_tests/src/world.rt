@@ -1,0 +1,251 @@
+//! A heap over a disk, from one epoch to the next. Nothing is in registers when an epoch begins or a collection comes.
+ghost use Rattle.std.specs.Prelude.{◌≡◌, ◌<◌, ◌^◌, [], IfOk, IsTrue, length};
+ghost use Rattle.melt_epoch.specs.Tests.{eight};
+ghost use Rattle.melt_io.specs.Lies.{told};
+ghost use Rattle.melt_move.specs.Collecting.{IsFormedOn};
+ghost use Rattle.melt_epoch_tests.specs.Stages.{AreNew, Goes, IsNew, IsReady};
+
+use crate::stage::Stage;
+use crate::trouble::Trouble;
+use melt_disk::StaleSpace;
+use melt_epoch::{Epoch, Mutator};
+use melt_io::{MemDisk, MemReader, RecordReader, StaleDisk};
+use melt_model::{NoMemory, Op, Phase, Steps};
+use melt_move::planned::{Plan, collect_planned};
+use melt_rule::Pass;
+use melt_scion::Heap;
+use std::alloc::Global;
+use std::marker::Brand;
+use std::sync::ledger::{Blank, Ledger};
+
+/// A heap over a disk, between two epochs.
+#[derive(Drop)]
+pub struct World<'d, D: StaleDisk> {
+    pub heap: Heap,
+    pub disk: StaleSpace<'d, D>,
+}
+
+/// Collects a heap while no register holds anything, and counts no steps.
+fn collect_uncounted<D: StaleDisk, L: Ledger>(
+    alloc: Global,
+    heap: Heap,
+    disk: &mut StaleSpace<'_, D>,
+    phase: Phase,
+    blank: Blank,
+) -> Result<Heap, Trouble>
+    requires name { blank.name ≡ L.name }
+    requires parts { blank.parts ≡ L.parts }
+    requires some { 0 < blank.parts }
+    requires formed { IsFormedOn heap [] disk.old.end }
+    ensures { IfOk result (λ heap. IsFormedOn heap [] disk.new.end) }
+{
+    let mut plan = Plan {
+        next: phase,
+        mark: 0,
+        move_: 0,
+    };
+    let mut steps = Steps::<L>::new(blank);
+    match collect_planned(alloc, heap, &mut [], disk, &mut plan, false, &mut steps) {
+        Ok((heap, _journal)) => Ok(heap),
+        Err(_refusal) => Err(Trouble::Disk),
+    }
+}
+
+/// Lends a reader of the words on disk as they are now.
+fn lend_one<D: StaleDisk>(alloc: Global, disk: &mut StaleSpace<'_, D>) -> Result<D::Reader, Trouble>
+    ensures { disk.new.end ≡ disk.old.end }
+{
+    match disk.lend(alloc) {
+        Ok(reader) => Ok(reader),
+        Err(_refusal) => Err(Trouble::Disk),
+    }
+}
+
+/// Lends a reader for each of eight threads.
+fn lend_all<D: StaleDisk>(
+    alloc: Global,
+    disk: &mut StaleSpace<'_, D>,
+) -> Result<[D::Reader; 8], Trouble>
+    ensures { disk.new.end ≡ disk.old.end }
+{
+    Ok([
+        lend_one(alloc, disk)?,
+        lend_one(alloc, disk)?,
+        lend_one(alloc, disk)?,
+        lend_one(alloc, disk)?,
+        lend_one(alloc, disk)?,
+        lend_one(alloc, disk)?,
+        lend_one(alloc, disk)?,
+        lend_one(alloc, disk)?,
+    ])
+}
+
+/// Whether an epoch can begin on the heap: no object came back since the last collection, and there are no names.
+fn is_ready(heap: &Heap) -> bool
+    ensures { IsTrue result → IsReady heap.now }
+{
+    let globals = heap.globals.items.len();
+    let forwards = heap.forward.items.len();
+    heap.names.is_none()
+        && globals <= 255
+        && forwards <= 65_536
+        && heap.forward.items.iter().all(|word| *word == 0)
+}
+
+/// The mutator of a thread, with a reader.
+fn new_mutator<R: RecordReader + Drop>(thread: u32, reader: R) -> Mutator<R>
+    requires { thread < 8 }
+    ensures { IsNew thread result }
+{
+    let mut mutator = Mutator::new(thread);
+    mutator.set_reader(reader);
+    mutator
+}
+
+/// The mutators of eight threads, with their readers.
+fn new_mutators<R: RecordReader + Drop>(readers: [R; 8]) -> [Mutator<R>; 8]
+    ensures { AreNew eight result }
+{
+    let [r0, r1, r2, r3, r4, r5, r6, r7] = readers;
+    [
+        new_mutator(0, r0),
+        new_mutator(1, r1),
+        new_mutator(2, r2),
+        new_mutator(3, r3),
+        new_mutator(4, r4),
+        new_mutator(5, r5),
+        new_mutator(6, r6),
+        new_mutator(7, r7),
+    ]
+}
+
+/// Begins an epoch of eight threads on a heap, whatever the disk under it tells.
+fn begin_untold<R: RecordReader>(
+    alloc: Global,
+    heap: Heap,
+    end: u32,
+    mutators: &mut [Mutator<R>],
+) -> Result<Epoch, NoMemory>
+    requires formed { IsFormedOn heap [] end }
+    requires ready { IsReady heap }
+    requires mutators { AreNew eight mutators.old }
+    ensures { IfOk result (λ epoch. Goes R.image epoch mutators.new (length heap.globals) end) }
+{
+    Epoch::begin(alloc, heap, Pass::new(), end, mutators)
+}
+
+impl<'d, D: StaleDisk> World<'d, D> {
+    /// A new heap of so many words, globals and forwarding words, over a disk without homes, of which a part before
+    /// `limit` is used.
+    pub fn new(
+        alloc: Global,
+        disk: &'d mut D,
+        limit: u32,
+        words: u32,
+        globals: u8,
+        forwards: u16,
+    ) -> Result<World<'d, D>, Trouble>
+        requires { words < 2 ^ 30 }
+        ensures { IfOk result (λ world. IsFormedOn world.heap [] world.disk.end) }
+    {
+        let heap = Heap::new(alloc, words, globals.into(), forwards.into(), false)?;
+        let disk = StaleSpace::new(disk, limit);
+        Ok(World { heap, disk })
+    }
+
+    /// How many words are in use.
+    pub fn used(&self) -> u32 {
+        self.heap.space.used()
+    }
+
+    /// How many objects came back from the disk since the last collection, or nothing where two forwarding words have
+    /// the same home.
+    pub fn returned(&self) -> Option<usize> {
+        let words = &self.heap.forward.items;
+        let mut count = 0_usize;
+        for (at, word) in words.iter().enumerate() {
+            if *word == 0 {
+                continue;
+            }
+            count = count.saturating_add(1);
+            let home = *word >> 32;
+            if words.iter().take(at).any(|other| *other >> 32 == home) {
+                return None;
+            }
+        }
+        Some(count)
+    }
+
+    /// Collects in this phase.
+    pub fn collect(self, alloc: Global, phase: Phase) -> Result<World<'d, D>, Trouble>
+        requires { IsFormedOn self.heap [] self.disk.end }
+        ensures { IfOk result (λ world. IsFormedOn world.heap [] world.disk.end) }
+    {
+        let World { heap, mut disk } = self;
+        let heap = collect_uncounted::<D, Brand>(alloc, heap, &mut disk, phase, Blank::new(1))?;
+        Ok(World { heap, disk })
+    }
+
+    /// Lends a reader for each thread, of the words on disk as they are now.
+    pub fn lend(&mut self, alloc: Global) -> Result<[D::Reader; 8], Trouble>
+        ensures heap { self.new.heap ≡ self.old.heap }
+        ensures end { self.new.disk.end ≡ self.old.disk.end }
+    {
+        lend_all(alloc, &mut self.disk)
+    }
+
+    /// Begins an epoch of eight threads with these readers.
+    pub fn begin<R: RecordReader + Drop>(
+        self,
+        alloc: Global,
+        readers: [R; 8],
+    ) -> Result<Stage<'d, D, R>, Trouble>
+        requires { IsFormedOn self.heap [] self.disk.end }
+        ensures { IfOk result
+            (λ stage. Goes R.image stage.epoch stage.mutators stage.globals stage.disk.end) }
+    {
+        let World { heap, disk } = self;
+        if !is_ready(&heap) {
+            return Err(Trouble::Unsettled);
+        }
+        let globals = heap.globals.items.len() as u8;
+        let mut mutators = new_mutators(readers);
+        let epoch = begin_untold(alloc, heap, disk.end(), &mut mutators)?;
+        Ok(Stage {
+            epoch,
+            mutators,
+            globals,
+            disk,
+        })
+    }
+}
+
+impl<'d> World<'d, MemDisk> {
+    /// Begins an epoch of eight threads with readers that the disk lends.
+    pub fn open(self, alloc: Global) -> Result<Stage<'d, MemDisk, MemReader>, Trouble>
+        requires { IsFormedOn self.heap [] self.disk.end }
+        ensures { IfOk result
+            (λ stage. Goes (λ reader. told reader.lies.items reader.image.items)
+            stage.epoch stage.mutators stage.globals stage.disk.end) }
+    {
+        let World { heap, mut disk } = self;
+        let readers = lend_all(alloc, &mut disk)?;
+        let world = World { heap, disk };
+        world.begin(alloc, readers)
+    }
+
+    /// Lets thread 0 make calls in an epoch of their own. Each is to be answered.
+    pub fn prepare(self, alloc: Global, ops: &[Op]) -> Result<World<'d, MemDisk>, Trouble>
+        requires { IsFormedOn self.heap [] self.disk.end }
+        ensures { IfOk result (λ world. IsFormedOn world.heap [] world.disk.end) }
+    {
+        let mut stage = self.open(alloc)?;
+        let is_answered = stage.call_all(0, ops);
+        let world = stage.finish();
+        if is_answered {
+            Ok(world)
+        } else {
+            Err(Trouble::Call)
+        }
+    }
+}
