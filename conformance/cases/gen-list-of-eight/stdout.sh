@@ -1,0 +1,1 @@
+"$(dirname "$0")/../../generator" list 12 30 8

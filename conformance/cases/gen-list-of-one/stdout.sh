@@ -1,0 +1,1 @@
+"$(dirname "$0")/../../generator" list 11 30 1

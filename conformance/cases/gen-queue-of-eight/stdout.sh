@@ -1,0 +1,1 @@
+"$(dirname "$0")/../../generator" queue 13 30 8

@@ -1,0 +1,1 @@
+"$(dirname "$0")/../../generator" table 14 70 1

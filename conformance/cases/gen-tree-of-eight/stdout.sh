@@ -1,0 +1,1 @@
+"$(dirname "$0")/../../generator" tree 17 45 8

@@ -1,0 +1,1 @@
+"$(dirname "$0")/../../generator" tree 16 45 2
