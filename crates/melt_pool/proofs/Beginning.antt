@@ -80,7 +80,7 @@ module _ {R : Type 0} (image : R → Option (List ℕ)) (told : Bool) (heap : He
       ∙ ap (λ (n : ℕ). map home_of (homes_along h heap.maps.homes n 1)) rest.under.ends in
       let words : (k : ℕ) → rest.disk.image k ≡ slice_index b.image k =
       λ k. told_words rest.words rest.disk.image shown.0 shown.1 k
-          ∙ ap (λ (o : Option (List ℕ)). slice_index (words_told o) k) (sym words_are) in
+      ∙ ap (λ (o : Option (List ℕ)). slice_index (words_told o) k) (sym words_are) in
       λ i. record {
         end = rest.under.ends i;
         homes = homes i;

@@ -81,7 +81,7 @@ module _ (h : List Entry) (maps : Maps) (s : State) (names : List (ℕ × ℕ)) 
       by_name (Some n) is =
           let taken = (tells.taken s.base.end).0 (n, named_so s.base.end ∙ is) in
           let within = reserved_within s.base.homes s.base.end tells.homes_follow s.base.end taken.reserved_for
-              taken.reserved in
+          taken.reserved in
           let past : s.base.end + cost_of taken.reserved_for ≤ s.base.end = within.1 in
           absurd (omega (arith, past))
 

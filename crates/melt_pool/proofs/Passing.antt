@@ -241,7 +241,7 @@ module _ {R : Type 0} where
         let it = stands_at ms ns rs qs kept run.count left k m q at there in
         let may =
         joined_works script words s m it.began rest.globals rests it.was
-            (all_at (HasJoined words) ns k it.began joined it.began_at) in
+        (all_at (HasJoined words) ns k it.began joined it.began_at) in
         let saw =
         all_at (λ (x : Mutator (Worker R)). Saw h x.thread (view_of x).seen) rs k it.ran ended.history.saw it.ran_at in
         let runs = (run.each k it.began it.ran it.began_at it.ran_at).has_run in

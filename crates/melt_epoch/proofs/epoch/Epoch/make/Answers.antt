@@ -77,7 +77,7 @@ returns-clause-made g c = (
       by_seats (λ (v w : View). MakesFor v w m.values c.hold.new.self.values o z (Ok reply.Done)) seat new s t m.seat
       c.hold.new.self.seat c.in-Some.ensures.value there at_s at_t (
         adds_replies (knows_of seat) (knows_of new) (Make z.refs z.nums) m.values c.hold.new.self.values o
-        reply.Done is.adds
+            reply.Done is.adds
             (λ told. new_answers (knows_of seat).thread ((knows_of seat).seen ++ is.adds.between) m.values c.args.dst
             c.args.refs c.args.nums reply.Done _ c.hold.new.self.values refl values refl),
         is.counts,
