@@ -1,6 +1,6 @@
 -- How a thread of a run by real threads goes on with its next call.
 use Rattle.std.proofs.Common.{◌≡◌, ◌≢◌, ℕ, suc, ◌+◌, ◌*◌, ◌<◌, ◌≤◌, List, length, refl, sym, ◌∙◌, ap, subst, arith}
-use Rattle.std.proofs.Common.{inl, inr}
+use Rattle.std.proofs.Common.{inl, inr, true}
 use Rattle.std.specs.Prelude.{Bool, Option, Some, Result, Ok, Err, slice_get}
 use Rattle.melt_model.specs.declared.operations.Op.{Op}
 use Rattle.melt_model.specs.declared.operations.Op.TheVariants.{Collect}
@@ -8,6 +8,7 @@ use Rattle.melt_model.specs.declared.operations.Reply.{Reply}
 use Rattle.melt_trace.specs.Script.{Script, operations}
 use Rattle.melt_scion.specs.Scions.{Scions}
 use Rattle.melt_core.specs.declared.answer.Refusal.{Refusal}
+use Rattle.melt_rule.specs.Rule.{has_cause}
 use Rattle.melt_rule.specs.Seats.{EpochWords, knows_of}
 use Rattle.melt_rule.specs.declared.view.View.{View}
 use Rattle.melt_epoch.specs.Calls.{HasAsked, IsAsked}
@@ -24,10 +25,11 @@ use Rattle.melt_safepoint.specs.declared.thread.ThreadState.{ThreadState}
 use Rattle.melt_safepoint.proofs.Threads.{get_next}
 use Rattle.melt_pool.specs.Calling.{Calls, IsCalled}
 use Rattle.melt_pool.specs.Programs.{EndsWell, HasEndedWell, ProgramStands, Took, Works, dropped_for, goes, turns_left}
-use Rattle.melt_pool.proofs.Refused.{refused_asked, refused_ends, refused_fits, refused_stops}
+use Rattle.melt_pool.proofs.Refused.{refused_asked, refused_caused, refused_ends, refused_fits, refused_stops}
 use Rattle.melt_pool.proofs.Refused.{refused_thread, refused_waits}
-use Rattle.melt_pool.proofs.Working.{dropped_reader, dropped_thread, goes_on, replied, runs_free, seated_view}
-use Rattle.melt_pool.proofs.Working.{thread_stays}
+use Rattle.melt_pool.proofs.Waiting.{asks_causes, told_goes}
+use Rattle.melt_pool.proofs.Working.{dropped_reader, dropped_thread, dropped_view, goes_on, replied, runs_free}
+use Rattle.melt_pool.proofs.Working.{seated_view, thread_stays}
 
 -- the next operation of a thread stands where its replies end
 pub next_stands : (script : Script) (t : ℕ) (s : ThreadState) (op : Op) → ProgramStands script t s → s.op ≡ Some op
@@ -167,6 +169,19 @@ module _ {R : Type 0} (image : R → Option (List ℕ)) (faults : R → ℕ) (sc
       let was : turns_left s ≡ 2 * length (left s) + 1 = ap (λ (mode : Mode). 2 * length (left s) + goes mode) runs in
       omega (arith, now, was)
 
+  -- if it waits then, its seat has a cause
+  pub called_caused : (p q : R) (after : ThreadState) (op : Op) (result : Result Reply Refusal) → IsSeated words m
+      → IsSeated words n → m.reader ≡ Some p → n.reader ≡ Some q
+      → IsCalled image faults told scions finish m n op result → Took s after result → Waits after.mode
+      → has_cause (view_of (dropped_for after.mode n)) ≡ true
+  called_caused p q after op (Ok reply) before seated mp nq called took waits =
+      absurd (told_goes s after reply took waits)
+  called_caused p q after op (Err why) before seated mp nq called took waits =
+      let call = by_views p q op (Err why) before seated mp nq called in
+      ap has_cause (dropped_view after.mode n)
+      ∙ refused_caused told (image p) scions finish (faults p) (faults q) (view_of m) (view_of n) m.values op why call.2
+      (subst (λ (x : ThreadState). Waits x.mode) took waits)
+
   -- its mutator is of the same thread, and has a reader still
   pub called_thread : (p q : R) (mode : Mode) (op : Op) (result : Result Reply Refusal) → IsSeated words m
       → IsSeated words n → m.reader ≡ Some p → n.reader ≡ Some q
@@ -189,18 +204,29 @@ reader_stays image words mode n has = record {
   tells = has.tells;
 }
 
+-- what a thread that asked all to stop leaves of its seat, by the views
+asked_views : {R : Type 0} (words : EpochWords) (m n : Mutator R) → IsSeated words m → IsSeated words n → IsAsked m n
+    → HasAsked (view_of m) (view_of n)
+asked_views words m n before seated asked =
+    subst (λ (v : View). HasAsked v (view_of n)) (sym (seated_view words m before))
+    (subst (λ (w : View). HasAsked (knows_of before.seat) w) (sym (seated_view words n seated))
+    (asked.1 before.seat seated.seat before.there seated.there))
+
 -- a thread asks all to stop, and waits
 pub asked_works : {R : Type 0} (script : Script) (words : EpochWords) (m n : Mutator R) (s : ThreadState) (mode : Mode)
     → Works script words m s → MayGo s.mode → IsSeated words n → IsAsked m n → FitsMode mode s.op → Waits mode
     → Works script words n (record s { mode = mode })
 asked_works {R} script words m n s mode works may seated asked fits waits =
-    let has : HasAsked (view_of m) (view_of n) =
-    subst (λ (v : View). HasAsked v (view_of n)) (sym (seated_view words m works.seated))
-    (subst (λ (w : View). HasAsked (knows_of works.seated.seat) w) (sym (seated_view words n seated))
-    (asked.1 works.seated.seat seated.seat works.seated.there seated.there)) in
+    let has = asked_views words m n works.seated seated asked in
     subst (λ (x : Mutator R). Works script words x (record s { mode = mode })) (waits_keeps n mode waits)
     (goes_on script words m n s works seated mode has.sees has.thread (ap (λ (x : Mutator R). x.values) asked.0) fits
     (may_not_end s.mode may) (λ cause. waits) (λ is. absurd (subst Waits is waits)))
+
+-- and has a cause
+pub asked_caused : {R : Type 0} (words : EpochWords) (m n : Mutator R) → IsSeated words m → IsSeated words n
+    → IsAsked m n → has_cause (view_of n) ≡ true
+asked_caused words m n before seated asked =
+    asks_causes (view_of m) (view_of n) (asked_views words m n before seated asked)
 
 -- and is of the same thread
 pub asked_thread : {R : Type 0} (m n : Mutator R) → IsAsked m n → n.thread ≡ m.thread

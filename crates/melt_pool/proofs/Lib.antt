@@ -4,9 +4,11 @@ pub mod Going
 pub mod Growing
 pub mod Holding
 pub mod Homes
+pub mod Owing
 pub mod Passing
 pub mod Refused
 pub mod Resting
 pub mod Running
 pub mod Starting
+pub mod Waiting
 pub mod Working

@@ -120,11 +120,11 @@ module _ {R : Type 0} where
       }
 
   -- and rests behind it, by the history of all
-  pub run_passes : (faults : R → ℕ) (finish : ℕ) (script : Script) (words : EpochWords) (h : List Entry)
-      (s : ThreadState) (n : Mutator (Worker R)) → HasRun faults finish script words s n
+  pub run_passes : (faults : R → ℕ) (finish every : ℕ) (script : Script) (words : EpochWords) (h : List Entry)
+      (s : ThreadState) (n : Mutator (Worker R)) → HasRun faults finish every script words s n
       → Saw h n.thread (view_of n).seen
-      → Passes faults finish words.start.began script h s (unseated n)
-  run_passes faults finish script words h s n run saw = record {
+      → Passes faults finish every words.start.began script h s n (unseated n)
+  run_passes faults finish every script words h s n run saw = record {
     after = run.after;
     rests = record {
       brings = record { worker = run.brings.worker; there = run.brings.there; state = run.brings.state };
@@ -147,6 +147,8 @@ module _ {R : Type 0} where
     waits = run.waits;
     ended = run.ended;
     ends = run.ends;
+    owes = run.owes;
+    caused = run.caused;
   }
 
   -- all threads of the script may run
@@ -162,10 +164,10 @@ module _ {R : Type 0} where
       (all_at (HasJoined words) ns k n joined at))
 
   -- behind their runs all have their seats
-  pub all_seated : (faults : R → ℕ) (finish : ℕ) (script : Script) (words : EpochWords)
-      (ns rs : List (Mutator (Worker R))) → AllMayRun script words ns → AllRun faults finish words ns rs
+  pub all_seated : (faults : R → ℕ) (finish every : ℕ) (script : Script) (words : EpochWords)
+      (ns rs : List (Mutator (Worker R))) → AllMayRun script words ns → AllRun faults finish every words ns rs
       → All (IsSeated words) rs
-  all_seated faults finish script words ns rs may run = all_by (IsSeated words) rs (λ k r at.
+  all_seated faults finish every script words ns rs may run = all_by (IsSeated words) rs (λ k r at.
       let below : k < length ns = let w = slice_get_within rs k r at in omega (arith, w, run.count) in
       let n : Mutator (Worker R) = get_or ns k r in
       let was : slice_get ns k ≡ Some n = slice_get-get_or ns k r below in
@@ -173,17 +175,17 @@ module _ {R : Type 0} where
       ((run.each k n r was at).has_run script m.state m.brings m.works).works.seated)
 
   -- so they may end the epoch
-  pub all_end : (image : Worker R → Option (List ℕ)) (faults : R → ℕ) (finish : ℕ) (script : Script)
+  pub all_end : (image : Worker R → Option (List ℕ)) (faults : R → ℕ) (finish every : ℕ) (script : Script)
       (words : EpochWords) (ms ns rs : List (Mutator (Worker R))) → MutatorsBegin image words.start ms
-      → map unseated ns ≡ ms → AllMayRun script words ns → AllRun faults finish words ns rs → MayEnd words rs
-  all_end image faults finish script words ms ns rs begin kept may run =
+      → map unseated ns ≡ ms → AllMayRun script words ns → AllRun faults finish every words ns rs → MayEnd words rs
+  all_end image faults finish every script words ms ns rs begin kept may run =
       let size : length rs ≡ length ms =
       run.count ∙ (sym (length-map ns unseated) ∙ ap length kept) in
       record {
         some_thread = let some_ : 1 ≤ length ms = begin.some_thread in omega (arith, some_, size);
         all = size
             ∙ (sym (length-map ms (λ (m : Mutator (Worker R)). m.thread)) ∙ ap length begin.threads);
-        seated = all_seated faults finish script words ns rs may run;
+        seated = all_seated faults finish every script words ns rs may run;
       }
 
   -- A mutator before an epoch and behind it is, without its seat, the one that began it and the one that ran in it.
@@ -221,12 +223,12 @@ module _ {R : Type 0} where
       }
 
   -- what the epoch came to
-  pub all_passed : (faults : R → ℕ) (finish : ℕ) (words : EpochWords) (ms ns rs qs : List (Mutator (Worker R)))
+  pub all_passed : (faults : R → ℕ) (finish every : ℕ) (words : EpochWords) (ms ns rs qs : List (Mutator (Worker R)))
       (heap : Heap) (h : List Entry) → map unseated ns ≡ ms → All (HasJoined words) ns
-      → AllRun faults finish words ns rs → qs ≡ map unseated rs → HasEnded words.start.began rs heap h
-      → HasPassed faults finish words.start.began ms qs heap h
+      → AllRun faults finish every words ns rs → qs ≡ map unseated rs → HasEnded words.start.began rs heap h
+      → HasPassed faults finish every words.start.began ms qs heap h
   unfolding joined_works
-  all_passed faults finish words ms ns rs qs heap h kept joined run left ended = record {
+  all_passed faults finish every words ms ns rs qs heap h kept joined run left ended = record {
     seats = rs;
     left = left;
     ended = ended;
@@ -237,14 +239,16 @@ module _ {R : Type 0} where
         ap (λ (x : Mutator (Worker R)). x.thread) (sym it.is)
         ∙ ((run.each k it.began it.ran it.began_at it.ran_at).thread
         ∙ ap (λ (x : Mutator (Worker R)). x.thread) it.was);
-    each = λ script rest k s m q at there rests.
+    each = λ script rest k s m r q at seated there rests.
         let it = stands_at ms ns rs qs kept run.count left k m q at there in
+        let ran : it.ran ≡ r = let both : Some it.ran ≡ Some r = sym it.ran_at ∙ seated in cc in
         let may =
         joined_works script words s m it.began rest.globals rests it.was
         (all_at (HasJoined words) ns k it.began joined it.began_at) in
         let saw =
         all_at (λ (x : Mutator (Worker R)). Saw h x.thread (view_of x).seen) rs k it.ran ended.history.saw it.ran_at in
         let runs = (run.each k it.began it.ran it.began_at it.ran_at).has_run in
-        subst (λ (x : Mutator (Worker R)). Passes faults finish words.start.began script h s x) it.is
-        (run_passes faults finish script words h s it.ran (runs script s may.brings may.works) saw);
+        subst (λ (x : Mutator (Worker R)). Passes faults finish every words.start.began script h s x q) ran
+        (subst (λ (x : Mutator (Worker R)). Passes faults finish every words.start.began script h s it.ran x) it.is
+        (run_passes faults finish every script words h s it.ran (runs script s may.brings may.works) saw));
   }

@@ -27,6 +27,7 @@ use Rattle.melt_safepoint.specs.Run.{WasRead}
 use Rattle.melt_safepoint.specs.declared.thread.Mode.TheVariants as mode
 use Rattle.melt_pool.specs.Calling.{RefusedFor}
 use Rattle.melt_pool.specs.Programs.{EndsWell, goes}
+use Rattle.melt_pool.proofs.Waiting.{forwarded_causes, spaced_causes}
 use Rattle.melt_pool.proofs.Working.{same_cause}
 
 module _ (told : Bool) (image : Option (List ℕ)) (scions : Scions) (end before after : ℕ) (v w : View)
@@ -47,6 +48,17 @@ module _ (told : Bool) (image : Option (List ℕ)) (scions : Scions) (end before
   refused_waits (Pause Forward) because free cause = tt
   refused_waits refusal.DiskFault because free cause = absurd (free (sym (same_cause v w because.0) ∙ cause))
   refused_waits (refusal.Damaged damaged) because free cause = absurd (free (sym (same_cause v w because.0) ∙ cause))
+
+  -- one that waits has a cause
+  pub refused_caused : (why : Refusal) → RefusedFor told image scions end before after v w values o why
+      → Waits (mode_for why) → has_cause w ≡ true
+  refused_caused (Pause Asked) because waits = absurd waits
+  refused_caused (Pause (Space need)) because waits =
+      spaced_causes w.asked w.spaced w.forwarded because.0.spaced
+  refused_caused (Pause Forward) because waits =
+      forwarded_causes w.asked w.spaced w.forwarded because.forwarded
+  refused_caused refusal.DiskFault because waits = absurd waits
+  refused_caused (refusal.Damaged damaged) because waits = absurd waits
 
   pub refused_asked : (why : Refusal) → RefusedFor told image scions end before after v w values o why
       → mode_for why ≡ mode.Asked → w.stopped ≡ true

@@ -7,7 +7,7 @@ use Rattle.melt_epoch.specs.Mutators.{HasReader}
 use Rattle.melt_epoch.specs.declared.mutator.Mutator.{Mutator}
 use Rattle.melt_safepoint.specs.Modes.{IsEnded, MayGo}
 use Rattle.melt_safepoint.specs.declared.thread.ThreadState.{ThreadState}
-use Rattle.melt_pool.specs.Programs.{HasEndedWell, Works}
+use Rattle.melt_pool.specs.Programs.{HasEndedWell, OwesSilent, WaitsByCause, Works}
 use Rattle.melt_pool.specs.Workers.{Brings, HasRun, faults_of, image_of}
 use Rattle.melt_pool.specs.declared.worker.Worker.{Worker}
 
@@ -55,20 +55,23 @@ worker_reads image words r n w state there is has =
     }
 
 -- what was run, where its thread was put in
-pub has_run : {R : Type 0} (faults : R → ℕ) (finish : ℕ) (script : Script) (words : EpochWords) (s after : ThreadState)
-    (r n : Mutator (Worker R)) (w : Worker R) → r.reader ≡ Some w
+pub has_run : {R : Type 0} (faults : R → ℕ) (finish every : ℕ) (script : Script) (words : EpochWords)
+    (s after : ThreadState) (r n : Mutator (Worker R)) (w : Worker R) → r.reader ≡ Some w
     → n ≡ record r { reader = Some (record w { state = Some after }) } → Works script words r after
     → (MayGo after.mode → ⊥) → (IsEnded s.mode → after ≡ s)
     → ((IsEnded s.mode → ⊥) → HasEndedWell (faults_of faults) words.start.began.told finish script r after)
-    → HasRun faults finish script words s n
-has_run {R} faults finish script words s after r n w there is works waits ended ends =
+    → OwesSilent every s after → WaitsByCause s.mode after.mode r
+    → HasRun faults finish every script words s n
+has_run {R} faults finish every script words s after r n w there is works waits ended ends owes caused =
     let back : Mutator (Worker R) = record r { reader = Some (record w { state = Some after }) } in
-    let here : HasRun faults finish script words s back = record {
+    let here : HasRun faults finish every script words s back = record {
       after = after;
       brings = record { worker = record w { state = Some after }; there = refl; state = refl };
       works = works_with script words r after (Some (record w { state = Some after })) works;
       waits = waits;
       ended = ended;
       ends = λ goes. ends goes w there;
+      owes = owes;
+      caused = caused;
     } in
-    subst (HasRun faults finish script words s) (sym is) here
+    subst (HasRun faults finish every script words s) (sym is) here

@@ -11,7 +11,7 @@ use Rattle.melt_epoch.specs.Mutators.{HasReader}
 use Rattle.melt_epoch.specs.declared.mutator.Mutator.{Mutator}
 use Rattle.melt_safepoint.specs.Modes.{IsEnded, MayGo}
 use Rattle.melt_safepoint.specs.declared.thread.ThreadState.{ThreadState}
-use Rattle.melt_pool.specs.Programs.{EndsWell, IsToldBy, ProgramStands}
+use Rattle.melt_pool.specs.Programs.{EndsWell, IsToldBy, OwesSilent, ProgramStands, WaitsByCause}
 use Rattle.melt_pool.specs.Workers.{Brings, MayRun, Runs}
 use Rattle.melt_pool.specs.declared.worker.Worker.{Worker}
 
@@ -24,11 +24,11 @@ abbrev pub AllRead : {R : Type 0} → (Worker R → Option (List ℕ)) → Epoch
 AllRead image words ms = All (HasReader image words) ms
 
 -- each thread ran until it waits or has ended
-pub record AllRun {R : Type 0} (faults : R → ℕ) (finish : ℕ) (words : EpochWords) (ms ns : List (Mutator (Worker R)))
-    : Type 0 where
+pub record AllRun {R : Type 0} (faults : R → ℕ) (finish every : ℕ) (words : EpochWords)
+    (ms ns : List (Mutator (Worker R))) : Type 0 where
   pub count : length ns ≡ length ms
   pub each : (k : ℕ) (m n : Mutator (Worker R)) → slice_get ms k ≡ Some m → slice_get ns k ≡ Some n
-      → Runs faults finish words m n
+      → Runs faults finish every words m n
 
 -- A thread between two epochs. What it was told stands in the history, where that is told. One that has ended holds
 -- nothing.
@@ -45,19 +45,23 @@ pub record AllRest {R : Type 0} (script : Script) (b : Began) (ms : List (Mutato
   pub each : (k : ℕ) (m : Mutator (Worker R)) → slice_get ms k ≡ Some m
       → (s : ThreadState) × Rests b.told script b.history s m
 
--- A thread behind an epoch: it waits or has ended, and if it had ended before, is as it was.
-pub record Passes {R : Type 0} (faults : R → ℕ) (finish : ℕ) (b : Began) (script : Script) (h : List Entry)
-    (s : ThreadState) (n : Mutator (Worker R)) : Type 0 where
+-- A thread behind an epoch, and with its seat at the end of it: it waits or has ended, and if it had ended before, is
+-- as it was. A silent collection came due behind each reply that brings one. If it waits, it has a cause to stop, or
+-- waited for a collection before.
+pub record Passes {R : Type 0} (faults : R → ℕ) (finish every : ℕ) (b : Began) (script : Script) (h : List Entry)
+    (s : ThreadState) (seated n : Mutator (Worker R)) : Type 0 where
   pub after : ThreadState
   pub rests : Rests b.told script h after n
   pub waits : MayGo after.mode → ⊥
   pub ended : IsEnded s.mode → after ≡ s
   pub ends : (IsEnded s.mode → ⊥) → EndsWell b.told finish script n.thread (length after.replies.items)
       (faults rests.brings.worker.reader) after.mode
+  pub owes : OwesSilent every s after
+  pub caused : WaitsByCause s.mode after.mode seated
 
 -- The epoch has ended with these seats, and the heap stands for the history. Each mutator is that of its thread still. What
 -- a thread was told since the epoch began stands in that history, with what it was told before.
-pub record HasPassed {R : Type 0} (faults : R → ℕ) (finish : ℕ) (b : Began) (ms ns : List (Mutator (Worker R)))
+pub record HasPassed {R : Type 0} (faults : R → ℕ) (finish every : ℕ) (b : Began) (ms ns : List (Mutator (Worker R)))
     (heap : Heap) (h : List Entry) : Type 0 where
   pub seats : List (Mutator (Worker R))
   pub left : ns ≡ map unseated seats
@@ -65,6 +69,6 @@ pub record HasPassed {R : Type 0} (faults : R → ℕ) (finish : ℕ) (b : Began
   pub count : length ns ≡ length ms
   pub threads : (k : ℕ) (m n : Mutator (Worker R)) → slice_get ms k ≡ Some m → slice_get ns k ≡ Some n
       → n.thread ≡ m.thread
-  pub each : (script : Script) → AllRest script b ms → (k : ℕ) (s : ThreadState) (m n : Mutator (Worker R))
-      → slice_get ms k ≡ Some m → slice_get ns k ≡ Some n → Rests b.told script b.history s m
-      → Passes faults finish b script h s n
+  pub each : (script : Script) → AllRest script b ms → (k : ℕ) (s : ThreadState) (m seated n : Mutator (Worker R))
+      → slice_get ms k ≡ Some m → slice_get seats k ≡ Some seated → slice_get ns k ≡ Some n
+      → Rests b.told script b.history s m → Passes faults finish every b script h s seated n

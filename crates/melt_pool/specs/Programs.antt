@@ -16,8 +16,8 @@ use Rattle.melt_rule.specs.Seats.{EpochWords}
 use Rattle.melt_epoch.specs.Ends.{view_of}
 use Rattle.melt_epoch.specs.Mutators.{IsSeated, with_none}
 use Rattle.melt_epoch.specs.declared.mutator.Mutator.{Mutator}
-use Rattle.melt_safepoint.specs.Modes.{FitsMode, IsEnded, Waits, mode_for}
-use Rattle.melt_safepoint.specs.Run.{LoadsNext, WasRead}
+use Rattle.melt_safepoint.specs.Modes.{FitsMode, ForCollection, IsEnded, Waits, mode_for, owes}
+use Rattle.melt_safepoint.specs.Run.{LoadsNext, WasRead, silent_in}
 use Rattle.melt_safepoint.specs.Threads.{left, TakesReply}
 use Rattle.melt_safepoint.specs.declared.thread.Mode.{Mode}
 use Rattle.melt_safepoint.specs.declared.thread.Mode.TheVariants.{Running, Due, Asked, Lacking, Ended}
@@ -73,6 +73,16 @@ HasEndedWell {R} faults told finish script m s = (q : R) → m.reader ≡ Some q
 abbrev pub Took : ThreadState → ThreadState → Result Reply Refusal → Type 0
 Took s after (Ok reply) = TakesReply s after reply
 Took s after (Err refusal) = after ≡ record s { mode = mode_for refusal }
+
+-- From here to there no silent collection was made for a thread: it has those still to come that it had, and one for
+-- each that its replies since brought.
+abbrev pub OwesSilent : ℕ → ThreadState → ThreadState → Type 0
+OwesSilent every s after = silent_in every (length after.replies.items) + owes s.mode
+    ≡ silent_in every (length s.replies.items) + owes after.mode
+
+-- a thread that waits now, and did not wait for a collection of its own before, has a seat with a cause to stop
+abbrev pub WaitsByCause : {R : Type 0} → Mode → Mode → Mutator R → Type 0
+WaitsByCause before after n = (ForCollection before → ⊥) → Waits after → has_cause (view_of n) ≡ true
 
 -- the mutator of a thread that goes on in this mode: one that has ended holds nothing
 abbrev pub dropped_for : {R : Type 0} → Mode → Mutator R → Mutator R

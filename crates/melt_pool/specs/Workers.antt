@@ -5,7 +5,7 @@ use Rattle.melt_rule.specs.Seats.{EpochWords}
 use Rattle.melt_epoch.specs.declared.mutator.Mutator.{Mutator}
 use Rattle.melt_safepoint.specs.Modes.{IsEnded, MayGo}
 use Rattle.melt_safepoint.specs.declared.thread.ThreadState.{ThreadState}
-use Rattle.melt_pool.specs.Programs.{EndsWell, Works, made_again}
+use Rattle.melt_pool.specs.Programs.{EndsWell, OwesSilent, WaitsByCause, Works, made_again}
 use Rattle.melt_pool.specs.declared.worker.Worker.{Worker}
 
 -- the image that a worker's reader tells, and its count of faults
@@ -27,8 +27,9 @@ pub record MayRun {R : Type 0} (script : Script) (words : EpochWords) (m : Mutat
   pub brings : Brings m state
   pub works : Works script words m (made_again state)
 
--- A thread ran in an epoch until it waits or has ended. One that had ended before is as it was.
-pub record HasRun {R : Type 0} (faults : R → ℕ) (finish : ℕ) (script : Script) (words : EpochWords)
+-- A thread ran in an epoch until it waits or has ended. One that had ended before is as it was. A silent collection
+-- came due behind each reply that brings one. If it waits, it has a cause to stop, or waited for a collection before.
+pub record HasRun {R : Type 0} (faults : R → ℕ) (finish every : ℕ) (script : Script) (words : EpochWords)
     (s : ThreadState) (n : Mutator (Worker R)) : Type 0 where
   pub after : ThreadState
   pub brings : Brings n after
@@ -37,9 +38,12 @@ pub record HasRun {R : Type 0} (faults : R → ℕ) (finish : ℕ) (script : Scr
   pub ended : IsEnded s.mode → after ≡ s
   pub ends : (IsEnded s.mode → ⊥) → EndsWell words.start.began.told finish script n.thread (length after.replies.items)
       (faults brings.worker.reader) after.mode
+  pub owes : OwesSilent every s after
+  pub caused : WaitsByCause s.mode after.mode n
 
 -- so for each script and state with which it was brought along; and the mutator is that of its thread still
-pub record Runs {R : Type 0} (faults : R → ℕ) (finish : ℕ) (words : EpochWords) (m n : Mutator (Worker R)) : Type 0 where
+pub record Runs {R : Type 0} (faults : R → ℕ) (finish every : ℕ) (words : EpochWords) (m n : Mutator (Worker R))
+    : Type 0 where
   pub thread : n.thread ≡ m.thread
   pub has_run : (script : Script) (s : ThreadState) → Brings m s → Works script words m (made_again s)
-      → HasRun faults finish script words s n
+      → HasRun faults finish every script words s n

@@ -30,14 +30,14 @@ fn run_all<X: Threads + Sync, R: RecordReader + Send + Drop, G: Gate + Sync>(
     requires some { 0 < length mutators.old }
     requires runs { (script : Script) × AllMayRun script epoch.now.words mutators.old }
     requires readers { AllRead (image_of R.image) epoch.now.words mutators.old }
-    ensures runs { AllRun R.faults epoch.now.end epoch.now.words mutators.old mutators.new }
+    ensures runs { AllRun R.faults epoch.now.end every epoch.now.words mutators.old mutators.new }
     ensures readers { AllRead (image_of R.image) epoch.now.words mutators.new }
 {
     let threads = mutators.len();
     let run = |_at: usize, m: &mut Mutator<Worker<'_, R>>|
         requires runs { (script : Script) × MayRun script epoch.now.words m.now }
         requires reader { HasReader (image_of R.image) epoch.now.words m.now }
-        ensures runs { Runs R.faults epoch.entry.now.end epoch.entry.now.words m.entry.now m.exit.now }
+        ensures runs { Runs R.faults epoch.entry.now.end every epoch.entry.now.words m.entry.now m.exit.now }
         ensures reader { HasReader (image_of R.image) epoch.entry.now.words m.exit.now }
     {
         run_worker(epoch, m, every, gate);
@@ -63,8 +63,8 @@ pub(crate) fn run_epoch<X: Threads + Sync, R: RecordReader + Send + Drop, G: Gat
     requires history { HistoryBegins start.now heap pass }
     requires mutators { MutatorsBegin (image_of R.image) start.now mutators.old }
     requires rest { (script : Script) × AllRest script start.now.began mutators.old }
-    ensures passed { IfOk result (λ done. HasPassed R.faults end start.now.began mutators.old mutators.new done.0
-        done.1) }
+    ensures passed { IfOk result (λ done. HasPassed R.faults end every start.now.began mutators.old mutators.new
+        done.0 done.1) }
     ensures refused { OnErr result (mutators.new ≡ mutators.old) }
 {
     let epoch = Epoch::begin_with(alloc, start, heap, pass, end, mutators)?;

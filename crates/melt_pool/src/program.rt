@@ -2,12 +2,15 @@
 //!
 //! A thread knows of the others only what its seat tells, and every call leaves that true. So what is said of a thread
 //! here is said of its own mutator alone, and holds whatever the others do meanwhile.
-ghost use Rattle.std.specs.Prelude.{◌≡◌, ◌<◌, length, vec_capacity};
+ghost use Rattle.std.specs.Prelude.{◌≡◌, ◌<◌, true, length, vec_capacity};
 ghost use Rattle.melt_trace.specs.Script.{Script};
+ghost use Rattle.melt_rule.specs.Rule.{has_cause};
 ghost use Rattle.melt_epoch.specs.Calls.{IsAsked};
+ghost use Rattle.melt_epoch.specs.Ends.{view_of};
 ghost use Rattle.melt_epoch.specs.Mutators.{HasReader, IsSeated};
-ghost use Rattle.melt_safepoint.specs.Modes.{IsEnded, MayGo};
-ghost use Rattle.melt_pool.specs.Programs.{HasEndedWell, Took, Works, dropped_for, made_again, turns_left};
+ghost use Rattle.melt_safepoint.specs.Modes.{IsEnded, MayGo, Waits};
+ghost use Rattle.melt_pool.specs.Programs.{HasEndedWell, OwesSilent, Took, WaitsByCause, Works, dropped_for};
+ghost use Rattle.melt_pool.specs.Programs.{made_again, turns_left};
 
 use crate::call::make_call;
 use melt_core::Refusal;
@@ -53,7 +56,9 @@ fn take_result<R>(
     every: u32,
 )
     requires room { length state.old.replies.items < vec_capacity state.old.replies }
+    requires runs { state.old.mode ≡ Mode.Running }
     ensures took { Took state.old state.new answer }
+    ensures owes { OwesSilent every state.old state.new }
     ensures dropped { m.new ≡ dropped_for state.new.mode m.old }
 {
     match answer {
@@ -80,6 +85,8 @@ fn make_next<R: RecordReader>(
     ensures reader { HasReader R.image epoch.now.words m.new }
     ensures thread { m.new.thread ≡ m.old.thread }
     ensures nearer { turns_left state.new < turns_left state.old }
+    ensures owes { OwesSilent every state.old state.new }
+    ensures caused { Waits state.new.mode → has_cause (view_of m.new) ≡ true }
 {
     match (state.mode, state.op) {
         (Mode::Running, Some(Op::Collect)) => wait_for(epoch, m, state, Mode::Collecting),
@@ -125,6 +132,8 @@ pub(crate) fn run_program<R: RecordReader, G: Gate>(
     ensures reader { HasReader R.image epoch.now.words m.new }
     ensures thread { m.new.thread ≡ m.old.thread }
     ensures waits { MayGo state.new.mode → ⊥ }
+    ensures owes { OwesSilent every state.old state.new }
+    ensures caused { WaitsByCause state.old.mode state.new.mode m.new }
 {
     let mut is_announced = make_again(state);
     while state.can_go() {

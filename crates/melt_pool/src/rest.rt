@@ -56,7 +56,7 @@ pub fn go_on<X: Threads + Sync, R: RecordReader + Send + Drop, G: Gate + Sync>(
     requires rest { IsAtRest (image_of R.image) paused.told paused.heap paused.pass paused.end mutators.old }
     requires threads { (script : Script)
         × AllRest script (began_at (image_of R.image) paused mutators.old) mutators.old }
-    ensures passed { IfOk result (λ after. HasPassed R.faults paused.end
+    ensures passed { IfOk result (λ after. HasPassed R.faults paused.end every
         (began_at (image_of R.image) paused mutators.old) mutators.old mutators.new after.heap after.pass) }
     ensures refused { OnErr result (mutators.new ≡ mutators.old) }
     ensures end { IfOk result (λ after. after.end ≡ paused.end) }

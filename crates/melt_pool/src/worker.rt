@@ -40,7 +40,7 @@ pub(crate) fn run_worker<R: RecordReader + Drop, G: Gate>(
 )
     requires runs { (script : Script) × MayRun script epoch.now.words m.old }
     requires reader { HasReader (image_of R.image) epoch.now.words m.old }
-    ensures runs { Runs R.faults epoch.now.end epoch.now.words m.old m.new }
+    ensures runs { Runs R.faults epoch.now.end every epoch.now.words m.old m.new }
     ensures reader { HasReader (image_of R.image) epoch.now.words m.new }
     ensures thread { m.new.thread ≡ m.old.thread }
 {

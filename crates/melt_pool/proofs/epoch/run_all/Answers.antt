@@ -19,6 +19,7 @@ pub returns-clause-runs : goal.returns-clause-runs
 returns-clause-runs g c =
     let words = c.args.epoch.now.words in
     let finish = c.args.epoch.now.end in
+    let every = c.args.every in
     let old = c.args.mutators.now in
     let new = c.for_each_mut.new.s in
     record {
@@ -29,8 +30,8 @@ returns-clause-runs g c =
           let below : k < length old = slice_get_within old k m was in
           let there : slice_index_or old k m ≡ m = get_or_from_slice_get old k m m was in
           let here : slice_index_or new k m ≡ n = get_or_from_slice_get new k n m is in
-          subst (λ (x : Mutator _). Runs g.R.RecordReader.faults finish words x n) (change.argument_is ∙ there)
-          (subst (λ (x : Mutator _). Runs g.R.RecordReader.faults finish words change.argument.now x)
+          subst (λ (x : Mutator _). Runs g.R.RecordReader.faults finish every words x n) (change.argument_is ∙ there)
+          (subst (λ (x : Mutator _). Runs g.R.RecordReader.faults finish every words change.argument.now x)
           (change.left ∙ here) change.call.0);
     }
 

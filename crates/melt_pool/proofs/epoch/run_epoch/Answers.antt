@@ -24,7 +24,7 @@ finish-requires g c =
     let image = image_of g.R.RecordReader.image in
     let ms = c.args.mutators.now in
     let ns = c.begin_with.new.mutators in
-    all_end image g.R.RecordReader.faults begun.epoch.end rest.0 words ms ns c.run_all.new.mutators
+    all_end image g.R.RecordReader.faults begun.epoch.end c.args.every rest.0 words ms ns c.run_all.new.mutators
     (subst (λ (s : Start). MutatorsBegin image s ms) (sym begun.ensures.start) c.requires.mutators) begun.ensures.kept
     (all_joined rest.0 words ms ns (subst (λ (s : Start). AllRest rest.0 s.began ms) (sym begun.ensures.start) rest.1)
     begun.ensures.kept begun.ensures.joined)
@@ -40,13 +40,14 @@ returns g c =
     let rs = c.run_all.new.mutators in
     let finish : begun.epoch.end ≡ c.args.end =
     begun.epoch.fits.ends ∙ (ap (λ (s : Start). s.began.end) begun.ensures.start ∙ sym c.requires.heap.ends) in
-    let run : AllRun faults c.args.end words ns rs =
-    subst (λ (n : ℕ). AllRun faults n words ns rs) finish c.run_all.ensures.runs in
+    let every = c.args.every in
+    let run : AllRun faults c.args.end every words ns rs =
+    subst (λ (n : ℕ). AllRun faults n every words ns rs) finish c.run_all.ensures.runs in
     record {
       passed = subst
-          (λ (s : Start). HasPassed faults c.args.end s.began ms c.finish.new.mutators c.finish.result.0
+          (λ (s : Start). HasPassed faults c.args.end every s.began ms c.finish.new.mutators c.finish.result.0
           c.finish.result.1) begun.ensures.start
-          (all_passed faults c.args.end words ms ns rs c.finish.new.mutators c.finish.result.0 c.finish.result.1
+          (all_passed faults c.args.end every words ms ns rs c.finish.new.mutators c.finish.result.0 c.finish.result.1
           begun.ensures.kept begun.ensures.joined run c.finish.ensures.left c.finish.ensures.ended);
       refused = tt;
     }

@@ -1,13 +1,20 @@
-use Rattle.std.proofs.Common.{◌≡◌, ◌≢◌, rules, sym, subst}
+use Rattle.std.proofs.Common.{◌≡◌, ◌≢◌, rules, sym, ap, subst, true}
 use Rattle.std.specs.Prelude.{Some}
 use Rattle.melt_model.specs.declared.operations.Op.TheVariants.{Collect}
+use Rattle.melt_rule.specs.Rule.{has_cause}
+use Rattle.melt_epoch.specs.Ends.{view_of}
 use Rattle.melt_epoch.specs.Mutators.{HasReader}
 use Rattle.melt_epoch.specs.declared.mutator.Mutator.{Mutator}
+use Rattle.melt_safepoint.specs.Modes.{owes}
 use Rattle.melt_safepoint.specs.declared.thread.Mode.TheVariants.{Collecting, Running, Silent}
 use Rattle.melt_safepoint.specs.declared.thread.ThreadState.{ThreadState}
 use Rattle.melt_pool.specs.Programs.{HasEndedWell, Works}
-use Rattle.melt_pool.proofs.Going.{asked_works, called_ends, called_nearer, called_thread, called_works, reader_stays}
+use Rattle.melt_pool.proofs.Going.{asked_caused, asked_works, called_caused, called_ends, called_nearer, called_thread}
+use Rattle.melt_pool.proofs.Going.{called_works, reader_stays}
+use Rattle.melt_pool.proofs.Owing.{due_owes, mode_owes, runs_some}
 use Rattle.melt_pool.proofs.program.make_next.Goals as goal
+use Rattle.melt_pool.proofs.program.make_next.Goals.{in_default-via-in-Running+in_default}
+use Rattle.melt_pool.proofs.program.make_next.Goals.{in_default-via-in_default}
 
 pub returns-in-Running-Some-Collect-clause-works : goal.returns-in-Running-Some-Collect-clause-works
 returns-in-Running-Some-Collect-clause-works g c script works =
@@ -16,6 +23,17 @@ returns-in-Running-Some-Collect-clause-works g c script works =
     subst (λ (x : ThreadState). Works script words c.wait_for.new.m x) (sym c.wait_for.ensures.waits)
     (asked_works script words c.args.m.now c.wait_for.new.m c.args.state.now Collecting works c.requires.goes
     c.wait_for.ensures.seated c.wait_for.ensures.asked next tt)
+
+pub returns-in-Running-Some-Collect-clause-owes : goal.returns-in-Running-Some-Collect-clause-owes
+returns-in-Running-Some-Collect-clause-owes g c =
+    let runs : c.args.state.now.mode ≡ Running = search rules in
+    mode_owes c.args.every c.args.state.now c.wait_for.new.state Collecting c.wait_for.ensures.waits
+    (sym (ap owes runs))
+
+pub returns-in-Running-Some-Collect-clause-caused : goal.returns-in-Running-Some-Collect-clause-caused
+returns-in-Running-Some-Collect-clause-caused g c waits =
+    asked_caused c.args.epoch.now.words c.args.m.now c.wait_for.new.m c.requires.works.1.seated
+    c.wait_for.ensures.seated c.wait_for.ensures.asked
 
 pub returns-in-Running-Some : goal.returns-in-Running-Some
 returns-in-Running-Some g c =
@@ -56,6 +74,11 @@ returns-in-Running-Some g c =
           subst (λ (x : Mutator _). x.thread ≡ m.thread) (sym c.take_result.ensures.dropped) same;
       nearer = called_nearer read.image read.faults c.requires.works.0 words heap.scions finish m n s after op answer
           runs next took;
+      owes = c.take_result.ensures.owes;
+      caused = λ waits.
+          subst (λ (x : Mutator _). has_cause (view_of x) ≡ true) (sym c.take_result.ensures.dropped)
+          (called_caused read.image read.faults c.requires.works.0 words heap.scions finish m n s p.reader q.reader
+          after op answer c.requires.works.1.seated seated p.there q.there called took waits);
     }
 
 pub returns-in_default-clause-works : goal.returns-in_default-clause-works
@@ -65,3 +88,20 @@ returns-in_default-clause-works g c script works =
     (sym c.wait_for-in_default.ensures.waits)
     (asked_works script words c.args.m.now c.wait_for-in_default.new.m c.args.state.now Silent works c.requires.goes
     c.wait_for-in_default.ensures.seated c.wait_for-in_default.ensures.asked tt tt)
+
+pub returns-in_default-clause-owes : goal.returns-in_default-clause-owes
+returns-in_default-clause-owes g c =
+    let s = c.args.state.now in
+    elim c.in_default.branch [
+      | in_default-via-in-Running+in_default w ↦
+          absurd
+          (runs_some s.mode s.op w.in_default.is-0 w.in_default.is-1 c.requires.works.1.program.fits)
+      | in_default-via-in_default w ↦
+          mode_owes c.args.every s c.wait_for-in_default.new.state Silent c.wait_for-in_default.ensures.waits
+          (due_owes s.mode c.requires.goes w.in_default.not-Running-0)
+    ]
+
+pub returns-in_default-clause-caused : goal.returns-in_default-clause-caused
+returns-in_default-clause-caused g c waits =
+    asked_caused c.args.epoch.now.words c.args.m.now c.wait_for-in_default.new.m c.requires.works.1.seated
+    c.wait_for-in_default.ensures.seated c.wait_for-in_default.ensures.asked

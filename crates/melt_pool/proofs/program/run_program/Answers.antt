@@ -1,8 +1,26 @@
-use Rattle.std.proofs.Common.{rules, ◌∙◌, subst, sym}
-use Rattle.melt_safepoint.specs.Modes.{IsEnded, MayGo}
+use Rattle.std.proofs.Common.{rules, ◌∙◌, refl, subst, sym}
+use Rattle.melt_safepoint.specs.Modes.{IsEnded, MayGo, Waits}
 use Rattle.melt_safepoint.specs.declared.thread.ThreadState.{ThreadState}
+use Rattle.melt_pool.specs.Programs.{mode_again}
 use Rattle.melt_pool.proofs.Going.{may_not_end}
+use Rattle.melt_pool.proofs.Owing.{again_owes, mode_owes, owes_on}
+use Rattle.melt_pool.proofs.Waiting.{again_waits}
 use Rattle.melt_pool.proofs.program.run_program.Goals as goal
+
+pub loop-is_announced-init : goal.loop-is_announced-init
+loop-is_announced-init g c =
+    let s = c.args.state.now in
+    let again = c.make_again-is_announced.ensures.again in
+    record {
+      works = search rules;
+      ends = search rules;
+      ended = search rules;
+      reader = c.requires.reader;
+      thread = refl;
+      owes = mode_owes c.args.every s c.make_again-is_announced.new.state (mode_again s.mode) again (again_owes s.mode);
+      caused = λ other waits.
+          absurd (other (again_waits s.mode (subst (λ (x : ThreadState). Waits x.mode) again waits)));
+    }
 
 pub loop-is_announced-preserved : goal.loop-is_announced-preserved
 loop-is_announced-preserved g c =
@@ -15,4 +33,7 @@ loop-is_announced-preserved g c =
           (subst (λ (s : ThreadState). IsEnded s.mode) (sym (before.ended over).0) over));
       reader = c.make_next.ensures.reader;
       thread = c.make_next.ensures.thread ∙ before.thread;
+      owes = owes_on c.args.every c.args.state.now c.loop-is_announced.state c.make_next.new.state before.owes
+          c.make_next.ensures.owes;
+      caused = λ goes. c.make_next.ensures.caused;
     }
