@@ -1,0 +1,6 @@
+use Rattle.std.specs.Prelude.{[]}
+use Rattle.melt_move.specs.Collecting.{IsFormedOn}
+use Rattle.melt_epoch_bench.proofs.turns.time_turns.Given as goal
+
+abbrev pub invariant-loop : goal.invariant-loop
+invariant-loop g l = IsFormedOn l.world.heap [] l.world.disk.end
