@@ -1,5 +1,5 @@
 //! How long it takes to begin and to finish an epoch on a full heap.
-ghost use Rattle.std.specs.Prelude.{◌<◌, ◌^◌, [], IfOk};
+ghost use Rattle.std.specs.Prelude.{◌≡◌, ◌<◌, ◌^◌, [], length, IfOk};
 ghost use Rattle.melt_move.specs.Collecting.{IsFormedOn};
 
 use crate::calls::{Call, repeat_on};
@@ -65,7 +65,7 @@ fn begin_and_finish<'d, C: Clock>(
     Ok((world, turn))
 }
 
-/// Begins and finishes an epoch so many times on a full heap of so many words.
+/// Begins and finishes an epoch `count` times on a full heap of so many words. Answers how long each took.
 pub fn time_turns<T: Threads + Sync + Clock>(
     rt: &T,
     alloc: Global,
@@ -73,6 +73,7 @@ pub fn time_turns<T: Threads + Sync + Clock>(
     count: u32,
 ) -> Result<Vec<Turn>>
     requires { words < 2 ^ 30 }
+    ensures { IfOk result (λ turns. length turns.items ≡ count) }
 {
     let mut disk = MemDisk::new(alloc);
     let world = World::new(alloc, &mut disk, 1, words, 1, 0).map_err(|_| anyhow!("no memory"))?;
