@@ -4,14 +4,21 @@ use Rattle.std.proofs.Common.{◌∙◌, ap, subst, arith}
 use Rattle.std.proofs.Math.ListN.{length-map}
 use Rattle.std.proofs.lemmas.Bool.{cases_lt}
 use Rattle.std.proofs.lemmas.List.{get_or_past}
-use Rattle.std.specs.Prelude.{◌↔◌, true, Some}
+use Rattle.std.specs.Prelude.{◌↔◌, true, Some, Option}
+use Rattle.std.specs.Option.{option_map_or}
 use Rattle.melt_model.specs.Alive.{Held, words_of, CostsSum}
 use Rattle.melt_model.specs.declared.history.Value.TheVariants.{Nil, Ref}
+use Rattle.melt_model.specs.History.{Shape as ModelShape}
 use Rattle.melt_model.proofs.Sums.{CostsSum-empty, CostsSum-more, CostsSum-same}
+use Rattle.melt_word.specs.Words.{IsHeader, cost_of, header_word}
+use Rattle.melt_word.specs.declared.header.Header.{Header}
+use Rattle.melt_word.specs.declared.header.Shape.{Shape}
+use Rattle.melt_space.specs.Space.{HasHeader, IsWord, SpaceWords, word_at}
 use Rattle.melt_scion.specs.Heaps.{OnDisk}
+use Rattle.melt_scion.specs.State.{ObjectAt}
 use Rattle.melt_scion.proofs.Reaching.{held_address}
-use Rattle.melt_core.specs.Holdings.{IsHeldBefore, Takes, nth_register}
-use Rattle.melt_core.specs.Views.{View, Standing, maps, registers_in, value, values_of}
+use Rattle.melt_core.specs.Holdings.{IsHeld, IsHeldBefore, Takes, nth_register}
+use Rattle.melt_core.specs.Views.{View, Standing, maps, registers_in, state, value, values_of}
 use Rattle.melt_core.proofs.Alive.{held_within, placed}
 use Rattle.melt_core.proofs.Objects.{value_named}
 
@@ -182,3 +189,51 @@ all_held v k words counted whole = λ disk s.
       λ is. record { thread = is.0 / 16; register = is.0 % 16; holds = is.2 },
       λ held. held_below v k n whole counted.sixteen held,
     )) (counted.adds_up disk s)
+
+-- an object stands where a register points
+held_object : (v : View) (address : ℕ) (is : IsHeld v address)
+    → (header : Header) × ObjectAt (state is.sound.0 v) address header
+held_object v address is = elim (is.sound.1.registers is.holds.0 is.holds.1) [
+  | inl nothing ↦ absurd (is.some (sym is.holds.2 ∙ nothing))
+  | inr holds ↦
+      is.sound.1.holds.formed.objects address holds.0.0 (ap (maps v).address (sym is.holds.2) ∙ holds.0.1)
+]
+
+-- so a header is at its address
+pub header_held : (space : SpaceWords) (v : View) (address : ℕ) → v.space ≡ space → IsHeld v address
+    → IsWord space address × HasHeader space address
+header_held space v address same is =
+    let object = held_object v address is in
+    subst (λ (s : SpaceWords). IsWord s address × HasHeader s address) same (
+      record {
+        first = object.1.first;
+        last = let within = object.1.within in omega (arith, within);
+      },
+      record { header = object.0; in_range = object.1.starts.in_range; word = object.1.starts.word },
+    )
+
+-- the shape that was read off the header tells how many words the object takes, in each view of these words
+pub takes_shape : (space : SpaceWords) (v : View) (address words : ℕ) (shape : Shape) → v.space ≡ space
+    → IsHeld v address → ((h : Header) → IsHeader h → word_at space address ≡ header_word h → shape ≡ h.shape)
+    → words ≡ cost_of shape → (w : View) → w.space ≡ space → Takes w address words
+takes_shape space v address words shape same is shaped costs w seen =
+    let object = held_object v address is in
+    let shape_is : shape ≡ object.0.shape =
+    shaped object.0 object.1.starts.in_range
+    (ap (λ (s : SpaceWords). word_at s address) (sym same) ∙ object.1.starts.word) in
+    record {
+      few =
+          let refs : object.0.shape.refs ≤ 62 = object.1.starts.in_range.refs in
+          let nums : object.0.shape.nums ≤ 62 = object.1.starts.in_range.nums in
+          let cost : words ≡ 2 + object.0.shape.refs + object.0.shape.nums = costs ∙ ap cost_of shape_is in
+          omega (arith, refs, nums, cost);
+      is = λ disk n s named.
+          let there = s.holds.formed.objects address n named in
+          let there_is : shape ≡ there.0.shape =
+          shaped there.0 there.1.starts.in_range
+          (ap (λ (s : SpaceWords). word_at s address) (sym seen) ∙ there.1.starts.word) in
+          costs
+          ∙ (ap cost_of there_is
+          ∙ sym (ap (λ (o : Option ModelShape). option_map_or (λ (z : ModelShape). 2 + z.refs + z.nums) o 0)
+          ((s.holds.tells refl).shapes address n there.0 named there.1.starts)));
+    }

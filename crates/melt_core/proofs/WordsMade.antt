@@ -1,5 +1,6 @@
 -- An event makes no more words than come into use by it.
 use Rattle.std.proofs.Common.{◌≡◌, ℕ, ◌+◌, ◌<◌, ◌≤◌, ◌⊎◌, inl, inr, List, [], ◌∷◌, ◌++◌, refl, sym, ◌∙◌, ap, subst, arith}
+use Rattle.std.proofs.lemmas.Bool.{cases_lt}
 use Rattle.std.proofs.lemmas.List.Sums.{sum-map, sum_by-append}
 use Rattle.std.specs.Prelude.{Bool, true, Option, None, Some}
 use Rattle.std.specs.List.{sum_by}
@@ -8,7 +9,7 @@ use Rattle.melt_model.specs.History.{Shape, made as makes, shapes}
 use Rattle.melt_model.specs.declared.history.Act.{Act}
 use Rattle.melt_model.specs.declared.history.Act.TheVariants.{Make, Read, Write}
 use Rattle.melt_model.specs.declared.history.Entry.{Entry}
-use Rattle.melt_model.proofs.Histories.{shapes-append}
+use Rattle.melt_model.proofs.Histories.{made-append, shapes-append}
 use Rattle.melt_model.proofs.Sums.{CostsSum-more, CostsSum-one, CostsSum-part}
 use Rattle.melt_scion.specs.State.{State}
 use Rattle.melt_scion.specs.Placed.{Maps}
@@ -16,6 +17,7 @@ use Rattle.melt_scion.specs.Regions.{Region}
 use Rattle.melt_scion.specs.Heaps.{OnDisk}
 use Rattle.melt_core.specs.Answering.{entry, with_entry}
 use Rattle.melt_core.specs.Events.{Event}
+use Rattle.melt_core.specs.Known.{Evolves}
 use Rattle.melt_core.specs.Made.{made_words, KeepsMade}
 use Rattle.melt_core.specs.Views.{View, Standing, Counts, InUse, maps, state}
 use Rattle.melt_core.proofs.Counting.{in_use_made, in_use_later, new_words}
@@ -59,6 +61,37 @@ module _ (told : Bool) (h : List Entry) (maps new : Maps) (s t : State) where
   named_event mine cleared act
       (Event.untags place at found target value is slot range was named fresh same last changes) = tt
   named_event mine cleared act (Event.commits home tried p n address shape rest may changes appears) = tt
+
+  -- So where all objects from some number on are in use, they are behind an event too.
+  pub made_stay : (thread : ℕ) (mine : Region) (cleared : ℕ) (act : Option Act)
+      → Event told h maps new s t mine cleared act → Evolves maps new s t cleared → (first : ℕ)
+      → ((n : ℕ) → first ≤ n → n < makes h → InUse maps n) → (n : ℕ) → first ≤ n
+      → n < makes (with_entry thread h act) → InUse new n
+  made_stay thread mine cleared act event evolves first before n from below =
+      by_act act (named_event mine cleared act event) below
+    where
+      kept : n < makes h → InUse new n
+      kept less = let was = before n from less in (was.0, evolves.names was.0 n was.1)
+
+      by_act : (x : Option Act) → Named h new x → n < makes (with_entry thread h x) → InUse new n
+      by_act None named less = kept less
+      by_act (Some (Make refs nums)) named less =
+          let e : Entry = entry thread (Make refs nums) in
+          let one : makes (e ∷ []) ≡ 1 = refl in
+          let more = made-append h (e ∷ []) in
+          elim (cases_lt n (makes h)) [
+            | inl old ↦ kept old
+            | inr past ↦
+                let same : makes h ≡ n = omega (arith, less, past, one, more) in subst (InUse new) same named
+          ]
+      by_act (Some (Read at value)) named less =
+          let none : makes (entry thread (Read at value) ∷ []) ≡ 0 = refl in
+          let more = made-append h (entry thread (Read at value) ∷ []) in
+          kept (omega (arith, less, none, more))
+      by_act (Some (Write at value)) named less =
+          let none : makes (entry thread (Write at value) ∷ []) ≡ 0 = refl in
+          let more = made-append h (entry thread (Write at value) ∷ []) in
+          kept (omega (arith, less, none, more))
 
 -- the objects that were in use are, and so are those that were made
 module _ (disk : OnDisk) (v w : View) (t : ℕ) (s : Standing true disk v) (now : Counts w)

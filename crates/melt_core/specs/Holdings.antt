@@ -1,6 +1,7 @@
 -- How the objects that registers hold are counted: one register after the other, and each object once.
 use Rattle.std.specs.Prelude.{◌≡◌, ◌≢◌, ℕ, ◌/◌, ◌%◌, ◌<◌, ◌≤◌, true, false, List, Some}
 use Rattle.melt_model.specs.Alive.{words_of}
+use Rattle.melt_space.specs.Space.{SpaceWords}
 use Rattle.melt_scion.specs.Heaps.{OnDisk, register_in}
 use Rattle.melt_scion.specs.declared.registers.Registers.{Registers}
 use Rattle.melt_core.specs.Views.{View, Standing, maps}
@@ -8,6 +9,13 @@ use Rattle.melt_core.specs.Views.{View, Standing, maps}
 -- over some disk the words are well formed
 abbrev pub IsSound : View → Type 0
 IsSound v = (disk : OnDisk) × Standing false disk v
+
+-- The words of the space and the registers are those of a view whose words are well formed over some disk.
+pub record AreSound (space : SpaceWords) (held : List Registers) : Type 0 where
+  pub shown : View
+  pub space_is : shown.space ≡ space
+  pub held_is : shown.held ≡ held
+  pub sound : IsSound shown
 
 -- what a register holds, where those of all threads are counted in ascending order, 16 of each
 abbrev pub nth_register : List Registers → ℕ → ℕ

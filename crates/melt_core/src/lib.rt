@@ -17,6 +17,7 @@ mod record;
 mod write;
 
 pub use answer::{Pause, Refusal, StepResult};
+pub use held::held_words;
 pub use laws::{shared_words, stale_bits};
 pub use machine::{Core, Rest};
 

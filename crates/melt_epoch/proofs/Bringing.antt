@@ -31,6 +31,8 @@ use Rattle.melt_epoch.specs.Fetching.{BodyFetched, Fetches, IsUnread, OfDisk}
 use Rattle.melt_epoch.specs.declared.fetch.Fetched.{Fetched}
 use Rattle.melt_epoch.specs.declared.fetch.Fetched.TheVariants as fetched
 use Rattle.melt_epoch.specs.declared.bring.Sought.TheVariants as sought
+use Rattle.melt_record.specs.declared.head.Kind.TheVariants.{Body}
+use Rattle.melt_scion.specs.Placed.{HeadIs}
 
 -- what a seat knows of a home that it missed
 pub missed_fits : (words : EpochWords) (seat : Seat ℕ View) (search : Search) → IsSeat words seat
@@ -61,13 +63,17 @@ unread_lost words heap image end home before after (refusal.Pause pause) fits te
 -- what is known behind a search was known before
 home_has_here : (v w : View) (home : ℕ) (z : Shape) (u : View) → w.began ≡ v.began → HomeHas w u.seen home z
     → HomeHas v u.seen home z
-home_has_here v w home z u began has told n at =
-    has (ap (λ (b : Began). b.told) began ∙ told) n (ap (λ (b : Began). named b.maps.homes home) began ∙ at)
+home_has_here v w home z u began has told =
+    let had = has (ap (λ (b : Began). b.told) began ∙ told) in (
+      subst (λ (b : Began). HeadIs (base_of b) home (record { shape = z; kind = Body })) began had.0,
+      λ n at. had.1 n (ap (λ (b : Began). named b.maps.homes home) began ∙ at),
+    )
 
 pub lacks_on : (v w u : View) (search : Search) (tried m n k : ℕ) (why : Refusal) → m + n ≤ k → Toward v w 0 0 m
     → LacksRoom w u (tried_to search tried) n why → LacksRoom v u search k why
 lacks_on v w u search tried m n k why le toward lacks = record {
   shape = lacks.shape;
+  small = lacks.small;
   object = home_has_here v w search.home lacks.shape u toward.counts.began lacks.object;
   is = lacks.is;
   sees = toward.on u.seen lacks.sees;

@@ -265,5 +265,6 @@ module _ {R : Type 0} (words : EpochWords) (ms : List (Mutator R)) (may : MayEnd
     named = maps_end;
     holds = holds_on;
     registers = λ k d below. holds_values (get_or ms k d) k (stands_at ms k d below) (back k d below);
+    stay = has.stay;
     bits = bits_end;
   }

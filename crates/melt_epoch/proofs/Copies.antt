@@ -3,7 +3,7 @@ use Rattle.std.proofs.Common.{◌≡◌, ℕ, ◌+◌, ◌*◌, ◌-◌, ◌||�
 use Rattle.std.proofs.Common.{subst, arith}
 use Rattle.std.specs.Prelude.{None, Result, Some}
 use Rattle.melt_model.specs.declared.history.Entry.{Entry}
-use Rattle.melt_word.specs.Words.{cost_of}
+use Rattle.melt_word.specs.Words.{IsShape, cost_of}
 use Rattle.melt_word.specs.declared.header.Shape.{Shape}
 use Rattle.melt_scion.specs.GhostMaps.{named}
 use Rattle.melt_core.specs.declared.answer.Pause.TheVariants.{Space}
@@ -20,13 +20,19 @@ use Rattle.melt_rule.specs.declared.view.View.{View}
 use Rattle.melt_epoch.proofs.Following.{sees_on, shape_stays}
 use Rattle.melt_epoch.proofs.Toward.{Toward, goes_toward, toward_both, toward_full, toward_on, toward_then}
 use Rattle.melt_epoch.specs.Bringing.{Copies, IsFilled, LacksRoom, Settles, reached}
+use Rattle.melt_record.specs.declared.head.Kind.TheVariants.{Body}
+use Rattle.melt_scion.specs.Placed.{HeadIs}
+use Rattle.melt_rule.specs.Shown.{base_of}
 
 -- the shape of a home's object stays, however the history grows
 pub home_has_on : (v w : View) (g h : List Entry) (home : ℕ) (z : Shape) → w.began ≡ v.began → Begins g h
     → HomeHas w g home z → HomeHas v h home z
-home_has_on v w g h home z began begins has told n at =
-    shape_stays g h begins.0 n (record { refs = z.refs; nums = z.nums }) begins.1
-    (has (ap (λ (b : Began). b.told) began ∙ told) n (ap (λ (b : Began). named b.maps.homes home) began ∙ at))
+home_has_on v w g h home z began begins has told =
+    let had = has (ap (λ (b : Began). b.told) began ∙ told) in (
+      subst (λ (b : Began). HeadIs (base_of b) home (record { shape = z; kind = Body })) began had.0,
+      λ n at. shape_stays g h begins.0 n (record { refs = z.refs; nums = z.nums }) begins.1
+          (had.1 n (ap (λ (b : Began). named b.maps.homes home) began ∙ at)),
+    )
 
 spaced_cause : (asked forwarded : Bool) → (asked || (true || forwarded)) ≡ true
 spaced_cause true forwarded = refl
@@ -37,14 +43,15 @@ pub lacks_cause : (v w : View) (search : Search) (z : Shape) → LacksCopy v w s
 lacks_cause v w search z lacks = ap has_cause lacks.is ∙ spaced_cause v.asked v.forwarded
 
 -- and then it was refused
-pub lacks_room : (v w u : View) (search : Search) (z : Shape) → LacksCopy v w search z → Reaches w u None
-    → LacksRoom v u search 2 (Pause (Space (cost_of z)))
-lacks_room v w u search z lacks stops =
+pub lacks_room : (v w u : View) (search : Search) (z : Shape) → IsShape z → LacksCopy v w search z
+    → Reaches w u None → LacksRoom v u search 2 (Pause (Space (cost_of z)))
+lacks_room v w u search z small lacks stops =
     let is = lacks.is in
     let then_ = stops.is in
     let began : w.began ≡ v.began = ap (λ (x : View). x.began) is in
     record {
       shape = z;
+      small = small;
       object = home_has_on v v w.seen u.seen search.home z refl stops.sees.begins lacks.object;
       is = refl;
       sees = sees_on v w u.seen lacks.sees (ap (λ (x : View). x.thread) is) began stops.sees;

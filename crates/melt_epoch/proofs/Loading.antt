@@ -49,6 +49,9 @@ use Rattle.melt_epoch.specs.Epochs.{Fits}
 use Rattle.melt_epoch.specs.Loading.{HeldHas, IsBefore, LoadAsked, LoadRefused, Loads, LoadsFrom, LoadsGlobal}
 use Rattle.melt_epoch.specs.Loading.{LacksSlot, Resolves, SlotAt}
 use Rattle.melt_epoch.specs.Mutators.{IsIdle}
+use Rattle.melt_record.specs.declared.head.Kind.TheVariants.{Body}
+use Rattle.melt_scion.specs.Placed.{HeadIs}
+use Rattle.melt_rule.specs.Shown.{base_of}
 
 -- what is known of a place stays known
 pub slot_more : (old new : List Pair) (place : Place) (s : Slot) → HasAll old new → SlotAt old place s
@@ -100,6 +103,20 @@ look_loads v w s most address some_ reads = record {
   over = ap (λ (y : View). y.doing) reads.is;
 }
 
+-- in so many steps, or more
+pub loads_most : (v w : View) (s : Slot) (m most address : ℕ) → m ≤ most → Loads v w s m address
+    → Loads v w s most address
+loads_most v w s m most address le loads = record {
+  value = loads.value;
+  adds = loads.adds;
+  names = loads.names;
+  words = loads.words;
+  wins = loads.wins;
+  counts = counts_most v w loads.words loads.wins m most le loads.counts;
+  claims = loads.claims;
+  over = loads.over;
+}
+
 -- or it found an object, whose stale bit was cleared
 pub stale_loads : (v w u x : View) (s : Slot) (looked cleared : Doing) (most address : ℕ) → 3 ≤ most
     → Reaches v w (Some looked) → Reaches w u (Some cleared) → Reads u x s address → Loads v x s most address
@@ -120,14 +137,17 @@ held_has : (v w x : View) (s : Slot) (place : Place) (home : ℕ) (z : Shape) �
     → w.began ≡ v.began → Begins w.seen x.seen → HomeHas w x.seen home z → HeldHas v x s z
 held_has v w x s place home z finds began begins has told =
     let held = finds.held told in
+    let had = has (ap (λ (b : Began). b.told) began ∙ told) in
     record {
       then_ = w.seen;
       object = held.0;
+      home = home;
+      of = held.1;
+      body = subst (λ (b : Began). HeadIs (base_of b) home (record { shape = z; kind = Body })) began had.0;
       from = finds.reaches.sees.begins;
       until = begins;
       held = held.2;
-      shaped = has (ap (λ (b : Began). b.told) began ∙ told) held.0
-          (ap (λ (b : Began). named b.maps.homes home) began ∙ held.1);
+      shaped = had.1 held.0 (ap (λ (b : Began). named b.maps.homes home) began ∙ held.1);
     }
 
 module _ (v w : View) (s : Slot) (place : Place) (home : ℕ) (finds : Finds v w s place home) where
@@ -187,6 +207,7 @@ module _ (v w : View) (s : Slot) (place : Place) (home : ℕ) (finds : Finds v w
     })
     home_refused u n most why below few (inl (inr lacks)) = inr (inl (record {
       shape = lacks.shape;
+      small = lacks.small;
       held = held_has v w u s place home lacks.shape finds looked_toward.counts.began lacks.sees.begins lacks.object;
       is = lacks.is;
       sees = looked_toward.on u.seen lacks.sees;
@@ -228,6 +249,10 @@ module _ (v u x : View) (s : Slot) (m n k : ℕ) (le : m + n ≤ k) (way : Way v
       record {
         then_ = held.then_;
         object = held.object;
+        home = held.home;
+        of = ap (λ (b : Began). named b.maps.homes held.home) (sym way.counts.began) ∙ held.of;
+        body = subst (λ (b : Began). HeadIs (base_of b) held.home (record { shape = z; kind = Body })) way.counts.began
+            held.body;
         from = begins_then v.seen u.seen held.then_ way.sees.begins held.from;
         until = held.until;
         held = held.held;
@@ -273,6 +298,7 @@ module _ (v u x : View) (s : Slot) (m n k : ℕ) (le : m + n ≤ k) (way : Way v
     })
     refused_on why (inr (inl lacks)) = inr (inl (record {
       shape = lacks.shape;
+      small = lacks.small;
       held = held_on lacks.shape lacks.held;
       is = lacks.is;
       sees = toward_way.on x.seen lacks.sees;

@@ -1,5 +1,5 @@
 -- The answers of calls that claim no words, by what their steps told.
-use Rattle.std.proofs.Common.{◌≡◌, ℕ, ◌≤◌, true, false, List, [], ◌∷◌, ◌++◌}
+use Rattle.std.proofs.Common.{◌≡◌, ℕ, ◌≤◌, true, false, List, [], ◌∷◌, ◌++◌, length, length-append}
 use Rattle.std.proofs.Common.{Ok, Err, refl, sym, ◌∙◌, ap, subst, arith, inl, inr}
 use Rattle.std.proofs.lemmas.List.{append_cancel_right}
 use Rattle.std.specs.Prelude.{None, Some}
@@ -53,6 +53,7 @@ way_replies v w a b most rs o r way answers = record {
   legal = way.sees.legal;
   since = way.sees.since;
   own_same = ap (λ (h : List Entry). own h v.thread) way.sees.begins.1 ∙ way.sees.own_same;
+  own_few = let same = ap length way.sees.own_same in omega (arith, same);
 }
 
 -- and with one
@@ -66,6 +67,11 @@ adds_replies v w act old new o r adds answers = record {
   legal = adds.legal;
   since = adds.since;
   own_same = between_own v w.seen act adds;
+  own_few =
+      let before : List ℕ = own v.seen v.thread in
+      let grown = ap length adds.own_grows in
+      let one = length-append before (length (v.seen ++ adds.between) ∷ []) in
+      omega (arith, grown, one);
 }
 
 -- nothing was in the register

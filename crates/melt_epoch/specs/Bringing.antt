@@ -1,7 +1,7 @@
 -- How a load brings an object back from disk: what its parts come to.
 use Rattle.std.specs.Prelude.{Bool, true, false, ◌≡◌, ◌⊎◌, ℕ, ◌+◌, ◌*◌, ◌-◌, ◌<◌, ◌≤◌, List, Option, None}
 use Rattle.std.specs.Prelude.{Result, Ok, Err}
-use Rattle.melt_word.specs.Words.{cost_of}
+use Rattle.melt_word.specs.Words.{IsShape, cost_of}
 use Rattle.melt_word.specs.declared.header.Shape.{Shape}
 use Rattle.melt_word.specs.declared.reference.Ref.TheVariants.{Disk}
 use Rattle.melt_io.specs.Outside.{Rose}
@@ -79,6 +79,7 @@ Settles v w a forwards (Err refusal) =
 -- The words that a copy wants end past the last one, so that the call was refused.
 pub record LacksRoom (v w : View) (search : Search) (most : ℕ) (refusal : Refusal) : Type 0 where
   pub shape : Shape
+  pub small : IsShape shape
   pub object : HomeHas v w.seen search.home shape
   pub is : refusal ≡ Pause (Space (cost_of shape))
   pub sees : Sees v w.seen

@@ -1,5 +1,5 @@
 -- What a call of a thread comes to.
-use Rattle.std.specs.Prelude.{◌≡◌, ◌⊎◌, ℕ, ◌+◌, ◌<◌, ◌≤◌, true, false, List, ◌++◌, None, Some}
+use Rattle.std.specs.Prelude.{◌≡◌, ◌⊎◌, ℕ, ◌+◌, ◌<◌, ◌≤◌, true, false, List, ◌++◌, length, None, Some}
 use Rattle.std.specs.Prelude.{Result, Ok, Err, IfErr}
 use Rattle.atomic_table.specs.declared.shared.Seat.{Seat}
 use Rattle.melt_model.specs.History.{Legal, made}
@@ -27,13 +27,14 @@ use Rattle.melt_epoch.specs.Mutators.{with_held}
 use Rattle.melt_epoch.specs.declared.mutator.Mutator.{Mutator}
 
 -- A call was answered. Behind all that was seen before and what others added since, history, registers and reply are those
--- that the operation has by its meaning, where the epoch is told.
+-- that the operation has by its meaning, where the epoch is told. Told or not, it has one entry at most.
 pub record Replies (v w : View) (old new : List Value) (o : Op) (reply : Reply) : Type 0 where
   pub between : List Entry
   pub answers : v.began.told ≡ true → Answers v.thread (v.seen ++ between) old o reply w.seen new
   pub legal : v.began.told ≡ true → Legal w.seen v.began.globals
   pub since : Since v.began w.seen
   pub own_same : own (v.seen ++ between) v.thread ≡ own v.seen v.thread
+  pub own_few : length (own w.seen v.thread) ≤ length (own v.seen v.thread) + 1
 
 -- A call was answered, or refused, which leaves the registers and has no entry.
 abbrev pub Comes : View → View → List Value → List Value → Op → Result Reply Refusal → Type 0

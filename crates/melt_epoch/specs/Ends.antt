@@ -4,7 +4,7 @@ use Rattle.std.specs.Prelude.{Option, None, Some, slice_index, All, Contains, su
 use mathlib.Core.Option.{some}
 use lib.ListN.{get_elem?}
 use Rattle.atomic_table.specs.declared.shared.Seat.{Seat}
-use Rattle.melt_model.specs.History.{Legal}
+use Rattle.melt_model.specs.History.{Legal, made}
 use Rattle.melt_model.specs.Thread.{own, value_in}
 use Rattle.melt_model.specs.declared.history.Entry.{Entry}
 use Rattle.melt_scion.specs.GhostMaps.{named}
@@ -159,8 +159,9 @@ pub record HoldsValues {R : Type 0} (maps : Maps) (s : State) (m : Mutator R) : 
   pub stand : (r : ℕ) → value_at maps (slice_index m.registers.regs r) ≡ Some (value_in m.values r)
   pub hold : (r : ℕ) → MayHold maps s (slice_index m.registers.regs r)
 
--- The epoch has ended, with these mutators: the heap stands for the history, by its own maps. Where it is told, an
--- object has the stale bit only if it had it at the beginning, and one that has it no more was used or looked at since.
+-- The epoch has ended, with these mutators: the heap stands for the history, by its own maps. Where it is told, each
+-- object that was made since the beginning has an address; and an object has the stale bit only if it had it at the
+-- beginning, and one that has it no more was used or looked at since.
 pub record HasEnded {R : Type 0} (b : Began) (ms : List (Mutator R)) (heap : Heap) (h : List Entry) : Type 0 where
   pub history : HistoryEnds b ms h
   pub heap_ends : HeapEnds b ms heap
@@ -169,4 +170,5 @@ pub record HasEnded {R : Type 0} (b : Began) (ms : List (Mutator R)) (heap : Hea
   pub named : MapsEnd b ms maps
   pub holds : Holds b.told h maps (state_of heap [] (disk_of b))
   pub registers : All (HoldsValues maps (state_of heap [] (disk_of b))) ms
+  pub stay : b.told ≡ true → (n : ℕ) → made b.history ≤ n → n < made h → (a : ℕ) × (maps.address a ≡ Some n)
   pub bits : b.told ≡ true → BitsTold (first_sight b) (last_sight h maps (state_of heap [] (disk_of b)))

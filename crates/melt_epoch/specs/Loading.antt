@@ -12,7 +12,7 @@ use Rattle.melt_model.specs.declared.history.Value.TheVariants.{Nil, Ref}
 use Rattle.melt_model.specs.declared.operations.Op.{Op}
 use Rattle.melt_model.specs.declared.operations.Op.TheVariants.{GLoad, Load}
 use Rattle.melt_model.specs.declared.operations.Reply.{Reply}
-use Rattle.melt_word.specs.Words.{cost_of}
+use Rattle.melt_word.specs.Words.{IsShape, cost_of}
 use Rattle.melt_word.specs.declared.header.Shape.{Shape}
 use Rattle.melt_word.specs.declared.reference.Ref as word
 use Rattle.melt_word.specs.declared.reference.Ref.TheVariants.{Disk}
@@ -32,6 +32,10 @@ use Rattle.melt_epoch.specs.Calls.{Counts, Lacked, Replies, WasAsked}
 use Rattle.melt_epoch.specs.declared.mutator.Mutator.{Mutator}
 use Rattle.melt_epoch.specs.declared.load.Loaded.{Loaded}
 use Rattle.melt_epoch.specs.declared.load.Loaded.TheVariants as loaded
+use Rattle.melt_record.specs.declared.head.Kind.TheVariants.{Body}
+use Rattle.melt_scion.specs.GhostMaps.{named}
+use Rattle.melt_scion.specs.Placed.{HeadIs}
+use Rattle.melt_rule.specs.Shown.{base_of}
 
 -- the place is that of the slot in the history, by what is known of addresses
 abbrev pub SlotAt : List Pair → Place → Slot → Type 0
@@ -50,10 +54,14 @@ abbrev pub IsBefore : ℕ → word.Ref → Type 0
 IsBefore end (Disk home) = home < end
 IsBefore end found = Unit {0}
 
--- Where the epoch is told, the slot held an object of this shape at some time in the call.
+-- Where the epoch is told, the slot held an object of this shape at some time in the call, and at the home of the object
+-- its Body stands on disk.
 pub record Held (v w : View) (s : Slot) (z : Shape) : Type 0 where
   pub then_ : List Entry
   pub object : ℕ
+  pub home : ℕ
+  pub of : named v.began.maps.homes home ≡ Some object
+  pub body : HeadIs (base_of v.began) home (record { shape = z; kind = Body })
   pub from : Begins v.seen then_
   pub until : Begins then_ w.seen
   pub held : last then_ s ≡ Ref object
@@ -84,6 +92,7 @@ pub record LoadFull (v w : View) (s : Slot) (most : ℕ) (refusal : Refusal) : T
 -- Or as the words for a copy end past the last one.
 pub record LoadLacks (v w : View) (s : Slot) (most : ℕ) (refusal : Refusal) : Type 0 where
   pub shape : Shape
+  pub small : IsShape shape
   pub held : HeldHas v w s shape
   pub is : refusal ≡ Pause (Space (cost_of shape))
   pub sees : Sees v w.seen

@@ -92,6 +92,7 @@ impl Epoch {
     }
 
     /// Loads a global into register `dst`.
+    #[inline(always)]
     pub fn gload<R: RecordReader>(
         &self,
         m: &mut Mutator<R>,
@@ -119,6 +120,7 @@ impl Epoch {
     }
 
     /// Loads reference slot `i` of the object in register `src` into register `dst`.
+    #[inline(always)]
     pub fn load<R: RecordReader>(
         &self,
         m: &mut Mutator<R>,

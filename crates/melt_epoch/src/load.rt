@@ -8,7 +8,7 @@ ghost use Rattle.melt_rule.specs.Tells.{Looks, Names, Reads};
 ghost use Rattle.melt_rule.specs.declared.view.Doing.TheVariants.{Cleared};
 ghost use Rattle.melt_rule.specs.declared.view.View.{View as ViewIs};
 ghost use Rattle.melt_epoch.specs.Epochs.{Fits};
-ghost use Rattle.melt_epoch.specs.Loading.{Found, IsBefore, LoadsGlobal, LoadsSlot, Resolves, SlotAt};
+ghost use Rattle.melt_epoch.specs.Loading.{Found, IsBefore, Loads, LoadsGlobal, LoadsSlot, Resolves, SlotAt};
 ghost use Rattle.melt_epoch.specs.Mutators.{IsIdle};
 
 use crate::bring::bring;
@@ -34,7 +34,65 @@ fn untag(words: &Words, seat: &mut Seated, place: Place, found: Ref, target: u32
     }
 }
 
-/// Goes on with a load that looked at a place, and answers the address of what it read, or 0 for nothing.
+/// Goes on with a load that found a stale reference: it clears the stale bit of the object at the target, takes the tag, and
+/// answers the address of what it read.
+#[cold]
+#[inline(never)]
+fn load_stale(words: &Words, seat: &mut Seated, place: Place, target: u32) -> u32
+    requires seat { IsSeat words.now seat.old }
+    requires found { Found (knows_of seat.old) place (Ref.Stale target) }
+    ensures seat { IsSeat words.now seat.new }
+    ensures own { (knows_of seat.new).mine ≡ (knows_of seat.new).seen }
+    ensures loads { (v : ViewIs) (s : Slot) → SlotAt v.known place s
+        → Looks v (knows_of seat.old) s place (Ref.Stale target) → Loads v (knows_of seat.new) s 3 result }
+{
+    words.clear(seat, target);
+    untag(words, seat, place, Ref::Stale(target), target)
+}
+
+/// Goes on with a load that found a home: it brings the object of the home into use, takes the tag, and answers the address
+/// of what it read.
+#[cold]
+#[inline(never)]
+fn load_home<R: RecordReader>(
+    words: &Words,
+    seat: &mut Seated,
+    heap: &Heap,
+    end: u32,
+    reader: &mut R,
+    place: Place,
+    home: u32,
+) -> Result<u32, Refusal>
+    requires seat { IsSeat words.now seat.old }
+    requires found { Found (knows_of seat.old) place (Ref.Disk home) }
+    requires no_cause { has_cause (knows_of seat.old) ≡ false }
+    requires fits { Fits words.now heap.now end }
+    requires reader { words.now.start.began.told ≡ true → R.image reader.old ≡ Some words.now.start.began.image }
+    requires within { home < end }
+    ensures seat { IsSeat words.now seat.new }
+    ensures own { (knows_of seat.new).mine ≡ (knows_of seat.new).seen }
+    ensures resolves { (v : ViewIs) (s : Slot) → SlotAt v.known place s
+        → Looks v (knows_of seat.old) s place (Ref.Disk home)
+        → Resolves words.now.start.began.told (R.image reader.old) heap.now.scions end (R.faults reader.old)
+        (R.faults reader.new) v (knows_of seat.new) s (2 * words.now.start.began.forwards + 132) result }
+    ensures image { R.image reader.new ≡ R.image reader.old }
+    ensures count { R.faults reader.old ≤ R.faults reader.new }
+    ensures reads_rise { R.reads reader.old ≤ R.reads reader.new }
+    ensures two_reads { R.reads reader.new ≤ R.reads reader.old + 2 }
+{
+    let search = Search {
+        place,
+        home,
+        tried: 0,
+        dst: 0,
+    };
+    let target = bring(words, seat, heap, end, reader, search)?;
+    Ok(untag(words, seat, place, Ref::Disk(home), target))
+}
+
+/// Goes on with a load that looked at a place, and answers the address of what it read, or 0 for nothing. Most words have
+/// no tag, so that is answered where the load stands; what takes a tag is called.
+#[inline(always)]
 pub(crate) fn resolve<R: RecordReader>(
     words: &Words,
     seat: &mut Seated,
@@ -63,20 +121,8 @@ pub(crate) fn resolve<R: RecordReader>(
     match found {
         Ref::Null => Ok(0),
         Ref::Clean(address) => Ok(address),
-        Ref::Stale(target) => {
-            words.clear(seat, target);
-            Ok(untag(words, seat, place, Ref::Stale(target), target))
-        }
-        Ref::Disk(home) => {
-            let search = Search {
-                place,
-                home,
-                tried: 0,
-                dst: 0,
-            };
-            let target = bring(words, seat, heap, end, reader, search)?;
-            Ok(untag(words, seat, place, Ref::Disk(home), target))
-        }
+        Ref::Stale(target) => Ok(load_stale(words, seat, place, target)),
+        Ref::Disk(home) => load_home(words, seat, heap, end, reader, place, home),
     }
 }
 
@@ -92,6 +138,7 @@ pub(crate) enum Loaded {
 }
 
 /// Loads a global, and answers the address of what it read, or 0 for nothing.
+#[inline(always)]
 pub(crate) fn load_global<R: RecordReader>(
     words: &Words,
     seat: &mut Seated,
@@ -120,6 +167,7 @@ pub(crate) fn load_global<R: RecordReader>(
 }
 
 /// Loads reference slot `i` of the object at an address; at 0 there is none.
+#[inline(always)]
 pub(crate) fn load_slot<R: RecordReader>(
     words: &Words,
     seat: &mut Seated,

@@ -170,6 +170,7 @@ module _ (start : Start) (words : List ℕ) (may : MayBegin start words) where
     whole = record { seat = 0; view = first; at = refl; live = may.some_thread; seen = refl };
     members = λ i p t u e alive has. (p, speaks i p t u e has);
     since = begins_self start.began.history;
+    stay = λ told n from below. absurd (omega arith);
     strangers = λ t none. refl;
     sums = record {
       parts = sum_one (λ (u : View). u.parts);

@@ -1,5 +1,5 @@
 -- What a seat can tell of the first free place that its claim found.
-use Rattle.std.proofs.Common.{◌≡◌, ℕ, ◌+◌, ◌<◌, ◌≤◌, List, length, get_or, refl, ap, arith}
+use Rattle.std.proofs.Common.{◌≡◌, ℕ, ◌+◌, ◌<◌, List, length, get_or, refl, ap, arith}
 use Rattle.std.specs.List.{sum_by}
 use lib.ListN.{get_elem?}
 use mathlib.Core.Option.{some}

@@ -48,6 +48,8 @@ use Rattle.melt_rule.specs.declared.began.Start.{Start}
 use Rattle.melt_rule.specs.declared.view.Doing.{Doing}
 use Rattle.melt_rule.specs.declared.view.Doing.TheVariants.{Missed, Copying, Copied, LackingCopy}
 use Rattle.melt_rule.specs.declared.view.View.{View}
+use Rattle.melt_record.specs.declared.head.Kind.TheVariants.{Body}
+use Rattle.melt_scion.specs.Placed.{HeadIs}
 
 -- an object that has a shape has it later
 shape_later : (g h : List Entry) (n : ℕ) (z : model.Shape) → Begins g h → shape g n ≡ Some z → shape h n ≡ Some z
@@ -79,10 +81,14 @@ module _ (start : Start) (words : List ℕ) (views : List View) (kept : Kept sta
 
   -- it tells the shape of the object of the home
   home_has : (search : Search) (z : Shape) (rest : List ℕ) → Reads search z rest → HomeHas v kept.history search.home z
-  home_has search z rest body = subst (λ (b : Began). b.told ≡ true → (n : ℕ) → named b.maps.homes search.home ≡ Some n
-      → shape kept.history n ≡ Some (record { refs = z.refs; nums = z.nums })) (sym stood.began)
-      (λ told n is. shape_later start.began.history kept.history n (record { refs = z.refs; nums = z.nums }) kept.since
-      (kept.bodies told search.home n z is (body.head.on_disk told)))
+  home_has search z rest body =
+      subst (λ (b : Began). b.told ≡ true → HeadIs (base_of b) search.home (record { shape = z; kind = Body })
+      × ((n : ℕ) → named b.maps.homes search.home ≡ Some n
+      → shape kept.history n ≡ Some (record { refs = z.refs; nums = z.nums }))) (sym stood.began) (λ told. (
+        body.head.on_disk told,
+        λ n is. shape_later start.began.history kept.history n (record { refs = z.refs; nums = z.nums }) kept.since
+            (kept.bodies told search.home n z is (body.head.on_disk told)),
+      ))
 
   -- the search came to a word that was empty
   misses : (search : Search) → v.doing ≡ Some (Missed search) → Misses start.began.told kept.maps old search

@@ -19,7 +19,8 @@ use Rattle.melt_core.specs.StaleBits.{BitsTold, pending}
 use Rattle.melt_rule.proofs.Tying.{left_tied, none_pending, stage_here, stage_idle, stage_none, stage_other}
 use Rattle.melt_rule.specs.Ending.{HistoryEnds, CountsEnd, HasEnded}
 use Rattle.melt_rule.specs.Giving.{spent_view}
-use Rattle.melt_rule.specs.Rule.{Has, Begins, Knowing, Saw, SeatStands, threads_of, has_cause, is_reading, Kept, Rule}
+use Rattle.melt_rule.specs.Rule.{Has, Begins, Knowing, MadeStay, Saw, SeatStands, threads_of, has_cause, is_reading}
+use Rattle.melt_rule.specs.Rule.{Kept, Rule}
 use Rattle.melt_rule.specs.Shown.{shows}
 use Rattle.melt_rule.specs.Sights.{first_sight, last_sight, no_calls, stage_at, stage_in}
 use Rattle.melt_rule.specs.declared.began.Pair.{Pair}
@@ -196,6 +197,7 @@ module _ (start : Start) (words : List ℕ) (views : List View) (kept : Kept sta
         fresh = stood.fresh;
       };
       counts = counts_end;
+      stay = λ told. subst (λ (h : List Entry). MadeStay start.began.history h kept.maps) (sym whole) (kept.stay told);
       bits = bits_end;
     }
 

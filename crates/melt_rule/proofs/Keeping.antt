@@ -8,7 +8,7 @@ use mathlib.Core.Option.{some, some-injective}
 use native.Mathlib.Decide.{ℕ_discrete}
 use Rattle.atomic_table.proofs.Lists.{at_set, set_here, set_else, at_map}
 use Rattle.melt_model.proofs.Histories.{own-push_own}
-use Rattle.melt_model.specs.History.{Legal, given}
+use Rattle.melt_model.specs.History.{Legal, given, made}
 use Rattle.melt_model.specs.Thread.{own}
 use Rattle.melt_model.specs.declared.history.Act.{Act}
 use Rattle.melt_model.specs.declared.history.Act.TheVariants.{Read}
@@ -28,6 +28,7 @@ use Rattle.melt_core.proofs.StaleBitsPassing.{used_push}
 use Rattle.melt_core.proofs.StaleBitsTying.{look_stays, tied_later}
 use Rattle.melt_core.proofs.StaleBitsWatching.{look_passes, one_slot, watch_begins}
 use Rattle.melt_core.proofs.Staying.{fresh_stays, known_stays}
+use Rattle.melt_core.proofs.WordsMade.{made_stay}
 use Rattle.melt_core.specs.Answering.{entry, with_entry}
 use Rattle.melt_core.specs.Events.{Event, Keeps}
 use Rattle.melt_core.specs.Known.{Evolves, RegionStays, SlotAt, word_in}
@@ -538,6 +539,8 @@ module _ (start : Start) (words after : List ℕ) (views : List View) (kept : Ke
           let x = spoke i p t u e alive has in
           kept.members i p t x.view x.is x.alive x.has;
       since = begins_on v.thread start.began.history kept.history s.act kept.since;
+      stay = λ told. made_stay start.began.told kept.history kept.maps s.maps old new v.thread s.mine s.cleared s.act s.event
+          keeps.evolves (made start.began.history) (kept.stay told);
       strangers = λ t none.
           own_other v.thread t kept.history s.act (λ same. none id 0 w (here w) alive_still (ap some (s.thread ∙ same)))
           ∙ kept.strangers t (λ i p u e alive has. let x = speaks i p t u e alive has in

@@ -465,6 +465,7 @@ module _ (start : Start) (words : List ℕ) (views : List View) (kept : Kept sta
       | from_before x a b c d e' ↦ kept.members i p t x c d e'
     ];
     since = kept.since;
+    stay = kept.stay;
     strangers = λ t none. kept.strangers t (λ i p u e alive has. let x = speaks i p t u e alive has in
         none x.seat x.place x.view x.is x.alive x.has);
     sums = sums_kept;

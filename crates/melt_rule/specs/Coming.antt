@@ -6,6 +6,8 @@ use Rattle.melt_model.specs.History.{shape}
 use Rattle.melt_model.specs.declared.history.Entry.{Entry}
 use Rattle.melt_word.specs.Words.{cost_of}
 use Rattle.melt_word.specs.declared.header.Shape.{Shape}
+use Rattle.melt_record.specs.declared.head.Kind.TheVariants.{Body}
+use Rattle.melt_scion.specs.Placed.{HeadIs}
 use Rattle.melt_word.specs.declared.reference.Ref.TheVariants.{Disk}
 use Rattle.melt_forward.specs.Forwarding.{Sends, probe}
 use Rattle.melt_scion.specs.GhostMaps.{named}
@@ -15,7 +17,7 @@ use Rattle.melt_core.specs.declared.call.Activation.{Activation}
 use Rattle.melt_core.specs.declared.call.Search.{Search}
 use Rattle.melt_rule.specs.Making.{FirstFree}
 use Rattle.melt_rule.specs.Plays.{Stays}
-use Rattle.melt_rule.specs.Shown.{forward_place, word_place}
+use Rattle.melt_rule.specs.Shown.{base_of, forward_place, word_place}
 use Rattle.melt_rule.specs.Tells.{Sees, behind, Reaches}
 use Rattle.melt_rule.specs.declared.began.Began.{Began}
 use Rattle.melt_rule.specs.declared.view.Doing.{Doing}
@@ -48,10 +50,10 @@ SearchesOn v search = (v.doing ≡ Some (Searching search))
 abbrev pub Fills : View → View → Type 0
 Fills v w = Sees v w.seen × (w ≡ record (behind v w.seen v.known None) { forwarded = true })
 
--- where it is told, the object of the home has the shape
+-- where it is told, a Body of this shape stands at the home on disk, and the object of the home has the shape
 abbrev pub HomeHas : View → List Entry → ℕ → Shape → Type 0
-HomeHas v h home z = v.began.told ≡ true → (n : ℕ) → named v.began.maps.homes home ≡ Some n
-    → shape h n ≡ Some (record { refs = z.refs; nums = z.nums })
+HomeHas v h home z = v.began.told ≡ true → HeadIs (base_of v.began) home (record { shape = z; kind = Body })
+    × ((n : ℕ) → named v.began.maps.homes home ≡ Some n → shape h n ≡ Some (record { refs = z.refs; nums = z.nums }))
 
 -- Words from the address on are for a copy of the Body of this shape, with these words behind its head.
 pub record ClaimsCopy (v w : View) (search : Search) (z : Shape) (rest : List ℕ) (address : ℕ) : Type 0 where

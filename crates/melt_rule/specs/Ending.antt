@@ -8,7 +8,7 @@ use Rattle.melt_scion.specs.GhostMaps.{named}
 use Rattle.melt_scion.specs.Placed.{Maps, Holds}
 use Rattle.melt_scion.specs.State.{State, IsFresh}
 use Rattle.melt_core.specs.StaleBits.{BitsTold}
-use Rattle.melt_rule.specs.Rule.{Has, Begins, Saw, threads_of, filled, has_cause, is_lacking}
+use Rattle.melt_rule.specs.Rule.{Has, Begins, MadeStay, Saw, threads_of, filled, has_cause, is_lacking}
 use Rattle.melt_rule.specs.Shown.{shows}
 use Rattle.melt_rule.specs.Sights.{first_sight, last_sight}
 use Rattle.melt_rule.specs.declared.began.Began.{Began}
@@ -45,7 +45,8 @@ pub record CountsEnd (b : Began) (stop : ℕ) (s : State) (v : View) : Type 0 wh
   pub caused : stop ≡ 1 → has_cause v ≡ true
   pub sets : has_cause v ≡ true → is_lacking v.doing ≡ false → stop ≡ 1
 
--- The words stand for the history that the view has seen. Where it is told, they have the stale bit as that says.
+-- The words stand for the history that the view has seen. Where it is told, each object that was made in the epoch has an
+-- address, and the words have the stale bit as the history says.
 pub record HasEnded (start : Start) (words : List ℕ) (v : View) : Type 0 where
   pub size : length words ≡ 2 + start.began.globals + start.began.forwards + start.began.size
   pub maps : Maps
@@ -53,5 +54,6 @@ pub record HasEnded (start : Start) (words : List ℕ) (v : View) : Type 0 where
   pub history : HistoryEnds start v
   pub named : MapsEnd start.began maps (shows start.began words) v
   pub counts : CountsEnd start.began (slice_index words 0) (shows start.began words) v
+  pub stay : start.began.told ≡ true → MadeStay start.began.history v.seen maps
   pub bits : start.began.told ≡ true
       → BitsTold (first_sight start.began) (last_sight v.seen maps (shows start.began words))

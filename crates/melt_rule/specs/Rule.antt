@@ -5,7 +5,7 @@ use Rattle.std.specs.List.{sum_by}
 use mathlib.Core.Option.{some}
 use lib.ListN.{get_elem?}
 use Rattle.atomic_table.specs.Table.{State as Table}
-use Rattle.melt_model.specs.History.{Legal, shape}
+use Rattle.melt_model.specs.History.{Legal, made, shape}
 use Rattle.melt_model.specs.Thread.{own}
 use Rattle.melt_model.specs.declared.history.Entry.{Entry}
 use Rattle.melt_word.specs.declared.header.Shape.{Shape}
@@ -33,6 +33,10 @@ Has pairs address n = (i : ℕ) × (get_elem? pairs i ≡ some (record { address
 -- the second history is the first, and more behind it
 abbrev pub Begins : List Entry → List Entry → Type 0
 Begins g h = (more : List Entry) × (g ++ more ≡ h)
+
+-- Each object that was made behind the first history has an address.
+abbrev pub MadeStay : List Entry → List Entry → Maps → Type 0
+MadeStay g h maps = (n : ℕ) → made g ≤ n → n < made h → (a : ℕ) × (maps.address a ≡ Some n)
 
 -- some seat knows the pair
 pub record Knowing (views : List View) (address n : ℕ) : Type 0 where
@@ -139,7 +143,8 @@ pub record StopStands (b : Began) (stop : ℕ) (s : State) (views : List View) :
 -- There is one history. It is legal, and the words stand for it. Each seat that is not spent knows what is so, and one
 -- that is spent knows and counts nothing; no thread has two seats; no word belongs to two calls. No thread but those
 -- that take part has an entry since the beginning. What a Body on disk says of the shape of its object stays so where
--- the object comes back. Where it is told, the stale bit is tied to the history since the beginning.
+-- the object comes back. Where it is told, each object that was made since the beginning has an address, and the stale
+-- bit is tied to the history since then.
 pub record Kept (start : Start) (words : List ℕ) (views : List View) : Type 0 where
   pub history : List Entry
   pub maps : Maps
@@ -163,6 +168,7 @@ pub record Kept (start : Start) (words : List ℕ) (views : List View) : Type 0 
   pub members : (id p t : ℕ) (v : View) → get_elem? views id ≡ some v → 0 < v.parts
       → get_elem? (threads_of v) p ≡ some t → TakesPart start.began t
   pub since : Begins start.began.history history
+  pub stay : start.began.told ≡ true → MadeStay start.began.history history maps
   pub strangers : (t : ℕ) → ((id p : ℕ) (v : View) → get_elem? views id ≡ some v → 0 < v.parts
       → get_elem? (threads_of v) p ≡ some t → ⊥) → own history t ≡ own start.began.history t
   pub sums : SumsStand start.began (length start.began.threads) (shows start.began words) views

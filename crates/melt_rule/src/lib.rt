@@ -13,6 +13,7 @@
 mod barrier;
 pub mod began;
 mod coming;
+mod decode;
 pub mod ended;
 mod law;
 mod making;

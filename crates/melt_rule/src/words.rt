@@ -14,6 +14,7 @@ ghost use Rattle.melt_rule.specs.Tells.{Asks, Ends, Heads, Looks, Names, Polls, 
 ghost use Rattle.melt_rule.specs.declared.view.Doing.TheVariants.{Polled};
 
 use crate::began::Start;
+use crate::decode::{ref_of, shape_of};
 use crate::law::Law;
 use crate::plays::{
     Ask, LoadGlobal, LoadHeader, LoadNumber, LoadSlot, Poll, SetStop, StoreGlobal, StoreNumber,
@@ -22,7 +23,7 @@ use crate::plays::{
 use crate::view::View;
 use atomic_table::{Seat, Table};
 use melt_model::Ghost;
-use melt_word::{Ref, Shape, decode_header, decode_ref, held_word};
+use melt_word::{Ref, Shape, held_word};
 use std::alloc::Global;
 use std::marker::Model;
 
@@ -96,10 +97,7 @@ impl Words {
             .table
             .shared
             .load::<LoadHeader>(seat, self.before + address as usize);
-        let Ok(header) = decode_header(word) else {
-            unreachable!();
-        };
-        header.shape
+        shape_of(word)
     }
 
     /// Looks at reference slot `i` of an object whose header was loaded.
@@ -112,10 +110,7 @@ impl Words {
     {
         let at = self.before + address as usize + 2 + i as usize;
         let word = self.table.shared.load::<LoadSlot>(seat, at);
-        let Ok(found) = decode_ref(word) else {
-            unreachable!();
-        };
-        found
+        ref_of(word)
     }
 
     /// Looks at a global.
@@ -127,10 +122,7 @@ impl Words {
         ensures looks { Looks (knows_of seat.old) (knows_of seat.new) (slot.Global g) (place.Global g) result }
     {
         let word = self.table.shared.load::<LoadGlobal>(seat, 2 + g as usize);
-        let Ok(found) = decode_ref(word) else {
-            unreachable!();
-        };
-        found
+        ref_of(word)
     }
 
     /// Reads number word `j` of an object of this shape, whose header was loaded.

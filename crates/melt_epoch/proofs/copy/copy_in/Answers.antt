@@ -12,8 +12,8 @@ returns-in_default-clause-copies c =
     let v = knows_of c.args.seat.now in
     let u = knows_of c.stop.new.seat in
     inr (subst (λ (n : ℕ). LacksRoom v u c.args.search 2 (Pause (Space n))) (sym c.cost.ensures)
-    (lacks_room v (knows_of c.claim_copy.new.seat) u c.args.search c.args.shape c.in_default.ensures.tells
-    c.stop.ensures.stops))
+    (lacks_room v (knows_of c.claim_copy.new.seat) u c.args.search c.args.shape c.requires.body.head.small
+    c.in_default.ensures.tells c.stop.ensures.stops))
 
 pub returns-clause-copies : goal.returns-clause-copies
 returns-clause-copies c =

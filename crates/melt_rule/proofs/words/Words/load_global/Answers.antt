@@ -29,8 +29,8 @@ load-word-requires c =
           below,
     )
 
-pub unreachable-requires : goal.unreachable-requires
-unreachable-requires c =
+pub ref_of-requires : goal.ref_of-requires
+ref_of-requires c =
     let start = c.self.inside.table.shared.key in
     let id = c.self.inside.table.shared.table_id in
     let seat = inside_seat c.args.self.now (record { id = id; start = start }) c.args.seat.now c.self.view_is
@@ -38,7 +38,7 @@ unreachable-requires c =
     let below = subst (λ (b : Began). c.args.g < b.globals) (sym seat.began)
     (subst (λ (e : EpochWords). c.args.g < e.start.began.globals) (sym c.self.view_is) c.requires.global) in
     let f = c.load-word.ensures.2.1 c.args.g below refl in
-    c.in_default.ensures.err f.reference f.in_range f.is
+    (f.reference, f.in_range, f.is)
 
 pub returns-clause-seat : goal.returns-clause-seat
 returns-clause-seat c =
@@ -64,8 +64,8 @@ returns-clause-looks c =
     let below = subst (λ (b : Began). c.args.g < b.globals) (sym seat.began)
     (subst (λ (e : EpochWords). c.args.g < e.start.began.globals) (sym c.self.view_is) c.requires.global) in
     let f = c.load-word.ensures.2.1 c.args.g below refl in
-    let is = c.in-Ok.ensures.ok in
-    let one : f.reference ≡ c.in-Ok.found = same_ref f.reference c.in-Ok.found f.in_range is.0 (sym f.is ∙ is.1) in
+    let is = c.ref_of.ensures in
+    let one : f.reference ≡ c.ref_of.result = same_ref f.reference c.ref_of.result f.in_range is.in_range (sym f.is ∙ is.is) in
     subst (λ (r : Ref). Looks (knows_of c.args.seat.now) (knows_of c.load-word.new.seat) (slot.Global c.args.g)
     (Global c.args.g) r) one
     f.looks

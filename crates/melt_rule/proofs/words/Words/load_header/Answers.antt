@@ -1,7 +1,5 @@
-use Rattle.std.proofs.Common.{◌≡◌, ◌+◌, subst, ap, sym, ◌∙◌}
+use Rattle.std.proofs.Common.{◌+◌, subst, ap, sym}
 use Rattle.std.specs.Prelude.{Some}
-use Rattle.melt_word.proofs.OneToOne.{same_header}
-use Rattle.melt_word.specs.declared.header.Header.{Header}
 use Rattle.melt_word.specs.declared.header.Shape.{Shape}
 use Rattle.melt_rule.proofs.Allowed.{heads}
 use Rattle.melt_rule.proofs.Seating.{inside_seat, seated_behind, placed_at, has_word}
@@ -30,15 +28,15 @@ load-word-requires c =
           (placed_at id start c.self.inside.before c.self.inside.forwards_at c.args.seat.now c.args.address c.self.invariant seat),
     )
 
-pub unreachable-requires : goal.unreachable-requires
-unreachable-requires c =
+pub shape_of-requires : goal.shape_of-requires
+shape_of-requires c =
     let start = c.self.inside.table.shared.key in
     let id = c.self.inside.table.shared.table_id in
     let seat = inside_seat c.args.self.now (record { id = id; start = start }) c.args.seat.now c.self.view_is
     c.requires.seat in
     let f = c.load-word.ensures.2.1 c.args.address c.requires.known.0 c.requires.known.1
     (placed_at id start c.self.inside.before c.self.inside.forwards_at c.args.seat.now c.args.address c.self.invariant seat) in
-    c.in_default.ensures.err f.header f.in_range f.is
+    (f.header, f.in_range, f.is)
 
 pub returns-clause-seat : goal.returns-clause-seat
 returns-clause-seat c =
@@ -64,8 +62,6 @@ returns-clause-heads c n has =
     c.requires.seat in
     let f = c.load-word.ensures.2.1 c.args.address n has
     (placed_at id start c.self.inside.before c.self.inside.forwards_at c.args.seat.now c.args.address c.self.invariant seat) in
-    let is = c.in-Ok.ensures.ok in
-    let one : f.header ≡ c.in-Ok.header = same_header f.header c.in-Ok.header f.in_range is.0 (sym f.is ∙ is.1) in
     subst (λ (z : Shape). Heads (knows_of c.args.seat.now) (knows_of c.load-word.new.seat) c.args.address n z)
-    (ap (λ (h : Header). h.shape) one)
+    (sym (c.shape_of.ensures f.header f.in_range f.is))
     f.heads

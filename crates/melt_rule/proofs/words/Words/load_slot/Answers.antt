@@ -42,8 +42,8 @@ load-word-requires c =
           place,
     )
 
-pub unreachable-requires : goal.unreachable-requires
-unreachable-requires c =
+pub ref_of-requires : goal.ref_of-requires
+ref_of-requires c =
     let start = c.self.inside.table.shared.key in
     let id = c.self.inside.table.shared.table_id in
     let seat = inside_seat c.args.self.now (record { id = id; start = start }) c.args.seat.now c.self.view_is
@@ -59,7 +59,7 @@ unreachable-requires c =
     let p = placed_at id start c.self.inside.before c.self.inside.forwards_at c.args.seat.now (c.args.address + 2 + c.args.i) c.self.invariant seat in
     omega arith in
     let f = c.load-word.ensures.2.1 c.args.address n c.args.i z headed has holds place in
-    c.in_default.ensures.err f.reference f.in_range f.is
+    (f.reference, f.in_range, f.is)
 
 pub returns-clause-seat : goal.returns-clause-seat
 returns-clause-seat c =
@@ -102,8 +102,8 @@ returns-clause-looks c m other =
     let p = placed_at id start c.self.inside.before c.self.inside.forwards_at c.args.seat.now (c.args.address + 2 + c.args.i) c.self.invariant seat in
     omega arith in
     let f = c.load-word.ensures.2.1 c.args.address m c.args.i z headed other holds place in
-    let is = c.in-Ok.ensures.ok in
-    let one : f.reference ≡ c.in-Ok.found = same_ref f.reference c.in-Ok.found f.in_range is.0 (sym f.is ∙ is.1) in
+    let is = c.ref_of.ensures in
+    let one : f.reference ≡ c.ref_of.result = same_ref f.reference c.ref_of.result f.in_range is.in_range (sym f.is ∙ is.is) in
     subst (λ (r : Ref). Looks (knows_of c.args.seat.now) (knows_of c.load-word.new.seat) (slot.Field m c.args.i)
     (Field c.args.address c.args.i) r) one
     f.looks
