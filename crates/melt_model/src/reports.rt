@@ -1,4 +1,5 @@
 //! What a run answers: the replies and the end of each thread, and the journal of its collections.
+use crate::ghosts::Ghost;
 use crate::history::Entries;
 use crate::operations::Replies;
 use std::marker::Model;
@@ -79,11 +80,12 @@ impl Model for Journals {
 }
 
 /// What a whole run answers. `log` is the stored history of a run that takes its events in a written
-/// order, and is empty for one of running threads.
+/// order, and is empty for one of running threads. `history` is that of either, for contracts alone.
 #[derive(Debug, Drop)]
 pub struct Report {
     pub threads: ThreadReports,
     pub journal: Journals,
     pub halt: Option<Halt>,
     pub log: Entries,
+    pub history: Ghost<Entries>,
 }

@@ -104,10 +104,10 @@ same_end a b is = cc
 -- why a thread may end so
 pub may_end : (told : Bool) (script : Script) (config : Config) (report : Report) (states : List ThreadState) (t : ℕ)
     (e : ThreadEnd) → ((u : ℕ) → replies_of states u ≡ replies_in report u)
-    → EndsSo told script report.log states config t (mode.Ended e) → MayEnd told script config report t e
+    → EndsSo told script report.history states config t (mode.Ended e) → MayEnd told script config report t e
 may_end told script config report states t end.Done same ends = ap length (sym (same t)) ∙ ends
 may_end told script config report states t (end.OutOfHeap held_words need) same ends = λ is.
-    LacksRoom_same script report.log (replies_of states) (replies_in report) config t held_words need same (ends is).0
+    LacksRoom_same script report.history (replies_of states) (replies_in report) config t held_words need same (ends is).0
 may_end told script config report states t end.DiskFault same ends =
     subst (LoadsNext script t) (ap length (same t)) ends
 may_end told script config report states t (end.Damaged home at word) same ends =

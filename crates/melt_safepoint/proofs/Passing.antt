@@ -10,7 +10,7 @@ use Rattle.melt_safepoint.specs.declared.thread.ThreadState.{ThreadState}
 use Rattle.melt_safepoint.specs.declared.thread.Mode.{Mode}
 use Rattle.melt_safepoint.specs.declared.thread.Mode.TheVariants.{Running, Due, Silent, Collecting, Asked, Lacking}
 use Rattle.melt_safepoint.specs.declared.thread.Mode.TheVariants.{Ended}
-use Rattle.melt_safepoint.specs.Passing.{CalledAt, CollectedFor, CollectedAt, CollectedAll, Resumed, Passed}
+use Rattle.melt_safepoint.specs.Passing.{CollectedFor, CollectedAt, CollectedAll}
 use Rattle.melt_safepoint.specs.Modes.{owes, IsPaused, MayGo, lost, owes_silent, IsEnded, FitsMode, CallsAgain}
 use Rattle.melt_safepoint.specs.Modes.{ForCollection, Waits, jobs}
 use Rattle.melt_safepoint.specs.Threads.{jobs_of, left}
@@ -105,10 +105,6 @@ made_again_goes s x own made paused = elim (calls_again s.mode) [
   | inr not ↦ elim (paused_for s.mode (subst (λ (z : ThreadState). IsPaused z.mode) (made.same not) paused))
       [ inl for ↦ own for | inr again ↦ not again ]
 ]
-
--- no thread waits for a collection of its own
-abbrev pub NoneOwn : List ThreadState → Type 0
-NoneOwn states = (t : ℕ) (s : ThreadState) → slice_get states t ≡ Some s → ForCollection s.mode → ⊥
 
 -- what waits for a collection or for room waits
 pub waits_paused : (mode : Mode) → Waits mode → IsPaused mode
@@ -214,68 +210,8 @@ waits_for Lacking waits = inr (refl, λ is. is)
 waits_for (Ended e) waits = absurd waits
 
 -- collections give no thread more to do
-collected_jobs : (s x : ThreadState) → CollectedFor s x → jobs_of x ≤ jobs_of s
+pub collected_jobs : (s x : ThreadState) → CollectedFor s x → jobs_of x ≤ jobs_of s
 collected_jobs s x collected = elim (for_collection s.mode) [
   | inl for ↦ omega (arith, collected.fewer for)
   | inr not ↦ omega (arith, ap jobs_of (collected.same not))
 ]
-
--- a safepoint at which no thread lacks room behind the collections
-pub passed_collected : (states mid after : List ThreadState) → CollectedAll states mid
-    → ((t : ℕ) (s : ThreadState) → slice_get mid t ≡ Some s → s.mode ≡ Lacking → ⊥) → Resumed mid after
-    → ((t : ℕ) × ((s : ThreadState) × (slice_get states t ≡ Some s) × Waits s.mode)) → Passed states after
-passed_collected states mid after all none resumed waits = record {
-  goes = resumed.goes;
-  count = resumed.count ∙ all.count;
-  each = λ t s at.
-      let x : (x : ThreadState) × (slice_get mid t ≡ Some x) × CollectedFor s x = all.each t s at in
-      let y : (y : ThreadState) × (slice_get after t ≡ Some y) × (jobs_of y ≡ jobs_of x.0) = resumed.each t x.0 x.1 in
-      (y.0, y.1, omega (arith, y.2, collected_jobs s x.0 x.2));
-  one =
-      let t : ℕ = waits.0 in
-      let s : ThreadState = waits.1.0 in
-      let at : slice_get states t ≡ Some s = waits.1.1 in
-      let x : (x : ThreadState) × (slice_get mid t ≡ Some x) × CollectedFor s x = all.each t s at in
-      let y : (y : ThreadState) × (slice_get after t ≡ Some y) × (jobs_of y ≡ jobs_of x.0) = resumed.each t x.0 x.1 in
-      elim (waits_for s.mode waits.1.2) [
-        | inl for ↦ (t, (s, (y.0, at, y.1, omega (arith, y.2, x.2.fewer for))))
-        | inr lacks ↦ absurd (none t x.0 x.1 (ap (λ (z : ThreadState). z.mode) (x.2.same lacks.1) ∙ lacks.0))
-      ];
-}
-
--- a safepoint at which the call of a thread was made behind the collections
-pub passed_called : (states mid called after : List ThreadState) (t : ℕ) (s : ThreadState) → CollectedAll states mid
-    → slice_get mid t ≡ Some s → CalledAt mid called t → Resumed called after → Passed states after
-passed_called states mid called after t s all at calls resumed =
-    let one : (x : ThreadState) × (called ≡ slice_set mid t x) × (jobs_of x < jobs_of s) × (IsPaused x.mode → ⊥) =
-    calls s at in
-    let here : slice_get called t ≡ Some one.0 =
-    ap (λ (ss : List ThreadState). slice_get ss t) one.1 ∙ get_set_same mid t s one.0 at in
-    let last : (y : ThreadState) × (slice_get after t ≡ Some y) × (jobs_of y ≡ jobs_of one.0) =
-    resumed.each t one.0 here in
-    let below : t < length mid = slice_get_within mid t s at in
-    record {
-      goes = resumed.goes;
-      count = resumed.count ∙ (ap length one.1 ∙ (length-set mid t one.0 ∙ all.count));
-      each = λ u r there.
-          let x : (x : ThreadState) × (slice_get mid u ≡ Some x) × CollectedFor r x = all.each u r there in
-          let fewer : jobs_of x.0 ≤ jobs_of r = collected_jobs r x.0 x.2 in
-          elim (cases_eq u t) [
-            | inl same ↦
-                let is : s ≡ x.0 = same_Some s x.0 (sym at ∙ (ap (slice_get mid) (sym same) ∙ x.1)) in
-                (last.0, ap (slice_get after) same ∙ last.1, omega (arith, last.2, one.2, ap jobs_of is, fewer))
-            | inr other ↦
-                let still : slice_get called u ≡ Some x.0 =
-                ap (λ (ss : List ThreadState). slice_get ss u) one.1 ∙ (get_set_other mid t u one.0 other ∙ x.1) in
-                let y : (y : ThreadState) × (slice_get after u ≡ Some y) × (jobs_of y ≡ jobs_of x.0) =
-                resumed.each u x.0 still in
-                (y.0, y.1, omega (arith, y.2, fewer))
-          ];
-      one = elim (slice_get_cases states t).1 [
-        | inl w ↦
-            let x : (x : ThreadState) × (slice_get mid t ≡ Some x) × CollectedFor w.0 x = all.each t w.0 w.2 in
-            let is : s ≡ x.0 = same_Some s x.0 (sym at ∙ x.1) in
-            (t, (w.0, (last.0, w.2, last.1, omega (arith, last.2, one.2, ap jobs_of is, collected_jobs w.0 x.0 x.2))))
-        | inr w ↦ absurd (omega (arith, below, all.count, w.0))
-      ];
-    }

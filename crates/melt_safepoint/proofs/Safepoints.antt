@@ -13,10 +13,10 @@ use Rattle.melt_safepoint.specs.declared.thread.Mode.TheVariants.{Running, Due, 
 use Rattle.melt_safepoint.specs.declared.thread.Mode.TheVariants.{Ended}
 use Rattle.melt_safepoint.specs.declared.thread.ThreadState.{ThreadState}
 use Rattle.melt_safepoint.specs.Journals.{OneMore, Planned, before, next_of}
-use Rattle.melt_safepoint.specs.Passing.{NoneLacks, CalledAt, WaitsForRoom, CollectedAll, CollectedFor}
-use Rattle.melt_safepoint.specs.Modes.{ForCollection, IsPaused, Waits, collections_for}
+use Rattle.melt_safepoint.specs.Passing.{NoneLacks, CalledAt, WaitsForRoom, CollectedAll, CollectedFor, NoneOwn}
+use Rattle.melt_safepoint.specs.Modes.{ForCollection, IsPaused, collections_for}
 use Rattle.melt_safepoint.specs.Threads.{NoneBelow, collections_due}
-use Rattle.melt_safepoint.proofs.Passing.{CollectedBelow, NoneOwn, for_collection}
+use Rattle.melt_safepoint.proofs.Passing.{CollectedBelow, for_collection}
 use Rattle.melt_safepoint.proofs.Threads.{get_set_same, get_set_other}
 
 -- a thread that waits for a collection waits
@@ -141,10 +141,6 @@ due_none (x ∷ states) zero s none at own =
 due_none (x ∷ states) (suc t) s none at own =
     let f : ThreadState → ℕ = λ (y : ThreadState). collections_for y.mode in
     due_none states t s (omega (arith, none, sum-map f (x ∷ states), sum-map f states, sum_by-cons f x states)) at own
-
--- a thread that waits
-abbrev pub OneWaits : List ThreadState → Type 0
-OneWaits states = (t : ℕ) × ((s : ThreadState) × (slice_get states t ≡ Some s) × Waits s.mode)
 
 -- the same threads lack room behind the collections as before
 pub none_lacks : (states after : List ThreadState) → CollectedAll states after → NoneLacks after → NoneLacks states

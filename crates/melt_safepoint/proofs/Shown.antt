@@ -13,6 +13,10 @@ image_in (Some words) k = slice_index words k
 abbrev pub bare : Option (List ℕ) → OnDisk
 bare image = record { end = 1; homes = []; free_homes = []; image = image_in image }
 
+-- it has no free homes
+pub bare_none_free : (image : Option (List ℕ)) → (bare image).free_homes ≡ []
+bare_none_free image = refl
+
 -- it is seen so
 pub bare_shown : (told : Bool) (image : Option (List ℕ)) (finish : ℕ) → finish ≡ 1 → (told ≡ true → IsSome image)
     → Underlies told finish image (bare image)

@@ -3,7 +3,7 @@ use Rattle.std.specs.Prelude.{◌≡◌, ℕ, suc, ◌<◌, ◌≤◌, true, Lis
 use Rattle.melt_model.specs.declared.operations.Op.TheVariants.{Collect}
 use Rattle.melt_safepoint.specs.declared.thread.Mode.TheVariants.{Lacking}
 use Rattle.melt_safepoint.specs.declared.thread.ThreadState.{ThreadState}
-use Rattle.melt_safepoint.specs.Modes.{ForCollection, IsPaused, owes_silent}
+use Rattle.melt_safepoint.specs.Modes.{ForCollection, IsPaused, owes_silent, Waits}
 use Rattle.melt_safepoint.specs.Threads.{jobs_of, NoneWaits}
 
 -- The collection of a thread was made, if it waited for one, and it waits no longer. A silent collection is due then
@@ -59,3 +59,11 @@ pub record Passed (states after : List ThreadState) : Type 0 where
       × (jobs_of x ≤ jobs_of s)
   pub one : (t : ℕ) × ((s : ThreadState)
       × ((x : ThreadState) × (slice_get states t ≡ Some s) × (slice_get after t ≡ Some x) × (jobs_of x < jobs_of s)))
+
+-- no thread waits for a collection of its own
+abbrev pub NoneOwn : List ThreadState → Type 0
+NoneOwn states = (t : ℕ) (s : ThreadState) → slice_get states t ≡ Some s → ForCollection s.mode → ⊥
+
+-- some thread waits for a collection, or for room
+abbrev pub OneWaits : List ThreadState → Type 0
+OneWaits states = (t : ℕ) × ((s : ThreadState) × (slice_get states t ≡ Some s) × Waits s.mode)

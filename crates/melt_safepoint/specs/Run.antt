@@ -80,7 +80,7 @@ pub record WasRead (config : Config) (home at word : ℕ) : Type 0 where
 abbrev pub MayEnd : Bool → Script → Config → Report → ℕ → ThreadEnd → Type 0
 MayEnd told script config report t end.Done = answered report t ≡ length (operations script t)
 MayEnd told script config report t (end.OutOfHeap held_words need) =
-    told ≡ true → LacksRoom script report.log (replies_in report) config t held_words need
+    told ≡ true → LacksRoom script report.history (replies_in report) config t held_words need
 MayEnd told script config report t end.DiskFault = LoadsNext script t (answered report t)
 MayEnd told script config report t (end.Damaged home at word) =
     (told ≡ true → ⊥) × LoadsNext script t (answered report t) × WasRead config home at word
@@ -134,7 +134,7 @@ lost_in report = count_by (λ (r : ThreadReport). is_lost r.end) report.threads
 -- Each collection was made at some moment.
 abbrev pub HasCuts : Script → Config → Report → Type 0
 HasCuts script config report = (k : ℕ) (entry : Journal) → slice_get report.journal k ≡ Some entry
-    → (cut : Cut) × IsCut script report.log (replies_in report) config cut × IsCollectedAt script report.log entry cut
+    → (cut : Cut) × IsCut script report.history (replies_in report) config cut × IsCollectedAt script report.history entry cut
 
 -- why a run may have been halted: by a disk that was full for a Move, which was planned or forced, or by one that
 -- failed
@@ -145,12 +145,12 @@ MayHalt config report (Some (halt.DiskFull end need limit)) = (limit ≡ config.
     × MayMove config (before report.journal (length report.journal))
 MayHalt config report (Some halt.DiskFault) = Unit {0}
 
--- What a run reports of a trace, over a disk that tells its words or not. Its history is the one that it stored. The
+-- What a run reports of a trace, over a disk that tells its words or not. Its history is a value of the report. The
 -- journal has the collections, each of its phase: those that threads asked for, the silent ones, but for one of each
 -- thread that was halted, and those that were made for room, which are three at most for each reply and each thread.
 -- There is a bound of the words that were made by it.
 pub record IsStepReport (told : Bool) (script : Script) (config : Config) (report : Report) : Type 0 where
-  pub history : told ≡ true → HasHistory script report.log report
+  pub history : told ≡ true → HasHistory script report.history report
   pub threads : length report.threads ≡ length script.programs
   pub ends : (t : ℕ) (r : ThreadReport) → slice_get report.threads t ≡ Some r
       → MayEnd told script config report t r.end
@@ -159,7 +159,7 @@ pub record IsStepReport (told : Bool) (script : Script) (config : Config) (repor
   pub cuts : told ≡ true → HasCuts script config report
   pub collected : collections script config (replies_in report) (length report.threads)
       ≤ length report.journal + halted_in report
-  pub made : told ≡ true → MakesWithin config report.log report.journal
+  pub made : told ≡ true → MakesWithin config report.history report.journal
   pub asked : collects script (replies_in report) (length report.threads) ≤ length report.journal
   pub bounded : length report.journal ≤ collections script config (replies_in report) (length report.threads)
       + 3 * (replies_told report + length report.threads)
@@ -168,17 +168,16 @@ pub record IsStepReport (told : Bool) (script : Script) (config : Config) (repor
 abbrev pub register_left : Script → Report → ℕ → ℕ → Value
 register_left script report t r =
     if option_map_or (λ (x : ThreadReport). is_halted x.end) (slice_get report.threads t) false
-    then value_in (registers_after report.log t (operations script t) (answered report t)) r else Nil
+    then value_in (registers_after report.history t (operations script t) (answered report t)) r else Nil
 
--- The heap that is left has the globals of the script, the words of the configuration, and names of its objects. Where
--- the run is told, it stands for the history when all threads have ended, over the disk.
+-- The heap that is left has the globals of the script and the words of the configuration. Where the run is told, it
+-- stands for the history when all threads have ended, over the disk.
 pub record IsLeft (told : Bool) (script : Script) (config : Config) (shown : Shown) (report : Report) (heap : Heap)
     : Type 0 where
   pub globals : length heap.globals ≡ script.globals
   pub words : length heap.space.list ≡ config.heap
-  pub named : IsSome heap.names
   pub placed : told ≡ true → (maps : Maps) × ((disk : OnDisk) × Underlies told shown.end shown.image disk
-      × HasMaps heap maps × Placed report.log (λ t r. Nil) maps (state_of heap [] disk))
+      × HasMaps heap maps × Placed report.history (λ t r. Nil) maps (state_of heap [] disk))
 
 -- The disk had no room for the new homes of a Move collection of the heap that is left, with what the halted threads
 -- hold: they need so many words from the end on.
@@ -188,7 +187,7 @@ pub record IsFull (script : Script) (shown : Shown) (report : Report) (heap : He
   pub disk : OnDisk
   pub under : Underlies true shown.end shown.image disk
   pub registers : List Registers
-  pub placed : Placed report.log (register_left script report) maps (state_of heap registers disk)
+  pub placed : Placed report.history (register_left script report) maps (state_of heap registers disk)
   pub needs : CountsWords (state_of heap registers disk) (WantsHome (state_of heap registers disk)) need
 
 -- the heap that is left: none where a fault of the disk halted the run, and else one, which is the one for which a full
@@ -228,9 +227,11 @@ pub record CountsFaults (report : Report) (faults faults_after read_faults read_
 abbrev pub HasNoOperations : Script → Type 0
 HasNoOperations script = (t : ℕ) → operations script t ≡ []
 
--- What a run leaves of the count of lends: it lends twice at most for each collection, and once more; and never where
--- no thread has an operation.
-pub record CountsLends (script : Script) (report : Report) (lends lends_after : ℕ) : Type 0 where
-  pub few : lends_after ≤ lends + 2 * length report.journal + 1
+-- What a run leaves of the count of lends, which lends so many readers at most in an epoch: it begins two epochs at most
+-- for each collection, and one more; and it lends none where no thread has an operation.
+pub record CountsLends (readers : ℕ) (script : Script) (report : Report) (lends lends_after : ℕ) : Type 0 where
+  pub epochs : ℕ
+  pub lent : lends_after ≤ lends + readers * epochs
+  pub few : epochs ≤ 2 * length report.journal + 1
   pub rises : HasRisen lends lends_after
   pub none : HasNoOperations script → lends_after ≡ lends

@@ -6,8 +6,19 @@
 //! once, for all runs.
 #![tactic(auto)]
 
+pub mod collector;
+pub mod ending;
+pub mod engine;
+pub mod run;
+mod safepoint;
+pub mod space;
 pub mod thread;
 
+pub use collector::{CollectRefusal, Collector, HeapRefusal, collect_heap};
+pub use ending::{Ended, Left, Stop, halt_run};
+pub use engine::{Engine, Machine};
+pub use run::Run;
+pub use space::{Space, tells};
 pub use thread::{Mode, ThreadState, halt_all, mode_after, new_states, words_lacked};
 
 #[cfg(test)]

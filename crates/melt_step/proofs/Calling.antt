@@ -43,9 +43,9 @@ use Rattle.melt_safepoint.specs.Threads.{most_forwards, TakesReply}
 use Rattle.melt_safepoint.specs.Modes.{owes_silent, Waits, IsEnded, mode_for, lost}
 use Rattle.melt_safepoint.specs.Endings.{SeesDamage, IsLostBy}
 use Rattle.melt_safepoint.proofs.Modes.{told_runs, told_goes, NoPause}
-use Rattle.melt_step.specs.Threads.{DropsIfEnded, ThreadTold, ThreadStep, ThreadWaits, ThreadGoes, ThreadRefused}
-use Rattle.melt_step.specs.Threads.{ThreadLost, SetsStop, IsReady}
-use Rattle.melt_step.proofs.Modes.{dropped_keeps, nothing_keeps, stop_keeps}
+use Rattle.melt_safepoint.specs.Tables.{DropsIfEnded, ThreadTold, ThreadStep, ThreadWaits, ThreadGoes, ThreadRefused}
+use Rattle.melt_safepoint.specs.Tables.{ThreadLost, SetsStop, IsReady}
+use Rattle.melt_safepoint.proofs.TableModes.{drop_cases, dropped_keeps, nothing_keeps, stop_keeps}
 
 -- a thread waits for a collection
 pub waits_step : (told : Bool) (disk : OnDisk) (v w : View) (t : ℕ) (s : ThreadState) (mode : Mode)
@@ -58,19 +58,6 @@ waits_step told disk v w t s mode stands is before =
       others = subst (λ (x : View). KeepsOthers v x t) (sym is) (stop_keeps v true t);
       what = inl (mode, record { only = refl; stop = is; before = before });
     }
-
--- a thread that dropped its registers, or none
-abbrev pub Dropped : View → View → ℕ → Mode → Type 0
-Dropped w x t mode = (IsEnded mode × HasDropped w x t) ⊎ ((IsEnded mode → ⊥) × (x ≡ w))
-
-pub drop_cases : (w x : View) (t : ℕ) (mode : Mode) → DropsIfEnded w x t mode → Dropped w x t mode
-drop_cases w x t Running is = inr (λ over. over, is)
-drop_cases w x t Due is = inr (λ over. over, is)
-drop_cases w x t Silent is = inr (λ over. over, is)
-drop_cases w x t Collecting is = inr (λ over. over, is)
-drop_cases w x t Asked is = inr (λ over. over, is)
-drop_cases w x t Lacking is = inr (λ over. over, is)
-drop_cases w x t (Ended e) is = inl (tt, is)
 
 -- one that has not ended drops nothing
 pub drops_none : (v : View) (t : ℕ) (mode : Mode) → ((e : ThreadEnd) → mode ≡ Ended e → ⊥) → DropsIfEnded v v t mode

@@ -35,8 +35,11 @@ use Rattle.melt_core.specs.declared.answer.StepResult.{StepResult}
 use Rattle.melt_core.specs.declared.answer.StepResult.TheVariants.{Going, Answered, Refused}
 use Rattle.melt_core.proofs.Resting.{start_at_rest, stands_stopped}
 use Rattle.melt_step.specs.Choices.{SoFar, nothing_yet, with_reply, SetsSoFar, SetsBy, CollectsRest, Chosen, AreTold}
-use Rattle.melt_step.proofs.Modes.{dropped_keeps}
-use Rattle.melt_step.proofs.PlannedRest.{RestCarried, planned_rest}
+use Rattle.melt_safepoint.proofs.TableModes.{dropped_keeps}
+use Rattle.melt_safepoint.specs.Resting.{Beside, NamesHeap, behind, rest_view}
+use Rattle.melt_safepoint.proofs.Collecting.{RestsOver}
+use Rattle.melt_safepoint.proofs.PlannedRest.{Carried, PlannedOver, carried, leaves_heap, planned_over}
+use Rattle.melt_step.proofs.Resting.{beside_of, names_kept, names_left, only_view}
 use Rattle.melt_step.proofs.Starting.{registers_new}
 use Rattle.melt_safepoint.proofs.Telling.{told_with, with_own, Stands_answers}
 
@@ -278,18 +281,32 @@ collection_stands : (threads globals end end_after : ℕ) (image image_after : O
     → IsQuiet (view (core_of heap rest)) → CollectsRest end end_after image image_after heap rest new after
     → IsSome image_after → StandTold threads globals end_after image_after (view (core_of new after)) all
 collection_stands threads globals end end_after image image_after all heap new rest after s quiet c told =
-    let carried : RestCarried true end_after image_after heap new rest after =
-    planned_rest true s.disk heap new rest after c.phase end end_after image image_after c.journal
-    (record { stands = s.all_stand.stands; quiet = quiet }) s.ends s.tells.1 c.collects c.only in
+    let stands : Standing true s.disk (view (core_of heap rest)) = s.all_stand.stands in
+    let b : Beside = beside_of heap rest in
+    let registers : List Registers = after.held.items in
+    let rests : RestsOver true s.disk heap b =
+    record { stands = stands; quiet = quiet; names = names_kept heap stands.named stands.room } in
+    let over : PlannedOver true c.phase s.disk heap new b registers end_after image_after c.journal =
+    planned_over true c.phase s.disk heap new b registers end end_after image image_after c.journal rests s.ends
+    s.tells.1 c.collects in
+    let names : NamesHeap new new.names =
+    names_left heap new stands.named
+    (leaves_heap true c.phase s.disk heap new b registers end_after image_after c.journal rests over) in
+    let moved : Carried true c.phase s.disk heap new b new.names registers end_after image_after c.journal =
+    carried true c.phase s.disk heap new b registers end_after image_after c.journal rests over new.names names
+    (record { threads = c.only.threads; before = c.only.before; after = c.only.behind }) in
     let log : after.log ≡ rest.log = c.only.log in
     let same : after.log.items ≡ rest.log.items = cc in
+    let shows : rest_view new (behind b new.names registers) ≡ view (core_of new after) =
+    only_view heap new rest after c.only in
     record {
-      disk = carried.later;
-      ends = carried.ends;
-      tells = (told, carried.shows);
-      all_stand = all_as threads globals s.disk carried.later (view (core_of heap rest)) (view (core_of new after)) all
-          s.all_stand carried.at_rest.stands same c.only.threads
-          carried.globals carried.values;
+      disk = moved.was.later;
+      ends = moved.was.ends;
+      tells = (told, moved.was.shows);
+      all_stand = all_as threads globals s.disk moved.was.later (view (core_of heap rest)) (view (core_of new after))
+          all s.all_stand (subst (Standing true moved.was.later) shows moved.at_rest.stands) same c.only.threads
+          moved.globals
+          (λ t. ap (λ (w : View). values_of w t) (sym shows) ∙ moved.values t);
     }
 
 -- they stand after each choice

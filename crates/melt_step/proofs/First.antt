@@ -36,27 +36,18 @@ use Rattle.melt_safepoint.proofs.Journals.{before_end}
 use Rattle.melt_safepoint.proofs.Modes.{lost_ends}
 use Rattle.melt_safepoint.proofs.Threads.{set_got}
 use Rattle.melt_safepoint.proofs.Lacking.{lacking_open, Frees, frees_ended, told_goes, called_at}
-use Rattle.melt_step.specs.Lone.{IsAloneReady, IsMarked, CalledAlone, CalledOver, LacksAlone}
-use Rattle.melt_step.specs.Makes.{MakesCall}
-use Rattle.melt_step.specs.Safepoints.{Awaited, AwaitsCall, CollectorStands, JustCollected, LackedWords, LacksBy}
-use Rattle.melt_step.specs.Safepoints.{LacksWords, LeftBy, MadeCall, OnlyHeld, RunStands, SomeAwaits, StandsBut}
-use Rattle.melt_step.specs.Safepoints.{last_of}
-use Rattle.melt_step.specs.Made.{MadeSoFar, MakesInUse}
-use Rattle.melt_step.specs.Threads.{IsReady, TableStands, ThreadLost, ThreadStep, ThreadTold}
-use Rattle.melt_step.specs.declared.collector.Collector.{Collector}
-use Rattle.melt_step.specs.declared.run.Run.{Run}
-use Rattle.melt_step.proofs.Counting.{adds_got, adds_lost, counts_of}
-use Rattle.melt_step.proofs.Tables.{Table_lacks, Table_step, cuts_step, table_ready}
-
--- what holds where an option is nothing
-pub if_none : {A : Type 0} (o : Option A) (P : Type 0) → (o ≡ None → P) → IfNone o P
-if_none None P holds = holds refl
-if_none (Some x) P holds = tt
-
--- what holds of what an option is
-pub if_some : {A : Type 0} (o : Option A) (P : A → Type 0) → ((x : A) → o ≡ Some x → P x) → IfSome o P
-if_some None P holds = tt
-if_some (Some x) P holds = holds x refl
+use Rattle.melt_safepoint.specs.Collections.{IsMarked, MadeSoFar}
+use Rattle.melt_step.specs.Lone.{IsAloneReady, CalledAlone, CalledOver, LacksAlone}
+use Rattle.melt_step.specs.Going.{CallsFirst, Goes, MadeCall, MakesCall}
+use Rattle.melt_safepoint.specs.Epochs.{LacksFirst}
+use Rattle.melt_safepoint.specs.Passing.{NoneOwn}
+use Rattle.melt_safepoint.specs.Rows.{AwaitsCall, CollectorStands, JustCollected, LacksBy, LacksWords, LeftBy, OnlyHeld}
+use Rattle.melt_safepoint.specs.Rows.{Row, SomeAwaits, StandsBut, last_of}
+use Rattle.melt_step.specs.Made.{MakesInUse}
+use Rattle.melt_safepoint.specs.Tables.{IsReady, TableStands, ThreadLost, ThreadStep, ThreadTold}
+use Rattle.melt_safepoint.specs.declared.collector.Collector.{Collector}
+use Rattle.melt_safepoint.proofs.TableCounts.{adds_got, adds_lost, counts_of}
+use Rattle.melt_safepoint.proofs.Tables.{Table_lacks, Table_step, Table_untold, cuts_step, table_ready}
 
 -- what it has next
 pub lacking_next : {told : Bool} {script : Script} {config : Config} {disk : OnDisk} {v : View}
@@ -91,14 +82,15 @@ in_bounds globals (op.Drop r) is = is
 in_bounds globals op.Collect is = tt
 
 -- the thread may make its call alone
-pub alone_ready : {script : Script} {config : Config} {shown : Shown} {forced : ℕ} {run : Run} {t : ℕ}
-    {s : ThreadState} (o : Op) → AwaitsCall false script config shown forced run t → IsLacking run.states.items t s
-    → s.op ≡ Some o → IsAloneReady shown.end (view run.core) t s o
-alone_ready {script} {config} {shown} {forced} {run} {t} {s} o awaits was next =
-    let v : View = view run.core in
-    let table = awaits.stands.table in
+pub alone_ready : {told : Bool} {script : Script} {config : Config} {shown : Shown} {forced : ℕ} {run : Row} {t : ℕ}
+    {s : ThreadState} (o : Op) → AwaitsCall told script config shown forced run t → IsLacking run.states t s
+    → s.op ≡ Some o → run.view.stop ≡ false → IsAloneReady shown.end run.view t s o
+alone_ready {told} {script} {config} {shown} {forced} {run} {t} {s} o awaits was next stop =
+    let v : View = run.view in
+    let table =
+    Table_untold told script config awaits.stands.disk v run.states awaits.stands.table in
     let ready : IsReady shown.end v t s =
-    table_ready script config awaits.stands.disk v run.states.items t s shown.end table awaits.stands.under.ends
+    table_ready script config awaits.stands.disk v run.states t s shown.end table awaits.stands.under.ends
     was.at in
     let fits = lacking_next table was in
     record {
@@ -111,8 +103,8 @@ alone_ready {script} {config} {shown} {forced} {run} {t} {s} o awaits was next =
       no_collect = λ is. fits.1 (next ∙ ap Some is);
       bounds = in_bounds (length v.globals) o
           (subst (λ (x : Option Op). IfSome x (InRange (length v.globals))) next ready.in_range);
-      no_call = awaits.quiet t;
-      no_stop = awaits.collected.stop;
+      no_call = awaits.stands.quiet t;
+      no_stop = stop;
       none_forwarded = awaits.collected.none_forwarded;
       forwards = table.forwards;
       some_forward = table.some_forward;
@@ -141,10 +133,10 @@ makes_by shown finish image v w ends shows makes = λ disk under.
     })
 
 -- what a call did over the disk under the run
-call_over : {told : Bool} {script : Script} {config : Config} {shown : Shown} {forced : ℕ} {old new : Run} {t : ℕ}
+call_over : {told : Bool} {script : Script} {config : Config} {shown : Shown} {forced : ℕ} {old new : Row} {t : ℕ}
     {lacks : Option ℕ} (awaits : AwaitsCall told script config shown forced old t)
     (m : MakesCall shown old new t lacks)
-    → CalledOver told awaits.stands.disk (view old.core) (view new.core) t m.s m.after m.op lacks
+    → CalledOver told awaits.stands.disk old.view new.view t m.s m.after m.op lacks
 call_over {told} {script} {config} {shown} {forced} {old} {new} {t} {lacks} awaits m =
     m.called told awaits.stands.disk awaits.stands.under awaits.stands.table.stands
 
@@ -167,34 +159,34 @@ lacked {told} {disk} {v} {w} {t} {s} {after} {o} {lacks} need is over = elim ove
 ]
 
 -- whatever it made is in use
-call_makes : {told : Bool} {script : Script} {config : Config} {shown : Shown} {forced : ℕ} {old new : Run} {t : ℕ}
+call_makes : {told : Bool} {script : Script} {config : Config} {shown : Shown} {forced : ℕ} {old new : Row} {t : ℕ}
     {lacks : Option ℕ} → AwaitsCall told script config shown forced old t → MakesCall shown old new t lacks
-    → told ≡ true → MadeSoFar config (view new.core) new.collector.journal.items
+    → told ≡ true → MadeSoFar config new.view new.collector.journal.items
 call_makes {told} {script} {config} {shown} {forced} {old} {new} {t} {lacks} awaits m is =
     let stands : StandsBut (suc forced) told script config shown old = awaits.stands in
     let disk : OnDisk = stands.disk in
-    subst (λ (c : Collector). MadeSoFar config (view new.core) c.journal.items) (sym m.collector)
+    subst (λ (c : Collector). MadeSoFar config new.view c.journal.items) (sym m.collector)
     (m.makes disk (subst (λ (b : Bool). Underlies b shown.end shown.image disk) is stands.under)
-    (subst (λ (b : Bool). Standing b disk (view old.core)) is stands.table.stands)
+    (subst (λ (b : Bool). Standing b disk old.view) is stands.table.stands)
     (config.heap * length old.collector.journal.items) (stands.made is))
 
 -- a call that lacked nothing is an event of its thread
-call_step : {told : Bool} {script : Script} {config : Config} {shown : Shown} {forced : ℕ} {old new : Run} {t : ℕ}
+call_step : {told : Bool} {script : Script} {config : Config} {shown : Shown} {forced : ℕ} {old new : Row} {t : ℕ}
     {lacks : Option ℕ} (awaits : AwaitsCall told script config shown forced old t)
     (m : MakesCall shown old new t lacks) → lacks ≡ None
-    → ThreadStep told awaits.stands.disk (view old.core) (view new.core) t m.s m.after
+    → ThreadStep told awaits.stands.disk old.view new.view t m.s m.after
 call_step {told} {script} {config} {shown} {forced} {old} {new} {t} {lacks} awaits m none =
     let over = call_over awaits m in
     record { stands = over.stands; others = over.others; what = inr (inr (inr (came none over).1)) }
 
 -- so the run stands behind it
-pub made_stands : {told : Bool} {script : Script} {config : Config} {shown : Shown} {forced : ℕ} {old new : Run} {t : ℕ}
+pub made_stands : {told : Bool} {script : Script} {config : Config} {shown : Shown} {forced : ℕ} {old new : Row} {t : ℕ}
     {lacks : Option ℕ} → AwaitsCall told script config shown forced old t → MakesCall shown old new t lacks
-    → lacks ≡ None → RunStands told script config shown new
+    → lacks ≡ None → Goes told script config shown new
 made_stands {told} {script} {config} {shown} {forced} {old} {new} {t} {lacks} awaits m none =
-    let v : View = view old.core in
-    let w : View = view new.core in
-    let states : List ThreadState = old.states.items in
+    let v : View = old.view in
+    let w : View = new.view in
+    let states : List ThreadState = old.states in
     let stands : StandsBut (suc forced) told script config shown old = awaits.stands in
     let disk : OnDisk = stands.disk in
     let open_ : IsEnded m.s.mode → ⊥ = lacking_open m.was in
@@ -216,12 +208,14 @@ made_stands {told} {script} {config} {shown} {forced} {old} {new} {t} {lacks} aw
     record {
       disk = disk;
       under = stands.under;
+      none_free = stands.none_free;
       table = subst (TableStands told script config disk w) (sym m.states) table;
       words = m.words ∙ stands.words;
       every = m.every ∙ stands.every;
+      told_is = m.told ∙ stands.told_is;
       collector = subst (CollectorStands config shown) (sym m.collector) stands.collector;
       cuts = λ tells.
-          subst (λ (c : Collector). HaveCuts script w.log new.states.items config c.journal.items) (sym m.collector)
+          subst (λ (c : Collector). HaveCuts script w.log new.states config c.journal.items) (sym m.collector)
           (subst (λ (xs : List ThreadState). HaveCuts script w.log xs config old.collector.journal.items)
           (sym m.states) (cuts tells));
       made = call_makes awaits m;
@@ -243,17 +237,17 @@ ended_call : {told : Bool} {finish : ℕ} {v w : View} {t : ℕ} {s after : Thre
 ended_call {told} {finish} {v} {w} {t} {s} {after} what = elim what [ inl lost ↦ lost.call | inr got ↦ got.call ]
 
 -- so none is in flight
-pub made_quiet : {told : Bool} {script : Script} {config : Config} {shown : Shown} {forced : ℕ} {old new : Run} {t : ℕ}
+pub made_quiet : {told : Bool} {script : Script} {config : Config} {shown : Shown} {forced : ℕ} {old new : Row} {t : ℕ}
     {lacks : Option ℕ} → AwaitsCall told script config shown forced old t → MakesCall shown old new t lacks
-    → lacks ≡ None → IsQuiet (view new.core)
+    → lacks ≡ None → IsQuiet new.view
 made_quiet {told} {script} {config} {shown} {forced} {old} {new} {t} {lacks} awaits m none =
     let over = call_over awaits m in
-    quiet_behind (view old.core) (view new.core) t over.others (ended_call (came none over).1) awaits.quiet
+    quiet_behind old.view new.view t over.others (ended_call (came none over).1) awaits.stands.quiet
 
 -- and the stop word is not set
-pub made_stop : {told : Bool} {script : Script} {config : Config} {shown : Shown} {forced : ℕ} {old new : Run} {t : ℕ}
+pub made_stop : {told : Bool} {script : Script} {config : Config} {shown : Shown} {forced : ℕ} {old new : Row} {t : ℕ}
     {lacks : Option ℕ} → AwaitsCall told script config shown forced old t → MakesCall shown old new t lacks
-    → lacks ≡ None → (view new.core).stop ≡ false
+    → lacks ≡ None → new.view.stop ≡ false
 made_stop {told} {script} {config} {shown} {forced} {old} {new} {t} {lacks} awaits m none =
     (came none (call_over awaits m)).0
 
@@ -290,43 +284,47 @@ frees_call {told} {finish} {v} {w} {t} {s} {after} lacking what = elim what [
 ]
 
 -- so it is of the thread whose call was made
-pub made_called : {told : Bool} {script : Script} {config : Config} {shown : Shown} {forced : ℕ} {old new : Run} {t : ℕ}
+pub made_called : {told : Bool} {script : Script} {config : Config} {shown : Shown} {forced : ℕ} {old new : Row} {t : ℕ}
     {lacks : Option ℕ} → AwaitsCall told script config shown forced old t → MakesCall shown old new t lacks
-    → lacks ≡ None → CalledAt old.states.items new.states.items t
+    → lacks ≡ None → CalledAt old.states new.states t
 made_called {told} {script} {config} {shown} {forced} {old} {new} {t} {lacks} awaits m none =
     called_at m.was m.states (frees_call m.was.lacking (came none (call_over awaits m)).1)
 
 -- A run whose core alone is new, with the same history.
-pub record SameRun (old new : Run) : Type 0 where
-  pub history : (view new.core).log ≡ (view old.core).log
-  pub states : new.states.items ≡ old.states.items
+pub record SameRun (old new : Row) : Type 0 where
+  pub history : new.view.log ≡ old.view.log
+  pub states : new.states ≡ old.states
   pub collector : new.collector ≡ old.collector
   pub words : new.words ≡ old.words
   pub every : new.every ≡ old.every
+  pub told : new.told ≡ old.told
 
 -- it stands, where its threads do
-stands_same : {unpaid : ℕ} {told : Bool} {script : Script} {config : Config} {shown : Shown} {old new : Run}
+stands_same : {unpaid : ℕ} {told : Bool} {script : Script} {config : Config} {shown : Shown} {old new : Row}
     (stands : StandsBut unpaid told script config shown old) → SameRun old new
-    → TableStands told script config stands.disk (view new.core) old.states.items
-    → (told ≡ true → MadeSoFar config (view new.core) new.collector.journal.items)
+    → TableStands told script config stands.disk new.view old.states → IsQuiet new.view
+    → (told ≡ true → MadeSoFar config new.view new.collector.journal.items)
     → StandsBut unpaid told script config shown new
-stands_same {unpaid} {told} {script} {config} {shown} {old} {new} stands same table made =
-    let w : View = view new.core in
+stands_same {unpaid} {told} {script} {config} {shown} {old} {new} stands same table quiet made =
+    let w : View = new.view in
     record {
       disk = stands.disk;
       under = stands.under;
+      none_free = stands.none_free;
       table = subst (TableStands told script config stands.disk w) (sym same.states) table;
+      quiet = quiet;
       words = same.words ∙ stands.words;
       every = same.every ∙ stands.every;
+      told_is = same.told ∙ stands.told_is;
       collector = subst (CollectorStands config shown) (sym same.collector) stands.collector;
       cuts = λ tells.
-          subst (λ (c : Collector). HaveCuts script w.log new.states.items config c.journal.items) (sym same.collector)
+          subst (λ (c : Collector). HaveCuts script w.log new.states config c.journal.items) (sym same.collector)
           (subst (λ (xs : List ThreadState). HaveCuts script w.log xs config old.collector.journal.items)
           (sym same.states)
-          (subst (λ (h : List Entry). HaveCuts script h old.states.items config old.collector.journal.items)
+          (subst (λ (h : List Entry). HaveCuts script h old.states config old.collector.journal.items)
           (sym same.history) (stands.cuts tells)));
       made = made;
-      counts = counts_of script config new old.states.items old.collector same.states same.collector stands.counts;
+      counts = counts_of script config new old.states old.collector same.states same.collector stands.counts;
     }
 
 -- the values in all registers, where those of one thread and of the others stay
@@ -340,8 +338,8 @@ values_stay v w t others here u r =
     ap (λ (xs : List Value). value_in xs r) all
 
 -- behind a collection that left a claim of a call no room, an object of the largest size may have none
-tight_behind : (config : Config) (run : Run) (words need : ℕ) → JustCollected run → words ≡ config.heap
-    → words + 1 < (view run.core).free + need → need ≤ 126 → IsTight config (last_of run.collector)
+tight_behind : (config : Config) (run : Row) (words need : ℕ) → JustCollected run → words ≡ config.heap
+    → words + 1 < run.view.free + need → need ≤ 126 → IsTight config (last_of run.collector)
 tight_behind config run words need collected is above small =
     let last : last_of run.collector ≡ Some collected.last =
     ap (λ (js : List Journal). before js (length js)) collected.journal
@@ -365,15 +363,15 @@ left_by config (suc (suc k)) v w need by marked history values above = λ held h
     omega (arith, one, above, only.free)
 
 -- the threads are as they were behind a call that lacked words
-pub lacked_states : {told : Bool} {script : Script} {config : Config} {shown : Shown} {forced : ℕ} {old new : Run}
+pub lacked_states : {told : Bool} {script : Script} {config : Config} {shown : Shown} {forced : ℕ} {old new : Row}
     {t : ℕ} {lacks : Option ℕ} (need : ℕ) → AwaitsCall told script config shown forced old t
-    → MakesCall shown old new t lacks → lacks ≡ Some need → new.states.items ≡ old.states.items
+    → MakesCall shown old new t lacks → lacks ≡ Some need → new.states ≡ old.states
 lacked_states {told} {script} {config} {shown} {forced} {old} {new} {t} {lacks} need awaits m is =
     let alone = lacked need is (call_over awaits m) in
-    m.states ∙ (ap (λ (x : ThreadState). set old.states.items t x) alone.same ∙ set_got old.states.items t m.s m.was.at)
+    m.states ∙ (ap (λ (x : ThreadState). set old.states t x) alone.same ∙ set_got old.states t m.s m.was.at)
 
 -- the run stands behind a call that lacked words
-lacked_stands : {told : Bool} {script : Script} {config : Config} {shown : Shown} {forced : ℕ} {old new : Run}
+lacked_stands : {told : Bool} {script : Script} {config : Config} {shown : Shown} {forced : ℕ} {old new : Row}
     {t : ℕ} {lacks : Option ℕ} (need : ℕ) → AwaitsCall told script config shown forced old t
     → MakesCall shown old new t lacks → lacks ≡ Some need → StandsBut (suc forced) told script config shown new
 lacked_stands {told} {script} {config} {shown} {forced} {old} {new} {t} {lacks} need awaits m is =
@@ -385,22 +383,23 @@ lacked_stands {told} {script} {config} {shown} {forced} {old} {new} {t} {lacks} 
       collector = m.collector;
       words = m.words;
       every = m.every;
+      told = m.told;
     } in
     stands_same awaits.stands same
-    (Table_lacks told script config awaits.stands.disk (view old.core) (view new.core) old.states.items t m.s
+    (Table_lacks told script config awaits.stands.disk old.view new.view old.states t m.s
     awaits.stands.table m.was.at m.was.lacking over.stands over.others (alone.call, alone.history, alone.values))
-    (call_makes awaits m)
+    (quiet_behind old.view new.view t over.others alone.call awaits.stands.quiet) (call_makes awaits m)
 
 -- and the thread lacks them
-pub lacked_words : {told : Bool} {script : Script} {config : Config} {shown : Shown} {forced : ℕ} {old new : Run}
+pub lacked_words : {told : Bool} {script : Script} {config : Config} {shown : Shown} {forced : ℕ} {old new : Row}
     {t : ℕ} {lacks : Option ℕ} (need : ℕ) → AwaitsCall told script config shown forced old t
     → MakesCall shown old new t lacks → lacks ≡ Some need → LacksWords told script config shown forced new t need
 lacked_words {told} {script} {config} {shown} {forced} {old} {new} {t} {lacks} need awaits m is =
-    let v : View = view old.core in
-    let w : View = view new.core in
+    let v : View = old.view in
+    let w : View = new.view in
     let over = call_over awaits m in
     let alone = lacked need is over in
-    let states : new.states.items ≡ old.states.items = lacked_states need awaits m is in
+    let states : new.states ≡ old.states = lacked_states need awaits m is in
     let values : (u r : ℕ) → value w u r ≡ value v u r = values_stay v w t over.others alone.values in
     let words : length v.space.list ≡ config.heap = awaits.stands.table.words in
     let above : length v.space.list + 1 < v.free + need = alone.above in
@@ -408,14 +407,14 @@ lacked_words {told} {script} {config} {shown} {forced} {old} {new} {t} {lacks} n
       stands = lacked_stands need awaits m is;
       few = awaits.few;
       owed = subst (OweBehindCollects script) (sym states) awaits.owed;
-      quiet = quiet_behind v w t over.others alone.call awaits.quiet;
+      own = subst NoneOwn (sym states) awaits.own;
       none_forwarded = alone.none_forwarded;
       waits = subst (λ (xs : List ThreadState). WaitsForRoom xs t) (sym states) awaits.waits;
       tight = subst (λ (c : Collector). IsTight config (last_of c)) (sym m.collector)
           (tight_behind config old (length v.space.list) need awaits.collected words above alone.small);
       op = m.op;
       next = λ x at.
-          let here : slice_get old.states.items t ≡ Some x =
+          let here : slice_get old.states t ≡ Some x =
           ap (λ (xs : List ThreadState). slice_get xs t) (sym states) ∙ at in
           ap (λ (y : ThreadState). y.op) (sym (same_Some m.s x (sym m.was.at ∙ here))) ∙ m.next;
       needs = λ tells. subst (λ (h : List Entry). NeedsWords h (value w) t m.op need) (sym alone.history)
@@ -425,22 +424,29 @@ lacked_words {told} {script} {config} {shown} {forced} {old} {new} {t} {lacks} n
     }
 
 -- so the call was made
-pub call_made : {seen shown : Shown} {forced : ℕ} {old new : Run} {t : ℕ} {lacks : Option ℕ}
+call_made : {seen shown : Shown} {forced : ℕ} {old new : Row} {t : ℕ} {lacks : Option ℕ}
     → SomeAwaits seen forced old t → MakesCall seen old new t lacks → MakesCall shown old new t lacks → lacks ≡ None
-    → MadeCall (Awaited shown old t) shown old new t
+    → MadeCall shown old new t
 call_made {seen} {shown} {forced} {old} {new} {t} {lacks} some here m none = record {
-  keeps = λ told script config awaits. made_stands awaits.1 m none;
-  quiet = made_quiet some.2 here none;
-  stop = made_stop some.2 here none;
-  called = made_called some.2 here none;
+  keeps = λ told script config more awaits. made_stands awaits m none;
+  quiet = made_quiet some.3 here none;
+  stop = made_stop some.3 here none;
+  called = made_called some.3 here none;
 }
 
 -- or it lacked words
-pub call_lacked : {seen shown : Shown} {forced : ℕ} {old new : Run} {t : ℕ} {lacks : Option ℕ} (need : ℕ)
+call_lacked : {seen shown : Shown} {forced : ℕ} {old new : Row} {t : ℕ} {lacks : Option ℕ} (need : ℕ)
     → SomeAwaits seen forced old t → MakesCall seen old new t lacks → MakesCall shown old new t lacks
-    → lacks ≡ Some need
-    → LackedWords (λ more told script config. AwaitsCall told script config shown more old t) shown old new t need
+    → lacks ≡ Some need → LacksFirst shown t need old new
 call_lacked {seen} {shown} {forced} {old} {new} {t} {lacks} need some here m is = record {
   keeps = λ told script config more awaits. lacked_words need awaits m is;
-  states = lacked_states need some.2 here is;
+  states = lacked_states need some.3 here is;
+  collector = m.collector;
 }
+
+-- what came of the call
+pub calls_first : {seen shown : Shown} {forced : ℕ} {old new : Row} {t : ℕ} (lacks : Option ℕ)
+    → SomeAwaits seen forced old t → MakesCall seen old new t lacks → MakesCall shown old new t lacks
+    → CallsFirst shown old new t lacks
+calls_first {seen} {shown} {forced} {old} {new} {t} None some here m = call_made some here m refl
+calls_first {seen} {shown} {forced} {old} {new} {t} (Some need) some here m = call_lacked need some here m refl

@@ -1,7 +1,7 @@
 -- A run goes on by events and safepoints.
-use Rattle.std.proofs.Common.{◌≡◌, ◌≢◌, ℕ, ◌*◌, ◌<◌, ◌≤◌, Bool, true, false, List, length, sym, ◌∙◌, subst, arith}
+use Rattle.std.proofs.Common.{◌≡◌, ◌≢◌, ℕ, ◌*◌, ◌<◌, ◌≤◌, Bool, true, false, List, length, refl, sym, ◌∙◌, subst, arith}
 use Rattle.std.proofs.Math.ListN.{set}
-use Rattle.std.specs.Prelude.{Option, Some, slice_get}
+use Rattle.std.specs.Prelude.{IfSome, None, Option, Some, slice_get}
 use Rattle.melt_model.specs.declared.config.Config.{Config}
 use Rattle.melt_model.specs.declared.operations.Op.TheVariants.{Collect}
 use Rattle.melt_trace.specs.Script.{Script}
@@ -15,90 +15,206 @@ use Rattle.melt_safepoint.specs.Modes.{MayGo}
 use Rattle.melt_safepoint.specs.Passing.{Passed}
 use Rattle.melt_safepoint.proofs.Modes.{goes_on}
 use Rattle.melt_safepoint.proofs.Counting.{Adds, counts_on}
-use Rattle.melt_step.specs.declared.run.Run.{Run}
-use Rattle.melt_step.specs.declared.collector.Collector.{Collector}
-use Rattle.melt_step.specs.Safepoints.{CollectorStands, KeepsRun, RunStands}
-use Rattle.melt_step.specs.Made.{MadeSoFar, MakesInUse}
-use Rattle.melt_step.specs.Threads.{TakesTurn, ThreadStep, ThreadTold, TableStands, potential}
-use Rattle.melt_step.proofs.Tables.{Table_step, cuts_step}
-use Rattle.melt_step.proofs.Counting.{collections_step, counts_of}
-use Rattle.melt_step.proofs.Potentials.{step_nearer, safepoint_nearer}
+use Rattle.melt_safepoint.specs.declared.collector.Collector.{Collector}
+use Rattle.melt_safepoint.specs.Rows.{CollectorStands, Row}
+use Rattle.melt_step.specs.Going.{ComesToRest, Goes, KeepsGoing, MadeCall}
+use Rattle.melt_safepoint.specs.Collections.{MadeSoFar}
+use Rattle.melt_step.specs.Made.{MakesInUse}
+use Rattle.melt_safepoint.specs.Tables.{TakesTurn, ThreadStep, ThreadTold, TableStands, potential}
+use Rattle.melt_core.proofs.Disks.{stands_untold}
+use Rattle.melt_safepoint.proofs.Tables.{Table_step, Table_untold, cuts_step}
+use Rattle.melt_safepoint.proofs.TableCounts.{collections_step, counts_of}
+use Rattle.melt_step.proofs.Potentials.{step_jobs, step_nearer}
+use Rattle.melt_safepoint.specs.Epochs.{MayRunEpoch, RestsWell, RunsEpoch, to_do}
+use Rattle.melt_safepoint.specs.Rows.{RunStands}
+use Rattle.melt_safepoint.specs.Tables.{KnowsStop}
+use Rattle.melt_safepoint.specs.Threads.{AllWait}
+use Rattle.melt_safepoint.proofs.MakingAgain.{AgainBelow}
+use Rattle.melt_safepoint.proofs.Tables.{waiting_quiet}
+use Rattle.melt_safepoint.proofs.ToDo.{to_do_within_set}
 
 -- a run stands on behind an event of a thread that can go on
-pub step_keeps : (finish : ℕ) (image : Option (List ℕ)) (old new : Run) (t : ℕ) (s after : ThreadState)
-    → slice_get old.states.items t ≡ Some s → MayGo s.mode
-    → TakesTurn finish image (view old.core) (view new.core) t s after → new.states.items ≡ set old.states.items t after
-    → DueBy old.every s after → MakesInUse finish image (view old.core) (view new.core)
-    → new.every ≡ old.every → new.words ≡ old.words → new.collector ≡ old.collector
-    → (shown : Shown) → shown.end ≡ finish → shown.image ≡ image → KeepsRun shown shown old new
-step_keeps finish image old new t s after at goes turn states due makes every words collector shown ends shows told script
-    config stands =
-    let had : List ThreadState = old.states.items in
+pub step_keeps : (finish : ℕ) (image : Option (List ℕ)) (old new : Row) (t : ℕ) (s after : ThreadState)
+    → slice_get old.states t ≡ Some s → MayGo s.mode
+    → TakesTurn finish image old.view new.view t s after → new.states ≡ set old.states t after
+    → DueBy old.every s after → MakesInUse finish image old.view new.view
+    → new.every ≡ old.every → new.words ≡ old.words → new.told ≡ old.told → new.collector ≡ old.collector
+    → (shown : Shown) → shown.end ≡ finish → shown.image ≡ image → KeepsGoing shown old new
+step_keeps finish image old new t s after at goes turn states due makes every words is_told collector shown ends shows
+    told script config stands =
+    let had : List ThreadState = old.states in
     let disk : OnDisk = stands.disk in
-    let table : TableStands told script config disk (view old.core) had = stands.table in
+    let table : TableStands told script config disk old.view had = stands.table in
     let under : Underlies told finish image disk =
     subst (λ (n : ℕ). Underlies told n image disk) ends
     (subst (λ (x : Option (List ℕ)). Underlies told shown.end x disk) shows stands.under) in
-    let step : ThreadStep told disk (view old.core) (view new.core) t s after = turn told disk under table.stands in
+    let step : ThreadStep told disk old.view new.view t s after = turn told disk under table.stands in
     let within : disk.end ≤ config.disk =
     subst (λ (n : ℕ). n ≤ config.disk) (sym stands.under.ends) stands.collector.within in
-    let other : (got : ThreadTold told (view old.core) (view new.core) t s after) → got.op ≢ Collect =
+    let other : (got : ThreadTold told old.view new.view t s after) → got.op ≢ Collect =
     λ got. got.no_collect goes in
     let by : DueBy config.every s after = subst (λ (n : ℕ). DueBy n s after) stands.every due in
     let adds : Adds script config had (set had t after) 0 0 =
-    collections_step told script config disk (view old.core) (view new.core) had t s after table at step by
+    collections_step told script config disk old.view new.view had t s after table at step by
     (goes_on s.mode goes) other in
     record {
       disk = disk;
       under = stands.under;
-      table = subst (TableStands told script config disk (view new.core)) (sym states)
-          (Table_step told script config disk (view old.core) (view new.core) had t s after within table at
+      none_free = stands.none_free;
+      table = subst (TableStands told script config disk new.view) (sym states)
+          (Table_step told script config disk old.view new.view had t s after within table at
           (goes_on s.mode goes) step by);
       words = words ∙ stands.words;
       every = every ∙ stands.every;
+      told_is = is_told ∙ stands.told_is;
       collector = subst (CollectorStands config shown) (sym collector) stands.collector;
       cuts = λ is.
-          subst (λ (xs : List ThreadState). HaveCuts script (view new.core).log xs config new.collector.journal.items)
+          subst (λ (xs : List ThreadState). HaveCuts script new.view.log xs config new.collector.journal.items)
           (sym states)
-          (subst (λ (c : Collector). HaveCuts script (view new.core).log (set had t after) config c.journal.items)
+          (subst (λ (c : Collector). HaveCuts script new.view.log (set had t after) config c.journal.items)
           (sym collector)
-          (cuts_step told script config disk (view old.core) (view new.core) had t s after old.collector.journal.items
+          (cuts_step told script config disk old.view new.view had t s after old.collector.journal.items
           within table at (goes_on s.mode goes) step by (stands.cuts is)));
       made = λ is.
-          subst (λ (c : Collector). MadeSoFar config (view new.core) c.journal.items) (sym collector)
+          subst (λ (c : Collector). MadeSoFar config new.view c.journal.items) (sym collector)
           (makes disk (subst (λ (b : Bool). Underlies b finish image disk) is under)
-          (subst (λ (b : Bool). Standing b disk (view old.core)) is table.stands)
+          (subst (λ (b : Bool). Standing b disk old.view) is table.stands)
           (config.heap * length old.collector.journal.items) (stands.made is));
       counts = counts_of script config new (set had t after) old.collector states collector
           (counts_on script config had (set had t after) (length old.collector.journal.items) stands.counts adds);
     }
 
 -- it has less to do than before
-pub step_less : (script : Script) (config : Config) (shown : Shown) (finish : ℕ) (image : Option (List ℕ))
-    (old : Run) (w : View) (t : ℕ) (s after : ThreadState) → RunStands false script config shown old
-    → shown.end ≡ finish → slice_get old.states.items t ≡ Some s → MayGo s.mode
-    → TakesTurn finish image (view old.core) w t s after
-    → potential (set old.states.items t after) w.calls < potential old.states.items (view old.core).calls
-step_less script config shown finish image old w t s after stands ends at goes turn =
+pub step_less : (told : Bool) (script : Script) (config : Config) (shown : Shown) (finish : ℕ) (image : Option (List ℕ))
+    (old : Row) (w : View) (t : ℕ) (s after : ThreadState) → Goes told script config shown old
+    → shown.end ≡ finish → slice_get old.states t ≡ Some s → MayGo s.mode
+    → TakesTurn finish image old.view w t s after
+    → potential (set old.states t after) w.calls < potential old.states old.view.calls
+step_less told script config shown finish image old w t s after stands ends at goes turn =
     let disk : OnDisk = stands.disk in
-    let v : View = view old.core in
-    let table : TableStands false script config disk v old.states.items = stands.table in
+    let v : View = old.view in
+    let table : TableStands false script config disk v old.states =
+    Table_untold told script config disk v old.states stands.table in
     let under : Underlies false finish image disk =
     record { ends = stands.under.ends ∙ ends; tells = λ wrong. absurd (let w : false ≡ true = wrong in cc) } in
     let step : ThreadStep false disk v w t s after = turn false disk under table.stands in
     let before : Standing false disk v = table.stands in
     let behind : Standing false disk w = step.stands in
-    step_nearer false script config disk v w old.states.items t s after table at goes step
+    step_nearer false script config disk v w old.states t s after table at goes step
     (behind.each ∙ (step.others.threads ∙ sym before.each))
 
--- and so behind a safepoint
-pub safepoint_less : (told : Bool) (script : Script) (config : Config) (shown : Shown) (old new : Run)
-    → RunStands told script config shown old → IsQuiet (view new.core) → Passed old.states.items new.states.items
-    → potential new.states.items (view new.core).calls < potential old.states.items (view old.core).calls
-safepoint_less told script config shown old new stands quiet passed =
-    let table : TableStands told script config stands.disk (view old.core) old.states.items = stands.table in
-    let count : length old.states.items ≡ length script.programs = table.count in
-    let threads : length (view old.core).held ≡ length script.programs = table.threads in
-    let few : length (view old.core).held ≤ 8 = table.stands.few in
-    safepoint_nearer old.states.items new.states.items (view old.core).calls (view new.core).calls
-    (omega (arith, count, threads, few)) quiet passed
+-- it has no more to do than before
+pub step_to_do : (told : Bool) (script : Script) (config : Config) (shown : Shown) (finish : ℕ)
+    (image : Option (List ℕ)) (old : Row) (w : View) (t : ℕ) (s after : ThreadState) → Goes told script config shown old
+    → shown.end ≡ finish → slice_get old.states t ≡ Some s → MayGo s.mode
+    → TakesTurn finish image old.view w t s after → to_do (set old.states t after) ≤ to_do old.states
+step_to_do told script config shown finish image old w t s after stands ends at goes turn =
+    let disk : OnDisk = stands.disk in
+    let under : Underlies false finish image disk =
+    record { ends = stands.under.ends ∙ ends; tells = λ wrong. absurd (let w : false ≡ true = wrong in cc) } in
+    let step : ThreadStep false disk old.view w t s after =
+    turn false disk under (stands_untold told disk old.view stands.table.stands) in
+    to_do_within_set old.states t s after at (step_jobs false disk old.view w t s after goes step)
+
+-- a run whose threads made their calls again
+pub again_keeps : (shown : Shown) (old new : Row) (n : ℕ) → AgainBelow old.states new.states n
+    → IsQuiet old.view → new.view ≡ old.view → new.collector ≡ old.collector → new.every ≡ old.every
+    → new.words ≡ old.words → new.told ≡ old.told → KeepsGoing shown old new
+again_keeps shown old new n again quiet core collector every words is_told told script config stands =
+    let table : TableStands told script config stands.disk old.view old.states = stands.table in
+    let n : ℕ = length old.collector.journal.items in
+    record {
+      disk = stands.disk;
+      under = stands.under;
+      none_free = stands.none_free;
+      table = subst (λ (v : View). TableStands told script config stands.disk v new.states) (sym core)
+          (again.table told script config stands.disk old.view table quiet);
+      words = words ∙ stands.words;
+      every = every ∙ stands.every;
+      told_is = is_told ∙ stands.told_is;
+      collector = subst (CollectorStands config shown) (sym collector) stands.collector;
+      cuts = λ is.
+          subst (λ (v : View). HaveCuts script v.log new.states config new.collector.journal.items) (sym core)
+          (subst (λ (c : Collector). HaveCuts script old.view.log new.states config c.journal.items)
+          (sym collector) (again.cuts script old.view.log config old.collector.journal.items (stands.cuts is)));
+      made = λ is.
+          subst (λ (v : View). MadeSoFar config v new.collector.journal.items) (sym core)
+          (subst (λ (c : Collector). MadeSoFar config old.view c.journal.items) (sym collector) (stands.made is));
+      counts = counts_of script config new new.states old.collector refl collector
+          (counts_on script config old.states new.states n stands.counts
+          (again.collected script config table.count));
+    }
+
+-- a run between two epochs stands as in one
+pub goes_from : {told : Bool} {script : Script} {config : Config} {shown : Shown} {run : Row}
+    → RunStands told script config shown run → Goes told script config shown run
+goes_from {told} {script} {config} {shown} {run} stands = record {
+  disk = stands.disk;
+  under = stands.under;
+  none_free = stands.none_free;
+  table = stands.table;
+  words = stands.words;
+  every = stands.every;
+  told_is = stands.told_is;
+  collector = stands.collector;
+  cuts = stands.cuts;
+  made = stands.made;
+  counts = stands.counts;
+}
+
+-- and so behind one, where no thread can go on
+pub stands_from : {told : Bool} {script : Script} {config : Config} {shown : Shown} {run : Row} → AllWait run.states
+    → Goes told script config shown run → RunStands told script config shown run
+stands_from {told} {script} {config} {shown} {run} waits goes = record {
+  disk = goes.disk;
+  under = goes.under;
+  none_free = goes.none_free;
+  table = goes.table;
+  quiet = waiting_quiet told script config goes.disk run.view run.states goes.table waits;
+  words = goes.words;
+  every = goes.every;
+  told_is = goes.told_is;
+  collector = goes.collector;
+  cuts = goes.cuts;
+  made = goes.made;
+  counts = goes.counts;
+}
+
+-- no thread that is asked to stop is alone in waiting
+pub known_rests : (v : View) (states : List ThreadState) → KnowsStop v states → AllWait states → RestsWell states
+known_rests v states known waits = record {
+  waits = waits;
+  asked = λ t s at is. known.stop (known.asked t s at is);
+}
+
+-- an epoch in which no call is made first has ended
+pub runs_all : (shown : Shown) (first : Option ℕ) (old new : Row) → first ≡ None → ComesToRest shown old new
+    → RestsWell new.states → to_do new.states ≤ to_do old.states → new.collector ≡ old.collector
+    → RunsEpoch shown first old new
+runs_all shown first old new none comes rests less collector = record {
+  keeps = λ told script config may.
+      comes told script config
+      (goes_from (subst (λ (f : Option ℕ). MayRunEpoch told script config shown f old) none may).0);
+  rests = rests;
+  less = less;
+  first_less = subst (λ (f : Option ℕ). IfSome f (λ t. to_do new.states < to_do old.states)) (sym none) tt;
+  collector = collector;
+}
+
+-- and one in which one was made first
+pub runs_behind : (shown : Shown) (first : Option ℕ) (t : ℕ) (old mid new : Row) → first ≡ Some t
+    → MadeCall shown old mid t → to_do mid.states < to_do old.states → mid.collector ≡ old.collector
+    → ComesToRest shown mid new → RestsWell new.states → to_do new.states ≤ to_do mid.states
+    → new.collector ≡ mid.collector → RunsEpoch shown first old new
+runs_behind shown first t old mid new some made fewer same comes rests less collector =
+    let under : to_do new.states < to_do old.states = omega (arith, fewer, less) in
+    record {
+      keeps = λ told script config may.
+          let awaits : MayRunEpoch told script config shown (Some t) old =
+          subst (λ (f : Option ℕ). MayRunEpoch told script config shown f old) some may in
+          comes told script config (made.keeps told script config awaits.0 awaits.1);
+      rests = rests;
+      less = omega (arith, under);
+      first_less = subst (λ (f : Option ℕ). IfSome f (λ u. to_do new.states < to_do old.states)) (sym some) under;
+      collector = collector ∙ same;
+    }

@@ -34,7 +34,7 @@ use Rattle.melt_core.proofs.Places.{place_stands}
 use Rattle.melt_core.proofs.Tasks.{load_is, gload_is}
 use Rattle.melt_core.proofs.Values.{held_is, named_value, value_held}
 use Rattle.melt_safepoint.specs.Needs.{NeedsObject, NeedsWords}
-use Rattle.melt_step.specs.Lone.{NoneForwarded}
+use Rattle.melt_safepoint.specs.Collections.{NoneForwarded}
 
 -- the value that an address stands for is an object with an address
 held_named : (names : Option heap.Names) (address n : ℕ) → held_value names address ≡ Ref n

@@ -57,8 +57,9 @@ use Rattle.melt_safepoint.specs.Needs.{NeedsWords}
 use Rattle.melt_safepoint.specs.Shown.{Underlies}
 use Rattle.melt_safepoint.specs.Threads.{TakesReply, most_forwards}
 use Rattle.melt_safepoint.proofs.Modes.{NoPause}
-use Rattle.melt_step.specs.Lone.{CalledOver, IsAloneReady, IsMarked, NoneForwarded}
-use Rattle.melt_step.specs.Threads.{DropsIfEnded}
+use Rattle.melt_safepoint.specs.Collections.{IsMarked, NoneForwarded}
+use Rattle.melt_step.specs.Lone.{CalledOver, IsAloneReady}
+use Rattle.melt_safepoint.specs.Tables.{DropsIfEnded}
 use Rattle.melt_step.proofs.Calling.{Begins, KeepsOthers_both, dropped_stands, lost_state, stop_dropped, thread_there}
 use Rattle.melt_step.proofs.Calling.{told_state}
 use Rattle.melt_step.proofs.Lone.{load_needs}

@@ -20,8 +20,8 @@ use Rattle.melt_safepoint.specs.Modes.{mode_for, MayGo, IsEnded, owes_silent, jo
 use Rattle.melt_safepoint.specs.Passing.{Passed}
 use Rattle.melt_safepoint.specs.Threads.{jobs_of, left, with_first}
 use Rattle.melt_safepoint.proofs.Modes.{lost_ends, paused_cases, running_or_due}
-use Rattle.melt_step.specs.Threads.{ThreadWaits, ThreadGoes, ThreadRefused, ThreadLost, ThreadTold, ThreadStep}
-use Rattle.melt_step.specs.Threads.{TableStands, turn_left, potential}
+use Rattle.melt_safepoint.specs.Tables.{ThreadWaits, ThreadGoes, ThreadRefused, ThreadLost, ThreadTold, ThreadStep}
+use Rattle.melt_safepoint.specs.Tables.{TableStands, turn_left, potential}
 
 -- what a thread in this mode with so many operations to come has still to do
 abbrev amount : Mode → ℕ → Option Call → ℕ
@@ -189,86 +189,78 @@ step_nearer told script config disk v w states t s after table at goes step same
       ]
     ])
 
--- a thread without a call in flight has few events left before it waits
-turn_few : (mode : Mode) (c : Option Call) → c ≡ None → turn_left mode c ≤ 140000
-turn_few Running c none =
-    let few : turn_left Running None ≤ 140000 = omega arith in
-    subst (λ (o : Option Call). turn_left Running o ≤ 140000) (sym none) few
-turn_few Due c none = omega arith
-turn_few Silent c none = omega arith
-turn_few Collecting c none = omega arith
-turn_few Asked c none = omega arith
-turn_few Lacking c none = omega arith
-turn_few (Ended e) c none = omega arith
+-- what a thread has still to do, told by what its mode and its operations are
+jobs_less : (s after : ThreadState) (m k : Mode) (n p : ℕ) → s.mode ≡ m → length (left s) ≡ n → after.mode ≡ k
+    → length (left after) ≡ p → jobs k p ≤ jobs m n → jobs_of after ≤ jobs_of s
+jobs_less s after m k n p e f g h less = rw (e, f, g, h) less
 
--- no thread has more jobs than before
-abbrev NotMore : List ThreadState → List ThreadState → Type 0
-NotMore states after = (t : ℕ) (s : ThreadState) → slice_get states t ≡ Some s
-    → (x : ThreadState) × (slice_get after t ≡ Some x) × (jobs_of x ≤ jobs_of s)
+-- a thread that got its reply
+reply_jobs : (s after : ThreadState) (m : Mode) (n : ℕ) → s.mode ≡ m → length (left s) ≡ suc n
+    → length (left after) ≡ n → 3 + 2 * n ≤ jobs m (suc n) → (after.mode ≡ Running) × IsSome after.op
+    ⊎ ((after.mode ≡ Due) ⊎ ((after.mode ≡ Ended end.Done) × (left after ≡ []))) → jobs_of after ≤ jobs_of s
+reply_jobs s after m n is had to_come least fits = elim fits [
+  | inl runs ↦ jobs_less s after m Running (suc n) n is had runs.0 to_come (omega (arith, least))
+  | inr other ↦ elim other [
+    | inl due ↦ jobs_less s after m Due (suc n) n is had due to_come (omega (arith, least))
+    | inr ended ↦ jobs_less s after m (Ended end.Done) (suc n) n is had ended.0 to_come (omega arith)
+  ]
+]
 
--- the first of such threads has so many jobs less, and those behind it so many together
-first_less : (n m : ℕ) (s x : ThreadState) (states after : List ThreadState) (a b : List (Option Call))
-    → get_or b 0 None ≡ None → jobs_of x + n ≤ jobs_of s
-    → potential after (drop 1 b) + 2000000 * m ≤ potential states (drop 1 a) + 140000 * length states
-    → potential (x ∷ after) b + 2000000 * (n + m) ≤ potential (s ∷ states) a + 140000 * length (s ∷ states)
-first_less n m s x states after a b none fewer behind =
-    omega (
-      arith,
-      potential-first s states a,
-      potential-first x after b,
-      turn_few x.mode (get_or b 0 None) none,
-      fewer,
-      behind,
-    )
+-- one that has ended has nothing to do
+ended_jobs : (mode : Mode) (count : ℕ) → IsEnded mode → jobs mode count ≡ 0
+ended_jobs Running count over = absurd over
+ended_jobs Due count over = absurd over
+ended_jobs Silent count over = absurd over
+ended_jobs Collecting count over = absurd over
+ended_jobs Asked count over = absurd over
+ended_jobs Lacking count over = absurd over
+ended_jobs (Ended e) count over = refl
 
--- Threads without calls in flight, none of which has more jobs: only the events before each waits are added.
-potential_within : (states after : List ThreadState) (a b : List (Option Call)) → length after ≡ length states
-    → ((u : ℕ) → get_or b u None ≡ None) → NotMore states after
-    → potential after b ≤ potential states a + 140000 * length states
-potential_within [] [] a b count quiet each = omega arith
-potential_within [] (x ∷ after) a b count quiet each = absurd (omega (arith, count))
-potential_within (s ∷ states) [] a b count quiet each = absurd (omega (arith, count))
-potential_within (s ∷ states) (x ∷ after) a b count quiet each =
-    let first : (y : ThreadState) × (Some x ≡ Some y) × (jobs_of y ≤ jobs_of s) = each 0 s refl in
-    let fewer : jobs_of x ≤ jobs_of s =
-    subst (λ (y : ThreadState). jobs_of y ≤ jobs_of s) (sym (same_Some x first.0 first.1)) first.2 in
-    let behind : potential after (drop 1 b) ≤ potential states (drop 1 a) + 140000 * length states =
-    potential_within states after (drop 1 a) (drop 1 b) (omega (arith, count))
-    (λ u. get_or-drop_first b u ∙ quiet (suc u)) (λ t y at. each (suc t) y at) in
-    omega (arith, first_less 0 0 s x states after a b (quiet 0) (omega (arith, fewer)) (omega (arith, behind)))
-
--- and where one thread has less
-potential_under : (states after : List ThreadState) (a b : List (Option Call)) (t : ℕ) (s x : ThreadState)
-    → length after ≡ length states → ((u : ℕ) → get_or b u None ≡ None) → NotMore states after
-    → slice_get states t ≡ Some s → slice_get after t ≡ Some x → jobs_of x < jobs_of s
-    → potential after b + 2000000 ≤ potential states a + 140000 * length states
-potential_under [] after a b t s x count quiet each at now less = absurd (let none : slice_get [] t ≡ Some s = at in cc)
-potential_under (y ∷ states) [] a b t s x count quiet each at now less = absurd (omega (arith, count))
-potential_under (y ∷ states) (z ∷ after) a b zero s x count quiet each at now less =
-    let was : y ≡ s = same_Some y s at in
-    let is : z ≡ x = same_Some z x now in
-    let fewer : jobs_of z < jobs_of y = omega (arith, ap jobs_of was, ap jobs_of is, less) in
-    let behind : potential after (drop 1 b) ≤ potential states (drop 1 a) + 140000 * length states =
-    potential_within states after (drop 1 a) (drop 1 b) (omega (arith, count))
-    (λ u. get_or-drop_first b u ∙ quiet (suc u)) (λ t q there. each (suc t) q there) in
-    omega (arith, first_less 1 0 y z states after a b (quiet 0) (omega (arith, fewer)) (omega (arith, behind)))
-potential_under (y ∷ states) (z ∷ after) a b (suc t) s x count quiet each at now less =
-    let first : (q : ThreadState) × (Some z ≡ Some q) × (jobs_of q ≤ jobs_of y) = each 0 y refl in
-    let fewer : jobs_of z ≤ jobs_of y =
-    subst (λ (q : ThreadState). jobs_of q ≤ jobs_of y) (sym (same_Some z first.0 first.1)) first.2 in
-    let behind : potential after (drop 1 b) + 2000000 ≤ potential states (drop 1 a) + 140000 * length states =
-    potential_under states after (drop 1 a) (drop 1 b) t s x (omega (arith, count))
-    (λ u. get_or-drop_first b u ∙ quiet (suc u)) (λ t q there. each (suc t) q there) at now less in
-    omega (arith, first_less 0 1 y z states after a b (quiet 0) (omega (arith, fewer)) (omega (arith, behind)))
-
--- A safepoint brings a run nearer to its end: one job less outweighs the events that eight threads may have at most
--- before they wait again.
-pub safepoint_nearer : (states after : List ThreadState) (calls calls' : List (Option Call)) → length states ≤ 8
-    → ((u : ℕ) → get_or calls' u None ≡ None) → Passed states after → potential after calls' < potential states calls
-safepoint_nearer states after calls calls' few quiet passed =
-    omega (
-      arith,
-      few,
-      potential_under states after calls calls' passed.one.0 passed.one.1.0 passed.one.1.1.0
-          passed.count quiet passed.each passed.one.1.1.1 passed.one.1.1.2 passed.one.1.1.3,
-    )
+-- an event gives its thread no more to do
+pub step_jobs : (told : Bool) (disk : OnDisk) (v w : View) (t : ℕ) (s after : ThreadState) → MayGo s.mode
+    → ThreadStep told disk v w t s after → jobs_of after ≤ jobs_of s
+step_jobs told disk v w t s after goes step =
+    let n : ℕ = length (left s) in
+    elim step.what [
+      | inl waits ↦
+          let x = waits.1 in
+          let to_come : length (left after) ≡ n = ap (λ (y : ThreadState). length (left y)) x.only in
+          let now : after.mode ≡ waits.0 = ap (λ (y : ThreadState). y.mode) x.only in
+          elim x.before [
+            | inl own ↦ jobs_less s after Running Collecting n n own.0 refl (now ∙ own.2) to_come (omega arith)
+            | inr silent ↦ jobs_less s after Due Silent n n silent.0 refl (now ∙ silent.1) to_come (omega arith)
+          ]
+      | inr a ↦ elim a [
+        | inl going ↦ omega (arith, ap jobs_of going.same)
+        | inr b ↦ elim b [
+          | inl refused ↦
+              let to_come : length (left after) ≡ n = ap (λ (y : ThreadState). length (left y)) refused.only in
+              let now : after.mode ≡ mode_for (refusal.Pause refused.cause) =
+              ap (λ (y : ThreadState). y.mode) refused.only in
+              elim (paused_cases refused.cause) [
+                | inl asked ↦ jobs_less s after Running Asked n n refused.running refl (now ∙ asked) to_come
+                    (omega arith)
+                | inr lacks ↦ jobs_less s after Running Lacking n n refused.running refl (now ∙ lacks) to_come
+                    (omega arith)
+              ]
+          | inr c ↦ elim c [
+            | inl lost ↦
+                let over : IsEnded after.mode =
+                subst IsEnded (sym (ap (λ (y : ThreadState). y.mode) lost.only))
+                (lost_ends told disk.end lost.refusal lost.cause) in
+                omega (arith, ended_jobs after.mode (length (left after)) over)
+            | inr got ↦
+                let had : n ≡ suc (length s.cursor.operations) =
+                ap (λ (o : Option Op). length (with_first o s.cursor.operations)) got.next in
+                let to_come : length (left after) ≡ length s.cursor.operations =
+                ap (λ (ops : List Op). length ops) got.takes.to_come in
+                elim (running_or_due s.mode goes) [
+                  | inl runs ↦ reply_jobs s after Running (length s.cursor.operations) runs had to_come (omega arith)
+                      got.takes.fits
+                  | inr due ↦ reply_jobs s after Due (length s.cursor.operations) due had to_come (omega arith)
+                      got.takes.fits
+                ]
+          ]
+        ]
+      ]
+    ]

@@ -26,7 +26,7 @@ use Rattle.melt_scion.proofs.Starting.{NoObjects, IsEmpty, new_heap_empty, Tells
 use Rattle.melt_core.specs.declared.call.Call.{Call}
 use Rattle.melt_core.specs.declared.machine.Rest.{Rest}
 use Rattle.melt_core.specs.Views.{View, view, maps, maps_of, state, values_of, registers_in, held_values, call_of}
-use Rattle.melt_core.specs.Views.{Standing}
+use Rattle.melt_core.specs.Views.{IsQuiet, Standing}
 use Rattle.melt_core.specs.Epochs.{no_registers, IsNewRest, AtRest, core_of}
 use Rattle.melt_core.proofs.Disks.{stands_over, stands_untold}
 use Rattle.melt_core.proofs.Resting.{start_at_rest}
@@ -35,10 +35,12 @@ use Rattle.melt_safepoint.specs.declared.thread.ThreadState.{ThreadState}
 use Rattle.melt_safepoint.specs.declared.thread.Mode.{Mode}
 use Rattle.melt_safepoint.specs.declared.thread.Mode.TheVariants.{Running, Asked, Ended}
 use Rattle.melt_safepoint.specs.Threads.{most_forwards, AreNewThreads, IsNewThread}
-use Rattle.melt_safepoint.specs.Modes.{owes_silent, Waits, FitsMode, owes}
+use Rattle.melt_safepoint.specs.Passing.{NoneOwn}
+use Rattle.melt_model.specs.Config.{InRanges}
+use Rattle.melt_safepoint.specs.Modes.{ForCollection, owes_silent, Waits, FitsMode, owes}
 use Rattle.melt_safepoint.proofs.Shown.{bare}
 use Rattle.melt_safepoint.proofs.Starting.{ends_new}
-use Rattle.melt_step.specs.Threads.{KnowsStop, ThreadStands, TableStands}
+use Rattle.melt_safepoint.specs.Tables.{KnowsStop, ThreadStands, TableStands}
 
 -- no address has a name
 no_name : (words k : ℕ) → name_at (replicate words None) k ≡ None
@@ -206,3 +208,41 @@ stop_new script entries heap rest states new_states = record {
     | inr over ↦ let wrong : Ended end.Done ≡ Asked = sym over.0 ∙ is in cc
   ]);
 }
+
+-- no thread waits for a collection of its own
+pub own_new : (script : Script) (entries : ℕ) (states : List ThreadState) → AreNewThreads script states entries
+    → NoneOwn states
+own_new script entries states new_states t s at own = elim (new_states.each t s at).mode [
+  | inl runs ↦ subst ForCollection runs.0 own
+  | inr over ↦ subst ForCollection over.0 own
+]
+
+-- What a core shows before the first event, over a disk without homes: its threads stand, no call is in flight, and the
+-- history is empty.
+pub record Begins (told : Bool) (script : Script) (config : Config) (image : Option (List ℕ)) (v : View)
+    (states : List ThreadState) : Type 0 where
+  pub table : TableStands told script config (bare image) v states
+  pub quiet : IsQuiet v
+  pub history : v.log ≡ []
+
+-- so it begins
+pub begins_new : (told : Bool) (script : Script) (config : Config) (entries globals threads : ℕ)
+    (image : Option (List ℕ)) (heap : Heap) (rest : Rest) (states : List ThreadState) → InRanges config
+    → globals ≡ script.globals → threads ≡ length script.programs → threads ≤ 8
+    → IsNewHeap config.heap globals config.forward true heap → IsNewRest threads entries rest
+    → AreNewThreads script states entries → Begins told script config image (view (core_of heap rest)) states
+begins_new told script config entries globals threads image heap rest states ranges all_globals all_threads eight is_heap
+    is_rest new_states =
+    let new_heap : IsNewHeap config.heap script.globals config.forward true heap =
+    subst (λ (n : ℕ). IsNewHeap config.heap n config.forward true heap) all_globals is_heap in
+    let new_rest : IsNewRest (length script.programs) entries rest =
+    subst (λ (n : ℕ). IsNewRest n entries rest) all_threads is_rest in
+    let at_rest : AtRest true no_homes_on heap rest =
+    start_at_rest true config.heap globals config.forward threads entries heap rest (omega (arith, ranges.heap_most))
+    eight is_heap is_rest in
+    record {
+      table = Table_new told script config entries image heap rest states (omega (arith, ranges.heap_most))
+          ranges.forward_least ranges.forward_most (omega (arith, all_threads, eight)) new_heap new_rest new_states;
+      quiet = at_rest.quiet;
+      history = is_rest.history;
+    }

@@ -1,9 +1,5 @@
-pub mod Made
-pub mod Threads
-pub mod Lone
-pub mod Collections
-pub mod Endings
-pub mod Safepoints
-pub mod Makes
-pub mod Turns
 pub mod Choices
+pub mod Going
+pub mod Lone
+pub mod Made
+pub mod Turns

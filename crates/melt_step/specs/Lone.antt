@@ -13,18 +13,10 @@ use Rattle.melt_core.specs.Views.{View, maps, state, value, values_of, registers
 use Rattle.melt_safepoint.specs.declared.thread.Mode.TheVariants.{Lacking}
 use Rattle.melt_safepoint.specs.declared.thread.ThreadState.{ThreadState}
 use Rattle.melt_safepoint.specs.Needs.{NeedsWords}
+use Rattle.melt_safepoint.specs.Collections.{IsMarked, NoneForwarded}
 use Rattle.melt_safepoint.specs.Shown.{Underlies}
 use Rattle.melt_safepoint.specs.Threads.{most_forwards}
-use Rattle.melt_step.specs.Threads.{ThreadLost, ThreadTold}
-
--- no forwarding word is filled
-abbrev pub NoneForwarded : View → Type 0
-NoneForwarded v = (p : ℕ) → slice_index v.forward p ≡ 0
-
--- Each object in use that no register holds has the stale bit. What stands on disk says nothing of that.
-abbrev pub IsMarked : View → Type 0
-IsMarked v = (a : ℕ) (header : Header) → IsNamed (maps v) a → HeaderAt (state no_homes_on v) a header
-    → (HoldsAt (state no_homes_on v) a → ⊥) → header.stale ≡ true
+use Rattle.melt_safepoint.specs.Tables.{ThreadLost, ThreadTold}
 
 -- The thread lacked room, and may make its call alone: none is in flight of it, the stop word is not set, no forwarding
 -- word is filled, and there is one. Over some disk with this end the words are well formed.

@@ -7,10 +7,6 @@ use Rattle.melt_core.specs.Made.{HasMade, KeepsMade}
 use Rattle.melt_core.specs.Views.{View, Standing}
 use Rattle.melt_safepoint.specs.Shown.{Underlies}
 
--- and of those that were made behind the last collection, all are in use
-abbrev pub MadeSoFar : Config → View → List Journal → Type 0
-MadeSoFar config v journal = HasMade (config.heap * length journal) v
-
 -- over each disk that is seen so, and tells its words, whatever was made in between came into use
 abbrev pub MakesInUse : ℕ → Option (List ℕ) → View → View → Type 0
 MakesInUse finish image v w = (disk : OnDisk) → Underlies true finish image disk → Standing true disk v → KeepsMade v w

@@ -2,153 +2,69 @@
 //!
 //! A collection is made between two epochs. It takes the heap and lends the registers, and so the core is taken apart
 //! for it and put together again. Where it is refused these parts are left, and the report of the run is made of them.
-ghost use Rattle.std.specs.Prelude.{◌≡◌, ◌<◌, ◌≤◌, All, [], length, IfOk, IfErr, IsErrOf, OnOk, OnErr, Err};
+ghost use Rattle.std.specs.Prelude.{◌≡◌, IfOk, IfErr, OnErr, Err};
 ghost use Rattle.melt_core.specs.Views.{view};
 ghost use Rattle.melt_io.specs.Outside.{Rose};
-ghost use Rattle.melt_model.specs.declared.reports.Phase.{Phase};
-ghost use Rattle.melt_move.specs.Collecting.{IsFormedOn};
 ghost use Rattle.melt_move.specs.KeptDisk.{KeepsDisk};
-ghost use Rattle.melt_move.specs.Planned.{CollectsPlanned, IsRefusedPlanned, phase_done, plan_after};
-ghost use Rattle.melt_move.specs.declared.planned.Plan.{Plan};
+ghost use Rattle.melt_move.specs.Planned.{phase_done};
 ghost use Rattle.melt_safepoint.specs.Shown.{shown_by};
-ghost use Rattle.melt_step.specs.Collections.{CollectsCore, IsRefusedCore, MayCollect};
+ghost use Rattle.melt_safepoint.specs.declared.ending.Left.{Left};
+ghost use Rattle.melt_safepoint.specs.Collections.{CollectsCore, IsRefusedCore, MayCollect};
+ghost use Rattle.melt_safepoint.specs.Rows.{RefusalStores};
 
 use melt_core::{Core, Rest};
-use melt_disk::{DiskFull, StaleSpace};
+use melt_disk::StaleSpace;
 use melt_io::StaleDisk;
-use melt_model::{Config, Journal, NoMemory, Phase, Steps};
-use melt_move::collect::MoveRefusal;
-use melt_move::planned::{Plan, collect_planned};
-use melt_scion::{Heap, Registers};
+use melt_model::Ghost;
+use melt_safepoint::{CollectRefusal, Collector, HeapRefusal, Left, collect_heap};
+use melt_scion::Heap;
 use std::alloc::Global;
-use std::marker::Brand;
-use std::sync::ledger::{Blank, Ledger};
 
-/// How many registers a thread has is a part of the type, and is told here.
-fn count_registers(registers: Registers)
-    ensures { length registers.regs ≡ 16 }
-{}
-
-/// Each thread has 16 registers.
-fn count_all_registers(all: &[Registers])
-    ensures { All (λ each. length each.regs ≡ 16) all.now }
+/// What is left of a run: its heap, if there is one, and the history.
+pub fn left_of(heap: Option<Heap>, rest: Rest) -> Left
+    ensures heap { result.heap ≡ heap }
+    ensures log { result.log ≡ rest.log.items }
+    ensures history { result.history ≡ rest.log.items }
 {
-    for &registers in all {
-        count_registers(registers);
+    let history = Ghost::pick(&rest);
+    Left {
+        heap,
+        log: rest.into_history(),
+        history,
     }
 }
 
-/// Why a collection was not made, and what is left then of the core.
-#[derive(Debug, Drop)]
-pub enum CollectRefusal {
-    /// There was no memory.
-    NoMemory,
-    /// The disk has no room for the new homes. Objects that had come back from it are settled, and else nothing is
-    /// changed.
-    DiskFull {
-        heap: Heap,
-        rest: Rest,
-        full: DiskFull,
-    },
-    /// A write to the disk failed, and the heap is lost.
-    DiskFault {
-        rest: Rest,
-    },
-}
-
-/// Collects a heap, and counts no steps. Whoever calls it picks a ledger for them, which is of a type that it names.
-fn collect_uncounted<D: StaleDisk, L: Ledger>(
+/// Makes a collection between two epochs: the one that is planned, or a Move where `force` says so.
+pub fn collect_core<D: StaleDisk>(
+    core: Core,
     alloc: Global,
-    heap: Heap,
-    registers: &mut [Registers],
+    collector: &mut Collector,
     space: &mut StaleSpace<'_, D>,
-    plan: &mut Plan,
     force: bool,
-    blank: Blank,
-) -> Result<(Heap, Journal), MoveRefusal>
-    requires name { blank.name ≡ L.name }
-    requires parts { blank.parts ≡ L.parts }
-    requires some { 0 < blank.parts }
-    requires formed { IsFormedOn heap registers.old space.old.end }
-    ensures collects { IfOk result (λ done. CollectsPlanned (phase_done force plan.old.next) heap done.0
-        registers.old registers.new space.old.end space.new.end (D.image space.old.disk.now)
-        (D.image space.new.disk.now) done.1) }
-    ensures formed { IfOk result (λ done. IsFormedOn done.0 registers.new space.new.end) }
-    ensures plans { IfOk result (λ done. plan.new
-        ≡ plan_after plan.old (phase_done force plan.old.next) done.1.live (length heap.space.list)) }
-    ensures fits { OnOk result (phase_done force plan.old.next ≡ Phase.Move → space.new.end ≤ space.old.limit) }
-    ensures refused { IfErr result (λ refusal. IsRefusedPlanned D.image D.writes (phase_done force plan.old.next) heap
-        registers.old registers.new space.old space.new refusal) }
-    ensures failed { IsErrOf result MoveRefusal.DiskFault
+) -> Result<Core, CollectRefusal>
+    requires { MayCollect space.old.end (view core) }
+    ensures collected { IfOk result (λ after. CollectsCore (phase_done force collector.old.plan.next)
+        (shown_by D.image space.old) (shown_by D.image space.new) (view core) (view after) collector.old
+        collector.new) }
+    ensures refused { IfErr result (IsRefusedCore (phase_done force collector.old.plan.next)
+        (shown_by D.image space.old) (shown_by D.image space.new) (view core)) }
+    ensures journal_stays { OnErr result (collector.new.journal.items ≡ collector.old.journal.items) }
+    ensures failed { (left : Left) → result ≡ Err (CollectRefusal.DiskFault left)
         → Rose (D.faults space.old.disk.now) (D.faults space.new.disk.now) }
+    ensures stores { IfErr result (RefusalStores (λ history. history)) }
     ensures keeps { KeepsDisk D.image D.faults D.read_faults D.lends space.old space.new }
-    ensures before { All (λ each. length each.regs ≡ 16) registers.old }
-    ensures after { OnOk result (All (λ each. length each.regs ≡ 16) registers.new) }
 {
-    count_all_registers(registers);
-    let mut steps = Steps::<L>::new(blank);
-    let done = collect_planned(alloc, heap, registers, space, plan, force, &mut steps)?;
-    count_all_registers(registers);
-    Ok(done)
-}
-
-/// What collections there were, and of which phase the next one is to be.
-#[derive(Drop)]
-pub struct Collector {
-    pub journal: Vec<Journal>,
-    pub plan: Plan,
-}
-
-impl Collector {
-    /// Before the first collection, which is to be Inactive.
-    pub fn new(alloc: Global, config: Config) -> Collector
-        ensures none { result.journal.items ≡ [] }
-        ensures plan { result.plan ≡ record { next = Phase.Inactive; mark = config.mark; move_ = config.move_ } }
-    {
-        Collector {
-            journal: Vec::new(alloc),
-            plan: Plan {
-                next: Phase::Inactive,
-                mark: config.mark,
-                move_: config.move_,
-            },
-        }
-    }
-
-    /// Makes a collection between two epochs: the one that is planned, or a Move where `force` says so.
-    pub fn collect<D: StaleDisk>(
-        &mut self,
-        alloc: Global,
-        core: Core,
-        space: &mut StaleSpace<'_, D>,
-        force: bool,
-    ) -> Result<Core, CollectRefusal>
-        requires { MayCollect space.old.end (view core) }
-        ensures collected { IfOk result (λ after. CollectsCore (phase_done force self.old.plan.next)
-            (shown_by D.image space.old) (shown_by D.image space.new) (view core) (view after) self.old self.new) }
-        ensures refused { IfErr result (IsRefusedCore (phase_done force self.old.plan.next)
-            (shown_by D.image space.old) (shown_by D.image space.new) (view core)) }
-        ensures journal_stays { OnErr result (self.new.journal.items ≡ self.old.journal.items) }
-        ensures failed { (rest : Rest) → result ≡ Err (CollectRefusal.DiskFault rest)
-            → Rose (D.faults space.old.disk.now) (D.faults space.new.disk.now) }
-        ensures keeps { KeepsDisk D.image D.faults D.read_faults D.lends space.old space.new }
-    {
-        let (heap, mut rest) = core.finish();
-        let blank = Blank::new(1);
-        let registers = rest.registers();
-        let plan = &mut self.plan;
-        match collect_uncounted::<D, Brand>(alloc, heap, registers, space, plan, force, blank) {
-            Ok((heap, journal)) => {
-                if self.journal.push(journal).is_err() {
-                    return Err(CollectRefusal::NoMemory);
-                }
-                Ok(Core::begin(heap, rest))
-            }
-            Err(MoveRefusal::NoMemory(_)) => Err(CollectRefusal::NoMemory),
-            Err(MoveRefusal::DiskFull { heap, full }) => {
-                Err(CollectRefusal::DiskFull { heap, rest, full })
-            }
-            Err(MoveRefusal::DiskFault) => Err(CollectRefusal::DiskFault { rest }),
-        }
+    let (heap, mut rest) = core.finish();
+    let registers = rest.registers();
+    match collect_heap(alloc, heap, registers, collector, space, force) {
+        Ok(heap) => Ok(Core::begin(heap, rest)),
+        Err(HeapRefusal::NoMemory) => Err(CollectRefusal::NoMemory),
+        Err(HeapRefusal::DiskFull { heap, full }) => Err(CollectRefusal::DiskFull {
+            left: left_of(Some(heap), rest),
+            full,
+        }),
+        Err(HeapRefusal::DiskFault) => Err(CollectRefusal::DiskFault {
+            left: left_of(None, rest),
+        }),
     }
 }

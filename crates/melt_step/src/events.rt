@@ -10,7 +10,7 @@ ghost use Rattle.melt_safepoint.specs.Losses.{CountsLoss};
 ghost use Rattle.melt_safepoint.specs.Threads.{DueBy, TakesReply};
 ghost use Rattle.melt_safepoint.specs.Modes.{MayGo};
 ghost use Rattle.melt_step.specs.Made.{MakesInUse};
-ghost use Rattle.melt_step.specs.Threads.{DropsIfEnded, IsReady, SetsStop, TakesTurn};
+ghost use Rattle.melt_safepoint.specs.Tables.{DropsIfEnded, IsReady, SetsStop, TakesTurn};
 
 use melt_core::{Core, StepResult};
 use melt_io::RecordReader;

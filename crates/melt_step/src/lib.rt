@@ -4,10 +4,10 @@
 mod alone;
 mod choices;
 mod collector;
-mod ending;
+mod epoch;
 mod events;
+mod ordered;
 mod run;
-mod safepoint;
 mod turns;
 
 pub use choices::any_choices;

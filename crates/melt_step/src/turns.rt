@@ -1,8 +1,8 @@
 //! The order in which threads take their events.
-ghost use Rattle.std.specs.Prelude.{◌≡◌, ℕ, ◌+◌, ◌<◌, ◌≤◌, ◌⊎◌, length, slice_get, Some, None, IfSome, IfNone};
+ghost use Rattle.std.specs.Prelude.{◌≡◌, ◌↔◌, ℕ, ◌+◌, ◌<◌, ◌≤◌, ◌⊎◌, length, slice_get, true, Some, None, IfSome, IfNone};
 ghost use Rattle.melt_safepoint.specs.declared.thread.ThreadState.{ThreadState};
 ghost use Rattle.melt_safepoint.specs.Modes.{MayGo};
-ghost use Rattle.melt_step.specs.Turns.{InTurn, NoLine, NoTurn, NoneGoes, OfLine};
+ghost use Rattle.melt_step.specs.Turns.{GoesAt, InTurn, NoLine, NoTurn, NoneGoes, OfLine};
 
 use melt_safepoint::ThreadState;
 use melt_trace::Trace;
@@ -38,7 +38,6 @@ impl Turns {
 
     /// The thread that has the next event by the lines of the trace. A line whose thread cannot go on is dropped.
     fn by_line(&mut self, trace: &Trace, states: &[ThreadState<'_>]) -> Option<u32>
-        requires { length states.now ≡ length trace.now.programs }
         ensures line { IfSome result (OfLine trace.now.orders states.now self.old self.new) }
         ensures none { IfNone result (NoLine trace.now.orders states.now self.old.line (length trace.now.orders)) }
         ensures turn { self.new.turn ≡ self.old.turn }
@@ -48,7 +47,7 @@ impl Turns {
     {
         while self.line < trace.orders() {
             let (thread, events) = trace.order(self.line);
-            if states[thread as usize].can_go() {
+            if can_go(states, thread) {
                 let left = if self.left == 0 { events } else { self.left };
                 self.left = left - 1;
                 if self.left == 0 {
@@ -64,7 +63,7 @@ impl Turns {
     /// The thread that has the next event, if one can go on. Behind the last line the threads take one event each, in
     /// ascending order and again from the first. A line that is begun is not taken up again once no thread can go on.
     pub fn next(&mut self, trace: &Trace, states: &[ThreadState<'_>]) -> Option<u32>
-        requires { length states.now ≡ length trace.now.programs }
+        requires { length states.now ≤ 8 }
         ensures goes { IfSome result (λ t. (s : ThreadState) × (slice_get states.now t ≡ Some s) × MayGo s.mode) }
         ensures none { IfNone result ((t : ℕ) (s : ThreadState) → slice_get states.now t ≡ Some s → MayGo s.mode → ⊥) }
         ensures given { IfSome result
@@ -72,7 +71,7 @@ impl Turns {
             ⊎ InTurn trace.now.orders states.now self.old self.new t) }
         ensures waits { IfNone result (NoTurn states.now self.old self.new) }
     {
-        let count = trace.threads();
+        let count = states.len() as u32;
         let first = match first_from(states, self.turn, count) {
             Some(t) => t,
             None => match first_from(states, 0, count) {
@@ -90,6 +89,16 @@ impl Turns {
         }
         self.turn = first + 1;
         Some(first)
+    }
+}
+
+/// Whether there is such a thread and it can go on.
+fn can_go(states: &[ThreadState<'_>], thread: u32) -> bool
+    ensures { result ≡ true ↔ GoesAt states.now thread }
+{
+    match states.get(thread as usize) {
+        Some(state) => state.can_go(),
+        None => false,
     }
 }
 

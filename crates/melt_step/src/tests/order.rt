@@ -1,17 +1,18 @@
-ghost use Rattle.std.specs.Prelude.{◌≡◌, false};
-ghost use Rattle.melt_model.specs.declared.config.Config.{Config};
+ghost use Rattle.std.specs.Prelude.{◌≡◌};
 ghost use Rattle.melt_core.specs.Views.{view};
-ghost use Rattle.melt_safepoint.specs.Shown.{Shown};
-ghost use Rattle.melt_step.specs.Safepoints.{RunStands};
-ghost use Rattle.melt_step.specs.Threads.{KnowsStop};
+ghost use Rattle.melt_safepoint.specs.Rows.{row_of};
+ghost use Rattle.melt_safepoint.specs.Tables.{KnowsStop};
+ghost use Rattle.melt_step.specs.Going.{SomeGoes, core_view};
 
 use super::given::{Wanted, copied, emptied, expect, leaving, run_over, usual};
-use crate::run::{Run, new_run};
-use crate::turns::Turns;
+use crate::epoch::take_turn;
+use crate::ordered::Ordered;
+use crate::run::new_run;
 use melt_disk::StaleSpace;
 use melt_io::{RecordReader, SteadyDisk};
 use melt_model::{Act, Entry, Phase, Reply, Slot, ThreadEnd, Value};
-use melt_trace::{Trace, parse};
+use melt_safepoint::{Run, tells};
+use melt_trace::parse;
 use std::process::Abort;
 use std::test::Fail;
 
@@ -85,25 +86,22 @@ const LACKING: &[u8] =
 /// replies it has then. No thread can go on behind the last.
 fn expect_events<A: Abort, R: RecordReader>(
     rt: &A,
-    trace: &Trace,
-    run: &mut Run<'_>,
+    run: &mut Run<'_, Ordered<'_>>,
     end: u32,
     reader: &mut R,
     events: &[(u32, usize)],
 )
-    requires stands { (shown : Shown) × (shown.end ≡ end) × (shown.image ≡ R.image reader.old)
-        × ((config : Config) × RunStands false trace.now config shown run.old) }
-    requires stop { KnowsStop (view run.old.core) run.old.states.items }
+    requires stands { SomeGoes end (R.image reader.old) (row_of core_view run.old) }
+    requires stop { KnowsStop (view run.old.machine.core) run.old.states.items }
 {
-    let mut turns = Turns::new();
     for &(thread, replies) in events {
-        let Some(next) = run.take_turn(&mut turns, trace, end, reader) else {
+        let Some(next) = take_turn(run, end, reader) else {
             panic!(rt; "no thread can go on");
         };
         assert_eq!(rt; next, thread);
         assert_eq!(rt; run.states[next as usize].replies.len(), replies);
     }
-    assert_eq!(rt; turns.next(trace, &run.states), None);
+    assert_eq!(rt; take_turn(run, end, reader), None);
 }
 
 #[test]
@@ -113,11 +111,11 @@ fn events_come_in_the_written_order(rt: HostRuntime) -> Result<(), Fail> {
     let config = usual(16, 0);
     let mut disk = SteadyDisk::new(alloc);
     let mut space = StaleSpace::new(&mut disk, config.disk);
-    let run = new_run(alloc, &trace, config)?;
-    let Ok((mut run, mut reader)) = run.lend(alloc, &mut space) else {
+    let mut run = new_run(alloc, &trace, config, tells(&space))?;
+    let Ok(mut reader) = space.lend(alloc) else {
         return Err("no reader".into());
     };
-    expect_events(&rt, &trace, &mut run, space.end(), &mut reader, &EVENTS);
+    expect_events(&rt, &mut run, space.end(), &mut reader, &EVENTS);
     space.give_back(reader);
     assert!(rt; run.has_ended());
     Ok(())

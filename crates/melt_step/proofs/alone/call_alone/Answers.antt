@@ -17,11 +17,11 @@ use Rattle.melt_safepoint.proofs.Shown.{under_untold}
 use Rattle.melt_safepoint.proofs.Modes.{lacks_space}
 use Rattle.melt_step.specs.Lone.{CalledOver}
 use Rattle.melt_step.specs.Made.{MakesInUse}
-use Rattle.melt_step.specs.Threads.{DropsIfEnded}
+use Rattle.melt_safepoint.specs.Tables.{DropsIfEnded}
 use Rattle.melt_step.proofs.Calling.{KeepsOthers_both, goes_nearer, refused_call, thread_there}
 use Rattle.melt_step.proofs.LoneCalls.{call_asks, call_goes, call_lacks, call_lost, call_reads, call_told, few_still}
 use Rattle.melt_step.proofs.LoneCalls.{never_pauses}
-use Rattle.melt_step.proofs.WordsMade.{made_ended}
+use Rattle.melt_safepoint.proofs.WordsMade.{made_ended}
 use Rattle.melt_step.proofs.alone.call_alone.Goals as goal
 
 -- an event of the call makes what comes into use, also behind those before it

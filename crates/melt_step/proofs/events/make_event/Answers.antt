@@ -9,10 +9,10 @@ use Rattle.melt_core.specs.declared.answer.StepResult.TheVariants.{Refused}
 use Rattle.melt_safepoint.specs.declared.thread.Mode.{Mode}
 use Rattle.melt_safepoint.specs.Losses.{CountsLoss}
 use Rattle.melt_safepoint.proofs.Losses.{counts_none, refused_counts, told_kept}
-use Rattle.melt_step.specs.Threads.{DropsIfEnded, SetsStop, TakesTurn}
+use Rattle.melt_safepoint.specs.Tables.{DropsIfEnded, SetsStop, TakesTurn}
 use Rattle.melt_step.proofs.Calling.{begins_ready, goes_sets, goes_step, refused_call, refused_sets, refused_step}
 use Rattle.melt_step.proofs.Calling.{thread_there, told_sets, told_step, waits_step}
-use Rattle.melt_step.proofs.WordsMade.{made_ended, made_stopped}
+use Rattle.melt_safepoint.proofs.WordsMade.{made_ended, made_stopped}
 use Rattle.melt_step.proofs.events.make_event.Goals as goal
 
 pub returns-in-Running-Some-Collect-clause-step : goal.returns-in-Running-Some-Collect-clause-step

@@ -3,25 +3,42 @@ use Rattle.std.proofs.Common.{refl, sym, subst}
 use Rattle.melt_core.specs.Views.{view}
 use Rattle.melt_core.specs.declared.machine.Core.{Core}
 use Rattle.melt_safepoint.proofs.Starting.{losses_new, idle_new}
-use Rattle.melt_step.specs.Threads.{KnowsStop}
-use Rattle.melt_step.proofs.Starting.{stop_new}
-use Rattle.melt_step.proofs.Reporting.{Run_new}
+use Rattle.melt_safepoint.specs.Tables.{KnowsStop}
+use Rattle.melt_safepoint.specs.Rows.{row_of}
+use Rattle.melt_safepoint.specs.Shown.{Shown}
+use Rattle.melt_step.specs.Going.{core_view}
+use Rattle.melt_step.proofs.Starting.{Begins, begins_new, own_new, stop_new}
+use Rattle.melt_safepoint.proofs.Closing.{Run_new}
 use Rattle.melt_step.proofs.run.new_run.Goals as goal
+use Rattle.melt_step.proofs.run.new_run.Goals.{After-new-4}
+
+-- what its threads stand for, and what is at rest
+begun : (c : After-new-4) (shown : Shown) → Begins c.args.told c.args.trace.now c.args.config shown.image (view c.begin.result)
+    c.in_ok-states.states.items
+begun c shown =
+    subst (λ (core : Core). Begins c.args.told c.args.trace.now c.args.config shown.image (view core)
+    c.in_ok-states.states.items) (sym c.begin.ensures)
+    (begins_new c.args.told c.args.trace.now c.args.config c.in_ok-states.entries c.globals.result c.threads.result
+    shown.image c.in_ok-heap.heap c.in_ok-rest.rest c.in_ok-states.states.items c.requires.ranges
+    c.globals.ensures.value c.threads.ensures.count c.threads.ensures.within.1 c.in_ok-heap.ensures c.in_ok-rest.ensures
+    c.in_ok-states.ensures)
 
 pub returns-clause-stands : goal.returns-clause-stands
-returns-clause-stands c = λ told shown ends limits some.
-    Run_new told c.args.trace.now c.args.config shown c.in_ok-states.entries c.globals.result c.threads.result
-    c.in_ok-heap.heap c.in_ok-rest.rest
-    (record {
-      core = c.begin.result;
+returns-clause-stands c = λ shown ends limits some.
+    let begun = begun (goal.at.returns-clause-stands c).After-new-4 shown in
+    Run_new c.args.told c.args.trace.now c.args.config shown c.in_ok-states.entries (row_of core_view (record {
+      machine = record { core = c.begin.result; turns = c.new-3.result; trace = c.args.trace };
       states = c.in_ok-states.states;
-      collector = c.new-3.result;
+      collector = c.new-4.result;
       words = c.args.config.heap;
       every = c.args.config.every;
-    })
-    c.requires.ranges ends limits some c.globals.ensures.value c.threads.ensures.count c.threads.ensures.within.1
-    c.in_ok-heap.ensures c.in_ok-rest.ensures c.in_ok-states.ensures c.begin.ensures refl refl c.new-3.ensures.none
-    c.new-3.ensures.plan
+      told = c.args.told;
+    })) c.requires.ranges ends limits some begun.table begun.quiet begun.history c.in_ok-states.ensures refl refl refl
+    c.new-4.ensures.none c.new-4.ensures.plan
+
+pub returns-clause-own : goal.returns-clause-own
+returns-clause-own c =
+    own_new c.args.trace.now c.in_ok-states.entries c.in_ok-states.states.items c.in_ok-states.ensures
 
 pub returns-clause-stop : goal.returns-clause-stop
 returns-clause-stop c =

@@ -1,12 +1,20 @@
 -- The thread of a turn is among those of the run after its event too.
-use Rattle.std.proofs.Common.{length, ◌∙◌, ap, arith, false}
+use Rattle.std.proofs.Common.{sym, ◌∙◌, arith}
 use Rattle.melt_step.proofs.tests.order.expect_events.Goals as goal
 
-pub index-requires : goal.index-requires
-index-requires g c = omega (arith, c.in-Some.ensures.there, c.take_turn.new.self.states.ok)
+pub take_turn-requires-clause-stands : goal.take_turn-requires-clause-stands
+take_turn-requires-clause-stands g c =
+    let stands = c.requires.stands in (
+      stands.0,
+      stands.1,
+      stands.2 ∙ sym c.loop-thread.invariant.image,
+      (
+        stands.3.0,
+        stands.3.1,
+        stands.3.2,
+        c.loop-thread.invariant.keeps stands.0 stands.1 stands.2 stands.3.0 stands.3.1 stands.3.2 stands.3.3,
+      ),
+    )
 
-pub next-requires : goal.next-requires
-next-requires g c =
-    ap length c.deref.ensures.value
-    ∙ (c.loop-thread.invariant.keeps c.requires.stands.0 c.requires.stands.1 c.requires.stands.2 false
-    c.args.trace.now c.requires.stands.3.0 c.requires.stands.3.1).table.count
+pub index-requires : goal.index-requires
+index-requires g c = omega (arith, c.in-Some.ensures.there, c.take_turn.new.run.states.ok)

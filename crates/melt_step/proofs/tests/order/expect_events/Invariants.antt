@@ -1,15 +1,16 @@
--- The run stands on, over the same words, and its threads are those of the trace.
+-- The run stands on, over the same words.
 use Rattle.std.proofs.Common.{◌≡◌}
 use Rattle.melt_core.specs.Views.{view}
 use Rattle.melt_safepoint.specs.Shown.{Shown}
-use Rattle.melt_step.specs.Safepoints.{KeepsRun}
-use Rattle.melt_step.specs.Threads.{KnowsStop}
+use Rattle.melt_safepoint.specs.Rows.{row_of}
+use Rattle.melt_safepoint.specs.Tables.{KnowsStop}
+use Rattle.melt_step.specs.Going.{KeepsGoing, core_view}
 use Rattle.melt_step.proofs.tests.order.expect_events.Given as goal
 
 abbrev pub invariant-loop-thread : goal.invariant-loop-thread
 invariant-loop-thread g l = record {
   keeps : (shown : Shown) → shown.end ≡ l.fn.end → shown.image ≡ g.R.RecordReader.image l.initial.reader
-      → KeepsRun shown shown l.initial.run l.run;
-  stop : KnowsStop (view l.run.core) l.run.states.items;
+      → KeepsGoing shown (row_of core_view l.initial.run) (row_of core_view l.run);
+  stop : KnowsStop (view l.run.machine.core) l.run.states.items;
   image : g.R.RecordReader.image l.reader ≡ g.R.RecordReader.image l.initial.reader;
 }

@@ -17,12 +17,8 @@ by_this : (c : Joined-self-eq0) (new : Turns) → new.left ≡ c.if-self-eq0.lef
     → OfLine c.args.trace.now.orders c.args.states.now c.args.self.now new c.order-thread.result.0
 by_this c new less stays over turn =
     of_line _ _ _ c.loop-self.self new c.order-thread.result.0 c.order-thread.result.1 c.if-self-eq0.left
-    c.loop-self.invariant c.order-thread.ensures.value c.order-thread.ensures.events.0 (
-      c.index-states-thread.result,
-      slice_get_read c.args.states.now _ c.order-thread.result.0 c.index-states-thread.result
-          (sym c.requires) c.order-thread.ensures.thread c.index-states-thread.is,
-      c.can_go.ensures.0 c.if-can_go.true,
-    )
+    c.loop-self.invariant c.order-thread.ensures.value c.order-thread.ensures.events.0
+    (c.can_go.ensures.0 c.if-can_go.true)
     (elim c.if-self-eq0.branch [
       | then-self-eq0 w ↦ inl (w.if-self-eq0.true, w.left-is)
       | else-self-eq0 w ↦ inr (w.if-self-eq0.false, w.left-is)
@@ -39,19 +35,8 @@ returns-else-self-eq0-2-clause-line c =
     by_this (goal.at.returns-else-self-eq0-2-clause-line c).Joined-self-eq0 _ refl
     (λ some. refl) (λ none. absurd (c.if-self-eq0-2.false none)) refl
 
--- a state that was read cannot go on, so its thread cannot
-no_state : (states : List ThreadState) (t : ℕ) (x : ThreadState) → slice_get states t ≡ Some x → (MayGo x.mode → ⊥)
-    → GoesAt states t → ⊥
-no_state states t x is cannot goes =
-    cannot (subst (λ (s : ThreadState). MayGo s.mode) (same_Some goes.0 x (sym goes.1 ∙ is)) goes.2)
-
 pub loop-self-preserved : goal.loop-self-preserved
 loop-self-preserved c =
-    let here : slice_get c.args.states.now c.order-thread.result.0 ≡ Some c.index-states-thread.result =
-    slice_get_read c.args.states.now _ c.order-thread.result.0 c.index-states-thread.result
-    (sym c.requires) c.order-thread.ensures.thread c.index-states-thread.is in
     dropped_more _ _ _ c.loop-self.self c.drop_line.new.self c.order-thread.result c.loop-self.invariant
-    c.order-thread.ensures.value
-    (no_state c.args.states.now c.order-thread.result.0 c.index-states-thread.result here
-    (λ goes. let yes : c.can_go.result ≡ true = c.can_go.ensures.1 goes in cc))
+    c.order-thread.ensures.value (λ goes. let yes : c.can_go.result ≡ true = c.can_go.ensures.1 goes in cc)
     (omega (arith, c.loop-self-test.true, c.orders.ensures)) (c.drop_line.ensures (omega arith))

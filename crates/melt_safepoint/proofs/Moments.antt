@@ -1,0 +1,240 @@
+-- The moment at which a run stands, as one of a collection, or one at which a thread lacks room.
+use Rattle.std.proofs.Common.{◌≡◌, ℕ, ◌+◌, ◌<◌, ◌≤◌, true, cond, List, [], ◌∷◌, ◌++◌, length, take}
+use Rattle.std.proofs.Common.{drop, refl, sym, ◌∙◌, ap, subst, arith, ◌⊎◌, inl, inr}
+use Rattle.std.proofs.Math.ListN.{length-map}
+use Rattle.std.proofs.Math.Seq.{take-length}
+use Rattle.std.proofs.lemmas.Bool.{ne_eqb}
+use Rattle.std.proofs.lemmas.List.{take-append-drop, get_or_past}
+use Rattle.std.proofs.lemmas.List.Elements.{recursion_from_All}
+use Rattle.std.proofs.lemmas.Option.{slice_get_cases}
+use Rattle.std.specs.Prelude.{Bool, map, if◌then◌else◌, Option, None, Some, slice_get}
+use Rattle.std.specs.List.{AllByRecursion}
+use Rattle.melt_model.specs.Alive.{Held, words_of, CostsSum}
+use Rattle.melt_model.specs.Thread.{own_from, own, registers_after, value_in, Transcript}
+use Rattle.melt_model.specs.declared.config.Config.{Config}
+use Rattle.melt_model.specs.declared.history.Entry.{Entry}
+use Rattle.melt_model.specs.declared.history.Value.{Value}
+use Rattle.melt_model.specs.declared.history.Value.TheVariants.{Nil}
+use Rattle.melt_model.specs.declared.operations.Op.{Op}
+use Rattle.melt_model.specs.declared.operations.Reply.{Reply}
+use Rattle.melt_model.specs.declared.reports.Journal.{Journal}
+use Rattle.melt_model.proofs.Transcripts.{Transcript_so_far, registers_so_far, one_reply_each}
+use Rattle.melt_trace.specs.Script.{Script, operations}
+use Rattle.melt_scion.specs.declared.registers.Registers.{Registers}
+use Rattle.melt_scion.specs.Heaps.{OnDisk}
+use Rattle.melt_core.specs.Views.{View, value, values_of, held_values}
+use Rattle.melt_core.proofs.Values.{get_or_replicate}
+use Rattle.melt_safepoint.specs.declared.thread.ThreadState.{ThreadState}
+use Rattle.melt_safepoint.specs.Needs.{NeedsWords}
+use Rattle.melt_safepoint.specs.Cuts.{Cut, IsDue, IsCut, IsCutAt, EndsWithCollect, LacksRoom}
+use Rattle.melt_safepoint.specs.Threads.{with_first, HadCollect, OweBehindCollects, replies_of}
+use Rattle.melt_safepoint.specs.Modes.{owes_silent, FitsMode, IsEnded, owes}
+use Rattle.melt_safepoint.specs.Endings.{LacksNow, HasCut}
+use Rattle.melt_safepoint.proofs.Cuts.{replies_here, replies_past, registers_by, HoldsBy, ReachesBy, NeedsBy, has_gone}
+use Rattle.melt_safepoint.proofs.Cuts.{now, gone_cases, gone_here, gone_past, gone_now, owes_last, none_next}
+use Rattle.melt_safepoint.proofs.Cuts.{words_same, held_words_same, needs_same, first_left}
+use Rattle.melt_safepoint.specs.Collections.{Gathers}
+use Rattle.melt_safepoint.specs.Tables.{IsTold, ThreadStands, TableStands}
+
+-- a thread that is none has no entry
+own_none : (p : ℕ) (h : List Entry) (n u : ℕ) → n ≤ u → AllByRecursion (λ (e : Entry). e.thread < n) h
+    → own_from p h u ≡ []
+own_none p [] n u above own = refl
+own_none p (e ∷ h) n u above own =
+    ap (λ (b : Bool). cond b (p ∷ own_from (p + 1) h u) (own_from (p + 1) h u))
+    (ne_eqb e.thread u (λ same. let below : e.thread < n = own.0 in omega arith))
+    ∙ own_none (p + 1) h n u above own.1
+
+-- the replies of each thread are those that the history gives it
+pub told_now : (script : Script) (config : Config) (disk : OnDisk) (v : View) (states : List ThreadState) (u : ℕ)
+    → TableStands true script config disk v states → Transcript v.log u (operations script u) (replies_of states u)
+told_now script config disk v states u table =
+    let ops : List Op = operations script u in
+    elim (slice_get_cases states u).1 [
+      | inl w ↦
+          let stands : IsTold script v u w.0 = (table.each u w.0 w.2).is_told refl in
+          let k : ℕ = length w.0.replies.items in
+          let so_far : Transcript v.log u (take k ops ++ drop k ops) w.0.replies.items =
+          Transcript_so_far v.log u (take k ops) (drop k ops) w.0.replies.items stands.registers stands.told in
+          subst (λ (rs : List Reply). Transcript v.log u ops rs) (sym (replies_here states u w.0 w.2))
+          (subst (λ (os : List Op). Transcript v.log u os w.0.replies.items) (take-append-drop k ops) so_far)
+      | inr w ↦
+          let none : own v.log u ≡ [] = own_none 0 v.log (length script.programs) u (omega (arith, table.count, w.0))
+          (recursion_from_All (λ (e : Entry). e.thread < length script.programs) v.log table.own) in
+          subst (λ (rs : List Reply). Transcript v.log u ops rs) (sym (replies_past states u w.0)) none
+    ]
+
+-- so it has ended, or has its last silent collection still to come
+pub over_now : (told : Bool) (script : Script) (config : Config) (disk : OnDisk) (v : View) (states : List ThreadState)
+    (u : ℕ) (s : ThreadState) → TableStands told script config disk v states → slice_get states u ≡ Some s
+    → length s.replies.items ≡ length (operations script u) → (has_gone s.mode ≡ true) ⊎ (owes_silent s.mode ≡ true)
+over_now told script config disk v states u s table at all = elim (gone_cases s.mode) [
+  | inl gone ↦ inl gone.1
+  | inr goes ↦
+      let st : ThreadStands told script v u s = table.each u s at in
+      let none : s.op ≡ None = none_next s.op s.cursor.operations (omega (arith, st.within, all)) in
+      inr (owes_last s.mode (subst (FitsMode s.mode) none st.fits) goes.0)
+]
+
+-- now is a moment of the run
+pub IsCut_now : (script : Script) (config : Config) (disk : OnDisk) (v : View) (states : List ThreadState)
+    → TableStands true script config disk v states → IsCut script v.log (replies_of states) config (now v.log states)
+IsCut_now script config disk v states table = record {
+  within = omega arith;
+  few = λ u. omega arith;
+  told = λ u.
+      subst (λ (h : List Entry). Transcript h u (operations script u)
+      (take (length (replies_of states u)) (replies_of states u))) (sym (take-length v.log))
+      (subst (λ (rs : List Reply). Transcript v.log u (operations script u) rs)
+      (sym (take-length (replies_of states u))) (told_now script config disk v states u table));
+  last = λ u ended. refl;
+  over = λ u all. elim (slice_get_cases states u).1 [
+    | inl w ↦
+        let count : length w.0.replies.items ≡ length (operations script u) =
+        ap length (sym (replies_here states u w.0 w.2)) ∙ all in
+        elim (over_now true script config disk v states u w.0 table w.2 count) [
+          | inl gone ↦ inl (gone_here states u w.0 w.2 ∙ gone)
+          | inr owes ↦ inr (subst (IsDue config) count (table.due u w.0 w.2 owes))
+        ]
+    | inr w ↦ inl (gone_past states u w.0)
+  ];
+}
+
+-- where silent collections are still to come only behind a collection, so are those behind the last operations
+over_alone : (script : Script) (config : Config) (disk : OnDisk) (v : View) (states : List ThreadState) (u : ℕ)
+    → TableStands true script config disk v states → OweBehindCollects script states
+    → length (replies_of states u) ≡ length (operations script u) → ((now v.log states).ended u ≡ true)
+    ⊎ (IsDue config (length (operations script u)) × EndsWithCollect (operations script u))
+over_alone script config disk v states u table owe all = elim (slice_get_cases states u).1 [
+  | inl w ↦
+      let count : length w.0.replies.items ≡ length (operations script u) =
+      ap length (sym (replies_here states u w.0 w.2)) ∙ all in
+      elim (over_now true script config disk v states u w.0 table w.2 count) [
+        | inl gone ↦ inl (gone_here states u w.0 w.2 ∙ gone)
+        | inr owes ↦
+            let had : HadCollect script u w.0 = owe u w.0 w.2 owes in
+            inr (subst (IsDue config) count (table.due u w.0 w.2 owes), (had.0, sym count ∙ had.1, had.2))
+      ]
+  | inr w ↦ inl (gone_past states u w.0)
+]
+
+-- the thread has not ended now
+IsCutAt_now : (script : Script) (config : Config) (disk : OnDisk) (v : View) (states : List ThreadState) (t : ℕ)
+    (s : ThreadState) → TableStands true script config disk v states → slice_get states t ≡ Some s
+    → (IsEnded s.mode → ⊥)
+    → IsCutAt script v.log (replies_of states) config t (length (replies_of states t)) (now v.log states)
+IsCutAt_now script config disk v states t s table at goes = record {
+  is = IsCut_now script config disk v states table;
+  count = refl;
+  alive = gone_here states t s at ∙ elim (gone_cases s.mode) [ inl gone ↦ absurd (goes gone.0) | inr not ↦ not.1 ];
+}
+
+-- the registers of a thread by the history are those that it has
+pub state_value : (script : Script) (v : View) (u r : ℕ) (s : ThreadState) → ThreadStands true script v u s
+    → (if has_gone s.mode then Nil else value_in
+    (registers_after v.log u (operations script u) (length s.replies.items)) r) ≡ value v u r
+state_value script v u r s st =
+    let stands : IsTold script v u s = st.is_told refl in
+    let ops : List Op = operations script u in
+    let k : ℕ = length s.replies.items in
+    let by_history : Value = value_in (registers_after v.log u ops k) r in
+    elim (gone_cases s.mode) [
+      | inl gone ↦
+          ap (λ (b : Bool). if b then Nil else by_history) gone.1
+          ∙ sym (ap (λ (vs : List Value). value_in vs r) (st.dropped gone.0) ∙ get_or_replicate 16 r Nil)
+      | inr goes ↦
+          let told : registers_after v.log u ops k ≡ stands.registers =
+          ap (λ (os : List Op). registers_after v.log u os k) (sym (take-append-drop k ops))
+          ∙ (ap (registers_after v.log u (take k ops ++ drop k ops))
+          (one_reply_each v.log u (take k ops) s.replies.items stands.registers stands.told)
+          ∙ registers_so_far v.log u (take k ops) (drop k ops) s.replies.items stands.registers stands.told) in
+          let held : stands.registers ≡ values_of v u = elim stands.in_registers [
+            | inl ended ↦ absurd (goes.0 ended)
+            | inr same ↦ same
+          ] in
+          ap (λ (b : Bool). if b then Nil else by_history) goes.1
+          ∙ ap (λ (vs : List Value). value_in vs r) (told ∙ held)
+    ]
+
+-- a thread that is none holds nothing
+pub nothing_past : (v : View) (u r : ℕ) → length v.held ≤ u → value v u r ≡ Nil
+nothing_past v u r past =
+    ap (λ (regs : List ℕ). value_in (held_values v.names regs) r)
+    (get_or_past (map (λ (x : Registers). x.regs) v.held) u []
+    (omega (arith, length-map v.held (λ (x : Registers). x.regs))))
+
+-- the registers of all threads by the history are those that they have
+registers_now : (script : Script) (config : Config) (disk : OnDisk) (v : View) (states : List ThreadState) (u r : ℕ)
+    → TableStands true script config disk v states → registers_by script (now v.log states) v.log u r ≡ value v u r
+registers_now script config disk v states u r table =
+    let at : Bool → List Reply → Value =
+    λ b rs. if b then Nil else value_in (registers_after v.log u (operations script u) (length rs)) r in
+    elim (slice_get_cases states u).1 [
+      | inl w ↦
+          ap (λ (b : Bool). at b (replies_of states u)) (gone_here states u w.0 w.2)
+          ∙ (ap (at (has_gone w.0.mode)) (replies_here states u w.0 w.2)
+          ∙ state_value script v u r w.0 (table.each u w.0 w.2))
+      | inr w ↦
+          ap (λ (b : Bool). at b (replies_of states u)) (gone_past states u w.0)
+          ∙ sym (nothing_past v u r (omega (arith, table.count, table.threads, w.0)))
+    ]
+
+-- now is the moment of a collection that finds the words of the view
+pub cut_now : (script : Script) (config : Config) (disk : OnDisk) (v : View) (states : List ThreadState)
+    (entry : Journal) → TableStands true script config disk v states → Gathers v entry
+    → HasCut script v.log states config entry
+cut_now script config disk v states entry table gathers =
+    let cut : Cut = now v.log states in
+    let same : (u r : ℕ) → value v u r ≡ registers_by script cut v.log u r =
+    λ u r. sym (registers_now script config disk v states u r table) in
+    let holds : HoldsBy script cut entry.held v.log =
+    held_words_same v.log (value v) (registers_by script cut v.log) entry.held same gathers.holds in
+    let reach : ReachesBy script cut gathers.alive v.log =
+    words_same v.log (value v) (registers_by script cut v.log) gathers.alive same gathers.reach in
+    record {
+      cut = cut;
+      is_cut = IsCut_now script config disk v states table;
+      collected = record {
+        holds = subst (HoldsBy script cut entry.held) (sym (take-length v.log)) holds;
+        alive = gathers.alive;
+        reach = subst (ReachesBy script cut gathers.alive) (sym (take-length v.log)) reach;
+        fits = gathers.fits;
+      };
+      gone = gone_now v.log states;
+    }
+
+-- the next operation of a thread is that of the script behind its replies
+pub next_op : (told : Bool) (script : Script) (config : Config) (disk : OnDisk) (v : View) (states : List ThreadState)
+    (t : ℕ) (s : ThreadState) (o : Op) → TableStands told script config disk v states → slice_get states t ≡ Some s
+    → s.op ≡ Some o → slice_get (operations script t) (length (replies_of states t)) ≡ Some o
+next_op told script config disk v states t s o table at next =
+    let to_come : o ∷ s.cursor.operations ≡ drop (length s.replies.items) (operations script t) =
+    ap (λ (x : Option Op). with_first x s.cursor.operations) (sym next) ∙ (table.each t s at).to_come in
+    ap (λ (rs : List Reply). slice_get (operations script t) (length rs)) (replies_here states t s at)
+    ∙ first_left (operations script t) (length s.replies.items) o s.cursor.operations to_come
+
+-- now: the next operation of a thread needs more words than there are beside those that registers hold
+pub lacks_room : (script : Script) (config : Config) (disk : OnDisk) (v : View) (states : List ThreadState)
+    (t need held_words : ℕ) (o : Op) (s : ThreadState) → TableStands true script config disk v states
+    → slice_get states t ≡ Some s → (IsEnded s.mode → ⊥) → OweBehindCollects script states → s.op ≡ Some o
+    → NeedsWords v.log (value v) t o need → CostsSum (words_of v.log) (Held (value v)) held_words
+    → config.heap < held_words + need → LacksNow script v.log states config t held_words need
+lacks_room script config disk v states t need held_words o s table at goes owe next needs held above =
+    let cut : Cut = now v.log states in
+    let same : (u r : ℕ) → value v u r ≡ registers_by script cut v.log u r =
+    λ u r. sym (registers_now script config disk v states u r table) in
+    let holds : HoldsBy script cut held_words v.log =
+    held_words_same v.log (value v) (registers_by script cut v.log) held_words same held in
+    let needed : NeedsBy script cut t o need v.log =
+    needs_same v.log (value v) (registers_by script cut v.log) t o need same needs in
+    let lacks : LacksRoom script v.log (replies_of states) config t held_words need = record {
+      cut = cut;
+      is_cut = IsCutAt_now script config disk v states t s table at goes;
+      over = λ u all. over_alone script config disk v states u table owe all;
+      op = o;
+      next = next_op true script config disk v states t s o table at next;
+      needed = subst (NeedsBy script cut t o need) (sym (take-length v.log)) needed;
+      holds = subst (HoldsBy script cut held_words) (sym (take-length v.log)) holds;
+      above = above;
+    } in
+    (lacks, gone_now v.log states)

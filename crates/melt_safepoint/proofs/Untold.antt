@@ -1,0 +1,126 @@
+-- What is said of a run that is told holds of it untold too.
+use Rattle.std.proofs.Common.{◌≡◌, ℕ, true, false, refl}
+use Rattle.std.specs.Prelude.{Bool, List, Option, None, Some, IsSome, is_some}
+use Rattle.melt_model.specs.declared.config.Config.{Config}
+use Rattle.melt_model.specs.declared.reports.Halt.{Halt}
+use Rattle.melt_model.specs.declared.reports.Halt.TheVariants as halt
+use Rattle.melt_model.specs.declared.reports.Report.{Report}
+use Rattle.melt_model.specs.declared.reports.ThreadEnd.{ThreadEnd}
+use Rattle.melt_model.specs.declared.reports.ThreadEnd.TheVariants as end
+use Rattle.melt_trace.specs.Script.{Script}
+use Rattle.melt_scion.specs.Heaps.{OnDisk}
+use Rattle.melt_scion.specs.declared.heap.Heap.{Heap}
+use Rattle.melt_core.specs.Views.{View}
+use Rattle.melt_safepoint.specs.Ended.{EndedStands, EndsBy}
+use Rattle.melt_safepoint.specs.Run.{HasRun, IsLeft, IsStepReport, Leaves, MayEnd}
+use Rattle.melt_safepoint.specs.Shown.{Shown, Underlies}
+use Rattle.melt_safepoint.specs.declared.ending.Ended.{Ended}
+use Rattle.melt_safepoint.specs.declared.thread.ThreadState.{ThreadState}
+use Rattle.melt_safepoint.proofs.Tables.{Table_untold}
+
+-- why a thread may end
+end_untold : (script : Script) (config : Config) (report : Report) (t : ℕ) (e : ThreadEnd)
+    → MayEnd true script config report t e → MayEnd false script config report t e
+end_untold script config report t end.Done may = may
+end_untold script config report t (end.OutOfHeap held_words need) may = λ (is : false ≡ true). absurd (cc)
+end_untold script config report t end.DiskFault may = may
+end_untold script config report t (end.Damaged home at word) may = absurd (may.0 refl)
+end_untold script config report t end.Halted may = may
+
+-- what is reported
+report_untold : {script : Script} {config : Config} {report : Report} → IsStepReport true script config report
+    → IsStepReport false script config report
+report_untold {script} {config} {report} is = record {
+  history = λ (told : false ≡ true). absurd (cc);
+  threads = is.threads;
+  ends = λ t r at. end_untold script config report t r.end (is.ends t r at);
+  halt = is.halt;
+  journal = is.journal;
+  cuts = λ (told : false ≡ true). absurd (cc);
+  collected = is.collected;
+  made = λ (told : false ≡ true). absurd (cc);
+  asked = is.asked;
+  bounded = is.bounded;
+}
+
+-- a heap that is left
+left_untold : {script : Script} {config : Config} {shown : Shown} {report : Report} {heap : Heap}
+    → IsLeft true script config shown report heap → IsLeft false script config shown report heap
+left_untold {script} {config} {shown} {report} {heap} is = record {
+  globals = is.globals;
+  words = is.words;
+  placed = λ (told : false ≡ true). absurd (cc);
+}
+
+leaves_untold : (script : Script) (config : Config) (shown : Shown) (report : Report) (h : Option Halt)
+    (heap : Option Heap) → Leaves true script config shown report h heap
+    → Leaves false script config shown report h heap
+leaves_untold script config shown report None (Some heap) leaves = left_untold leaves
+leaves_untold script config shown report (Some (halt.DiskFull end need limit)) (Some heap) leaves =
+    (left_untold leaves.0, λ (told : false ≡ true). absurd (cc))
+leaves_untold script config shown report (Some halt.DiskFault) None leaves = leaves
+leaves_untold script config shown report None None leaves = leaves
+leaves_untold script config shown report (Some (halt.DiskFull end need limit)) None leaves = leaves
+leaves_untold script config shown report (Some halt.DiskFault) (Some heap) leaves = leaves
+
+-- a whole run
+run_untold : {script : Script} {config : Config} {shown : Shown} {report : Report} {heap : Option Heap}
+    → HasRun true script config shown report heap → HasRun false script config shown report heap
+run_untold {script} {config} {shown} {report} {heap} has = record {
+  reported = report_untold has.reported;
+  left = leaves_untold script config shown report report.halt heap has.left;
+}
+
+-- a run that is told where the disk tells its words
+pub run_as_told : (image : Option (List ℕ)) (told : Bool) (script : Script) (config : Config) (shown : Shown)
+    (report : Report) (heap : Option Heap) → (told ≡ true → IsSome image)
+    → HasRun (is_some image) script config shown report heap → HasRun told script config shown report heap
+run_as_told None true script config shown report heap some has = absurd (let wrong : false ≡ true = some refl in cc)
+run_as_told None false script config shown report heap some has = has
+run_as_told (Some words) true script config shown report heap some has = has
+run_as_told (Some words) false script config shown report heap some has = run_untold has
+
+-- the disk under a run
+under_untold : {told : Bool} {finish : ℕ} {image : Option (List ℕ)} {disk : OnDisk} → Underlies told finish image disk
+    → Underlies false finish image disk
+under_untold {told} {finish} {image} {disk} under = record { ends = under.ends; tells = λ (is : false ≡ true). absurd (cc) }
+
+-- why a run has ended
+by_untold : (told : Bool) (config : Config) (shown : Shown) (disk : OnDisk) (v : View) (states : List ThreadState)
+    (ended : Ended) (h : Option Halt) (heap : Option Heap) → EndsBy told config shown disk v states ended h heap
+    → EndsBy false config shown disk v states ended h heap
+by_untold told config shown disk v states ended None (Some heap) by = (by.0, by.1, by.2, under_untold by.3)
+by_untold told config shown disk v states ended (Some (halt.DiskFull end need limit)) (Some heap) by = (
+  by.0,
+  by.1,
+  under_untold by.2,
+  record {
+    end_is = by.3.end_is;
+    end_last = by.3.end_last;
+    limit_is = by.3.limit_is;
+    above = by.3.above;
+    may_move = by.3.may_move;
+    needs = λ (is : false ≡ true). absurd (cc);
+  },
+)
+by_untold told config shown disk v states ended (Some halt.DiskFault) None by = by
+by_untold told config shown disk v states ended None None by = by
+by_untold told config shown disk v states ended (Some (halt.DiskFull end need limit)) None by = by
+by_untold told config shown disk v states ended (Some halt.DiskFault) (Some heap) by = by
+
+-- what has ended
+pub ended_untold : {told : Bool} {script : Script} {config : Config} {shown : Shown} {ended : Ended}
+    → EndedStands told script config shown ended → EndedStands false script config shown ended
+ended_untold {told} {script} {config} {shown} {ended} stands = record {
+  disk = stands.disk;
+  v = stands.v;
+  states = stands.states;
+  table = Table_untold told script config stands.disk stands.v stands.states stands.table;
+  cuts = λ (is : false ≡ true). absurd (cc);
+  journal = stands.journal;
+  made = λ (is : false ≡ true). absurd (cc);
+  unpaid = stands.unpaid;
+  counts = stands.counts;
+  log = stands.log;
+  cause = by_untold told config shown stands.disk stands.v stands.states ended ended.halt ended.left.heap stands.cause;
+}

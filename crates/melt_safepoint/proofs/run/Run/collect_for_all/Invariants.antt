@@ -1,0 +1,21 @@
+-- The threads before this one have their collections, and the run stands.
+use Rattle.std.proofs.Common.{◌≡◌, ◌≤◌}
+use Rattle.melt_safepoint.specs.Losses.{losses}
+use Rattle.melt_safepoint.proofs.Passing.{CollectedBelow}
+use Rattle.melt_safepoint.specs.Rows.{KeepsRun, row_of}
+use Rattle.melt_safepoint.proofs.OwnCollections.{MadeBelow}
+use Rattle.melt_safepoint.proofs.run.Run.collect_for_all.Given as goal
+
+abbrev pub invariant-loop-t : goal.invariant-loop-t
+invariant-loop-t g l = record {
+  keeps : KeepsRun (g.S.Space.sees.shown l.fn.space) (g.S.Space.sees.shown l.space) (row_of g.E.Machine.view l.fn.self)
+      (row_of g.E.Machine.view l.run);
+  below : CollectedBelow l.fn.self.states.items l.run.states.items l.t;
+  made : MadeBelow (g.S.Space.sees.shown l.fn.space) (row_of g.E.Machine.view l.fn.self)
+      (row_of g.E.Machine.view l.run) l.t;
+  lost : losses l.run.states.items ≡ losses l.fn.self.states.items;
+  count : g.S.Space.sees.faults l.fn.space ≤ g.S.Space.sees.faults l.space;
+  same_disk : g.S.Space.sees.name l.space ≡ g.S.Space.sees.name l.fn.space;
+  lends : g.S.Space.sees.lends l.space ≡ g.S.Space.sees.lends l.fn.space;
+  read_faults : g.S.Space.sees.read_faults l.space ≡ g.S.Space.sees.read_faults l.fn.space;
+}

@@ -1,0 +1,114 @@
+-- Epoch behind epoch, until all threads have ended.
+use Rattle.std.proofs.Common.{refl, sym, ◌∙◌, subst, arith}
+use Rattle.std.proofs.lemmas.Result.{err_from_is_err_and}
+use Rattle.melt_safepoint.specs.Rows.{Row, RunStands, journal_of, row_of}
+use Rattle.melt_safepoint.specs.Shown.{Shown}
+use Rattle.melt_safepoint.proofs.Composing.{stop_counts_then, stops_then}
+use Rattle.melt_safepoint.proofs.Epochs.{goes_ended, goes_journal, goes_keeps, goes_rests}
+use Rattle.melt_safepoint.proofs.Lends.{all_not_some, twice_first, twice_then}
+use Rattle.melt_safepoint.proofs.Losses.{counts_then}
+use Rattle.melt_safepoint.proofs.StopLends.{twice_stop_first, twice_stop_then}
+use Rattle.melt_safepoint.proofs.run.Run.run_all.Goals as goal
+
+pub go_on-requires : goal.go_on-requires
+go_on-requires g c κs = ((refl, tt), (c.requires.engine, (c.requires.stands, (c.requires.settled, c.requires.own))))
+
+pub returns-in_err-run-clause-stop_lends : goal.returns-in_err-run-clause-stop_lends
+returns-in_err-run-clause-stop_lends g c =
+    let exit = err_from_is_err_and c.from_residual.result c.from_residual.ensures.1 in
+    rw (exit.1, exit.2)
+    (λ n by. twice_stop_first _ _ _ _ _ (c.go_on.ensures.lends n by) c.in_err-run.ensures.stop_keeps)
+
+pub loop-alloc-init : goal.loop-alloc-init
+loop-alloc-init g c =
+    let old : Row = row_of g.E.Machine.view c.args.self in
+    let new : Row = row_of g.E.Machine.view c.in_ok-run.run' in
+    let goes = c.in_ok-run.ensures.goes in
+    record {
+      keeps = λ told script config stands.
+          subst (λ (shown : Shown). RunStands told script config shown new) (sym c.go_on.ensures.shown)
+          (goes_keeps told script config _ old new goes stands c.requires.settled c.requires.own);
+      rests = goes_rests _ old new goes;
+      lost = c.in_ok-run.ensures.lost;
+      lends = λ n by. twice_first _ _ _ _ _ (c.go_on.ensures.lends n by) (goes_journal _ old new goes);
+      idle = λ all. (goes_ended _ old new goes all, c.go_on.ensures.idle all);
+      count = c.go_on.ensures.count;
+      same_disk = c.go_on.ensures.same_disk;
+    }
+
+pub pass_safepoint-requires : goal.pass_safepoint-requires
+pass_safepoint-requires g c κs =
+    let stands = c.requires.stands in (
+      (refl, tt),
+      (
+        c.requires.engine,
+        (
+          (stands.0, stands.1, stands.2, c.loop-alloc.invariant.keeps stands.0 stands.1 stands.2 stands.3),
+          (c.loop-alloc.invariant.rests, c.has_ended.ensures.goes c.loop-alloc-test.true),
+        ),
+      ),
+    )
+
+pub loop-alloc-preserved : goal.loop-alloc-preserved
+loop-alloc-preserved g c = record {
+  keeps = λ told script config stands.
+      c.in_ok-run-2.ensures.keeps told script config (c.loop-alloc.invariant.keeps told script config stands);
+  rests = c.in_ok-run-2.ensures.rests;
+  lost = counts_then c.args.self.states.items c.loop-alloc.run.states.items c.in_ok-run-2.run'.states.items _ _ _
+      c.loop-alloc.invariant.lost c.in_ok-run-2.ensures.lost;
+  lends = λ n by. twice_then _ 1 0 _ _ _ _ (journal_of (row_of g.E.Machine.view c.loop-alloc.run)) _
+      (c.loop-alloc.invariant.lends n by) (c.in_ok-run-2.ensures.lends n by);
+  idle = λ all.
+      absurd (all_not_some c.loop-alloc.run.states.items (c.has_ended.ensures.goes c.loop-alloc-test.true)
+      (c.loop-alloc.invariant.idle all).0);
+  count = omega (arith, c.loop-alloc.invariant.count, c.pass_safepoint.ensures.count);
+  same_disk = c.pass_safepoint.ensures.same_disk ∙ c.loop-alloc.invariant.same_disk;
+}
+
+pub returns-in_err-run-2-clause-idle : goal.returns-in_err-run-2-clause-idle
+returns-in_err-run-2-clause-idle g c all =
+    absurd (all_not_some c.loop-alloc.run.states.items (c.has_ended.ensures.goes c.loop-alloc-test.true)
+    (c.loop-alloc.invariant.idle all).0)
+
+pub returns-in_err-run-2-clause-stopped : goal.returns-in_err-run-2-clause-stopped
+returns-in_err-run-2-clause-stopped g c =
+    let exit = err_from_is_err_and c.from_residual-in_err-run-2.result c.from_residual-in_err-run-2.ensures.1 in
+    rw (exit.1, exit.2)
+    (stops_then _ _ _ (row_of g.E.Machine.view c.args.self) (row_of g.E.Machine.view c.loop-alloc.run) _
+    c.loop-alloc.invariant.keeps c.in_err-run-2.ensures.stopped)
+
+pub returns-in_err-run-2-clause-stop_counts : goal.returns-in_err-run-2-clause-stop_counts
+returns-in_err-run-2-clause-stop_counts g c =
+    let exit = err_from_is_err_and c.from_residual-in_err-run-2.result c.from_residual-in_err-run-2.ensures.1 in
+    rw (exit.1, exit.2)
+    (stop_counts_then _ c.args.self.states.items c.loop-alloc.run.states.items _ _ _ _ _ _
+    c.loop-alloc.invariant.count c.pass_safepoint.ensures.count c.loop-alloc.invariant.lost
+    c.in_err-run-2.ensures.stop_counts)
+
+pub returns-in_err-run-2-clause-stop_lends : goal.returns-in_err-run-2-clause-stop_lends
+returns-in_err-run-2-clause-stop_lends g c =
+    let exit = err_from_is_err_and c.from_residual-in_err-run-2.result c.from_residual-in_err-run-2.ensures.1 in
+    rw (exit.1, exit.2)
+    (λ n by. twice_stop_then _ 1 0 _ _ _ _ (journal_of (row_of g.E.Machine.view c.loop-alloc.run)) _
+    (c.loop-alloc.invariant.lends n by) (c.in_err-run-2.ensures.stop_lends n by))
+
+pub end-requires : goal.end-requires
+end-requires g c =
+    let stands = c.requires.stands in
+    record {
+      stands = (
+        g.S.Space.sees.shown c.loop-alloc.space,
+        (stands.0, stands.1, stands.2, c.loop-alloc.invariant.keeps stands.0 stands.1 stands.2 stands.3),
+      );
+      ended = c.has_ended.ensures.ended c.loop-alloc-test.false;
+    }
+
+pub returns-clause-ended : goal.returns-clause-ended
+returns-clause-ended g c = λ told script config stands.
+    c.end.ensures.stands told script config _ (c.loop-alloc.invariant.keeps told script config stands)
+
+pub returns-clause-lost : goal.returns-clause-lost
+returns-clause-lost g c = rw c.end.ensures.states c.loop-alloc.invariant.lost
+
+pub returns-clause-lends : goal.returns-clause-lends
+returns-clause-lends g c = rw c.end.ensures.journal c.loop-alloc.invariant.lends

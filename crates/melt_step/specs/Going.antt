@@ -1,0 +1,87 @@
+-- A run by the written order inside an epoch.
+use Rattle.std.specs.Prelude.{◌≡◌, ℕ, ◌<◌, ◌≤◌, ◌⊎◌, Bool, true, false, List, [], length, Option, None, Some, slice_set}
+use Rattle.melt_model.specs.declared.config.Config.{Config}
+use Rattle.melt_trace.specs.Script.{Script}
+use Rattle.melt_scion.specs.Heaps.{OnDisk}
+use Rattle.melt_core.specs.Views.{IsQuiet, View, view}
+use Rattle.melt_safepoint.specs.Collections.{MadeSoFar}
+use Rattle.melt_safepoint.specs.Counts.{CountsCollections}
+use Rattle.melt_safepoint.specs.Endings.{HaveCuts}
+use Rattle.melt_safepoint.specs.Epochs.{LacksFirst, to_do}
+use Rattle.melt_safepoint.specs.Passing.{CalledAt, IsLacking}
+use Rattle.melt_safepoint.specs.Rows.{AwaitsCall, CollectorStands, Row, RunStands}
+use Rattle.melt_safepoint.specs.Shown.{Shown, Underlies}
+use Rattle.melt_safepoint.specs.Tables.{TableStands, potential}
+use Rattle.melt_model.specs.declared.operations.Op.{Op}
+use Rattle.melt_safepoint.specs.Threads.{DueBy}
+use Rattle.melt_safepoint.specs.declared.thread.ThreadState.{ThreadState}
+use Rattle.melt_step.specs.Lone.{CalledAlone}
+use Rattle.melt_step.specs.Made.{MakesInUse}
+use Rattle.melt_step.specs.declared.ordered.Ordered.{Ordered}
+
+-- what a run by the written order shows
+abbrev pub core_view : Ordered → View
+core_view it = view it.core
+
+-- A run stands inside an epoch as between two, but that calls may be in flight.
+pub record Goes (told : Bool) (script : Script) (config : Config) (shown : Shown) (run : Row) : Type 0 where
+  pub disk : OnDisk
+  pub under : Underlies told shown.end shown.image disk
+  pub none_free : disk.free_homes ≡ []
+  pub table : TableStands told script config disk run.view run.states
+  pub words : run.words ≡ config.heap
+  pub every : run.every ≡ config.every
+  pub told_is : run.told ≡ told
+  pub collector : CollectorStands config shown run.collector
+  pub cuts : told ≡ true → HaveCuts script run.view.log run.states config run.collector.journal.items
+  pub made : told ≡ true → MadeSoFar config run.view run.collector.journal.items
+  pub counts : CountsCollections script config 0 run.states (length run.collector.journal.items)
+
+-- for some script, over homes that end so and the words that a reader tells
+abbrev pub SomeGoes : ℕ → Option (List ℕ) → Row → Type 0
+SomeGoes finish image run = (shown : Shown) × (shown.end ≡ finish) × (shown.image ≡ image)
+    × ((told : Bool) × (script : Script) × (config : Config) × Goes told script config shown run)
+
+-- for each script for which the run stood, told or not, it stands
+abbrev pub KeepsGoing : Shown → Row → Row → Type 0
+KeepsGoing shown old new = (told : Bool) (script : Script) (config : Config) → Goes told script config shown old
+    → Goes told script config shown new
+
+-- and so behind the epoch, where no call is in flight
+abbrev pub ComesToRest : Shown → Row → Row → Type 0
+ComesToRest shown old new = (told : Bool) (script : Script) (config : Config) → Goes told script config shown old
+    → RunStands told script config shown new
+
+-- A run has less to do than before, events counted too.
+abbrev pub IsNearer : Row → Row → Type 0
+IsNearer old new = potential new.states new.view.calls < potential old.states old.view.calls
+
+-- A call that was made alone for the thread, over what is seen, and may have lacked so many words: the core and the
+-- state of the thread are new, and what it made is in use.
+pub record MakesCall (shown : Shown) (old new : Row) (t : ℕ) (lacks : Option ℕ) : Type 0 where
+  pub s : ThreadState
+  pub after : ThreadState
+  pub op : Op
+  pub was : IsLacking old.states t s
+  pub next : s.op ≡ Some op
+  pub called : CalledAlone shown.end shown.image old.view new.view t s after op lacks
+  pub due : DueBy old.every s after
+  pub makes : MakesInUse shown.end shown.image old.view new.view
+  pub states : new.states ≡ slice_set old.states t after
+  pub collector : new.collector ≡ old.collector
+  pub words : new.words ≡ old.words
+  pub every : new.every ≡ old.every
+  pub told : new.told ≡ old.told
+
+-- The call of the thread was made: it has less to do, and waits for nothing.
+pub record MadeCall (shown : Shown) (old new : Row) (t : ℕ) : Type 0 where
+  pub keeps : (told : Bool) (script : Script) (config : Config) (forced : ℕ)
+      → AwaitsCall told script config shown forced old t → Goes told script config shown new
+  pub quiet : IsQuiet new.view
+  pub stop : new.view.stop ≡ false
+  pub called : CalledAt old.states new.states t
+
+-- the call was made, or lacked so many words
+abbrev pub CallsFirst : Shown → Row → Row → ℕ → Option ℕ → Type 0
+CallsFirst shown old new t None = MadeCall shown old new t
+CallsFirst shown old new t (Some need) = LacksFirst shown t need old new

@@ -1,0 +1,224 @@
+//! How the threads of a run go through an epoch by the written order of events.
+ghost use Rattle.std.specs.Prelude.{◌≡◌, ◌⊎◌, ℕ, ◌+◌, ◌<◌, ◌≤◌, length, Some, None, Bool, true, false, IsSome, IfSome};
+ghost use Rattle.melt_model.specs.declared.config.Config.{Config};
+ghost use Rattle.melt_trace.specs.Script.{Script};
+ghost use Rattle.melt_scion.specs.Heaps.{OnDisk};
+ghost use Rattle.melt_core.specs.Epochs.{HasFinished};
+ghost use Rattle.melt_core.specs.Holdings.{IsSound};
+ghost use Rattle.melt_core.specs.Views.{IsQuiet, Standing, view};
+ghost use Rattle.melt_safepoint.specs.Collections.{NoneForwarded};
+ghost use Rattle.melt_safepoint.specs.Ended.{EndedStands};
+ghost use Rattle.melt_safepoint.specs.Epochs.{EndsEpoch, RestsWell, SomeMayRun, to_do};
+ghost use Rattle.melt_safepoint.specs.Losses.{CountsLosses, losses};
+ghost use Rattle.melt_safepoint.specs.Passing.{NoneOwn, Resumed};
+ghost use Rattle.melt_safepoint.specs.Rows.{SomeAwaits, StandsBut, row_of};
+ghost use Rattle.melt_safepoint.specs.Shown.{Shown};
+ghost use Rattle.melt_safepoint.specs.Tables.{KnowsStop};
+ghost use Rattle.melt_safepoint.specs.Threads.{AllWait};
+ghost use Rattle.melt_step.specs.Going.{CallsFirst, ComesToRest, IsNearer, KeepsGoing, SomeGoes};
+ghost use Rattle.melt_step.specs.Going.{core_view};
+
+use crate::alone::call_alone;
+use crate::collector::left_of;
+use crate::events::make_event;
+use crate::ordered::Ordered;
+use melt_core::Core;
+use melt_io::RecordReader;
+use melt_model::Halt;
+use melt_safepoint::{Ended, Run, halt_run};
+
+/// Begins a new epoch behind one in which nothing came back from the disk.
+fn renew(core: Core) -> Core
+    requires quiet { IsQuiet (view core) }
+    requires none_forwarded { NoneForwarded (view core) }
+    requires sound { IsSound (view core) }
+    ensures finished { HasFinished (view core) (view result) }
+    ensures rests { (told : Bool) (disk : OnDisk) → Standing told disk (view core) → Standing told disk (view result) }
+    ensures stop { (view result).stop ≡ false }
+    ensures free { (view result).free ≡ (view result).space.used + 1 }
+{
+    let (heap, rest) = core.finish();
+    Core::begin(heap, rest)
+}
+
+/// Begins a new epoch of a run. No forwarding word is filled.
+pub fn begin_epoch<'a>(mut run: Run<'a, Ordered<'a>>) -> Run<'a, Ordered<'a>>
+    requires quiet { IsQuiet (view run.machine.core) }
+    requires none_forwarded { NoneForwarded (view run.machine.core) }
+    requires sound { IsSound (view run.machine.core) }
+    ensures finished { HasFinished (view run.entry.machine.core) (view result.machine.core) }
+    ensures rests { (told : Bool) (disk : OnDisk) → Standing told disk (view run.entry.machine.core)
+        → Standing told disk (view result.machine.core) }
+    ensures stop { (view result.machine.core).stop ≡ false }
+    ensures free { (view result.machine.core).free ≡ (view result.machine.core).space.used + 1 }
+    ensures states { result.states ≡ run.entry.states }
+    ensures collector { result.collector ≡ run.entry.collector }
+    ensures words { result.words ≡ run.entry.words }
+    ensures every { result.every ≡ run.entry.every }
+    ensures told { result.told ≡ run.entry.told }
+{
+    let mut machine = run.machine;
+    machine.core = renew(machine.core);
+    run.machine = machine;
+    run
+}
+
+/// What is left of a run when no reader can be lent: each thread that has not ended is halted, and the heap is given up.
+pub fn give_up<'a>(run: Run<'a, Ordered<'a>>) -> Ended<'a>
+    requires quiet { IsQuiet (view run.machine.core) }
+    ensures stands { (told : Bool) (script : Script) (config : Config) (unpaid : ℕ) (shown : Shown)
+        → StandsBut unpaid told script config shown (row_of core_view run.entry) → EndedStands told script config shown result }
+    ensures lost { (faults : ℕ) → CountsLosses run.entry.states.items result.states.items faults faults }
+    ensures halt { result.halt ≡ Some Halt.DiskFault }
+    ensures journal { result.journal ≡ run.entry.collector.journal }
+    ensures stores { result.left.log ≡ result.left.history }
+{
+    let (states, journal) = (run.states, run.collector.journal);
+    let (_heap, rest) = run.machine.core.finish();
+    halt_run(left_of(None, rest), states, journal, Halt::DiskFault)
+}
+
+/// Makes the next event of the thread whose turn it is, and answers which one that is, if one can go on. The homes on
+/// disk end before `end`.
+pub fn take_turn<R: RecordReader>(
+    run: &mut Run<'_, Ordered<'_>>,
+    end: u32,
+    reader: &mut R,
+) -> Option<u32>
+    requires stands { SomeGoes end (R.image reader.old) (row_of core_view run.old) }
+    requires stop { KnowsStop (view run.old.machine.core) run.old.states.items }
+    ensures keeps { (shown : Shown) → shown.end ≡ end → shown.image ≡ R.image reader.old
+        → KeepsGoing shown (row_of core_view run.old) (row_of core_view run.new) }
+    ensures stop { KnowsStop (view run.new.machine.core) run.new.states.items }
+    ensures there { IfSome result (λ t. t < length run.new.states.items) }
+    ensures nearer { IsSome result → IsNearer (row_of core_view run.old) (row_of core_view run.new) }
+    ensures less { to_do run.new.states.items ≤ to_do run.old.states.items }
+    ensures waits { result ≡ None → ((row_of core_view run.new) ≡ (row_of core_view run.old))
+        × AllWait run.old.states.items }
+    ensures image { R.image reader.new ≡ R.image reader.old }
+    ensures lost { CountsLosses run.old.states.items run.new.states.items (R.faults reader.old)
+        (R.faults reader.new) }
+    ensures collector { run.new.collector ≡ run.old.collector }
+{
+    let machine = &mut run.machine;
+    let Some(thread) = machine.turns.next(machine.trace, &run.states) else {
+        return None;
+    };
+    let state = &mut run.states[thread as usize];
+    make_event(&mut run.machine.core, state, thread, run.every, end, reader);
+    Some(thread)
+}
+
+/// Gives out events until no thread can go on.
+fn give_events<R: RecordReader>(run: &mut Run<'_, Ordered<'_>>, end: u32, reader: &mut R)
+    requires stands { SomeGoes end (R.image reader.old) (row_of core_view run.old) }
+    requires stop { KnowsStop (view run.old.machine.core) run.old.states.items }
+    ensures keeps { (shown : Shown) → shown.end ≡ end → shown.image ≡ R.image reader.old
+        → KeepsGoing shown (row_of core_view run.old) (row_of core_view run.new) }
+    ensures stop { KnowsStop (view run.new.machine.core) run.new.states.items }
+    ensures waits { AllWait run.new.states.items }
+    ensures less { to_do run.new.states.items ≤ to_do run.old.states.items }
+    ensures lost { CountsLosses run.old.states.items run.new.states.items (R.faults reader.old)
+        (R.faults reader.new) }
+    ensures collector { run.new.collector ≡ run.old.collector }
+{
+    while take_turn(run, end, reader).is_some() {}
+}
+
+/// Makes the call of a thread alone. Answers the words that it lacked, if it was refused for want of room.
+fn call<R: RecordReader>(
+    run: &mut Run<'_, Ordered<'_>>,
+    thread: u32,
+    end: u32,
+    reader: &mut R,
+) -> Option<u32>
+    requires awaits { (shown : Shown) × (shown.end ≡ end) × (shown.image ≡ R.image reader.old)
+        × ((forced : ℕ) × SomeAwaits shown forced (row_of core_view run.old) thread) }
+    requires stop { (view run.old.machine.core).stop ≡ false }
+    ensures called { (shown : Shown) → shown.end ≡ end → shown.image ≡ R.image reader.old
+        → CallsFirst shown (row_of core_view run.old) (row_of core_view run.new) thread result }
+    ensures image { R.image reader.new ≡ R.image reader.old }
+    ensures lost { CountsLosses run.old.states.items run.new.states.items (R.faults reader.old)
+        (R.faults reader.new) }
+    ensures collector { run.new.collector ≡ run.old.collector }
+{
+    let state = &mut run.states[thread as usize];
+    let Some(op) = state.op else {
+        unreachable!();
+    };
+    call_alone(
+        &mut run.machine.core,
+        state,
+        thread,
+        op,
+        run.every,
+        end,
+        reader,
+    )
+}
+
+/// The calls of the threads that wait are made again.
+fn resume(run: &mut Run<'_, Ordered<'_>>)
+    requires own { NoneOwn run.old.states.items }
+    requires quiet { IsQuiet (view run.old.machine.core) }
+    requires stop { (view run.old.machine.core).stop ≡ false }
+    ensures keeps { (shown : Shown) → KeepsGoing shown (row_of core_view run.old) (row_of core_view run.new) }
+    ensures core { run.new.machine.core ≡ run.old.machine.core }
+    ensures stop { KnowsStop (view run.new.machine.core) run.new.states.items }
+    ensures resumed { Resumed run.old.states.items run.new.states.items }
+    ensures lost { losses run.new.states.items ≡ losses run.old.states.items }
+    ensures collector { run.new.collector ≡ run.old.collector }
+{
+    for state in run.states.iter_mut() {
+        state.make_again();
+    }
+}
+
+/// Lets all threads go on until none can. Those whose calls were refused make them again.
+fn go_on<R: RecordReader>(run: &mut Run<'_, Ordered<'_>>, end: u32, reader: &mut R)
+    requires stands { SomeGoes end (R.image reader.old) (row_of core_view run.old) }
+    requires own { NoneOwn run.old.states.items }
+    requires quiet { IsQuiet (view run.old.machine.core) }
+    requires stop { (view run.old.machine.core).stop ≡ false }
+    ensures keeps { (shown : Shown) → shown.end ≡ end → shown.image ≡ R.image reader.old
+        → ComesToRest shown (row_of core_view run.old) (row_of core_view run.new) }
+    ensures rests { RestsWell run.new.states.items }
+    ensures less { to_do run.new.states.items ≤ to_do run.old.states.items }
+    ensures lost { CountsLosses run.old.states.items run.new.states.items (R.faults reader.old)
+        (R.faults reader.new) }
+    ensures collector { run.new.collector ≡ run.old.collector }
+{
+    resume(run);
+    give_events(run, end, reader);
+}
+
+/// Lets all threads go on until none can, in an epoch that has just begun. Where one is to be the first, it makes its call
+/// before; and where that lacks words, these are answered, and no other goes on.
+pub fn go_through<R: RecordReader>(
+    run: &mut Run<'_, Ordered<'_>>,
+    first: Option<u32>,
+    end: u32,
+    reader: &mut R,
+) -> Option<u32>
+    requires may { (shown : Shown) × (shown.end ≡ end) × (shown.image ≡ R.image reader.old)
+        × SomeMayRun shown first (row_of core_view run.old) }
+    requires stop { (view run.old.machine.core).stop ≡ false }
+    ensures ends { (shown : Shown) → shown.end ≡ end → shown.image ≡ R.image reader.old
+        → EndsEpoch shown first (row_of core_view run.old) (row_of core_view run.new) result }
+    ensures lost { CountsLosses run.old.states.items run.new.states.items (R.faults reader.old)
+        (R.faults reader.new) }
+{
+    match first {
+        None => {
+            go_on(run, end, reader);
+            None
+        }
+        Some(thread) => match call(run, thread, end, reader) {
+            None => {
+                go_on(run, end, reader);
+                None
+            }
+            Some(need) => Some(need),
+        },
+    }
+}
