@@ -1,5 +1,5 @@
 -- What the call of each operation comes to, as what a call of any comes to.
-use Rattle.std.proofs.Common.{◌≡◌, ℕ, ◌+◌, List, refl, sym, ◌∙◌, ap, subst, inl, inr, [], true}
+use Rattle.std.proofs.Common.{◌≡◌, ℕ, ◌+◌, ◌≤◌, List, arith, refl, sym, ◌∙◌, ap, subst, inl, inr, [], true}
 use Rattle.std.proofs.lemmas.List.{append-nil}
 use Rattle.std.specs.Prelude.{Bool, Option, Some, Result, Ok, Err}
 use Rattle.atomic_table.specs.declared.shared.Seat.{Seat}
@@ -10,7 +10,7 @@ use Rattle.melt_model.specs.declared.history.Slot.TheVariants.{Field, Global}
 use Rattle.melt_model.specs.declared.operations.Op.{Op}
 use Rattle.melt_model.specs.declared.operations.Op.TheVariants.{New, Load, GLoad}
 use Rattle.melt_model.specs.declared.operations.Reply.{Reply}
-use Rattle.melt_word.specs.Words.{cost_of}
+use Rattle.melt_word.specs.Words.{IsShape, cost_of}
 use Rattle.melt_word.specs.declared.header.Shape.{Shape}
 use Rattle.melt_scion.specs.Scions.{Scions}
 use Rattle.melt_core.specs.Answering.{Answers}
@@ -22,12 +22,12 @@ use Rattle.melt_rule.specs.Seats.{EpochWords, knows_of}
 use Rattle.melt_rule.specs.Tells.{Sees}
 use Rattle.melt_rule.specs.declared.began.Began.{Began}
 use Rattle.melt_rule.specs.declared.view.View.{View}
-use Rattle.melt_epoch.specs.Calls.{Counts, IsMade, IsPlain, Lacked, Replies}
+use Rattle.melt_epoch.specs.Calls.{Counts, HoldsOnly, IsMade, IsPlain, Lacked, Replies}
 use Rattle.melt_epoch.specs.Loading.{IsGlobalLoaded, IsSlotLoaded, LoadAsked, LoadRefused}
 use Rattle.melt_epoch.specs.Mutators.{IsSeated}
 use Rattle.melt_epoch.specs.declared.mutator.Mutator.{Mutator}
 use Rattle.melt_safepoint.specs.Needs.{IsLoad}
-use Rattle.melt_pool.specs.Calling.{IsCalled, NeedsAt, NeedsIn, RefusedFor, SameCauses, WasSpaced}
+use Rattle.melt_pool.specs.Calling.{IsCalled, NeedsAt, NeedsIn, RefusedFor, RefusedKeeps, SameCauses, WasSpaced}
 
 -- what a call leaves that counts so
 same_by : (v w : View) (words wins most : ℕ) → Counts v w words wins most → SameCauses v w
@@ -39,9 +39,20 @@ same_by v w words wins most c = record {
   forwarded = c.forwarded;
 }
 
+-- no object takes more words
+few_words : (z : Shape) → IsShape z → cost_of z ≤ 126
+few_words z small = omega (arith, small.refs, small.nums)
+
 -- a call that lacked words has the cause space
-spaced_by : (v w : View) (need most : ℕ) → Lacked v w need most → WasSpaced v w
-spaced_by v w need most l = record { thread = l.thread; began = l.began; spaced = l.spaced; won = l.won }
+spaced_by : (v w : View) (need most : ℕ) → need ≤ 126 → Lacked v w need most → WasSpaced v w need
+spaced_by v w need most few l = record {
+  thread = l.thread;
+  began = l.began;
+  spaced = l.spaced;
+  claimed = l.claimed;
+  won = l.won;
+  small = few;
+}
 
 -- two seats of one mutator are one
 same_seat : {R : Type 0} (m : Mutator R) (s t : Seat ℕ View) → m.seat ≡ Some s → m.seat ≡ Some t → s ≡ t
@@ -68,12 +79,13 @@ module _ {R : Type 0} (image : R → Option (List ℕ)) (faults : R → ℕ) (to
       )
 
   -- one that makes an object
-  pub made_called : (dst : ℕ) (z : Shape) (result : Result Reply Refusal) → IsMade m n (New dst z.refs z.nums) z result
+  pub made_called : (dst : ℕ) (z : Shape) (result : Result Reply Refusal) → IsShape z
+      → IsMade m n (New dst z.refs z.nums) z result
       → IsCalled image faults told scions end m n (New dst z.refs z.nums) result
-  made_called dst z (Ok reply) is s t p q ms nt mp nq =
+  made_called dst z (Ok reply) small is s t p q ms nt mp nq =
       let made = is.2 s t ms nt in
       (made.0, same_by (knows_of s) (knows_of t) (cost_of z) 0 (cost_of z + 2) made.1)
-  made_called dst z (Err refused) is s t p q ms nt mp nq =
+  made_called dst z (Err refused) small is s t p q ms nt mp nq =
       let v : View = knows_of s in
       let w : View = knows_of t in
       let made = is.2 s t ms nt in
@@ -84,7 +96,7 @@ module _ {R : Type 0} (image : R → Option (List ℕ)) (faults : R → ℕ) (to
             let why : Why (Pause Asked) = (same_by v w 0 0 1 asks.counts, ap (λ (x : View). x.stopped) asks.was.1.1) in
             (asks.sees, made.0, subst Why (sym asks.was.0) why)
         | inr lacks ↦
-            let why : Why (Pause (Space (cost_of z))) = (spaced_by v w (cost_of z) 3 lacks.lacked, refl) in
+            let why : Why (Pause (Space (cost_of z))) = (spaced_by v w (cost_of z) 3 (few_words z small) lacks.lacked, refl) in
             (lacks.sees, made.0, subst Why (sym lacks.is) why)
       ]
 
@@ -100,13 +112,14 @@ module _ {R : Type 0} (image : R → Option (List ℕ)) (faults : R → ℕ) (to
       RefusedFor told (image p) scions end (faults p) (faults q) (knows_of s) (knows_of t) m.values o in
       let filled = full.full.filled in
       let forwarded : Why (Pause Forward) =
-      record { thread = filled.thread; began = filled.began; forwarded = filled.forwarded } in
+      record { thread = filled.thread; began = filled.began; forwarded = filled.forwarded; won = filled.won } in
       (full.full.sees, subst Why (sym full.full.is) forwarded)
   load_refused o slot most why s t p q loads needs (inr (inl lacks)) =
       let Why : Refusal → Type 0 =
       RefusedFor told (image p) scions end (faults p) (faults q) (knows_of s) (knows_of t) m.values o in
       let spaced : Why (Pause (Space (cost_of lacks.shape))) = (
-        spaced_by (knows_of s) (knows_of t) (cost_of lacks.shape) most lacks.lacked,
+        spaced_by (knows_of s) (knows_of t) (cost_of lacks.shape) most (few_words lacks.shape lacks.small)
+            lacks.lacked,
         needs (cost_of lacks.shape) (lacks.shape, refl, lacks.held),
       ) in
       (lacks.sees, subst Why (sym lacks.is) spaced)
@@ -193,8 +206,22 @@ module _ {R : Type 0} (image : R → Option (List ℕ)) (faults : R → ℕ) (to
         legal = sound.legal;
         since = sound.since;
         own_same = ap (λ (h : List Entry). own h v.thread) (append-nil v.seen);
+        own_few = omega arith;
       } in
       let same_here : SameCauses v v =
       record { thread = refl; began = refl; asked = refl; spaced = refl; forwarded = refl } in
       subst (λ (x : Seat ℕ View). Replies v (knows_of x) m.values n.values o reply × SameCauses v (knows_of x)) alike
       (here, same_here)
+
+module _ {R : Type 0} (m n : Mutator R) where
+  -- a call that was refused leaves the registers
+  pub plain_keeps : (o : Op) (steps : ℕ) (result : Result Reply Refusal) → IsPlain m n o steps result
+      → RefusedKeeps m n result
+  plain_keeps o steps (Ok reply) is = tt
+  plain_keeps o steps (Err refused) is =
+      let reader : n.reader ≡ m.reader = ap (λ (x : Mutator R). x.reader) is.0 in
+      is.0 ∙ (λ i. record m { seat = n.seat; reader = sym reader i })
+
+  pub held_keeps : (dst : ℕ) (result : Result Reply Refusal) → HoldsOnly m n dst result → RefusedKeeps m n result
+  held_keeps dst (Ok reply) is = tt
+  held_keeps dst (Err refused) is = is

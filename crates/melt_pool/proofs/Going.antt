@@ -2,6 +2,7 @@
 use Rattle.std.proofs.Common.{◌≡◌, ◌≢◌, ℕ, suc, ◌+◌, ◌*◌, ◌<◌, ◌≤◌, List, length, refl, sym, ◌∙◌, ap, subst, arith}
 use Rattle.std.proofs.Common.{inl, inr, true}
 use Rattle.std.specs.Prelude.{Bool, Option, Some, Result, Ok, Err, slice_get}
+use Rattle.melt_model.specs.Thread.{own}
 use Rattle.melt_model.specs.declared.operations.Op.{Op}
 use Rattle.melt_model.specs.declared.operations.Op.TheVariants.{Collect}
 use Rattle.melt_model.specs.declared.operations.Reply.{Reply}
@@ -16,20 +17,23 @@ use Rattle.melt_epoch.specs.Ends.{view_of}
 use Rattle.melt_epoch.specs.Loading.{KeepsCount}
 use Rattle.melt_epoch.specs.Mutators.{HasReader, IsSeated}
 use Rattle.melt_epoch.specs.declared.mutator.Mutator.{Mutator}
-use Rattle.melt_safepoint.specs.Modes.{FitsMode, IsEnded, MayGo, Waits, mode_for}
-use Rattle.melt_safepoint.specs.Threads.{left, with_first, TakesReply}
+use Rattle.melt_safepoint.specs.Modes.{FitsMode, IsEnded, MayGo, Waits, jobs, mode_for, owes}
+use Rattle.melt_safepoint.specs.Threads.{jobs_of, left, with_first, TakesReply}
 use Rattle.melt_safepoint.specs.declared.thread.Mode.{Mode}
 use Rattle.melt_safepoint.specs.declared.thread.Mode.TheVariants.{Running, Due, Silent, Collecting, Asked}
 use Rattle.melt_safepoint.specs.declared.thread.Mode.TheVariants.{Lacking, Ended}
 use Rattle.melt_safepoint.specs.declared.thread.ThreadState.{ThreadState}
 use Rattle.melt_safepoint.proofs.Threads.{get_next}
 use Rattle.melt_pool.specs.Calling.{Calls, IsCalled}
-use Rattle.melt_pool.specs.Programs.{EndsWell, HasEndedWell, ProgramStands, Took, Works, dropped_for, goes, turns_left}
+use Rattle.melt_pool.specs.Programs.{DueOnly, EndsWell, GoesOn, HasEndedWell, OwesSilent, ProgramStands, Took, Works}
+use Rattle.melt_pool.specs.Programs.{dropped_for, goes, turns_left}
+use Rattle.melt_pool.proofs.Onward.{mode_goes, refused_few, reply_goes}
+use Rattle.melt_pool.proofs.Owing.{refused_owes}
 use Rattle.melt_pool.proofs.Refused.{refused_asked, refused_caused, refused_ends, refused_fits, refused_stops}
 use Rattle.melt_pool.proofs.Refused.{refused_thread, refused_waits}
 use Rattle.melt_pool.proofs.Waiting.{asks_causes, told_goes}
 use Rattle.melt_pool.proofs.Working.{dropped_reader, dropped_thread, dropped_view, goes_on, replied, runs_free}
-use Rattle.melt_pool.proofs.Working.{seated_view, thread_stays}
+use Rattle.melt_pool.proofs.Working.{seated_thread, seated_view, seen_same, thread_stays}
 
 -- the next operation of a thread stands where its replies end
 pub next_stands : (script : Script) (t : ℕ) (s : ThreadState) (op : Op) → ProgramStands script t s → s.op ≡ Some op
@@ -101,7 +105,7 @@ module _ {R : Type 0} (image : R → Option (List ℕ)) (faults : R → ℕ) (sc
   told = words.start.began.told
 
   -- what a call came to, by the views
-  by_views : (p q : R) (op : Op) (result : Result Reply Refusal) → IsSeated words m → IsSeated words n
+  pub by_views : (p q : R) (op : Op) (result : Result Reply Refusal) → IsSeated words m → IsSeated words n
       → m.reader ≡ Some p → n.reader ≡ Some q → IsCalled image faults told scions finish m n op result
       → Calls told (image p) scions finish (faults p) (faults q) (view_of m) (view_of n) m.values n.values op result
   by_views p q op result before after mp nq called =
@@ -158,6 +162,32 @@ module _ {R : Type 0} (image : R → Option (List ℕ)) (faults : R → ℕ) (sc
       subst (λ (t : ℕ). E t (faults r) after) (sym thread)
       (subst (λ (x : R). E m.thread (faults x) after) is_reader
       (subst (λ (x : ThreadState). E m.thread (faults q) x) (sym took) ends))
+
+  -- it goes on
+  pub called_goes : (every : ℕ) (p q : R) (after : ThreadState) (op : Op) (result : Result Reply Refusal)
+      → Works script words m s → s.mode ≡ Running → s.op ≡ Some op → op ≢ Collect → IsSeated words n
+      → m.reader ≡ Some p → n.reader ≡ Some q → IsCalled image faults told scions finish m n op result
+      → Took s after result → OwesSilent every s after → DueOnly every s after
+      → GoesOn every script m (dropped_for after.mode n) s after
+  called_goes every p q after op (Ok reply) works runs next other seated mp nq called took owing due =
+      let call = by_views p q op (Ok reply) works.seated seated mp nq called in
+      let few : length (own (view_of n).seen m.thread) ≤ length (own (view_of m).seen m.thread) + 1 =
+      subst (λ (t : ℕ). length (own (view_of n).seen t) ≤ length (own (view_of m).seen t) + 1)
+      (seated_thread words m works.seated) call.0.own_few in
+      reply_goes every script m (dropped_for after.mode n) s after op reply
+      (dropped_thread after.mode n ∙ thread_stays words m n works.seated seated call.1.thread) works.program runs next
+      other took owing due
+      (subst (λ (w : View). length (own w.seen m.thread) ≤ length (own (view_of m).seen m.thread) + 1)
+      (sym (dropped_view after.mode n)) few)
+  called_goes every p q after op (Err why) works runs next other seated mp nq called took owing due =
+      let call = by_views p q op (Err why) works.seated seated mp nq called in
+      mode_goes every script m (dropped_for after.mode n) s after (mode_for why) took
+      (dropped_thread after.mode n
+      ∙ thread_stays words m n works.seated seated
+      (refused_thread told (image p) scions finish (faults p) (faults q) (view_of m) (view_of n) m.values op why call.2))
+      (subst (λ (w : View). own w.seen m.thread ≡ own (view_of m).seen m.thread) (sym (dropped_view after.mode n))
+      (seen_same script words m n s works seated call.0)) (refused_owes why ∙ sym (ap owes runs))
+      (refused_few s why runs)
 
   -- it has less to do then
   pub called_nearer : (after : ThreadState) (op : Op) (result : Result Reply Refusal) → s.mode ≡ Running
@@ -221,6 +251,15 @@ asked_works {R} script words m n s mode works may seated asked fits waits =
     subst (λ (x : Mutator R). Works script words x (record s { mode = mode })) (waits_keeps n mode waits)
     (goes_on script words m n s works seated mode has.sees has.thread (ap (λ (x : Mutator R). x.values) asked.0) fits
     (may_not_end s.mode may) (λ cause. waits) (λ is. absurd (subst Waits is waits)))
+
+-- and goes on
+pub asked_goes : {R : Type 0} (every : ℕ) (script : Script) (words : EpochWords) (m n : Mutator R)
+    (s after : ThreadState) (mode : Mode) → Works script words m s → IsSeated words n → IsAsked m n
+    → after ≡ record s { mode = mode } → owes mode ≡ owes s.mode → jobs mode (length (left s)) ≤ jobs_of s
+    → GoesOn every script m n s after
+asked_goes {R} every script words m n s after mode works seated asked is owed few =
+    mode_goes every script m n s after mode is (ap (λ (x : Mutator R). x.thread) asked.0)
+    (seen_same script words m n s works seated (asked_views words m n works.seated seated asked).sees) owed few
 
 -- and has a cause
 pub asked_caused : {R : Type 0} (words : EpochWords) (m n : Mutator R) → IsSeated words m → IsSeated words n

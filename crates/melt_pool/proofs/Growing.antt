@@ -21,7 +21,7 @@ legal_front h k globals legal p e at =
     (legal p e (slice_get-append_left h k p below ∙ at))
 
 -- where a thread has no place more, the first entry that was added is of another
-other_first : (h k : List Entry) (t : ℕ) (e : Entry) → own (h ++ e ∷ k) t ≡ own h t → e.thread ≢ t
+pub other_first : (h k : List Entry) (t : ℕ) (e : Entry) → own (h ++ e ∷ k) t ≡ own h t → e.thread ≢ t
 other_first h k t e same is =
     let first : own (h ++ e ∷ []) t ≡ own h t ++ length h ∷ [] = own-push_own h e t is in
     let more : List ℕ = own_from (0 + length (h ++ e ∷ [])) k t in

@@ -38,7 +38,7 @@ reply_owes every s after reply runs due takes =
     omega (arith, told, none, same)
 
 -- none is to come where a call was refused
-refused_owes : (why : Refusal) → owes (mode_for why) ≡ 0
+pub refused_owes : (why : Refusal) → owes (mode_for why) ≡ 0
 refused_owes (Pause pause.Asked) = refl
 refused_owes (Pause (pause.Space need)) = refl
 refused_owes (Pause pause.Forward) = refl

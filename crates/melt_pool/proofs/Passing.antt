@@ -1,5 +1,5 @@
 -- A thread goes into an epoch, and comes out of it.
-use Rattle.std.proofs.Common.{◌≡◌, ℕ, ◌<◌, ◌≤◌, List, length, map, take, refl, sym, ◌∙◌, ap, subst, arith, inl, inr}
+use Rattle.std.proofs.Common.{◌≡◌, ℕ, ◌+◌, ◌<◌, ◌≤◌, List, length, map, take, refl, sym, ◌∙◌, ap, subst, arith, inl, inr}
 use Rattle.std.proofs.Common.{true, false, get_or}
 use Rattle.std.specs.Prelude.{All, Option, Some, slice_get}
 use Rattle.std.specs.Option.{option_map}
@@ -14,16 +14,19 @@ use Rattle.melt_trace.specs.Script.{Script, operations}
 use Rattle.melt_scion.specs.declared.heap.Heap.{Heap}
 use Rattle.melt_rule.specs.Rule.{Saw, has_cause}
 use Rattle.melt_rule.specs.Seats.{EpochWords}
+use Rattle.melt_rule.specs.declared.began.Began.{Began}
 use Rattle.melt_epoch.specs.Ends.{HasEnded, HasJoined, MayEnd, MutatorsBegin, unseated, view_of}
 use Rattle.melt_epoch.specs.Mutators.{IsSeated}
 use Rattle.melt_epoch.specs.declared.mutator.Mutator.{Mutator}
 use Rattle.melt_safepoint.specs.Modes.{FitsMode, IsEnded}
+use Rattle.melt_safepoint.specs.Threads.{jobs_of}
 use Rattle.melt_safepoint.specs.declared.thread.Mode.{Mode}
 use Rattle.melt_safepoint.specs.declared.thread.Mode.TheVariants.{Running, Due, Silent, Collecting, Asked}
 use Rattle.melt_safepoint.specs.declared.thread.Mode.TheVariants.{Lacking, Ended}
 use Rattle.melt_safepoint.specs.declared.thread.ThreadState.{ThreadState}
-use Rattle.melt_pool.specs.Epochs.{AllMayRun, AllRest, AllRun, HasPassed, Passes, Rests}
-use Rattle.melt_pool.specs.Programs.{IsToldBy, ProgramStands, made_again, mode_again}
+use Rattle.melt_pool.specs.Epochs.{AllMayRun, AllRest, GoesFrom, HasPassed, Passes, Rests}
+use Rattle.melt_pool.specs.Firsts.{AllRunFrom}
+use Rattle.melt_pool.specs.Programs.{GoesOn, IsToldBy, ProgramStands, collects_in, made_again, mode_again}
 use Rattle.melt_pool.specs.Workers.{HasRun, MayRun}
 use Rattle.melt_pool.specs.declared.worker.Worker.{Worker}
 use Rattle.melt_pool.proofs.Growing.{stands_more}
@@ -119,37 +122,76 @@ module _ {R : Type 0} where
         };
       }
 
+  -- What a thread has done since the epoch began stands in the history of all.
+  goes_from : (every : ℕ) (script : Script) (before h : List Entry) (s after : ThreadState) (m n : Mutator (Worker R))
+      → GoesOn every script m n s after → (view_of m).seen ≡ before → Saw h n.thread (view_of n).seen
+      → GoesFrom every script n.thread before h s after
+  goes_from every script before h s after m n on began saw =
+      let all : length (own h n.thread) ≡ length (own (view_of n).seen n.thread) = ap length saw.own_same in
+      let since : length (own (view_of n).seen m.thread) + length s.replies.items
+      ≤ length (own before m.thread) + length after.replies.items =
+      subst
+      (λ (g : List Entry). length (own (view_of n).seen m.thread) + length s.replies.items
+      ≤ length (own g m.thread) + length after.replies.items) began on.entries in
+      let here : length (own (view_of n).seen n.thread) + length s.replies.items
+      ≤ length (own before n.thread) + length after.replies.items =
+      subst
+      (λ (t : ℕ). length (own (view_of n).seen t) + length s.replies.items
+      ≤ length (own before t) + length after.replies.items) (sym on.thread) since in
+      record {
+        extra = on.extra;
+        grows = on.grows;
+        owes = on.owes;
+        due = on.due;
+        collects = subst (λ (t : ℕ). collects_in script t after ≡ collects_in script t s) (sym on.thread) on.collects;
+        less = on.less;
+        entries = omega (arith, all, here);
+      }
+
+  -- a thread passes an epoch, and has less to do behind it if its call was made first
+  abbrev PassesFrom : (R → ℕ) → (finish every : ℕ) → Option ℕ → ℕ → Began → Script → List Entry → ThreadState
+      → (seated n : Mutator (Worker R)) → Type 0
+  PassesFrom faults finish every first k b script h s seated n =
+      (x : Passes faults finish every b script h s seated n) × (first ≡ Some k → jobs_of x.after < jobs_of s)
+
   -- and rests behind it, by the history of all
-  pub run_passes : (faults : R → ℕ) (finish every : ℕ) (script : Script) (words : EpochWords) (h : List Entry)
-      (s : ThreadState) (n : Mutator (Worker R)) → HasRun faults finish every script words s n
-      → Saw h n.thread (view_of n).seen
-      → Passes faults finish every words.start.began script h s n (unseated n)
-  run_passes faults finish every script words h s n run saw = record {
-    after = run.after;
-    rests = record {
-      brings = record { worker = run.brings.worker; there = run.brings.there; state = run.brings.state };
-      program = run.works.program;
-      is_told = λ tells.
-          let was = run.works.told tells in
-          record {
-            registers = was.registers;
-            told = subst
-                (λ (g : List Entry). Stands g n.thread
-                (take (length run.after.replies.items) (operations script n.thread)) run.after.replies.items
-                was.registers) saw.begins.1
-                (stands_more (view_of n).seen saw.begins.0 n.thread
-                (take (length run.after.replies.items) (operations script n.thread)) run.after.replies.items
-                was.registers (ap (λ (g : List Entry). own g n.thread) saw.begins.1 ∙ saw.own_same) was.told);
-            in_registers = was.in_registers;
-          };
-      dropped = run.works.dropped;
-    };
-    waits = run.waits;
-    ended = run.ended;
-    ends = run.ends;
-    owes = run.owes;
-    caused = run.caused;
-  }
+  run_passes : (faults : R → ℕ) (finish every : ℕ) (first : Option ℕ) (k : ℕ) (script : Script) (words : EpochWords)
+      (h : List Entry) (s : ThreadState) (m n : Mutator (Worker R))
+      (run : HasRun faults finish every script words s m n) → (first ≡ Some k → jobs_of run.after < jobs_of s)
+      → (view_of m).seen ≡ words.start.began.history → Saw h n.thread (view_of n).seen
+      → PassesFrom faults finish every first k words.start.began script h s n (unseated n)
+  run_passes faults finish every first k script words h s m n run less began saw = (
+    record {
+      after = run.after;
+      rests = record {
+        brings = record { worker = run.brings.worker; there = run.brings.there; state = run.brings.state };
+        program = run.works.program;
+        is_told = λ tells.
+            let was = run.works.told tells in
+            record {
+              registers = was.registers;
+              told = subst
+                  (λ (g : List Entry). Stands g n.thread
+                  (take (length run.after.replies.items) (operations script n.thread)) run.after.replies.items
+                  was.registers) saw.begins.1
+                  (stands_more (view_of n).seen saw.begins.0 n.thread
+                  (take (length run.after.replies.items) (operations script n.thread)) run.after.replies.items
+                  was.registers (ap (λ (g : List Entry). own g n.thread) saw.begins.1 ∙ saw.own_same) was.told);
+              in_registers = was.in_registers;
+            };
+        dropped = run.works.dropped;
+      };
+      size = run.works.seated.size;
+      waits = run.waits;
+      ended = run.ended;
+      ends = run.ends;
+      goes = goes_from every script words.start.began.history h s run.after m n run.goes began saw;
+      caused = run.caused;
+      stops = run.works.waits;
+      asked = run.works.asked;
+    },
+    less,
+  )
 
   -- all threads of the script may run
   pub all_joined : (script : Script) (words : EpochWords) (ms ns : List (Mutator (Worker R)))
@@ -164,28 +206,28 @@ module _ {R : Type 0} where
       (all_at (HasJoined words) ns k n joined at))
 
   -- behind their runs all have their seats
-  pub all_seated : (faults : R → ℕ) (finish every : ℕ) (script : Script) (words : EpochWords)
-      (ns rs : List (Mutator (Worker R))) → AllMayRun script words ns → AllRun faults finish every words ns rs
-      → All (IsSeated words) rs
-  all_seated faults finish every script words ns rs may run = all_by (IsSeated words) rs (λ k r at.
+  pub all_seated : (faults : R → ℕ) (finish every : ℕ) (first : Option ℕ) (script : Script) (words : EpochWords)
+      (ns rs : List (Mutator (Worker R))) → AllMayRun script words ns
+      → AllRunFrom faults finish every first words ns rs → All (IsSeated words) rs
+  all_seated faults finish every first script words ns rs may run = all_by (IsSeated words) rs (λ k r at.
       let below : k < length ns = let w = slice_get_within rs k r at in omega (arith, w, run.count) in
       let n : Mutator (Worker R) = get_or ns k r in
       let was : slice_get ns k ≡ Some n = slice_get-get_or ns k r below in
       let m = all_at (MayRun script words) ns k n may was in
-      ((run.each k n r was at).has_run script m.state m.brings m.works).works.seated)
+      ((run.each k n r was at).has_run script m.state m.brings m.works).0.works.seated)
 
   -- so they may end the epoch
-  pub all_end : (image : Worker R → Option (List ℕ)) (faults : R → ℕ) (finish every : ℕ) (script : Script)
-      (words : EpochWords) (ms ns rs : List (Mutator (Worker R))) → MutatorsBegin image words.start ms
-      → map unseated ns ≡ ms → AllMayRun script words ns → AllRun faults finish every words ns rs → MayEnd words rs
-  all_end image faults finish every script words ms ns rs begin kept may run =
+  pub all_end : (image : Worker R → Option (List ℕ)) (words : EpochWords) (ms ns rs : List (Mutator (Worker R)))
+      → MutatorsBegin image words.start ms → map unseated ns ≡ ms → length rs ≡ length ns → All (IsSeated words) rs
+      → MayEnd words rs
+  all_end image words ms ns rs begin kept count seated =
       let size : length rs ≡ length ms =
-      run.count ∙ (sym (length-map ns unseated) ∙ ap length kept) in
+      count ∙ (sym (length-map ns unseated) ∙ ap length kept) in
       record {
         some_thread = let some_ : 1 ≤ length ms = begin.some_thread in omega (arith, some_, size);
         all = size
             ∙ (sym (length-map ms (λ (m : Mutator (Worker R)). m.thread)) ∙ ap length begin.threads);
-        seated = all_seated faults finish every script words ns rs may run;
+        seated = seated;
       }
 
   -- A mutator before an epoch and behind it is, without its seat, the one that began it and the one that ran in it.
@@ -223,12 +265,12 @@ module _ {R : Type 0} where
       }
 
   -- what the epoch came to
-  pub all_passed : (faults : R → ℕ) (finish every : ℕ) (words : EpochWords) (ms ns rs qs : List (Mutator (Worker R)))
-      (heap : Heap) (h : List Entry) → map unseated ns ≡ ms → All (HasJoined words) ns
-      → AllRun faults finish every words ns rs → qs ≡ map unseated rs → HasEnded words.start.began rs heap h
-      → HasPassed faults finish every words.start.began ms qs heap h
+  pub all_passed : (faults : R → ℕ) (finish every : ℕ) (first : Option ℕ) (words : EpochWords)
+      (ms ns rs qs : List (Mutator (Worker R))) (heap : Heap) (h : List Entry) → map unseated ns ≡ ms
+      → All (HasJoined words) ns → AllRunFrom faults finish every first words ns rs → qs ≡ map unseated rs
+      → HasEnded words.start.began rs heap h → HasPassed faults finish every first words.start.began ms qs heap h
   unfolding joined_works
-  all_passed faults finish every words ms ns rs qs heap h kept joined run left ended = record {
+  all_passed faults finish every first words ms ns rs qs heap h kept joined run left ended = record {
     seats = rs;
     left = left;
     ended = ended;
@@ -242,13 +284,12 @@ module _ {R : Type 0} where
     each = λ script rest k s m r q at seated there rests.
         let it = stands_at ms ns rs qs kept run.count left k m q at there in
         let ran : it.ran ≡ r = let both : Some it.ran ≡ Some r = sym it.ran_at ∙ seated in cc in
-        let may =
-        joined_works script words s m it.began rest.globals rests it.was
-        (all_at (HasJoined words) ns k it.began joined it.began_at) in
+        let joins : HasJoined words it.began = all_at (HasJoined words) ns k it.began joined it.began_at in
+        let may = joined_works script words s m it.began rest.globals rests it.was joins in
         let saw =
         all_at (λ (x : Mutator (Worker R)). Saw h x.thread (view_of x).seen) rs k it.ran ended.history.saw it.ran_at in
-        let runs = (run.each k it.began it.ran it.began_at it.ran_at).has_run in
-        subst (λ (x : Mutator (Worker R)). Passes faults finish every words.start.began script h s x q) ran
-        (subst (λ (x : Mutator (Worker R)). Passes faults finish every words.start.began script h s it.ran x) it.is
-        (run_passes faults finish every script words h s it.ran (runs script s may.brings may.works) saw));
+        let has = (run.each k it.began it.ran it.began_at it.ran_at).has_run script s may.brings may.works in
+        subst (λ (x : Mutator (Worker R)). PassesFrom faults finish every first k words.start.began script h s x q) ran
+        (subst (λ (x : Mutator (Worker R)). PassesFrom faults finish every first k words.start.began script h s it.ran x)
+        it.is (run_passes faults finish every first k script words h s it.began it.ran has.0 has.1 joins.seen saw));
   }

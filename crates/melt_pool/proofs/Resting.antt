@@ -1,5 +1,5 @@
 -- A run that may begin an epoch, over a disk that tells its words, is at rest.
-use Rattle.std.proofs.Common.{◌≡◌, ℕ, zero, suc, ◌≤◌, true, List, [], refl, sym, ◌∙◌, ap, subst, arith}
+use Rattle.std.proofs.Common.{◌≡◌, ℕ, zero, suc, ◌≤◌, true, List, [], length, refl, sym, ◌∙◌, ap, subst, arith}
 use Rattle.std.proofs.Common.{inl, inr}
 use Rattle.std.specs.Prelude.{Bool, Option, Some, slice_index}
 use Rattle.std.specs.Option.{option_map}
@@ -27,7 +27,7 @@ value_there maps (suc a) first = refl
 module _ {R : Type 0} (image : R → Option (List ℕ)) (start : Start) (heap : Heap) (h : List Entry) (end : ℕ)
     (ms : List (Mutator R)) (tells : start.began.told ≡ true) (none : start.began.free_homes ≡ [])
     (begins : HeapBegins start.began heap end) (history : HistoryBegins start heap h)
-    (mutators : MutatorsBegin image start ms) where
+    (mutators : MutatorsBegin image start ms) (some_forward : 1 ≤ length heap.forward) where
   -- a register stands for its value by the maps
   values_of : (m : Mutator R) → MutatorBegins image start m
       → HoldsValues (maps_of start.began) (state_of heap [] (disk_of start.began)) m
@@ -62,6 +62,7 @@ module _ {R : Type 0} (image : R → Option (List ℕ)) (start : Start) (heap : 
     );
     nameless = begins.nameless;
     settled = begins.settled;
+    some_forward = some_forward;
     holds = subst (λ (told : Bool). Holds told h (maps_of start.began) (state_of heap [] (disk_of start.began))) tells
         history.holds;
     legal = λ told. subst (Legal h) (sym begins.globals) (history.legal tells);

@@ -1,30 +1,36 @@
 -- What a mutator brings back from an epoch, whose thread was taken out and put in again.
 use Rattle.std.proofs.Common.{◌≡◌, ℕ, List, refl, sym, ◌∙◌, ap, subst}
-use Rattle.std.specs.Prelude.{Option, Some}
+use Rattle.std.specs.Prelude.{Option, None, Some}
 use Rattle.melt_trace.specs.Script.{Script}
 use Rattle.melt_rule.specs.Seats.{EpochWords}
-use Rattle.melt_epoch.specs.Mutators.{HasReader}
+use Rattle.melt_epoch.specs.Mutators.{HasReader, IsSeated}
 use Rattle.melt_epoch.specs.declared.mutator.Mutator.{Mutator}
 use Rattle.melt_safepoint.specs.Modes.{IsEnded, MayGo}
 use Rattle.melt_safepoint.specs.declared.thread.ThreadState.{ThreadState}
-use Rattle.melt_pool.specs.Programs.{HasEndedWell, OwesSilent, WaitsByCause, Works}
+use Rattle.melt_pool.specs.Programs.{GoesOn, HasEndedWell, WaitsByCause, Works}
 use Rattle.melt_pool.specs.Workers.{Brings, HasRun, faults_of, image_of}
 use Rattle.melt_pool.specs.declared.worker.Worker.{Worker}
+use Rattle.melt_pool.proofs.Onward.{goes_with}
 
--- what stands of a thread does not rest on its reader
+-- the seat of a mutator does not rest on its reader
+pub seated_with : {R : Type 0} (words : EpochWords) (m : Mutator R) (r : Option R) → IsSeated words m
+    → IsSeated words (record m { reader = r })
+seated_with words m r is = record {
+  seat = is.seat;
+  there = is.there;
+  idle = is.idle;
+  thread = is.thread;
+  one = is.one;
+  alone = is.alone;
+  size = is.size;
+  registers = is.registers;
+}
+
+-- nor does what stands of a thread
 pub works_with : {R : Type 0} (script : Script) (words : EpochWords) (m : Mutator R) (s : ThreadState) (r : Option R)
     → Works script words m s → Works script words (record m { reader = r }) s
 works_with script words m s r works = record {
-  seated = record {
-    seat = works.seated.seat;
-    there = works.seated.there;
-    idle = works.seated.idle;
-    thread = works.seated.thread;
-    one = works.seated.one;
-    alone = works.seated.alone;
-    size = works.seated.size;
-    registers = works.seated.registers;
-  };
+  seated = seated_with words m r works.seated;
   program = works.program;
   told = works.told;
   dropped = works.dropped;
@@ -54,24 +60,45 @@ worker_reads image words r n w state there is has =
       tells = λ told. ap (λ (x : Worker _). image x.reader) (sym same) ∙ has.tells told;
     }
 
--- what was run, where its thread was put in
+-- what was run, where its thread was taken out and put in
 pub has_run : {R : Type 0} (faults : R → ℕ) (finish every : ℕ) (script : Script) (words : EpochWords)
-    (s after : ThreadState) (r n : Mutator (Worker R)) (w : Worker R) → r.reader ≡ Some w
-    → n ≡ record r { reader = Some (record w { state = Some after }) } → Works script words r after
-    → (MayGo after.mode → ⊥) → (IsEnded s.mode → after ≡ s)
+    (s after : ThreadState) (m r n : Mutator (Worker R)) (taken : Option (Worker R)) (w : Worker R)
+    → r.reader ≡ Some w → n ≡ record r { reader = Some (record w { state = Some after }) }
+    → Works script words r after → (MayGo after.mode → ⊥) → (IsEnded s.mode → after ≡ s)
+    → (IsEnded s.mode → n ≡ m)
     → ((IsEnded s.mode → ⊥) → HasEndedWell (faults_of faults) words.start.began.told finish script r after)
-    → OwesSilent every s after → WaitsByCause s.mode after.mode r
-    → HasRun faults finish every script words s n
-has_run {R} faults finish every script words s after r n w there is works waits ended ends owes caused =
+    → GoesOn every script (record m { reader = taken }) r s after → WaitsByCause s.mode after.mode r
+    → HasRun faults finish every script words s m n
+has_run {R} faults finish every script words s after m r n taken w there is works waits ended kept ends goes caused =
     let back : Mutator (Worker R) = record r { reader = Some (record w { state = Some after }) } in
-    let here : HasRun faults finish every script words s back = record {
+    let here : HasRun faults finish every script words s m back = record {
       after = after;
       brings = record { worker = record w { state = Some after }; there = refl; state = refl };
       works = works_with script words r after (Some (record w { state = Some after })) works;
       waits = waits;
       ended = ended;
+      kept = λ over. sym is ∙ kept over;
       ends = λ goes. ends goes w there;
-      owes = owes;
+      goes = goes_with every script (record m { reader = taken }) r s after m.reader
+          (Some (record w { state = Some after })) goes;
       caused = caused;
     } in
-    subst (HasRun faults finish every script words s) (sym is) here
+    subst (HasRun faults finish every script words s m) (sym is) here
+
+-- a mutator whose thread was taken out and put in again, and is as it was, is as it was
+pub back_as_was : {R : Type 0} (m r n : Mutator (Worker R)) (w back : Worker R) (state after : ThreadState)
+    → m.reader ≡ Some w → w.state ≡ Some state → r ≡ record m { reader = Some (record w { state = None }) }
+    → r.reader ≡ Some back → n ≡ record r { reader = Some (record back { state = Some after }) } → after ≡ state
+    → n ≡ m
+back_as_was {R} m r n w back state after there had is now n_is same =
+    let empty : Worker R = record w { state = None } in
+    let back_is : back ≡ empty =
+    let both : Some back ≡ Some empty = sym now ∙ ap (λ (x : Mutator (Worker R)). x.reader) is in cc in
+    let put : record r { reader = Some (record back { state = Some after }) }
+    ≡ record m { reader = Some (record w { state = Some after }) } =
+    λ i. record (is i) { reader = Some (record (back_is i) { state = Some after }) } in
+    let held : Some after ≡ w.state = ap (λ (x : ThreadState). Some x) same ∙ sym had in
+    let full : record m { reader = Some (record w { state = Some after }) } ≡ record m { reader = Some w } =
+    λ i. record m { reader = Some (record w { state = held i }) } in
+    let whole : record m { reader = Some w } ≡ m = λ i. record m { reader = sym there i } in
+    n_is ∙ (put ∙ (full ∙ whole))

@@ -242,7 +242,7 @@ module _ {R : Type 0} where
   module _ (script : Script) (words : EpochWords) (m n : Mutator R) (s : ThreadState) (works : Works script words m s)
       (seated : IsSeated words n) where
     -- what the seat has seen anew has no entry more of the thread
-    seen_same : Sees (view_of m) (view_of n).seen → own (view_of n).seen m.thread ≡ own (view_of m).seen m.thread
+    pub seen_same : Sees (view_of m) (view_of n).seen → own (view_of n).seen m.thread ≡ own (view_of m).seen m.thread
     seen_same sees = subst (λ (t : ℕ). own (view_of n).seen t ≡ own (view_of m).seen t)
         (seated_thread words m works.seated) sees.own_same
 

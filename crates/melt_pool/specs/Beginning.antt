@@ -91,8 +91,8 @@ pub record RestsOn {R : Type 0} (image : R → Option (List ℕ)) (words : Optio
   pub size : length m.values ≡ 16
   pub values : HoldsValues maps (state_of heap [] disk) m
 
--- A run at rest: the heap stands for the history, over a disk that is seen so. The heap keeps no names, no forwarding word
--- is filled, and it is small enough for the words of an epoch.
+-- A run at rest: the heap stands for the history, over a disk that is seen so. The heap keeps no names, has forwarding
+-- words, none of which is filled, and is small enough for the words of an epoch.
 pub record IsAtRest {R : Type 0} (image : R → Option (List ℕ)) (told : Bool) (heap : Heap) (h : List Entry) (end : ℕ)
     (ms : List (Mutator R)) : Type 0 where
   pub words : Option (List ℕ)
@@ -103,6 +103,7 @@ pub record IsAtRest {R : Type 0} (image : R → Option (List ℕ)) (told : Bool)
   pub has_maps : HasMaps heap maps
   pub nameless : heap.names ≡ None
   pub settled : IsSettled heap
+  pub some_forward : 1 ≤ length heap.forward
   pub holds : Holds told h maps (state_of heap [] disk)
   pub legal : told ≡ true → Legal h (length heap.globals)
   pub few_globals : length heap.globals ≤ 255

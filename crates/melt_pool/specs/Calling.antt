@@ -1,5 +1,5 @@
 -- What the call of an operation comes to in an epoch, whichever operation it is.
-use Rattle.std.specs.Prelude.{◌≡◌, ℕ, ◌+◌, ◌<◌, Bool, true, List, Option, Some, Result, Ok, Err}
+use Rattle.std.specs.Prelude.{◌≡◌, ℕ, ◌+◌, ◌<◌, ◌≤◌, Bool, true, List, Option, Some, Result, Ok, Err}
 use Rattle.atomic_table.specs.declared.shared.Seat.{Seat}
 use Rattle.melt_model.specs.Thread.{value_in}
 use Rattle.melt_model.specs.declared.history.Slot.{Slot}
@@ -34,18 +34,21 @@ pub record SameCauses (v w : View) : Type 0 where
   pub spaced : w.spaced ≡ v.spaced
   pub forwarded : w.forwarded ≡ v.forwarded
 
--- The call claimed words that end past the last one. It won no commit.
-pub record WasSpaced (v w : View) : Type 0 where
+-- The call claimed so many words, which end past the last one: no more than an object may have. It won no commit.
+pub record WasSpaced (v w : View) (need : ℕ) : Type 0 where
   pub thread : w.thread ≡ v.thread
   pub began : w.began ≡ v.began
   pub spaced : w.spaced ≡ true
+  pub claimed : w.claimed ≡ v.claimed + need
   pub won : w.won ≡ v.won
+  pub small : need ≤ 126
 
--- Or it found each forwarding word to send another home.
+-- Or it found each forwarding word to send another home. It won no commit either.
 pub record WasForwarded (v w : View) : Type 0 where
   pub thread : w.thread ≡ v.thread
   pub began : w.began ≡ v.began
   pub forwarded : w.forwarded ≡ true
+  pub won : w.won ≡ v.won
 
 -- at some time in the call the slot referred to an object that takes so many words, where the epoch is told
 abbrev pub NeedsAt : View → View → Slot → ℕ → Type 0
@@ -62,7 +65,7 @@ NeedsIn v w values o need = ⊥
 abbrev pub RefusedFor : Bool → Option (List ℕ) → Scions → ℕ → ℕ → ℕ → View → View → List Value → Op → Refusal → Type 0
 RefusedFor told image scions end before after v w values o (Pause Asked) = SameCauses v w × (w.stopped ≡ true)
 RefusedFor told image scions end before after v w values o (Pause (Space need)) =
-    WasSpaced v w × NeedsIn v w values o need
+    WasSpaced v w need × NeedsIn v w values o need
 RefusedFor told image scions end before after v w values o (Pause Forward) = WasForwarded v w
 RefusedFor told image scions end before after v w values o refusal.DiskFault =
     SameCauses v w × IsLoad o × Rose before after
@@ -82,3 +85,8 @@ abbrev pub IsCalled : {R : Type 0} → (R → Option (List ℕ)) → (R → ℕ)
 IsCalled {R} image faults told scions end m n o result = (s t : Seat ℕ View) (p q : R) → m.seat ≡ Some s
     → n.seat ≡ Some t → m.reader ≡ Some p → n.reader ≡ Some q
     → Calls told (image p) scions end (faults p) (faults q) (knows_of s) (knows_of t) m.values n.values o result
+
+-- a call that was refused leaves its mutator as it was, but for the seat and the reader
+abbrev pub RefusedKeeps : {R : Type 0} → Mutator R → Mutator R → Result Reply Refusal → Type 0
+RefusedKeeps m n (Ok reply) = Unit {0}
+RefusedKeeps m n (Err refusal) = n ≡ record m { seat = n.seat; reader = n.reader }

@@ -1,6 +1,11 @@
+pub mod Arming
 pub mod Beginning
+pub mod Begun
 pub mod Calling
 pub mod Epochs
+pub mod Firsts
+pub mod Machines
+pub mod Parts
 pub mod Programs
 pub mod Tests
 pub mod Workers

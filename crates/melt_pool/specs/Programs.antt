@@ -1,7 +1,9 @@
 -- A thread of a run by real threads, in an epoch: its operations and replies, and what its seat knows.
-use Rattle.std.specs.Prelude.{◌≡◌, ◌⊎◌, ℕ, ◌+◌, ◌*◌, ◌≤◌, Bool, true, List, [], length, take, drop, replicate}
+use Rattle.std.specs.Prelude.{◌≡◌, ◌≢◌, ◌⊎◌, ℕ, ◌+◌, ◌*◌, ◌%◌, ◌≤◌, Bool, true, List, [], ◌++◌, length, take, drop, replicate}
 use Rattle.std.specs.Prelude.{None, Some, IfSome, Result, Ok, Err, vec_capacity}
+use Rattle.std.specs.List.{count_by}
 use Rattle.melt_model.specs.Standing.{Stands}
+use Rattle.melt_model.specs.Thread.{own}
 use Rattle.melt_model.specs.declared.config.Config.{Config}
 use Rattle.melt_model.specs.declared.history.Entry.{Entry}
 use Rattle.melt_model.specs.declared.history.Value.{Value}
@@ -16,9 +18,9 @@ use Rattle.melt_rule.specs.Seats.{EpochWords}
 use Rattle.melt_epoch.specs.Ends.{view_of}
 use Rattle.melt_epoch.specs.Mutators.{IsSeated, with_none}
 use Rattle.melt_epoch.specs.declared.mutator.Mutator.{Mutator}
-use Rattle.melt_safepoint.specs.Modes.{FitsMode, ForCollection, IsEnded, Waits, mode_for, owes}
-use Rattle.melt_safepoint.specs.Run.{LoadsNext, WasRead, silent_in}
-use Rattle.melt_safepoint.specs.Threads.{left, TakesReply}
+use Rattle.melt_safepoint.specs.Modes.{FitsMode, ForCollection, IsEnded, Waits, mode_for, owes, owes_silent}
+use Rattle.melt_safepoint.specs.Run.{LoadsNext, WasRead, is_collect, silent_in}
+use Rattle.melt_safepoint.specs.Threads.{jobs_of, left, TakesReply}
 use Rattle.melt_safepoint.specs.declared.thread.Mode.{Mode}
 use Rattle.melt_safepoint.specs.declared.thread.Mode.TheVariants.{Running, Due, Asked, Lacking, Ended}
 use Rattle.melt_safepoint.specs.declared.thread.ThreadState.{ThreadState}
@@ -74,11 +76,39 @@ abbrev pub Took : ThreadState → ThreadState → Result Reply Refusal → Type 
 Took s after (Ok reply) = TakesReply s after reply
 Took s after (Err refusal) = after ≡ record s { mode = mode_for refusal }
 
+-- how many `collect`s of a thread were answered
+abbrev pub collects_in : Script → ℕ → ThreadState → ℕ
+collects_in script t s = count_by is_collect (take (length s.replies.items) (operations script t))
+
 -- From here to there no silent collection was made for a thread: it has those still to come that it had, and one for
 -- each that its replies since brought.
 abbrev pub OwesSilent : ℕ → ThreadState → ThreadState → Type 0
 OwesSilent every s after = silent_in every (length after.replies.items) + owes s.mode
     ≡ silent_in every (length s.replies.items) + owes after.mode
+
+-- a silent collection is due behind so many replies
+abbrev pub IsDueBehind : ℕ → ℕ → Type 0
+IsDueBehind every count = (every ≢ 0) × (count ≢ 0) × (count % every ≡ 0)
+
+-- a silent collection is still to come for a thread only where one was to come before, with the same replies, or where
+-- its last reply brought one
+abbrev pub DueOnly : ℕ → ThreadState → ThreadState → Type 0
+DueOnly every s after = owes_silent after.mode ≡ true
+    → ((owes_silent s.mode ≡ true) × (after.replies.items ≡ s.replies.items))
+    ⊎ IsDueBehind every (length after.replies.items)
+
+-- A thread went on in an epoch: it has the replies that it had, and perhaps more. No `collect` was answered, and no
+-- silent collection made. It has no more to do than before, and no more entries than replies since.
+pub record GoesOn {R : Type 0} (every : ℕ) (script : Script) (m n : Mutator R) (s after : ThreadState) : Type 0 where
+  pub thread : n.thread ≡ m.thread
+  pub extra : List Reply
+  pub grows : after.replies.items ≡ s.replies.items ++ extra
+  pub owes : OwesSilent every s after
+  pub due : DueOnly every s after
+  pub collects : collects_in script m.thread after ≡ collects_in script m.thread s
+  pub less : jobs_of after ≤ jobs_of s
+  pub entries : length (own (view_of n).seen m.thread) + length s.replies.items
+      ≤ length (own (view_of m).seen m.thread) + length after.replies.items
 
 -- a thread that waits now, and did not wait for a collection of its own before, has a seat with a cause to stop
 abbrev pub WaitsByCause : {R : Type 0} → Mode → Mode → Mutator R → Type 0

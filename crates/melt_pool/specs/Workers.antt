@@ -5,7 +5,7 @@ use Rattle.melt_rule.specs.Seats.{EpochWords}
 use Rattle.melt_epoch.specs.declared.mutator.Mutator.{Mutator}
 use Rattle.melt_safepoint.specs.Modes.{IsEnded, MayGo}
 use Rattle.melt_safepoint.specs.declared.thread.ThreadState.{ThreadState}
-use Rattle.melt_pool.specs.Programs.{EndsWell, OwesSilent, WaitsByCause, Works, made_again}
+use Rattle.melt_pool.specs.Programs.{EndsWell, GoesOn, WaitsByCause, Works, made_again}
 use Rattle.melt_pool.specs.declared.worker.Worker.{Worker}
 
 -- the image that a worker's reader tells, and its count of faults
@@ -30,15 +30,16 @@ pub record MayRun {R : Type 0} (script : Script) (words : EpochWords) (m : Mutat
 -- A thread ran in an epoch until it waits or has ended. One that had ended before is as it was. A silent collection
 -- came due behind each reply that brings one. If it waits, it has a cause to stop, or waited for a collection before.
 pub record HasRun {R : Type 0} (faults : R → ℕ) (finish every : ℕ) (script : Script) (words : EpochWords)
-    (s : ThreadState) (n : Mutator (Worker R)) : Type 0 where
+    (s : ThreadState) (m n : Mutator (Worker R)) : Type 0 where
   pub after : ThreadState
   pub brings : Brings n after
   pub works : Works script words n after
   pub waits : MayGo after.mode → ⊥
   pub ended : IsEnded s.mode → after ≡ s
+  pub kept : IsEnded s.mode → n ≡ m
   pub ends : (IsEnded s.mode → ⊥) → EndsWell words.start.began.told finish script n.thread (length after.replies.items)
       (faults brings.worker.reader) after.mode
-  pub owes : OwesSilent every s after
+  pub goes : GoesOn every script m n s after
   pub caused : WaitsByCause s.mode after.mode n
 
 -- so for each script and state with which it was brought along; and the mutator is that of its thread still
@@ -46,4 +47,4 @@ pub record Runs {R : Type 0} (faults : R → ℕ) (finish every : ℕ) (words : 
     : Type 0 where
   pub thread : n.thread ≡ m.thread
   pub has_run : (script : Script) (s : ThreadState) → Brings m s → Works script words m (made_again s)
-      → HasRun faults finish every script words s n
+      → HasRun faults finish every script words s m n

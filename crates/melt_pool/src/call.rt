@@ -4,7 +4,7 @@ ghost use Rattle.melt_model.specs.declared.operations.Op.{Op as OpIs};
 ghost use Rattle.melt_trace.specs.Grammar.{InRange};
 ghost use Rattle.melt_epoch.specs.Loading.{KeepsCount};
 ghost use Rattle.melt_epoch.specs.Mutators.{HasReader, IsSeated};
-ghost use Rattle.melt_pool.specs.Calling.{IsCalled};
+ghost use Rattle.melt_pool.specs.Calling.{IsCalled, RefusedKeeps};
 
 use melt_core::Refusal;
 use melt_epoch::{Epoch, Mutator};
@@ -26,6 +26,7 @@ pub(crate) fn make_call<R: RecordReader>(
     ensures called { IsCalled R.image R.faults epoch.now.words.start.began.told epoch.now.heap.scions epoch.now.end
         m.old m.new op result }
     ensures count { KeepsCount R.faults m.old m.new }
+    ensures keeps { RefusedKeeps m.old m.new result }
 {
     match op {
         Op::New { dst, refs, nums } => epoch.make(m, dst, refs, nums),

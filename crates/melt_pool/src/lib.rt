@@ -5,13 +5,21 @@
 //! made there.
 #![tactic(auto)]
 
+mod arming;
 mod call;
+mod collect;
 mod epoch;
+mod first;
+mod machine;
+mod parallel;
 mod program;
 mod rest;
+mod run;
 mod worker;
 
+pub use machine::Parallel;
 pub use rest::{Paused, go_on};
+pub use run::run_threads;
 pub use worker::Worker;
 
 #[cfg(test)]

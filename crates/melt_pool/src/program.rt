@@ -9,8 +9,8 @@ ghost use Rattle.melt_epoch.specs.Calls.{IsAsked};
 ghost use Rattle.melt_epoch.specs.Ends.{view_of};
 ghost use Rattle.melt_epoch.specs.Mutators.{HasReader, IsSeated};
 ghost use Rattle.melt_safepoint.specs.Modes.{IsEnded, MayGo, Waits};
-ghost use Rattle.melt_pool.specs.Programs.{HasEndedWell, OwesSilent, Took, WaitsByCause, Works, dropped_for};
-ghost use Rattle.melt_pool.specs.Programs.{made_again, turns_left};
+ghost use Rattle.melt_pool.specs.Programs.{DueOnly, GoesOn, HasEndedWell, OwesSilent, Took, WaitsByCause, Works};
+ghost use Rattle.melt_pool.specs.Programs.{dropped_for, made_again, turns_left};
 
 use crate::call::make_call;
 use melt_core::Refusal;
@@ -49,7 +49,7 @@ fn wait_for<R>(epoch: &Epoch, m: &mut Mutator<R>, state: &mut ThreadState<'_>, m
 
 /// Takes what a call came to: the reply, or why it was refused. A thread that has ended lets its registers hold
 /// nothing.
-fn take_result<R>(
+pub(crate) fn take_result<R>(
     m: &mut Mutator<R>,
     state: &mut ThreadState<'_>,
     answer: Result<Reply, Refusal>,
@@ -59,6 +59,7 @@ fn take_result<R>(
     requires runs { state.old.mode ≡ Mode.Running }
     ensures took { Took state.old state.new answer }
     ensures owes { OwesSilent every state.old state.new }
+    ensures due { DueOnly every state.old state.new }
     ensures dropped { m.new ≡ dropped_for state.new.mode m.old }
 {
     match answer {
@@ -85,7 +86,8 @@ fn make_next<R: RecordReader>(
     ensures reader { HasReader R.image epoch.now.words m.new }
     ensures thread { m.new.thread ≡ m.old.thread }
     ensures nearer { turns_left state.new < turns_left state.old }
-    ensures owes { OwesSilent every state.old state.new }
+    ensures goes_on { (script : Script) → Works script epoch.now.words m.old state.old
+        → GoesOn every script m.old m.new state.old state.new }
     ensures caused { Waits state.new.mode → has_cause (view_of m.new) ≡ true }
 {
     match (state.mode, state.op) {
@@ -132,7 +134,8 @@ pub(crate) fn run_program<R: RecordReader, G: Gate>(
     ensures reader { HasReader R.image epoch.now.words m.new }
     ensures thread { m.new.thread ≡ m.old.thread }
     ensures waits { MayGo state.new.mode → ⊥ }
-    ensures owes { OwesSilent every state.old state.new }
+    ensures goes_on { (script : Script) → Works script epoch.now.words m.old (made_again state.old)
+        → GoesOn every script m.old m.new state.old state.new }
     ensures caused { WaitsByCause state.old.mode state.new.mode m.new }
 {
     let mut is_announced = make_again(state);

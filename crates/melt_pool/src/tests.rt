@@ -1,13 +1,14 @@
-ghost use Rattle.std.specs.Prelude.{◌≡◌, ◌<◌, false, length, map, Some, [], ◌∷◌};
+ghost use Rattle.std.specs.Prelude.{◌≡◌, ◌<◌, false, length, map, IfSome, Some, [], ◌∷◌};
 ghost use Rattle.melt_scion.specs.Heaps.{IsNewHeap};
 ghost use Rattle.melt_epoch.specs.Tests.{AllMayStart, MayStart};
 ghost use Rattle.melt_trace.specs.Script.{Script};
+ghost use Rattle.melt_pool.specs.Firsts.{LacksAt, LacksRoom};
 ghost use Rattle.melt_pool.specs.Tests.{AllNew, IsNew};
 
 use super::*;
 use melt_epoch::Mutator;
 use melt_io::{Failed, Gate, RecordReader};
-use melt_model::{Ghost, Reply, ThreadEnd};
+use melt_model::{Ghost, Op, Reply, ThreadEnd};
 use melt_rule::Pass;
 use melt_safepoint::{Mode, ThreadState};
 use melt_scion::Heap;
@@ -18,6 +19,8 @@ use std::sync::atomic::{AtomicU64, Ordering};
 use std::test::Fail;
 use std::thread;
 use std::thread::Threads;
+
+mod run;
 
 /// The reader of a disk that has no words, whose reads fail.
 #[derive(Drop)]
@@ -52,9 +55,10 @@ struct Counts {
 }
 
 impl Counts {
-    fn new() -> Counts {
+    /// A gate that was told of so many operations of the first thread.
+    fn new(first: u64) -> Counts {
         Counts {
-            told: [AtomicU64::new(0), AtomicU64::new(0)],
+            told: [AtomicU64::new(first), AtomicU64::new(0)],
             out_of_turn: AtomicU64::new(0),
         }
     }
@@ -108,6 +112,28 @@ fn new_mutator<'a, R: Abort>(
     mutator
 }
 
+/// Lets the first call of a new thread have been refused for want of room.
+fn refuse<R: Abort>(rt: &R, mutator: &mut Mutator<Worker<'_, NoDisk>>)
+    ensures thread { mutator.new.thread ≡ mutator.old.thread }
+    ensures may_start { MayStart (λ _. Some []) mutator.old → MayStart (λ _. Some []) mutator.new }
+    ensures new { (script : Script) → IsNew script mutator.old → IsNew script mutator.new }
+    ensures lacks { LacksRoom mutator.new }
+{
+    let Some(mut worker) = mutator.take_reader() else {
+        panic!(rt; "no worker");
+    };
+    let Some(mut state) = worker.state.take() else {
+        panic!(rt; "no thread");
+    };
+    match (state.mode, state.op) {
+        (_, Some(Op::Collect)) => panic!(rt; "no call"),
+        (Mode::Running, Some(_)) => state.mode = Mode::Lacking,
+        _ => panic!(rt; "no call"),
+    }
+    worker.state = Some(state);
+    mutator.set_reader(worker);
+}
+
 fn two_mutators<'a, R: Abort>(
     rt: &R,
     alloc: Global,
@@ -124,19 +150,39 @@ fn two_mutators<'a, R: Abort>(
     ]
 }
 
-/// Lets the threads go through an epoch on a new heap with one global, and answers the words in use behind it.
+/// The same, where the first call of the first thread was refused for want of room.
+fn first_refused<'a, R: Abort>(
+    rt: &R,
+    alloc: Global,
+    trace: &'a Trace,
+) -> [Mutator<Worker<'a, NoDisk>>; 2]
+    requires { length trace.now.programs ≡ 2 }
+    ensures threads { map (λ m. m.thread) result ≡ 0 ∷ 1 ∷ [] }
+    ensures may_start { AllMayStart (λ _. Some []) result }
+    ensures new { AllNew trace.now result }
+    ensures lacks { LacksAt result 0 }
+{
+    let mut first = new_mutator(rt, alloc, trace, 0);
+    refuse(rt, &mut first);
+    [first, new_mutator(rt, alloc, trace, 1)]
+}
+
+/// Lets the threads go through an epoch on a new heap with one global, and answers the words in use behind it, and how
+/// many the first call lacked.
 fn run_on<R: Abort + Threads + Sync, G: Gate + Sync>(
     rt: &R,
     alloc: Global,
     heap: Heap,
     mutators: &mut [Mutator<Worker<'_, NoDisk>>],
     every: u32,
+    first: Option<u32>,
     gate: &G,
-) -> u32
-    requires heap { IsNewHeap 64 1 0 false heap }
+) -> (u32, Option<u32>)
+    requires heap { IsNewHeap 64 1 1 false heap }
     requires threads { map (λ m. m.thread) mutators.old ≡ 0 ∷ 1 ∷ [] }
     requires mutators { AllMayStart (λ _. Some []) mutators.old }
     requires new { (script : Script) × (script.globals ≡ 1) × AllNew script mutators.old }
+    requires first { IfSome first (LacksAt mutators.old) }
 {
     let paused = Paused {
         heap,
@@ -144,10 +190,10 @@ fn run_on<R: Abort + Threads + Sync, G: Gate + Sync>(
         end: 1,
         told: Ghost::pick(&()),
     };
-    let Ok(after) = go_on(rt, alloc, paused, mutators, every, gate) else {
+    let Ok((after, lacked)) = go_on(rt, alloc, paused, mutators, every, first, gate) else {
         panic!(rt; "no memory");
     };
-    after.heap.space.used()
+    (after.heap.space.used(), lacked)
 }
 
 /// Compares the replies that a thread has got, and what it does next.
@@ -176,6 +222,35 @@ struct Wanted<'a> {
     told: u64,
 }
 
+/// Runs two threads through an epoch, and compares what they come to. Answers the words in use behind it, and how many
+/// the first call lacked. The gate was told of the call that is made first.
+fn expect_epoch<R: Abort + Threads + Sync>(
+    rt: &R,
+    alloc: Global,
+    mutators: &mut [Mutator<Worker<'_, NoDisk>>],
+    every: u32,
+    first: Option<u32>,
+    wanted: [Wanted<'_>; 2],
+) -> Result<(u32, Option<u32>), Fail>
+    requires two { length mutators.old ≡ 2 }
+    requires threads { map (λ m. m.thread) mutators.old ≡ 0 ∷ 1 ∷ [] }
+    requires mutators { AllMayStart (λ _. Some []) mutators.old }
+    requires new { (script : Script) × (script.globals ≡ 1) × AllNew script mutators.old }
+    requires first { IfSome first (LacksAt mutators.old) }
+{
+    let heap = Heap::new(alloc, 64, 1, 1, false)?;
+    let gate = Counts::new(u64::from(first.is_some()));
+    let came = run_on(rt, alloc, heap, mutators, every, first, &gate);
+    for t in 0..2 {
+        expect(rt, &mut mutators[t], wanted[t].replies, wanted[t].mode);
+        let told = gate.told[t].load(Ordering::SeqCst);
+        assert_eq!(rt; told, wanted[t].told);
+    }
+    let out_of_turn = gate.out_of_turn.load(Ordering::SeqCst);
+    assert_eq!(rt; out_of_turn, 0);
+    Ok(came)
+}
+
 /// Runs the two threads of a trace of one global through an epoch, and compares what they come to. Answers the words in
 /// use behind it.
 fn expect_both<R: Abort + Threads + Sync>(
@@ -189,17 +264,24 @@ fn expect_both<R: Abort + Threads + Sync>(
     let (threads, globals) = (trace.threads(), trace.globals());
     assert!(rt; threads == 2 && globals == 1);
     let mut mutators = two_mutators(rt, alloc, &trace);
-    let heap = Heap::new(alloc, 64, 1, 0, false)?;
-    let gate = Counts::new();
-    let used = run_on(rt, alloc, heap, &mut mutators, every, &gate);
-    for t in 0..2 {
-        expect(rt, &mut mutators[t], wanted[t].replies, wanted[t].mode);
-        let told = gate.told[t].load(Ordering::SeqCst);
-        assert_eq!(rt; told, wanted[t].told);
-    }
-    let out_of_turn = gate.out_of_turn.load(Ordering::SeqCst);
-    assert_eq!(rt; out_of_turn, 0);
+    let (used, lacked) = expect_epoch(rt, alloc, &mut mutators, every, None, wanted)?;
+    assert_eq!(rt; lacked, None);
     Ok(used)
+}
+
+/// The same, where the call of the first thread is made first, which was refused before. Answers also how many words it
+/// lacked.
+fn expect_first<R: Abort + Threads + Sync>(
+    rt: &R,
+    alloc: Global,
+    text: &[u8],
+    wanted: [Wanted<'_>; 2],
+) -> Result<(u32, Option<u32>), Fail> {
+    let trace = parse(alloc, text)?;
+    let (threads, globals) = (trace.threads(), trace.globals());
+    assert!(rt; threads == 2 && globals == 1);
+    let mut mutators = first_refused(rt, alloc, &trace);
+    expect_epoch(rt, alloc, &mut mutators, 0, Some(0), wanted)
 }
 
 #[test]
@@ -239,5 +321,45 @@ fn a_silent_collection_is_due_behind_every_second_reply(rt: HostRuntime) -> Resu
     };
     let used = expect_both(&rt, rt.alloc(), text, 2, [first, second])?;
     assert_eq!(rt; used, 3);
+    Ok(())
+}
+
+#[test]
+fn all_go_on_behind_a_first_call_that_is_answered(rt: HostRuntime) -> Result<(), Fail> {
+    let text = b"melt 1\nthreads 2\nglobals 1\n\
+        thread 0\nnew 0 0 1\nget 0 0\ndone\nthread 1\nnew 0 1 0\ndone\n";
+    let first = Wanted {
+        replies: &[Reply::Done, Reply::Num(0)],
+        mode: Mode::Ended(ThreadEnd::Done),
+        told: 2,
+    };
+    let second = Wanted {
+        replies: &[Reply::Done],
+        mode: Mode::Ended(ThreadEnd::Done),
+        told: 1,
+    };
+    let (used, lacked) = expect_first(&rt, rt.alloc(), text, [first, second])?;
+    assert_eq!(rt; used, 6);
+    assert_eq!(rt; lacked, None);
+    Ok(())
+}
+
+#[test]
+fn no_other_runs_behind_a_first_call_that_lacks_words(rt: HostRuntime) -> Result<(), Fail> {
+    let text = b"melt 1\nthreads 2\nglobals 1\n\
+        thread 0\nnew 0 40 40\ndone\nthread 1\nnew 0 1 0\ndone\n";
+    let first = Wanted {
+        replies: &[],
+        mode: Mode::Lacking,
+        told: 1,
+    };
+    let second = Wanted {
+        replies: &[],
+        mode: Mode::Running,
+        told: 0,
+    };
+    let (used, lacked) = expect_first(&rt, rt.alloc(), text, [first, second])?;
+    assert_eq!(rt; used, 64);
+    assert_eq!(rt; lacked, Some(82));
     Ok(())
 }

@@ -8,10 +8,11 @@ use Rattle.melt_epoch.specs.declared.mutator.Mutator.{Mutator}
 use Rattle.melt_safepoint.specs.Modes.{owes}
 use Rattle.melt_safepoint.specs.declared.thread.Mode.TheVariants.{Collecting, Running, Silent}
 use Rattle.melt_safepoint.specs.declared.thread.ThreadState.{ThreadState}
-use Rattle.melt_pool.specs.Programs.{HasEndedWell, Works}
-use Rattle.melt_pool.proofs.Going.{asked_caused, asked_works, called_caused, called_ends, called_nearer, called_thread}
-use Rattle.melt_pool.proofs.Going.{called_works, reader_stays}
-use Rattle.melt_pool.proofs.Owing.{due_owes, mode_owes, runs_some}
+use Rattle.melt_pool.specs.Programs.{GoesOn, HasEndedWell, Works}
+use Rattle.melt_pool.proofs.Going.{asked_caused, asked_goes, asked_works, called_caused, called_ends, called_goes}
+use Rattle.melt_pool.proofs.Going.{called_nearer, called_thread, called_works, reader_stays}
+use Rattle.melt_pool.proofs.Onward.{collecting_few, silent_few}
+use Rattle.melt_pool.proofs.Owing.{due_owes, runs_some}
 use Rattle.melt_pool.proofs.program.make_next.Goals as goal
 use Rattle.melt_pool.proofs.program.make_next.Goals.{in_default-via-in-Running+in_default}
 use Rattle.melt_pool.proofs.program.make_next.Goals.{in_default-via-in_default}
@@ -24,11 +25,12 @@ returns-in-Running-Some-Collect-clause-works g c script works =
     (asked_works script words c.args.m.now c.wait_for.new.m c.args.state.now Collecting works c.requires.goes
     c.wait_for.ensures.seated c.wait_for.ensures.asked next tt)
 
-pub returns-in-Running-Some-Collect-clause-owes : goal.returns-in-Running-Some-Collect-clause-owes
-returns-in-Running-Some-Collect-clause-owes g c =
+pub returns-in-Running-Some-Collect-clause-goes_on : goal.returns-in-Running-Some-Collect-clause-goes_on
+returns-in-Running-Some-Collect-clause-goes_on g c script works =
     let runs : c.args.state.now.mode ≡ Running = search rules in
-    mode_owes c.args.every c.args.state.now c.wait_for.new.state Collecting c.wait_for.ensures.waits
-    (sym (ap owes runs))
+    asked_goes c.args.every script c.args.epoch.now.words c.args.m.now c.wait_for.new.m c.args.state.now
+    c.wait_for.new.state Collecting works c.wait_for.ensures.seated c.wait_for.ensures.asked c.wait_for.ensures.waits
+    (sym (ap owes runs)) (collecting_few c.args.state.now runs)
 
 pub returns-in-Running-Some-Collect-clause-caused : goal.returns-in-Running-Some-Collect-clause-caused
 returns-in-Running-Some-Collect-clause-caused g c waits =
@@ -74,7 +76,11 @@ returns-in-Running-Some g c =
           subst (λ (x : Mutator _). x.thread ≡ m.thread) (sym c.take_result.ensures.dropped) same;
       nearer = called_nearer read.image read.faults c.requires.works.0 words heap.scions finish m n s after op answer
           runs next took;
-      owes = c.take_result.ensures.owes;
+      goes_on = λ script works.
+          subst (λ (x : Mutator _). GoesOn c.args.every script m x s after) (sym c.take_result.ensures.dropped)
+          (called_goes read.image read.faults script words heap.scions finish m n s c.args.every p.reader q.reader after
+          op answer works runs next other seated p.there q.there called took c.take_result.ensures.owes
+          c.take_result.ensures.due);
       caused = λ waits.
           subst (λ (x : Mutator _). has_cause (view_of x) ≡ true) (sym c.take_result.ensures.dropped)
           (called_caused read.image read.faults c.requires.works.0 words heap.scions finish m n s p.reader q.reader
@@ -89,16 +95,19 @@ returns-in_default-clause-works g c script works =
     (asked_works script words c.args.m.now c.wait_for-in_default.new.m c.args.state.now Silent works c.requires.goes
     c.wait_for-in_default.ensures.seated c.wait_for-in_default.ensures.asked tt tt)
 
-pub returns-in_default-clause-owes : goal.returns-in_default-clause-owes
-returns-in_default-clause-owes g c =
+pub returns-in_default-clause-goes_on : goal.returns-in_default-clause-goes_on
+returns-in_default-clause-goes_on g c script works =
     let s = c.args.state.now in
     elim c.in_default.branch [
       | in_default-via-in-Running+in_default w ↦
           absurd
           (runs_some s.mode s.op w.in_default.is-0 w.in_default.is-1 c.requires.works.1.program.fits)
       | in_default-via-in_default w ↦
-          mode_owes c.args.every s c.wait_for-in_default.new.state Silent c.wait_for-in_default.ensures.waits
+          asked_goes c.args.every script c.args.epoch.now.words c.args.m.now c.wait_for-in_default.new.m s
+          c.wait_for-in_default.new.state Silent works c.wait_for-in_default.ensures.seated
+          c.wait_for-in_default.ensures.asked c.wait_for-in_default.ensures.waits
           (due_owes s.mode c.requires.goes w.in_default.not-Running-0)
+          (silent_few s c.requires.goes w.in_default.not-Running-0)
     ]
 
 pub returns-in_default-clause-caused : goal.returns-in_default-clause-caused

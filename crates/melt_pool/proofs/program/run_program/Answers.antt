@@ -1,9 +1,8 @@
 use Rattle.std.proofs.Common.{rules, ◌∙◌, refl, subst, sym}
 use Rattle.melt_safepoint.specs.Modes.{IsEnded, MayGo, Waits}
 use Rattle.melt_safepoint.specs.declared.thread.ThreadState.{ThreadState}
-use Rattle.melt_pool.specs.Programs.{mode_again}
 use Rattle.melt_pool.proofs.Going.{may_not_end}
-use Rattle.melt_pool.proofs.Owing.{again_owes, mode_owes, owes_on}
+use Rattle.melt_pool.proofs.Onward.{again_goes, goes_then}
 use Rattle.melt_pool.proofs.Waiting.{again_waits}
 use Rattle.melt_pool.proofs.program.run_program.Goals as goal
 
@@ -17,7 +16,8 @@ loop-is_announced-init g c =
       ended = search rules;
       reader = c.requires.reader;
       thread = refl;
-      owes = mode_owes c.args.every s c.make_again-is_announced.new.state (mode_again s.mode) again (again_owes s.mode);
+      goes_on = λ script works.
+          again_goes c.args.every script c.args.m.now s c.make_again-is_announced.new.state again;
       caused = λ other waits.
           absurd (other (again_waits s.mode (subst (λ (x : ThreadState). Waits x.mode) again waits)));
     }
@@ -33,7 +33,9 @@ loop-is_announced-preserved g c =
           (subst (λ (s : ThreadState). IsEnded s.mode) (sym (before.ended over).0) over));
       reader = c.make_next.ensures.reader;
       thread = c.make_next.ensures.thread ∙ before.thread;
-      owes = owes_on c.args.every c.args.state.now c.loop-is_announced.state c.make_next.new.state before.owes
-          c.make_next.ensures.owes;
+      goes_on = λ script works.
+          goes_then c.args.every script c.args.m.now c.loop-is_announced.m c.make_next.new.m c.args.state.now
+          c.loop-is_announced.state c.make_next.new.state (before.goes_on script works)
+          (c.make_next.ensures.goes_on script (before.works script works));
       caused = λ goes. c.make_next.ensures.caused;
     }

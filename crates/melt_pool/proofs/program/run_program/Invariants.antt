@@ -3,7 +3,7 @@ use Rattle.std.proofs.Common.{◌≡◌}
 use Rattle.melt_trace.specs.Script.{Script}
 use Rattle.melt_epoch.specs.Mutators.{HasReader}
 use Rattle.melt_safepoint.specs.Modes.{IsEnded}
-use Rattle.melt_pool.specs.Programs.{HasEndedWell, OwesSilent, WaitsByCause, Works, made_again, turns_left}
+use Rattle.melt_pool.specs.Programs.{GoesOn, HasEndedWell, WaitsByCause, Works, made_again, turns_left}
 use Rattle.melt_pool.proofs.program.run_program.Given as goal
 
 abbrev pub invariant-loop-is_announced : goal.invariant-loop-is_announced
@@ -16,7 +16,8 @@ invariant-loop-is_announced g l = record {
   ended : IsEnded l.fn.state.mode → (l.state ≡ l.fn.state) × (l.m ≡ l.fn.m);
   reader : HasReader g.R.RecordReader.image l.epoch.words l.m;
   thread : l.m.thread ≡ l.fn.m.thread;
-  owes : OwesSilent l.every l.fn.state l.state;
+  goes_on : (script : Script) → Works script l.fn.epoch.words l.fn.m (made_again l.fn.state)
+      → GoesOn l.every script l.fn.m l.m l.fn.state l.state;
   caused : WaitsByCause l.fn.state.mode l.state.mode l.m;
 }
 

@@ -22,9 +22,10 @@ go_on-requires-clause-rest g c κs within =
     let small : 64 < 2 ^ 30 = omega arith in
     let rests : IsAtRest none true heap [] 1 ms =
     begun_rests none (empty_start threads heap) heap [] 1 ms refl refl
-    (new_heap_begins threads heap 64 1 0 small (omega arith) (omega arith) c.requires.heap)
-    (no_history_begins threads heap 64 1 0 small (omega arith) (omega arith) c.requires.heap)
-    (c.requires.mutators (empty_start threads heap) refl c.requires.threads) in
+    (new_heap_begins threads heap 64 1 1 small (omega arith) (omega arith) c.requires.heap)
+    (no_history_begins threads heap 64 1 1 small (omega arith) (omega arith) c.requires.heap)
+    (c.requires.mutators (empty_start threads heap) refl c.requires.threads)
+    (omega (arith, ap length c.requires.heap.nothing_forwarded)) in
     subst (λ (told : Bool). IsAtRest none told heap c.new.result 1 ms) (sym c.pick.ensures)
     (subst (λ (h : List Entry). IsAtRest none true heap h 1 ms) (sym c.new.ensures) rests)
 

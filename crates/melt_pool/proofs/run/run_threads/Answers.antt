@@ -1,0 +1,37 @@
+-- The run stands before its first event, told where the disk tells its words.
+use Rattle.std.proofs.Common.{sym, ◌∙◌, subst}
+use Rattle.std.proofs.lemmas.Result.{IfOk-weaker}
+use Rattle.std.specs.Prelude.{Bool, is_some}
+use Rattle.melt_safepoint.specs.Rows.{RunStands, row_of}
+use Rattle.melt_safepoint.specs.Shown.{shown_by}
+use Rattle.melt_safepoint.proofs.Untold.{run_as_told}
+use Rattle.melt_pool.specs.Machines.{parallel_view}
+use Rattle.melt_pool.proofs.run.run_threads.Goals as goal
+
+pub run_epochs-requires-clause-stands : goal.run_epochs-requires-clause-stands
+run_epochs-requires-clause-stands g c κs within = (
+  c.tells.result,
+  c.args.trace.now,
+  c.args.config,
+  c.in_ok-run.ensures.stands (shown_by g.D.StaleDisk.image c.args.space.now) c.requires.end c.requires.limit
+      (λ is. sym c.tells.ensures ∙ is),
+)
+
+pub returns-clause-has_run : goal.returns-clause-has_run
+returns-clause-has_run g c =
+    let is_told : Bool = is_some (g.D.StaleDisk.image c.args.space.now.disk.now) in
+    let begun : RunStands is_told c.args.trace.now c.args.config (shown_by g.D.StaleDisk.image c.args.space.now)
+    (row_of parallel_view c.in_ok-run.run') =
+    subst (λ (told : Bool). RunStands told c.args.trace.now c.args.config
+    (shown_by g.D.StaleDisk.image c.args.space.now) (row_of parallel_view c.in_ok-run.run')) c.tells.ensures
+    (c.in_ok-run.ensures.stands (shown_by g.D.StaleDisk.image c.args.space.now) c.requires.end c.requires.limit
+    (λ is. sym c.tells.ensures ∙ is)) in
+    IfOk-weaker c.run_epochs.result _ _
+    (λ done has told some. run_as_told (g.D.StaleDisk.image c.args.space.now.disk.now) told c.args.trace.now
+    c.args.config (shown_by g.D.StaleDisk.image c.run_epochs.new.space) done.0 done.1 some
+    (has is_told c.args.trace.now c.args.config begun)) c.run_epochs.ensures.has_run
+
+pub returns-clause-lends : goal.returns-clause-lends
+returns-clause-lends g c =
+    IfOk-weaker c.run_epochs.result _ _ (λ done lends. lends c.args.trace.now c.in_ok-run.ensures.idle)
+    c.run_epochs.ensures.lends
