@@ -1,5 +1,5 @@
-"""What bench/gen, bench/flags, bench/start, bench/leak, bench/reload, bench/move and bench/epoch share: the
-program, the largest traces, and how a process is measured."""
+"""What bench/gen, bench/flags, bench/start, bench/leak, bench/reload, bench/move, bench/epoch and bench/threads share:
+the program, the largest traces, and how a process is measured."""
 import bisect
 import os
 import pathlib

@@ -1,0 +1,42 @@
+-- What the words of the program ask for.
+use Rattle.std.specs.Prelude.{ℕ, ◌^◌, ◌==◌, nat_lt, true, if◌then◌else◌, List, [], ◌∷◌, Option, None, Some, codes, option_and_then}
+use Rattle.std.specs.List.{after_first, before_first}
+use Rattle.std.specs.Option.{option_map}
+use Rattle.std.specs.Str.{bytes_eq}
+use Rattle.melt_model.specs.declared.config.Config.{Config}
+use Rattle.melt_trace.specs.Language.{number_of}
+use Rattle.melt_run_bench.specs.declared.asked.Asked.{Asked}
+
+-- a number below 2^32
+abbrev pub within_word : Option ℕ → Option ℕ
+within_word None = None
+within_word (Some n) = if nat_lt n (2 ^ 32) then Some n else None
+
+-- the same numbers, with this one under this name, if it is one
+abbrev pub with_number : Config → (name : List ℕ) → (number : ℕ) → Option Config
+with_number config name number =
+    if bytes_eq name (codes "heap") then Some (record config { heap = number })
+    else if bytes_eq name (codes "forward") then Some (record config { forward = number })
+    else if bytes_eq name (codes "disk") then Some (record config { disk = number })
+    else if bytes_eq name (codes "mark") then Some (record config { mark = number })
+    else if bytes_eq name (codes "move") then Some (record config { move_ = number })
+    else if bytes_eq name (codes "every") then Some (record config { every = number })
+    else None
+
+-- the same, with a number and its name, which stand round the first `=` of a word
+abbrev pub with_named : Asked → (word : List ℕ) → Option Asked
+with_named asked word = option_map (λ config. record asked { config = config })
+    (option_and_then (with_number asked.config (before_first (λ b. b == 61) word))
+    (within_word (number_of (after_first (λ b. b == 61) word))))
+
+-- the same, and what one more word asks for, if it asks for something
+abbrev pub with_word : Asked → (word : List ℕ) → Option Asked
+with_word asked word =
+    if bytes_eq word (codes "file") then Some (record asked { is_on_file = true })
+    else if bytes_eq word (codes "time") then Some (record asked { is_timed = true })
+    else with_named asked word
+
+-- what these words ask for together, beside what was asked for before, if each of them asks for something
+abbrev pub with_words : Asked → (words : List (List ℕ)) → Option Asked
+with_words asked [] = Some asked
+with_words asked (word ∷ words) = option_and_then (λ next. with_words next words) (with_word asked word)

@@ -1,0 +1,2 @@
+-- What the words of the program stand for.
+pub mod Asked
