@@ -29,21 +29,25 @@ use Rattle.melt_top.proofs.Found.{has}
 pub asked_simple : (v : Verb) → is_simple (asked_for (title_of v) (names_of v)) ≡ true
 unfolding clap_on_literals
 asked_simple verb.Step = refl
+asked_simple verb.Run = refl
 asked_simple verb.Gen = refl
 
 pub asked_free : (v : Verb) → is_simple_and_free (asked_for (title_of v) (names_of v)) ≡ true
 unfolding clap_on_literals
 asked_free verb.Step = refl
+asked_free verb.Run = refl
 asked_free verb.Gen = refl
 
 asked_built : (v : Verb) → built (asked_for (title_of v) (names_of v)) ≡ app_for (title_of v) (names_of v)
 unfolding clap_on_literals
 asked_built verb.Step = refl
+asked_built verb.Run = refl
 asked_built verb.Gen = refl
 
 words_behind_the_first : (v : Verb) (all : List (List ℕ))
     → argument_words (asked_for (title_of v) (names_of v)) all ≡ drop 1 all
 words_behind_the_first verb.Step all = refl
+words_behind_the_first verb.Run all = refl
 words_behind_the_first verb.Gen all = refl
 
 given_without_dashes : (names : Names) (words : List (List ℕ)) → list_any parts_options words ≡ false

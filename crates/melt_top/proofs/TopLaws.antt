@@ -22,13 +22,15 @@ use Rattle.melt_trace.specs.Language.{max_bytes, script_of}
 use Rattle.melt_top.specs.Text.{read_fault_text, refused_text}
 use Rattle.melt_top.specs.Command.{number_of, status_of, ended, is_disk_fault, is_damaged, is_out_of_heap}
 use Rattle.melt_top.specs.Command.{halted_by_fault, halted_by_full}
-use Rattle.melt_top.specs.Headline.{Change, IsUntouched, ReadAFront, ReadAtMost, StepDue, Due, IsRefused, WroteAll}
+use Rattle.melt_top.specs.Headline.{Change, IsUntouched, ReadAFront, ReadAtMost, InputDue, Due, IsRefused, WroteAll}
 use Rattle.melt_top.specs.Headline.{Outcome, IsBuilt, DiskChange, IsUnused, TraceDue}
 use Rattle.melt_top.specs.declared.command.Command.{Command}
 use Rattle.melt_top.specs.declared.command.Run.{Run}
-use Rattle.melt_top.specs.declared.command.Command.TheVariants.{Gen, Step}
+use Rattle.melt_top.specs.declared.command.Command.TheVariants.{Gen, Step, Threads}
 use Rattle.melt_top.specs.declared.status.Status.{Status}
 use Rattle.melt_top.specs.declared.status.Status.TheVariants as status
+use Rattle.melt_top.specs.declared.top.Way.{Way}
+use Rattle.melt_top.specs.declared.top.Way.TheVariants as way
 use Rattle.melt_safepoint.specs.Run.{MayEnd, CountsLost, is_lost, lost_in}
 
 -- the bytes that were taken, by their number
@@ -48,10 +50,10 @@ read_a_front input n few count =
     record { bytes = t.0; front = t.2; no_more = omega (arith, t.1) }
 
 -- the reading failed
-pub read_failed : (run : Run) (input : Change) (disk : DiskChange) (n : ℕ) (due : Status) (output : List ℕ)
+pub read_failed : (way : Way) (run : Run) (input : Change) (disk : DiskChange) (n : ℕ) (due : Status) (output : List ℕ)
     → n ≤ max_bytes + 1 → TakesCount input.before n input.after → Rose input.faults_before input.faults_after
-    → IsUnused disk → due ≡ status.ReadFault → output ≡ read_fault_text → StepDue run input disk due output
-read_failed run input disk n due output few count rose unused is told =
+    → IsUnused disk → due ≡ status.ReadFault → output ≡ read_fault_text → InputDue way run input disk due output
+read_failed way run input disk n due output few count rose unused is told =
     let t = taken input.before input.after n count in
     inl (record {
       bytes = t.0;
@@ -67,10 +69,10 @@ read_failed run input disk n due output few count rose unused is told =
 long_refused : (bytes : List ℕ) → max_bytes < length bytes → script_of bytes ≡ Err (0, 1)
 long_refused bytes long = cond-false (nat_le (length bytes) max_bytes) _ _ (lt-leb (length bytes) max_bytes long)
 
-pub too_long : (run : Run) (input : Change) (disk : DiskChange) (n : ℕ) (due : Status) (output : List ℕ)
+pub too_long : (way : Way) (run : Run) (input : Change) (disk : DiskChange) (n : ℕ) (due : Status) (output : List ℕ)
     → n ≡ max_bytes + 1 → TakesCount input.before n input.after → IsUnused disk → due ≡ status.Trace
-    → output ≡ refused_text 0 1 → StepDue run input disk due output
-too_long run input disk n due output long count unused is told =
+    → output ≡ refused_text 0 1 → InputDue way run input disk due output
+too_long way run input disk n due output long count unused is told =
     let t = taken input.before input.after n count in
     inr (record {
       bytes = t.0;
@@ -150,10 +152,10 @@ MayBeDue status.Damaged = Unit {0}
 MayBeDue status.BadDump = ⊥
 MayBeDue status.Illegal = ⊥
 
-step_due : (run : Run) (input : Change) (disk : DiskChange) (due : Status) (output : List ℕ)
-    → StepDue run input disk due output → MayBeDue due
-step_due run input disk due output (inl failed) = subst MayBeDue (sym failed.status) tt
-step_due run input disk due output (inr read) = elim read.trace [
+input_due : (way : Way) (run : Run) (input : Change) (disk : DiskChange) (due : Status) (output : List ℕ)
+    → InputDue way run input disk due output → MayBeDue due
+input_due way run input disk due output (inl failed) = subst MayBeDue (sym failed.status) tt
+input_due way run input disk due output (inr read) = elim read.trace [
   | inl refused ↦ subst MayBeDue (sym refused.status) tt
   | inr ran ↦ subst MayBeDue (sym ran.ran.status) (report_so MayBeDue tt tt tt tt tt ran.ran.report)
 ]
@@ -161,7 +163,8 @@ step_due run input disk due output (inr read) = elim read.trace [
 is_due : (command : Option Command) (input : Change) (disk : DiskChange) (due : Status) (output : List ℕ)
     → Due command input disk due output → MayBeDue due
 is_due None input disk due output is = subst MayBeDue (sym is.status) tt
-is_due (Some (Step run)) input disk due output is = step_due run input disk due output is
+is_due (Some (Step run)) input disk due output is = input_due way.Written run input disk due output is
+is_due (Some (Threads run)) input disk due output is = input_due way.Running run input disk due output is
 is_due (Some (Gen recipe)) input disk due output is = elim is.done [
   | inl none ↦ subst MayBeDue (sym none.status) tt
   | inr trace ↦ subst MayBeDue (sym trace.status) tt
@@ -213,10 +216,10 @@ wrote_all command input disk out due output bytes is same written =
 
 -- ---- words that are refused
 
-no_usage : (run : Run) (input : Change) (disk : DiskChange) (due : Status) (output : List ℕ)
-    → StepDue run input disk due output → due ≡ status.Usage → ⊥
-no_usage run input disk due output (inl failed) e = omega (arith, ap number_of failed.status, ap number_of e)
-no_usage run input disk due output (inr read) e = elim read.trace [
+no_usage : (way : Way) (run : Run) (input : Change) (disk : DiskChange) (due : Status) (output : List ℕ)
+    → InputDue way run input disk due output → due ≡ status.Usage → ⊥
+no_usage way run input disk due output (inl failed) e = omega (arith, ap number_of failed.status, ap number_of e)
+no_usage way run input disk due output (inr read) e = elim read.trace [
   | inl refused ↦ omega (arith, ap number_of refused.status, ap number_of e)
   | inr ran ↦ subst IsOfReport (sym ran.ran.status ∙ e) (of_report ran.ran.report)
 ]
@@ -225,7 +228,8 @@ no_usage run input disk due output (inr read) e = elim read.trace [
 pub refused_words : (command : Option Command) (input : Change) (disk : DiskChange) (due : Status) (output : List ℕ)
     → Due command input disk due output → due ≡ status.Usage → IsRefused command
 refused_words None input disk due output is e = tt
-refused_words (Some (Step run)) input disk due output is e = no_usage run input disk due output is e
+refused_words (Some (Step run)) input disk due output is e = no_usage way.Written run input disk due output is e
+refused_words (Some (Threads run)) input disk due output is e = no_usage way.Running run input disk due output is e
 refused_words (Some (Gen recipe)) input disk due output is e = elim is.done [
   | inl none ↦ none.many
   | inr trace ↦ absurd (omega (arith, ap number_of trace.status, ap number_of e))
@@ -236,6 +240,7 @@ pub usage_due : (command : Option Command) (input : Change) (disk : DiskChange) 
     → Due command input disk due output → IsRefused command → due ≡ status.Usage
 usage_due None input disk due output is refused = is.status
 usage_due (Some (Step run)) input disk due output is refused = absurd refused
+usage_due (Some (Threads run)) input disk due output is refused = absurd refused
 usage_due (Some (Gen recipe)) input disk due output is long = elim is.done [
   | inl none ↦ none.status
   | inr trace ↦ absurd (trace.few long)
@@ -247,28 +252,39 @@ nothing_taken : (bytes : Option (List ℕ)) → TakesFront bytes [] bytes
 nothing_taken None = tt
 nothing_taken (Some bytes) = refl
 
--- a call that read nothing read as little as any
-pub read_nothing : (command : Option Command) (input : Change) → IsUntouched input → ReadAtMost command input
-read_nothing None input is = is
-read_nothing (Some (Step run)) input is = record {
+front_of_nothing : (input : Change) → IsUntouched input → ReadAFront input
+front_of_nothing input is = record {
   bytes = [];
   front = subst (TakesFront input.before []) (sym is.bytes) (nothing_taken input.before);
   no_more = omega arith;
 }
+
+-- a call that read nothing read as little as any
+pub read_nothing : (command : Option Command) (input : Change) → IsUntouched input → ReadAtMost command input
+read_nothing None input is = is
+read_nothing (Some (Step run)) input is = front_of_nothing input is
+read_nothing (Some (Threads run)) input is = front_of_nothing input is
 read_nothing (Some (Gen recipe)) input is = is
 
 -- ---- causes
+
+input_fault_rose : (way : Way) (run : Run) (input : Change) (disk : DiskChange) (due : Status) (output : List ℕ)
+    → InputDue way run input disk due output → due ≡ status.ReadFault → Rose input.faults_before input.faults_after
+input_fault_rose way run input disk due output (inl failed) e = failed.fault
+input_fault_rose way run input disk due output (inr read) e = elim read.trace [
+  | inl refused ↦ absurd (omega (arith, ap number_of refused.status, ap number_of e))
+  | inr ran ↦ absurd (subst IsOfReport (sym ran.ran.status ∙ e) (of_report ran.ran.report))
+]
 
 -- a reading fault is due only where the source's count of faults rose
 pub read_fault_rose : (command : Option Command) (input : Change) (disk : DiskChange) (due : Status) (output : List ℕ)
     → Due command input disk due output → due ≡ status.ReadFault
     → Rose input.faults_before input.faults_after
 read_fault_rose None input disk due output is e = absurd (omega (arith, ap number_of is.status, ap number_of e))
-read_fault_rose (Some (Step run)) input disk due output (inl failed) e = failed.fault
-read_fault_rose (Some (Step run)) input disk due output (inr read) e = elim read.trace [
-  | inl refused ↦ absurd (omega (arith, ap number_of refused.status, ap number_of e))
-  | inr ran ↦ absurd (subst IsOfReport (sym ran.ran.status ∙ e) (of_report ran.ran.report))
-]
+read_fault_rose (Some (Step run)) input disk due output is e =
+    input_fault_rose way.Written run input disk due output is e
+read_fault_rose (Some (Threads run)) input disk due output is e =
+    input_fault_rose way.Running run input disk due output is e
 read_fault_rose (Some (Gen recipe)) input disk due output is e = elim is.done [
   | inl none ↦ absurd (omega (arith, ap number_of none.status, ap number_of e))
   | inr trace ↦ absurd (omega (arith, ap number_of trace.status, ap number_of e))
@@ -282,10 +298,10 @@ no_write_fault command input disk due output is e = subst MayBeDue e (is_due com
 -- ---- the disk
 
 -- a refused trace does not use it
-pub refused_trace : (run : Run) (bytes : List ℕ) (disk : DiskChange) (due : Status) (output : List ℕ) (line reason : ℕ)
-    → script_of bytes ≡ Err (line, reason) → IsUnused disk → due ≡ status.Trace → output ≡ refused_text line reason
-    → TraceDue run bytes disk due output
-refused_trace run bytes disk due output line reason bad unused is told = inl (record {
+pub refused_trace : (way : Way) (run : Run) (bytes : List ℕ) (disk : DiskChange) (due : Status) (output : List ℕ)
+    (line reason : ℕ) → script_of bytes ≡ Err (line, reason) → IsUnused disk → due ≡ status.Trace
+    → output ≡ refused_text line reason → TraceDue way run bytes disk due output
+refused_trace way run bytes disk due output line reason bad unused is told = inl (record {
   line = line;
   reason = reason;
   first_bad = bad;
@@ -355,14 +371,12 @@ halted_so None is = absurd (cc)
 halted_so (Some (halt.DiskFull at need limit)) is = absurd (cc)
 halted_so (Some halt.DiskFault) is = refl
 
--- a fault of the disk is due only where one of its counts rose
-pub disk_fault_rose : (command : Option Command) (input : Change) (disk : DiskChange) (due : Status) (output : List ℕ)
-    → Due command input disk due output → due ≡ status.DiskFault
+run_fault_rose : (way : Way) (run : Run) (input : Change) (disk : DiskChange) (due : Status) (output : List ℕ)
+    → InputDue way run input disk due output → due ≡ status.DiskFault
     → Rose disk.faults_before disk.faults_after ⊎ Rose disk.read_faults_before disk.read_faults_after
-disk_fault_rose None input disk due output is e = absurd (omega (arith, ap number_of is.status, ap number_of e))
-disk_fault_rose (Some (Step run)) input disk due output (inl failed) e =
+run_fault_rose way run input disk due output (inl failed) e =
     absurd (omega (arith, ap number_of failed.status, ap number_of e))
-disk_fault_rose (Some (Step run)) input disk due output (inr read) e = elim read.trace [
+run_fault_rose way run input disk due output (inr read) e = elim read.trace [
   | inl refused ↦ absurd (omega (arith, ap number_of refused.status, ap number_of e))
   | inr ran ↦
       let report = ran.ran.report in
@@ -376,6 +390,15 @@ disk_fault_rose (Some (Step run)) input disk due output (inr read) e = elim read
         | inr halted ↦ inl (ran.ran.counts.halted (halted_so report.halt halted))
       ]
 ]
+
+-- a fault of the disk is due only where one of its counts rose
+pub disk_fault_rose : (command : Option Command) (input : Change) (disk : DiskChange) (due : Status) (output : List ℕ)
+    → Due command input disk due output → due ≡ status.DiskFault
+    → Rose disk.faults_before disk.faults_after ⊎ Rose disk.read_faults_before disk.read_faults_after
+disk_fault_rose None input disk due output is e = absurd (omega (arith, ap number_of is.status, ap number_of e))
+disk_fault_rose (Some (Step run)) input disk due output is e = run_fault_rose way.Written run input disk due output is e
+disk_fault_rose (Some (Threads run)) input disk due output is e =
+    run_fault_rose way.Running run input disk due output is e
 disk_fault_rose (Some (Gen recipe)) input disk due output is e = elim is.done [
   | inl none ↦ absurd (omega (arith, ap number_of none.status, ap number_of e))
   | inr trace ↦ absurd (omega (arith, ap number_of trace.status, ap number_of e))
@@ -390,13 +413,11 @@ damaged_untold script config report t end.DiskFault may is = absurd (cc)
 damaged_untold script config report t (end.Damaged home at word) may is = may.0 refl
 damaged_untold script config report t end.Halted may is = absurd (cc)
 
--- damage is never due where the disk tells its words
-pub never_damaged : (command : Option Command) (input : Change) (disk : DiskChange) (due : Status) (output : List ℕ)
-    → Due command input disk due output → due ≡ status.Damaged → IsSome disk.before → ⊥
-never_damaged None input disk due output is e tells = omega (arith, ap number_of is.status, ap number_of e)
-never_damaged (Some (Step run)) input disk due output (inl failed) e tells =
+run_undamaged : (way : Way) (run : Run) (input : Change) (disk : DiskChange) (due : Status) (output : List ℕ)
+    → InputDue way run input disk due output → due ≡ status.Damaged → IsSome disk.before → ⊥
+run_undamaged way run input disk due output (inl failed) e tells =
     omega (arith, ap number_of failed.status, ap number_of e)
-never_damaged (Some (Step run)) input disk due output (inr read) e tells = elim read.trace [
+run_undamaged way run input disk due output (inr read) e tells = elim read.trace [
   | inl refused ↦ omega (arith, ap number_of refused.status, ap number_of e)
   | inr ran ↦
       let report = ran.ran.report in
@@ -407,6 +428,15 @@ never_damaged (Some (Step run)) input disk due output (inr read) e tells = elim 
       damaged_untold ran.script run.config report found.0 found.1.0.end (reported.ends found.0 found.1.0 found.1.1)
       found.1.2
 ]
+
+-- damage is never due where the disk tells its words
+pub never_damaged : (command : Option Command) (input : Change) (disk : DiskChange) (due : Status) (output : List ℕ)
+    → Due command input disk due output → due ≡ status.Damaged → IsSome disk.before → ⊥
+never_damaged None input disk due output is e tells = omega (arith, ap number_of is.status, ap number_of e)
+never_damaged (Some (Step run)) input disk due output is e tells =
+    run_undamaged way.Written run input disk due output is e tells
+never_damaged (Some (Threads run)) input disk due output is e tells =
+    run_undamaged way.Running run input disk due output is e tells
 never_damaged (Some (Gen recipe)) input disk due output is e tells = elim is.done [
   | inl none ↦ omega (arith, ap number_of none.status, ap number_of e)
   | inr trace ↦ omega (arith, ap number_of trace.status, ap number_of e)

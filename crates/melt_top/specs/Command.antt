@@ -14,12 +14,12 @@ use Rattle.melt_model.specs.declared.reports.Halt.TheVariants as halt
 use Rattle.melt_model.specs.declared.reports.ThreadReport.{ThreadReport}
 use Rattle.melt_model.specs.declared.reports.Report.{Report}
 use Rattle.melt_top.specs.declared.command.Command.{Command}
-use Rattle.melt_top.specs.declared.command.Command.TheVariants.{Gen, Step}
+use Rattle.melt_top.specs.declared.command.Command.TheVariants.{Gen, Step, Threads}
 use Rattle.melt_top.specs.declared.command.Recipe.{Recipe}
 use Rattle.melt_top.specs.declared.command.Run.{Run}
 use Rattle.melt_gen.specs.declared.workload.Workload.{Workload}
 use Rattle.melt_gen.specs.declared.workload.Workload.TheVariants as workload
-use Rattle.melt_top.specs.Parses.{gen_names, step_names}
+use Rattle.melt_top.specs.Parses.{gen_names, run_names, step_names}
 use Rattle.melt_top.specs.Words.{Given, given_of, is_given, value_of}
 use Rattle.melt_top.specs.declared.status.Status.{Status}
 use Rattle.melt_top.specs.declared.text.Texts.{Texts}
@@ -66,6 +66,17 @@ texts_of given = record {
 abbrev pub run_of : Given → Option Run
 run_of given = option_map (λ config. record { config = config; texts = texts_of given }) (config_of given)
 
+-- a run by real threads stores no history that could be written
+abbrev pub plain_texts_of : Given → Texts
+plain_texts_of given = record {
+  quiet = is_given given (codes "quiet");
+  table = is_given given (codes "table");
+  log = false;
+}
+
+abbrev pub threads_of : Given → Option Run
+threads_of given = option_map (λ config. record { config = config; texts = plain_texts_of given }) (config_of given)
+
 -- the number that an option has to give
 abbrev pub number_given : (low : ℕ) → (high : ℕ) → Option (List ℕ) → Option ℕ
 number_given low high None = None
@@ -94,12 +105,14 @@ abbrev pub meant : List (List ℕ) → Option Command
 meant [] = None
 meant (word ∷ words) =
     if bytes_eq word (codes "step") then option_map Step (option_and_then run_of (given_of step_names words))
+    else if bytes_eq word (codes "run") then option_map Threads (option_and_then threads_of (given_of run_names words))
     else if bytes_eq word (codes "gen") then option_map Gen (option_and_then recipe_of (given_of gen_names words))
     else None
 
 -- the numbers of a command are in their ranges
 abbrev pub HasRanges : Command → Type 0
 HasRanges (Step run) = InRanges run.config
+HasRanges (Threads run) = InRanges run.config
 HasRanges (Gen recipe) = (1 ≤ recipe.size) × (recipe.size ≤ 100000) × (1 ≤ recipe.threads) × (recipe.threads ≤ 8)
 
 abbrev pub is_disk_fault : ThreadEnd → Bool

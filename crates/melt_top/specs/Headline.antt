@@ -2,6 +2,7 @@
 use Rattle.std.specs.Prelude.{◌≡◌, ℕ, ◌+◌, ◌<◌, ◌≤◌, Bool, true, List, [], length, take, Option, None, Some, IfSome}
 use Rattle.std.specs.Prelude.{IsSome, ◌⊎◌, Ok, Err}
 use Rattle.melt_io.specs.Outside.{Rose, TakesFront, Appends}
+use Rattle.melt_model.specs.declared.history.Entry.{Entry}
 use Rattle.melt_model.specs.declared.reports.Report.{Report}
 use Rattle.melt_scion.specs.declared.heap.Heap.{Heap}
 use Rattle.melt_trace.specs.Script.{Script}
@@ -9,12 +10,14 @@ use Rattle.melt_trace.specs.Language.{max_bytes, operation_count, script_of}
 use Rattle.melt_top.specs.Text.{text, usage_text, read_fault_text, refused_text}
 use Rattle.melt_top.specs.Command.{status_of}
 use Rattle.melt_top.specs.declared.command.Command.{Command}
-use Rattle.melt_top.specs.declared.command.Command.TheVariants.{Gen, Step}
+use Rattle.melt_top.specs.declared.command.Command.TheVariants.{Gen, Step, Threads}
 use Rattle.melt_top.specs.declared.command.Recipe.{Recipe}
 use Rattle.melt_top.specs.declared.command.Run.{Run}
 use Rattle.melt_gen.specs.Workloads.{generated}
 use Rattle.melt_trace.specs.Grammar.{canonical}
 use Rattle.melt_top.specs.declared.status.Status.{Status}
+use Rattle.melt_top.specs.declared.top.Way.{Way}
+use Rattle.melt_top.specs.declared.top.Way.TheVariants as way
 use Rattle.melt_top.specs.declared.status.Status.TheVariants as status
 use Rattle.melt_safepoint.specs.Run.{HasRun, CountsFaults}
 use Rattle.melt_safepoint.specs.Shown.{Shown}
@@ -90,30 +93,39 @@ pub record TraceRefused (bytes : List ℕ) (disk : DiskChange) (due : Status) (o
   pub status : due ≡ status.Trace
   pub told : output ≡ refused_text line reason
 
+-- what a run stores of its history: all, if it is by the written order, and nothing, if it is by real threads
+abbrev pub stored_by : Way → List Entry → List Entry
+stored_by way.Written h = h
+stored_by way.Running h = []
+
 -- The output is the text of a report of a run of the script. Where the disk tells its words, the replies are those of
--- one legal history: the one that the report stores, and of which each entry is written where that is asked; and what
--- the run left of its heap stands for this history, over the words that the disk has then. The disk's counts tell of
--- each thread that could not read it, and of a run that it halted by a fault.
-pub record RunDue (script : Script) (run : Run) (disk : DiskChange) (due : Status) (output : List ℕ) : Type 0 where
+-- one legal history, which is a value of the report: where the run is by the written order, its log has each entry of
+-- it, which is written where that is asked; and what the run left of its heap stands for this history, over the words
+-- that the disk has then. The disk's counts tell of each thread that could not read it, and of a run that it halted by
+-- a fault.
+pub record RunDue (way : Way) (script : Script) (run : Run) (disk : DiskChange) (due : Status) (output : List ℕ)
+    : Type 0 where
   pub report : Report
   pub heap : Option Heap
   pub shown : Shown
   pub has_run : (told : Bool) → (told ≡ true → IsSome disk.before)
       → HasRun told script run.config shown report heap
+  pub logged : report.log ≡ stored_by way report.history
   pub shows : shown.image ≡ disk.after
   pub counts : CountsFaults report disk.faults_before disk.faults_after disk.read_faults_before disk.read_faults_after
   pub status : due ≡ status_of report
   pub told : output ≡ text (record { report = report; texts = run.texts })
 
 -- the bytes are a trace, and it was run
-pub record TraceRan (run : Run) (bytes : List ℕ) (disk : DiskChange) (due : Status) (output : List ℕ) : Type 0 where
+pub record TraceRan (way : Way) (run : Run) (bytes : List ℕ) (disk : DiskChange) (due : Status) (output : List ℕ)
+    : Type 0 where
   pub script : Script
   pub says : script_of bytes ≡ Ok script
-  pub ran : RunDue script run disk due output
+  pub ran : RunDue way script run disk due output
 
 -- what is due for the bytes of a trace
-abbrev pub TraceDue : Run → List ℕ → DiskChange → Status → List ℕ → Type 0
-TraceDue run bytes disk due output = TraceRefused bytes disk due output ⊎ TraceRan run bytes disk due output
+abbrev pub TraceDue : Way → Run → List ℕ → DiskChange → Status → List ℕ → Type 0
+TraceDue way run bytes disk due output = TraceRefused bytes disk due output ⊎ TraceRan way run bytes disk due output
 
 -- the reading failed, behind these bytes
 pub record CouldNotRead (input : Change) (disk : DiskChange) (due : Status) (output : List ℕ) : Type 0 where
@@ -126,14 +138,15 @@ pub record CouldNotRead (input : Change) (disk : DiskChange) (due : Status) (out
   pub told : output ≡ read_fault_text
 
 -- the input was read
-pub record CouldRead (run : Run) (input : Change) (disk : DiskChange) (due : Status) (output : List ℕ) : Type 0 where
+pub record CouldRead (way : Way) (run : Run) (input : Change) (disk : DiskChange) (due : Status) (output : List ℕ)
+    : Type 0 where
   pub bytes : List ℕ
   pub read : WasRead input bytes
-  pub trace : TraceDue run bytes disk due output
+  pub trace : TraceDue way run bytes disk due output
 
--- what `step` has to write and to answer
-abbrev pub StepDue : Run → Change → DiskChange → Status → List ℕ → Type 0
-StepDue run input disk due output = CouldNotRead input disk due output ⊎ CouldRead run input disk due output
+-- what `step` and `run` have to write and to answer
+abbrev pub InputDue : Way → Run → Change → DiskChange → Status → List ℕ → Type 0
+InputDue way run input disk due output = CouldNotRead input disk due output ⊎ CouldRead way run input disk due output
 
 -- the words mean nothing: nothing is read
 pub record NotUnderstood (input : Change) (disk : DiskChange) (due : Status) (output : List ℕ) : Type 0 where
@@ -172,19 +185,22 @@ pub record GenDue (recipe : Recipe) (input : Change) (disk : DiskChange) (due : 
 -- What a command has to write and to answer.
 abbrev pub Due : Option Command → Change → DiskChange → Status → List ℕ → Type 0
 Due None input disk due output = NotUnderstood input disk due output
-Due (Some (Step run)) input disk due output = StepDue run input disk due output
+Due (Some (Step run)) input disk due output = InputDue way.Written run input disk due output
+Due (Some (Threads run)) input disk due output = InputDue way.Running run input disk due output
 Due (Some (Gen recipe)) input disk due output = GenDue recipe input disk due output
 
 -- the words mean nothing, or a trace that would be too long
 abbrev pub IsRefused : Option Command → Type 0
 IsRefused None = Unit {0}
 IsRefused (Some (Step run)) = ⊥
+IsRefused (Some (Threads run)) = ⊥
 IsRefused (Some (Gen recipe)) = IsTooLong recipe
 
--- what was read at most: only `step` reads
+-- what was read at most: only `step` and `run` read
 abbrev pub ReadAtMost : Option Command → Change → Type 0
 ReadAtMost None input = IsUntouched input
 ReadAtMost (Some (Step run)) input = ReadAFront input
+ReadAtMost (Some (Threads run)) input = ReadAFront input
 ReadAtMost (Some (Gen recipe)) input = IsUntouched input
 
 -- everything that was due was written
@@ -204,7 +220,7 @@ pub record WrotePart (command : Option Command) (input : Change) (disk : DiskCha
   pub written : Appends out.before (take count output) out.after
   pub fault : Rose out.faults_before out.faults_after
 
--- Memory was wanted: nothing was written. `step` read a front of the input, and others read nothing.
+-- Memory was wanted: nothing was written. `step` and `run` read a front of the input, and others read nothing.
 pub record GaveUp (command : Option Command) (input out : Change) : Type 0 where
   pub written : Appends out.before [] out.after
   pub read : ReadAtMost command input

@@ -18,22 +18,28 @@ use Rattle.melt_top.specs.declared.options.WordsRefusal.TheVariants as refusal
 
 -- ---- the options of each command
 
-abbrev pub step_names : Names
-step_names = record {
+abbrev pub run_names : Names
+run_names = record {
   options =
       codes "heap" ∷ codes "forward" ∷ codes "disk" ∷ codes "mark" ∷ codes "move" ∷ codes "every" ∷ [];
-  flags = codes "quiet" ∷ codes "table" ∷ codes "log" ∷ [];
+  flags = codes "quiet" ∷ codes "table" ∷ [];
 }
+
+-- a run by the written order has its history at hand, and may write it
+abbrev pub step_names : Names
+step_names = record run_names { flags = codes "quiet" ∷ codes "table" ∷ codes "log" ∷ [] }
 
 abbrev pub gen_names : Names
 gen_names = record { options = codes "kind" ∷ codes "seed" ∷ codes "size" ∷ codes "threads" ∷ []; flags = [] }
 
 abbrev pub names_of : Verb → Names
 names_of verb.Step = step_names
+names_of verb.Run = run_names
 names_of verb.Gen = gen_names
 
 abbrev pub title_of : Verb → List ℕ
 title_of verb.Step = codes "step"
+title_of verb.Run = codes "run"
 title_of verb.Gen = codes "gen"
 
 -- ---- the parser

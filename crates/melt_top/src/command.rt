@@ -4,9 +4,9 @@ ghost use Rattle.std.specs.Prelude.{map, option_and_then, option_map, string_byt
 ghost use Rattle.melt_model.specs.Config.{InRanges};
 ghost use Rattle.melt_trace.specs.Language.{number_of};
 ghost use Rattle.melt_top.specs.Command.{HasRanges, between, config_of, kind_named, meant, number_or, recipe_of};
-ghost use Rattle.melt_top.specs.Command.{run_of, texts_of};
+ghost use Rattle.melt_top.specs.Command.{plain_texts_of, run_of, texts_of, threads_of};
 ghost use Rattle.melt_top.specs.Words.{Given, given_of};
-ghost use Rattle.melt_top.specs.Parses.{Has, gen_names, step_names};
+ghost use Rattle.melt_top.specs.Parses.{Has, gen_names, run_names, step_names};
 
 use crate::options::{Verb, WordsRefusal, options_given};
 use crate::text::Texts;
@@ -56,6 +56,8 @@ const THREADS: Limits = Limits { low: 1, high: 8 };
 pub enum Command {
     /// Runs a trace by its written order.
     Step(Run),
+    /// Runs a trace by real threads.
+    Threads(Run),
     /// Makes a trace.
     Gen(Recipe),
 }
@@ -105,10 +107,11 @@ impl Limits {
     }
 }
 
-/// What the options of `step` say of a run, or nothing, where a value is none of its option or the numbers do not go
-/// together.
+/// What the options of `step` and `run` say of a run, or nothing, where a value is none of its option or the numbers do
+/// not go together.
 fn read_config(options: &ArgMatches<'_>) -> Option<Config>
     ensures value { (given : Given) → Has step_names options.now given → result ≡ config_of given }
+    ensures threads { (given : Given) → Has run_names options.now given → result ≡ config_of given }
     ensures ranges { IfSome result InRanges }
 {
     let config = Config {
@@ -133,6 +136,17 @@ fn read_texts(options: &ArgMatches<'_>) -> Texts
     }
 }
 
+/// Which texts the flags of `run` ask for.
+fn read_plain_texts(options: &ArgMatches<'_>) -> Texts
+    ensures { (given : Given) → Has run_names options.now given → result ≡ plain_texts_of given }
+{
+    Texts {
+        quiet: options.get_flag("quiet"),
+        table: options.get_flag("table"),
+        log: false,
+    }
+}
+
 fn read_run(options: &ArgMatches<'_>) -> Option<Run>
     ensures value { (given : Given) → Has step_names options.now given → result ≡ run_of given }
     ensures ranges { IfSome result (λ run. InRanges run.config) }
@@ -140,6 +154,16 @@ fn read_run(options: &ArgMatches<'_>) -> Option<Run>
     Some(Run {
         config: read_config(options)?,
         texts: read_texts(options),
+    })
+}
+
+fn read_threads(options: &ArgMatches<'_>) -> Option<Run>
+    ensures value { (given : Given) → Has run_names options.now given → result ≡ threads_of given }
+    ensures ranges { IfSome result (λ run. InRanges run.config) }
+{
+    Some(Run {
+        config: read_config(options)?,
+        texts: read_plain_texts(options),
     })
 }
 
@@ -183,6 +207,20 @@ fn step_command(alloc: Global, words: &[String]) -> Result<Option<Command>, NoMe
     }
 }
 
+fn threads_command(alloc: Global, words: &[String]) -> Result<Option<Command>, NoMemory>
+    requires { 0 < length words.now }
+    ensures value { IfOk result (λ command. command
+        ≡ option_map Command.Threads (option_and_then threads_of
+        (given_of run_names (drop 1 (map string_bytes words.now))))) }
+    ensures ranges { IfOk result (λ command. IfSome command HasRanges) }
+{
+    match options_given(alloc, Verb::Run, words) {
+        Ok(options) => Ok(read_threads(&options).map(Command::Threads)),
+        Err(WordsRefusal::Usage) => Ok(None),
+        Err(WordsRefusal::NoMemory) => Err(NoMemory),
+    }
+}
+
 fn gen_command(alloc: Global, words: &[String]) -> Result<Option<Command>, NoMemory>
     requires { 0 < length words.now }
     ensures value { IfOk result (λ command. command
@@ -204,6 +242,7 @@ pub fn command_of(alloc: Global, words: &[String]) -> Result<Option<Command>, No
 {
     match words {
         [word, ..] if word.as_str() == "step" => step_command(alloc, words),
+        [word, ..] if word.as_str() == "run" => threads_command(alloc, words),
         [word, ..] if word.as_str() == "gen" => gen_command(alloc, words),
         _ => Ok(None),
     }

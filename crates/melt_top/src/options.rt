@@ -7,7 +7,7 @@ ghost use Rattle.clap.specs.Values.{kind_of};
 ghost use Rattle.melt_top.specs.declared.options.WordsRefusal.TheVariants.{NoMemory};
 ghost use Rattle.melt_top.specs.Words.{parts_options};
 ghost use Rattle.melt_top.specs.Parses.{IsWord, Parses, asked_for, flag_rule, gen_names, names_of};
-ghost use Rattle.melt_top.specs.Parses.{option_rule, refusal_for, step_names, title_of};
+ghost use Rattle.melt_top.specs.Parses.{option_rule, refusal_for, run_names, step_names, title_of};
 
 use clap::error::ErrorKind;
 use clap::{Arg, ArgAction, ArgMatches, Command, Error};
@@ -17,6 +17,7 @@ use std::alloc::{AllocError, Global};
 #[derive(Clone, Copy, Debug, PartialEq, Eq)]
 pub enum Verb {
     Step,
+    Run,
     Gen,
 }
 
@@ -82,10 +83,11 @@ fn with_flag<'a>(
     command.arg(flag)
 }
 
-fn step_options<'a>(alloc: Global) -> Result<Command<'a>, AllocError>
-    ensures { IfOk result (λ parser. app_of parser ≡ asked_for (codes "step") (record step_names { flags = [] })) }
+/// The options with values that both ways to run a trace have.
+fn run_options<'a>(alloc: Global, title: &'a str) -> Result<Command<'a>, AllocError>
+    ensures { IfOk result (λ parser. app_of parser ≡ asked_for title.now (record run_names { flags = [] })) }
 {
-    let parser = Command::new(alloc, "step").disable_help_flag(true);
+    let parser = Command::new(alloc, title).disable_help_flag(true);
     let parser = with_option(alloc, parser, "heap")?;
     let parser = with_option(alloc, parser, "forward")?;
     let parser = with_option(alloc, parser, "disk")?;
@@ -97,10 +99,18 @@ fn step_options<'a>(alloc: Global) -> Result<Command<'a>, AllocError>
 fn step_parser<'a>(alloc: Global) -> Result<Command<'a>, AllocError>
     ensures { IfOk result (λ parser. app_of parser ≡ asked_for (codes "step") step_names) }
 {
-    let parser = step_options(alloc)?;
+    let parser = run_options(alloc, "step")?;
     let parser = with_flag(alloc, parser, "quiet")?;
     let parser = with_flag(alloc, parser, "table")?;
     with_flag(alloc, parser, "log")
+}
+
+fn run_parser<'a>(alloc: Global) -> Result<Command<'a>, AllocError>
+    ensures { IfOk result (λ parser. app_of parser ≡ asked_for (codes "run") run_names) }
+{
+    let parser = run_options(alloc, "run")?;
+    let parser = with_flag(alloc, parser, "quiet")?;
+    with_flag(alloc, parser, "table")
 }
 
 fn gen_parser<'a>(alloc: Global) -> Result<Command<'a>, AllocError>
@@ -119,6 +129,7 @@ fn parser_for<'a>(alloc: Global, verb: Verb) -> Result<Command<'a>, AllocError>
 {
     match verb {
         Verb::Step => step_parser(alloc),
+        Verb::Run => run_parser(alloc),
         Verb::Gen => gen_parser(alloc),
     }
 }

@@ -1,6 +1,7 @@
 mod each_fault;
 mod faults;
 mod given;
+mod threads;
 
 use crate::command::{Command, Run, command_of};
 use crate::status::{Status, status_for};
@@ -8,7 +9,8 @@ use crate::text::{Texts, report_text};
 use crate::top::melt;
 use melt_io::{MemSink, MemSource, OpenGate, Sink, Source, SteadyDisk, SteadySink, SteadySource};
 use melt_model::{
-    Config, Entries, Halt, Journals, Replies, Reply, Report, ThreadEnd, ThreadReport, ThreadReports,
+    Config, Entries, Ghost, Halt, Journals, Replies, Reply, Report, ThreadEnd, ThreadReport,
+    ThreadReports,
 };
 use std::alloc::Global;
 use std::process::Abort;
@@ -68,6 +70,7 @@ fn report(
         log: Entries {
             items: Vec::new(alloc),
         },
+        history: Ghost::pick(&()),
     })
 }
 
@@ -117,11 +120,13 @@ fn written<R: Threads + Sync + AllocGlobal + Abort>(
     Ok(sink.bytes)
 }
 
-/// What a `step` with these words is given.
+/// What a run with these words is given.
 fn configured<R: AllocGlobal>(rt: &R, line: &str) -> Result<Option<Config>, Fail> {
     let words = words_of(rt.alloc(), line)?;
     match command_of(rt.alloc(), &words)? {
-        Some(Command::Step(Run { config, .. })) => Ok(Some(config)),
+        Some(Command::Step(Run { config, .. }) | Command::Threads(Run { config, .. })) => {
+            Ok(Some(config))
+        }
         Some(Command::Gen(_)) | None => Ok(None),
     }
 }
@@ -137,7 +142,9 @@ fn each_number_of_a_run_is_its_own_option(rt: HostRuntime) -> Result<(), Fail> {
         every: 0,
     };
     assert_eq!(rt; configured(&rt, "step")?, Some(plain));
-    let line = "step --disk=12 --every 3 --forward 2 --heap=100 --mark 0 --move=1";
+    assert_eq!(rt; configured(&rt, "run")?, Some(plain));
+    let step = "step --disk=12 --every 3 --forward 2 --heap=100 --mark 0 --move=1";
+    let run = "run --mark 0 --heap=100 --every=3 --disk 12 --move=1 --forward 2";
     let given = Config {
         heap: 100,
         forward: 2,
@@ -146,7 +153,8 @@ fn each_number_of_a_run_is_its_own_option(rt: HostRuntime) -> Result<(), Fail> {
         move_: 1,
         every: 3,
     };
-    assert_eq!(rt; configured(&rt, line)?, Some(given));
+    assert_eq!(rt; configured(&rt, step)?, Some(given));
+    assert_eq!(rt; configured(&rt, run)?, Some(given));
     Ok(())
 }
 
@@ -301,7 +309,10 @@ fn a_source_that_fails_is_told(rt: HostRuntime) -> Result<(), Fail> {
 fn words_that_mean_nothing_read_nothing(rt: HostRuntime) -> Result<(), Fail> {
     let lines = [
         "",
-        "run",
+        "run x",
+        "run --log",
+        "run --quiet --log --table",
+        "run --threads 2",
         "step x",
         "step --mark 90",
         "step --",

@@ -1,12 +1,14 @@
 //! The whole program, over any source and any sink.
-ghost use Rattle.std.specs.Prelude.{◌≡◌, ◌⊎◌, map, string_bytes, IfOk, IsSome, OnErr};
+ghost use Rattle.std.specs.Prelude.{◌≡◌, ◌⊎◌, Bool, true, map, string_bytes, IfOk, IsSome, OnErr};
 ghost use Rattle.melt_io.specs.Outside.{Rose};
+ghost use Rattle.melt_safepoint.specs.Run.{CountsFaults, HasRun};
+ghost use Rattle.melt_safepoint.specs.Shown.{shown_by};
 ghost use Rattle.melt_model.specs.Config.{InRanges};
 ghost use Rattle.melt_trace.specs.Grammar.{line};
 ghost use Rattle.melt_top.specs.Command.{HasRanges, meant};
 ghost use Rattle.melt_top.specs.Text.{refused_text};
-ghost use Rattle.melt_top.specs.Headline.{ReadAFront, RunDue, TraceDue, StepDue, MadeNone, MadeTrace, Due, IsRefused};
-ghost use Rattle.melt_top.specs.Headline.{ReadAtMost, Outcome, IsBuilt, change, disk_change};
+ghost use Rattle.melt_top.specs.Headline.{Due, InputDue, IsRefused, MadeNone, MadeTrace, ReadAFront, RunDue, TraceDue};
+ghost use Rattle.melt_top.specs.Headline.{IsBuilt, Outcome, ReadAtMost, change, disk_change, stored_by};
 
 use crate::command::{Command, Recipe, Run, command_of};
 use crate::status::{Status, status_for};
@@ -14,7 +16,9 @@ use crate::text::report_text;
 use melt_disk::StaleSpace;
 use melt_gen::{GenRefusal, generate};
 use melt_io::{Gate, ReadRefusal, Sink, Source, StaleDisk, read_all, write_all};
-use melt_model::NoMemory;
+use melt_model::{Config, NoMemory, Report};
+use melt_pool::run_threads;
+use melt_scion::Heap;
 use melt_step::run_schedule;
 use melt_trace::{MAX_BYTES, ParseRefusal, Trace, TraceError, parse, print, push_line};
 use std::alloc::Global;
@@ -46,20 +50,58 @@ impl Answer {
     }
 }
 
-/// What is due for a run of a trace, over a disk whose first words it does not read.
-fn run_answer<D: StaleDisk>(
+/// In which way a trace is run.
+#[derive(Clone, Copy, Debug, PartialEq, Eq)]
+pub enum Way {
+    /// By the written order of its events.
+    Written,
+    /// By real threads.
+    Running,
+}
+
+/// Runs a trace in a way.
+fn run_by<X: Threads + Sync, D: StaleDisk, G: Gate + Sync>(
+    rt: &X,
     alloc: Global,
+    way: Way,
+    trace: &Trace,
+    config: Config,
+    space: &mut StaleSpace<'_, D>,
+    gate: &G,
+) -> Result<(Report, Option<Heap>), NoMemory>
+    requires ranges { InRanges config }
+    requires limit { space.old.limit ≡ config.disk }
+    requires end { space.old.end ≡ 1 }
+    ensures has_run { IfOk result (λ done. (told : Bool) → (told ≡ true → IsSome (D.image space.old.disk.now))
+        → HasRun told trace.now config (shown_by D.image space.new) done.0 done.1) }
+    ensures same_disk { space.new.disk.ghost_name ≡ space.old.disk.ghost_name }
+    ensures counts { IfOk result (λ done. CountsFaults done.0 (D.faults space.old.disk.now)
+        (D.faults space.new.disk.now) (D.read_faults space.old.disk.now) (D.read_faults space.new.disk.now)) }
+    ensures stored { IfOk result (λ done. done.0.log ≡ stored_by way done.0.history) }
+{
+    match way {
+        Way::Written => run_schedule(alloc, trace, config, space),
+        Way::Running => run_threads(rt, alloc, trace, config, space, gate),
+    }
+}
+
+/// What is due for a run of a trace, over a disk whose first words it does not read.
+fn run_answer<X: Threads + Sync, D: StaleDisk, G: Gate + Sync>(
+    rt: &X,
+    alloc: Global,
+    way: Way,
     run: Run,
     trace: &Trace,
     disk: &mut D,
+    gate: &G,
 ) -> Result<Answer, NoMemory>
     requires { InRanges run.config }
-    ensures { IfOk result (λ answer. RunDue trace.now run
+    ensures { IfOk result (λ answer. RunDue way trace.now run
         (disk_change D.image D.faults D.read_faults disk.old disk.new)
         answer.status answer.text.items) }
 {
     let mut space = StaleSpace::new(disk, run.config.disk);
-    let (report, _heap) = run_schedule(alloc, trace, run.config, &mut space)?;
+    let (report, _heap) = run_by(rt, alloc, way, trace, run.config, &mut space, gate)?;
     // What the run left of the disk is known once the space has handed it back.
     let _disk = space.into_disk();
     let text = report_text(alloc, &report, run.texts)?;
@@ -70,33 +112,39 @@ fn run_answer<D: StaleDisk>(
 }
 
 /// What is due for the bytes of a trace.
-fn trace_answer<D: StaleDisk>(
+fn trace_answer<X: Threads + Sync, D: StaleDisk, G: Gate + Sync>(
+    rt: &X,
     alloc: Global,
+    way: Way,
     run: Run,
     bytes: &[u8],
     disk: &mut D,
+    gate: &G,
 ) -> Result<Answer, NoMemory>
     requires { InRanges run.config }
-    ensures { IfOk result (λ answer. TraceDue run bytes.now
+    ensures { IfOk result (λ answer. TraceDue way run bytes.now
         (disk_change D.image D.faults D.read_faults disk.old disk.new)
         answer.status answer.text.items) }
 {
     match parse(alloc, bytes) {
-        Ok(trace) => run_answer(alloc, run, &trace, disk),
+        Ok(trace) => run_answer(rt, alloc, way, run, &trace, disk, gate),
         Err(ParseRefusal::Bad(error)) => Answer::refused(alloc, error),
         Err(ParseRefusal::NoMemory) => Err(NoMemory),
     }
 }
 
-/// What is due for the input of `step`.
-fn step_answer<S: Source, D: StaleDisk>(
+/// What is due for the input of `step` and of `run`.
+fn input_answer<X: Threads + Sync, S: Source, D: StaleDisk, G: Gate + Sync>(
+    rt: &X,
     alloc: Global,
+    way: Way,
     run: Run,
     input: &mut S,
     disk: &mut D,
+    gate: &G,
 ) -> Result<Answer, NoMemory>
     requires { InRanges run.config }
-    ensures due { IfOk result (λ answer. StepDue run
+    ensures due { IfOk result (λ answer. InputDue way run
         (change S.left S.faults input.old input.new)
         (disk_change D.image D.faults D.read_faults disk.old disk.new)
         answer.status answer.text.items) }
@@ -104,7 +152,7 @@ fn step_answer<S: Source, D: StaleDisk>(
         (change S.left S.faults input.old input.new) }
 {
     match read_all(alloc, input, MAX_BYTES) {
-        Ok(bytes) => trace_answer(alloc, run, &bytes, disk),
+        Ok(bytes) => trace_answer(rt, alloc, way, run, &bytes, disk, gate),
         Err(ReadRefusal::Fault) => Answer::line(alloc, Status::ReadFault, b"error read", &[]),
         Err(ReadRefusal::TooLong) => Answer::refused(alloc, TraceError::too_long()),
         Err(ReadRefusal::NoMemory) => Err(NoMemory),
@@ -127,12 +175,14 @@ fn gen_answer(alloc: Global, recipe: Recipe) -> Result<Answer, NoMemory>
     }
 }
 
-/// What is due for the words. Only `step` reads.
-fn answer_to<S: Source, D: StaleDisk>(
+/// What is due for the words. Only `step` and `run` read.
+fn answer_to<X: Threads + Sync, S: Source, D: StaleDisk, G: Gate + Sync>(
+    rt: &X,
     alloc: Global,
     words: &[String],
     input: &mut S,
     disk: &mut D,
+    gate: &G,
 ) -> Result<Answer, NoMemory>
     ensures due { IfOk result (λ answer. Due (meant (map string_bytes words.now))
         (change S.left S.faults input.old input.new)
@@ -143,7 +193,12 @@ fn answer_to<S: Source, D: StaleDisk>(
 {
     match command_of(alloc, words)? {
         None => Answer::line(alloc, Status::Usage, b"error usage", &[]),
-        Some(Command::Step(run)) => step_answer(alloc, run, input, disk),
+        Some(Command::Step(run)) => {
+            input_answer(rt, alloc, Way::Written, run, input, disk, gate)
+        }
+        Some(Command::Threads(run)) => {
+            input_answer(rt, alloc, Way::Running, run, input, disk, gate)
+        }
         Some(Command::Gen(recipe)) => gen_answer(alloc, recipe),
     }
 }
@@ -151,13 +206,13 @@ fn answer_to<S: Source, D: StaleDisk>(
 /// Runs the program on the words that stand behind its name, and answers how it ended. What is written
 /// is made whole before the first byte of it goes out.
 pub fn melt<X: Threads + Sync, S: Source, K: Sink, D: StaleDisk, G: Gate + Sync>(
-    _rt: &X,
+    rt: &X,
     alloc: Global,
     words: &[String],
     input: &mut S,
     out: &mut K,
     disk: &mut D,
-    _gate: &G,
+    gate: &G,
 ) -> Status
     ensures headline { Outcome (meant (map string_bytes words.now))
         (change S.left S.faults input.old input.new)
@@ -175,7 +230,7 @@ pub fn melt<X: Threads + Sync, S: Source, K: Sink, D: StaleDisk, G: Gate + Sync>
     ensures damaged { result ≡ Status.Damaged → IsSome (D.image disk.old) → ⊥ }
     ensures no_others { IsBuilt result }
 {
-    let Ok(answer) = answer_to(alloc, words, input, disk) else {
+    let Ok(answer) = answer_to(rt, alloc, words, input, disk, gate) else {
         return Status::NoMemory;
     };
     match write_all(out, &answer.text) {

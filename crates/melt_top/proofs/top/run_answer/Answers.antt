@@ -7,8 +7,9 @@ pub returns : goal.returns
 returns g c = record {
   report = c.in_ok-report.report;
   heap = c.in_ok-report._heap;
-  shown = shown_by g.D.StaleDisk.image c.run_schedule.new.space;
+  shown = shown_by g.D.StaleDisk.image c.run_by.new.space;
   has_run = λ told some. c.in_ok-report.ensures.has_run told (λ yes. rw c.new-space.ensures.disk (some yes));
+  logged = c.in_ok-report.ensures.stored;
   shows = search rules;
   counts = search rules;
   status = c.status_for.ensures;
