@@ -6,7 +6,7 @@ from fuzzing import moving
 from fuzzing.damage import CHANGES, SELDOM
 from fuzzing.traces import KINDS
 from modelling.traces import LARGEST_INPUT, Refusal, operations_in, script_of
-from modelling.words import FLAGS, STEP_RANGES
+from modelling.words import FLAGS, STEP_RANGES, Step, meant
 
 MOST_OPERATIONS = 3_000   # a trace with more is not run: the model is slow
 MADE = ("list", "queue", "table", "tree")
@@ -128,21 +128,44 @@ def made(rng):
 CALLS = {"traces": [sound], "damaged": [damaged], "both": [sound, damaged], "gen": [made]}
 
 
+def script_in(data):
+    """What the bytes say, or None where they are no trace."""
+    if len(data) > LARGEST_INPUT:
+        return None
+    try:
+        return script_of(data)
+    except Refusal:
+        return None
+
+
 def is_small(data):
     """Whether the model can run this, or refuses it, in a short time."""
-    if len(data) > LARGEST_INPUT:
+    script = script_in(data)
+    return script is None or sum(map(operations_in, script.programs)) <= MOST_OPERATIONS
+
+
+def by_real_threads(words):
+    """The same call by `run`, which has no log."""
+    return ["run", *(word for word in words[1:] if word != "--log")]
+
+
+def is_fixed(words, data):
+    """Whether there is one right answer: by `run`, threads beside each other can be answered in many ways."""
+    options = meant(words)
+    if not isinstance(options, Step) or not options.is_real:
         return True
-    try:
-        script = script_of(data)
-    except Refusal:
-        return True
-    return sum(map(operations_in, script.programs)) <= MOST_OPERATIONS
+    script = script_in(data)
+    return script is None or script.threads == 1
 
 
 def call_of(seed, number, kind):
-    """Call number NUMBER of a seed: its words and its bytes."""
+    """Call number NUMBER of a seed: its words and its bytes. One in four of `step` is made by `run`, where that is to say the
+    same."""
     for turn in itertools.count():
         rng = random.Random(f"{seed} {number} {kind} {turn}")
         words, data = CALLS[kind][number % len(CALLS[kind])](rng)
-        if is_small(data):
-            return words, data
+        if not is_small(data) or not is_fixed(words, data):
+            continue
+        if number // 2 % 4 == 3 and words[:1] == ["step"] and is_fixed(by_real_threads(words), data):
+            words = by_real_threads(words)
+        return words, data

@@ -1,5 +1,5 @@
 """The words of a call, and what they mean."""
-from dataclasses import dataclass
+from dataclasses import dataclass, replace
 from typing import NamedTuple, Optional
 
 from modelling.traces import LARGEST_NUMBER, number_of
@@ -7,7 +7,7 @@ from modelling.traces import LARGEST_NUMBER, number_of
 
 @dataclass
 class Step:
-    """A run of a trace."""
+    """A run of a trace, in turns or by real threads."""
     heap: int = 65_536
     forward: int = 1_024
     disk: int = 16_777_216
@@ -17,6 +17,7 @@ class Step:
     quiet: bool = False
     table: bool = False
     log: bool = False
+    is_real: bool = False
 
 
 class Gen(NamedTuple):
@@ -31,18 +32,22 @@ STEP_RANGES = {"heap": (16, 4_194_304), "forward": (1, 65_536), "disk": (2, 268_
                "every": (1, 1_048_576)}
 GEN_RANGES = {"seed": (0, LARGEST_NUMBER), "size": (1, 100_000), "threads": (1, 8)}
 FLAGS = ("quiet", "table", "log")
+REAL_FLAGS = ("quiet", "table")
 KINDS = ("list", "queue", "table", "tree")
 
 
 def meant(words):
     """What the words mean, or None where they mean nothing."""
     if words[:1] == ["step"]:
-        return step_of(words[1:])
+        return step_of(words[1:], FLAGS)
+    if words[:1] == ["run"]:
+        step = step_of(words[1:], REAL_FLAGS)
+        return step and replace(step, is_real=True)
     return gen_of(words[1:]) if words[:1] == ["gen"] else None
 
 
-def step_of(words):
-    given = given_by(words, STEP_RANGES, FLAGS)
+def step_of(words, flags):
+    given = given_by(words, STEP_RANGES, flags)
     given = given and numbers_in(given, STEP_RANGES)
     if given is None:
         return None
