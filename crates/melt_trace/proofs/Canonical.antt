@@ -1,5 +1,7 @@
 -- The canonical text of a script in range is read as that script.
-use Rattle.std.proofs.Common.{◌≡◌, ℕ, zero, suc, ◌+◌, ◌^◌, ◌<◌, ◌≤◌, Bool, true, false, cond, eqb, List, [], ◌∷◌, ◌++◌, length, map, Some, Result, Ok, Err, refl, sym, ap, subst, ◌∙◌, append_assoc, eq-eqb, arith}
+use Rattle.std.proofs.Common.{◌≡◌, ℕ, zero, suc, ◌+◌, ◌^◌, ◌<◌, ◌≤◌, Bool, true, false, cond, eqb, List, [], ◌∷◌, ◌++◌}
+use Rattle.std.proofs.Common.{length, map, Some, Result, Ok, Err, refl, sym, ap, subst, ◌∙◌, append_assoc, eq-eqb}
+use Rattle.std.proofs.Common.{arith}
 use Rattle.std.specs.Prelude.{codes}
 use Rattle.std.specs.List.{AllByRecursion, list_all, flat_map}
 use Rattle.std.specs.Str.{bytes_eq}
@@ -17,7 +19,10 @@ use Rattle.melt_trace.specs.declared.language.Stage.{Stage}
 use Rattle.melt_trace.specs.declared.language.Stage.TheVariants as stage
 use Rattle.melt_trace.specs.Script.{Script, expand}
 use Rattle.melt_trace.specs.Grammar.{line, op_line, item_line, program_lines, canonical, InRange}
-use Rattle.melt_trace.specs.Language.{max_bytes, Place, start, global, ranges_of, numbers, operation_count, with_operation, with_program, fits, is_skipped, lines_of, without_empty_rest, word_of, after_line, after_word, and_then, heading, in_heading, number_of, after_fields, after, script_from, script_of, AreItems, IsOrder, IsScript}
+use Rattle.melt_trace.specs.Language.{max_bytes, Place, start, global, ranges_of, numbers, operation_count}
+use Rattle.melt_trace.specs.Language.{with_operation, with_program, fits, is_skipped, lines_of, without_empty_rest}
+use Rattle.melt_trace.specs.Language.{word_of, after_line, after_word, and_then, heading, in_heading, number_of}
+use Rattle.melt_trace.specs.Language.{after_fields, after, script_from, script_of, AreItems, IsOrder, IsScript}
 use Rattle.melt_trace.proofs.Cuts.{split_parts, line_before}
 use Rattle.melt_trace.proofs.Kept.{AreWithin, placed}
 use Rattle.melt_trace.proofs.Again.{is_plain, spaced, AreWords, split_line, line_taken, number_again, numbers_again}
@@ -26,7 +31,8 @@ use Rattle.melt_trace.proofs.Again.{is_plain, spaced, AreWords, split_line, line
 
 -- what stands behind the text is read from the second place
 abbrev Leads : Place → List ℕ → Place → Type 0
-Leads place text next = (n : ℕ) (rest : List ℕ) → (m : ℕ) × (script_from n place (lines_of (text ++ rest)) ≡ script_from m next (lines_of rest))
+Leads place text next = (n : ℕ) (rest : List ℕ) → (m : ℕ)
+    × (script_from n place (lines_of (text ++ rest)) ≡ script_from m next (lines_of rest))
 
 leads_none : (place : Place) → Leads place [] place
 leads_none place n rest = (n, refl)
@@ -37,7 +43,8 @@ leads_both a b c x y f g n rest =
     let second = g first.0 rest in
     (second.0, ap (λ (bytes : List ℕ). script_from n a (lines_of bytes)) (append_assoc x y rest) ∙ first.1 ∙ second.1)
 
-next_line : (n : ℕ) (place next : Place) (text : List ℕ) (lines : List (List ℕ)) → after place text ≡ Ok next → script_from n place (text ∷ lines) ≡ script_from (n + 1) next lines
+next_line : (n : ℕ) (place next : Place) (text : List ℕ) (lines : List (List ℕ)) → after place text ≡ Ok next
+    → script_from n place (text ∷ lines) ≡ script_from (n + 1) next lines
 next_line n place next text lines e =
     ap (λ (r : Result Place ℕ). elim r [ Ok next ↦ script_from (n + 1) next lines | Err reason ↦ Err (n, reason) ]) e
 
@@ -48,7 +55,8 @@ record IsLine (w ns : List ℕ) : Type 0 where
   shown : is_skipped (w ∷ map decimal ns) ≡ false
   words : AreWords ns
 
-lines_again : (w ns rest : List ℕ) → list_all is_plain w ≡ true → AreWords ns → lines_of (line w ns ++ rest) ≡ (w ++ spaced ns) ∷ lines_of rest
+lines_again : (w ns rest : List ℕ) → list_all is_plain w ≡ true → AreWords ns
+    → lines_of (line w ns ++ rest) ≡ (w ++ spaced ns) ∷ lines_of rest
 lines_again w ns rest plain words =
     let parts = split_parts (λ b. eqb b 10) rest in
     ap lines_of (append_assoc (w ++ spaced ns) (10 ∷ []) rest)
@@ -57,16 +65,24 @@ lines_again w ns rest plain words =
     ∙ line_before (w ++ spaced ns) parts.0 parts.1
     ∙ ap (λ (ls : List (List ℕ)). (w ++ spaced ns) ∷ without_empty_rest ls) (sym parts.2)
 
-leads_line : (place next : Place) (w ns : List ℕ) → IsLine w ns → after_fields place place.stage (w ∷ map decimal ns) ≡ Ok next → Leads place (line w ns) next
-leads_line place next w ns h e n rest =
-    (n + 1, ap (script_from n place) (lines_again w ns rest h.plain h.words) ∙ next_line n place next (w ++ spaced ns) (lines_of rest) (line_taken place w ns h.some h.plain h.shown h.words ∙ e))
+leads_line : (place next : Place) (w ns : List ℕ) → IsLine w ns
+    → after_fields place place.stage (w ∷ map decimal ns) ≡ Ok next → Leads place (line w ns) next
+leads_line place next w ns h e n rest = (
+  n + 1,
+  ap (script_from n place) (lines_again w ns rest h.plain h.words)
+      ∙ next_line n place next (w ++ spaced ns) (lines_of rest) (line_taken place w ns h.some h.plain h.shown h.words
+      ∙ e),
+)
 
 -- ---- lines of a program
 
 -- a line with this word, which may stand here and has its numbers in range
-worded : (place next : Place) (w : Word) (ns : List ℕ) → fits place.stage place.blocks w ≡ true → AreWithin (ranges_of place w) ns → AreWords ns → after_line place w ns ≡ Ok next → after_word place (Some w) (map decimal ns) ≡ Ok next
+worded : (place next : Place) (w : Word) (ns : List ℕ) → fits place.stage place.blocks w ≡ true
+    → AreWithin (ranges_of place w) ns → AreWords ns → after_line place w ns ≡ Ok next
+    → after_word place (Some w) (map decimal ns) ≡ Ok next
 worded place next w ns stands range words e =
-    ap (λ (t : Bool). cond t (and_then (numbers (ranges_of place w) (map decimal ns)) (after_line place w)) (Err 6)) stands
+    ap (λ (t : Bool). cond t (and_then (numbers (ranges_of place w) (map decimal ns)) (after_line place w)) (Err 6))
+    stands
     ∙ ap (λ (r : Result (List ℕ) ℕ). and_then r (after_line place w)) (numbers_again (ranges_of place w) ns range words)
     ∙ e
 
@@ -77,93 +93,168 @@ within_global : (globals g : ℕ) → g < globals → ((global globals).low ≤ 
 within_global zero g lt = absurd (omega arith)
 within_global (suc n) g lt = (omega arith, omega arith)
 
-operation_leads : (threads : ℕ) (script : Script) (items : List Item) (blocks : List Bool) (o : Op) → script.globals ≤ 64 → InRange script.globals o → Leads (inside threads script items blocks) (op_line o) (inside threads script (items ++ item.Op o ∷ []) (with_operation blocks))
+operation_leads : (threads : ℕ) (script : Script) (items : List Item) (blocks : List Bool) (o : Op)
+    → script.globals ≤ 64 → InRange script.globals o
+    → Leads (inside threads script items blocks) (op_line o)
+    (inside threads script (items ++ item.Op o ∷ []) (with_operation blocks))
 operation_leads threads script items blocks (op.New a b c) few h =
     let words : AreWords (a ∷ b ∷ c ∷ []) = (omega (arith, h.0), (omega (arith, h.1), (omega (arith, h.2), tt))) in
-    leads_line (inside threads script items blocks) _ (codes "new") (a ∷ b ∷ c ∷ []) (record { some = omega arith; plain = refl; shown = refl; words = words })
-    (worded (inside threads script items blocks) _ word.New (a ∷ b ∷ c ∷ []) refl (omega arith, omega (arith, h.0), (omega arith, h.1, (omega arith, h.2, tt))) words refl)
+    leads_line (inside threads script items blocks) _ (codes "new") (a ∷ b ∷ c ∷ [])
+    (record { some = omega arith; plain = refl; shown = refl; words = words })
+    (worded (inside threads script items blocks) _ word.New (a ∷ b ∷ c ∷ []) refl (
+      omega arith,
+      omega (arith, h.0),
+      (omega arith, h.1, (omega arith, h.2, tt)),
+    ) words refl)
 operation_leads threads script items blocks (op.Load a b c) few h =
     let words : AreWords (a ∷ b ∷ c ∷ []) = (omega (arith, h.0), (omega (arith, h.1), (omega (arith, h.2), tt))) in
-    leads_line (inside threads script items blocks) _ (codes "load") (a ∷ b ∷ c ∷ []) (record { some = omega arith; plain = refl; shown = refl; words = words })
-    (worded (inside threads script items blocks) _ word.Load (a ∷ b ∷ c ∷ []) refl (omega arith, omega (arith, h.0), (omega arith, omega (arith, h.1), (omega arith, h.2, tt))) words refl)
+    leads_line (inside threads script items blocks) _ (codes "load") (a ∷ b ∷ c ∷ [])
+    (record { some = omega arith; plain = refl; shown = refl; words = words })
+    (worded (inside threads script items blocks) _ word.Load (a ∷ b ∷ c ∷ []) refl (
+      omega arith,
+      omega (arith, h.0),
+      (omega arith, omega (arith, h.1), (omega arith, h.2, tt)),
+    ) words refl)
 operation_leads threads script items blocks (op.Store a b c) few h =
     let words : AreWords (a ∷ b ∷ c ∷ []) = (omega (arith, h.0), (omega (arith, h.1), (omega (arith, h.2), tt))) in
-    leads_line (inside threads script items blocks) _ (codes "store") (a ∷ b ∷ c ∷ []) (record { some = omega arith; plain = refl; shown = refl; words = words })
-    (worded (inside threads script items blocks) _ word.Store (a ∷ b ∷ c ∷ []) refl (omega arith, omega (arith, h.0), (omega arith, h.1, (omega arith, omega (arith, h.2), tt))) words refl)
+    leads_line (inside threads script items blocks) _ (codes "store") (a ∷ b ∷ c ∷ [])
+    (record { some = omega arith; plain = refl; shown = refl; words = words })
+    (worded (inside threads script items blocks) _ word.Store (a ∷ b ∷ c ∷ []) refl (
+      omega arith,
+      omega (arith, h.0),
+      (omega arith, h.1, (omega arith, omega (arith, h.2), tt)),
+    ) words refl)
 operation_leads threads script items blocks (op.Get a b) few h =
     let words : AreWords (a ∷ b ∷ []) = (omega (arith, h.0), (omega (arith, h.1), tt)) in
-    leads_line (inside threads script items blocks) _ (codes "get") (a ∷ b ∷ []) (record { some = omega arith; plain = refl; shown = refl; words = words })
-    (worded (inside threads script items blocks) _ word.Get (a ∷ b ∷ []) refl (omega arith, omega (arith, h.0), (omega arith, h.1, tt)) words refl)
+    leads_line (inside threads script items blocks) _ (codes "get") (a ∷ b ∷ [])
+    (record { some = omega arith; plain = refl; shown = refl; words = words })
+    (worded (inside threads script items blocks) _ word.Get (a ∷ b ∷ []) refl (
+      omega arith,
+      omega (arith, h.0),
+      (omega arith, h.1, tt),
+    ) words refl)
 operation_leads threads script items blocks (op.Put a b c) few h =
     let words : AreWords (a ∷ b ∷ c ∷ []) = (omega (arith, h.0), (omega (arith, h.1), (h.2, tt))) in
-    leads_line (inside threads script items blocks) _ (codes "put") (a ∷ b ∷ c ∷ []) (record { some = omega arith; plain = refl; shown = refl; words = words })
-    (worded (inside threads script items blocks) _ word.Put (a ∷ b ∷ c ∷ []) refl (omega arith, omega (arith, h.0), (omega arith, h.1, (omega arith, omega (arith, h.2), tt))) words refl)
+    leads_line (inside threads script items blocks) _ (codes "put") (a ∷ b ∷ c ∷ [])
+    (record { some = omega arith; plain = refl; shown = refl; words = words })
+    (worded (inside threads script items blocks) _ word.Put (a ∷ b ∷ c ∷ []) refl (
+      omega arith,
+      omega (arith, h.0),
+      (omega arith, h.1, (omega arith, omega (arith, h.2), tt)),
+    ) words refl)
 operation_leads threads script items blocks (op.GLoad a g) few h =
     let words : AreWords (a ∷ g ∷ []) = (omega (arith, h.0), (omega (arith, h.1), tt)) in
     let range = within_global script.globals g h.1 in
-    leads_line (inside threads script items blocks) _ (codes "gload") (a ∷ g ∷ []) (record { some = omega arith; plain = refl; shown = refl; words = words })
-    (worded (inside threads script items blocks) _ word.GLoad (a ∷ g ∷ []) refl (omega arith, omega (arith, h.0), (range.0, range.1, tt)) words refl)
+    leads_line (inside threads script items blocks) _ (codes "gload") (a ∷ g ∷ [])
+    (record { some = omega arith; plain = refl; shown = refl; words = words })
+    (worded (inside threads script items blocks) _ word.GLoad (a ∷ g ∷ []) refl (
+      omega arith,
+      omega (arith, h.0),
+      (range.0, range.1, tt),
+    ) words refl)
 operation_leads threads script items blocks (op.GStore g a) few h =
     let words : AreWords (g ∷ a ∷ []) = (omega (arith, h.0), (omega (arith, h.1), tt)) in
     let range = within_global script.globals g h.0 in
-    leads_line (inside threads script items blocks) _ (codes "gstore") (g ∷ a ∷ []) (record { some = omega arith; plain = refl; shown = refl; words = words })
-    (worded (inside threads script items blocks) _ word.GStore (g ∷ a ∷ []) refl (range.0, range.1, (omega arith, omega (arith, h.1), tt)) words refl)
+    leads_line (inside threads script items blocks) _ (codes "gstore") (g ∷ a ∷ [])
+    (record { some = omega arith; plain = refl; shown = refl; words = words })
+    (worded (inside threads script items blocks) _ word.GStore (g ∷ a ∷ []) refl (
+      range.0,
+      range.1,
+      (omega arith, omega (arith, h.1), tt),
+    ) words refl)
 operation_leads threads script items blocks (op.Same a b) few h =
     let words : AreWords (a ∷ b ∷ []) = (omega (arith, h.0), (omega (arith, h.1), tt)) in
-    leads_line (inside threads script items blocks) _ (codes "same") (a ∷ b ∷ []) (record { some = omega arith; plain = refl; shown = refl; words = words })
-    (worded (inside threads script items blocks) _ word.Same (a ∷ b ∷ []) refl (omega arith, omega (arith, h.0), (omega arith, omega (arith, h.1), tt)) words refl)
+    leads_line (inside threads script items blocks) _ (codes "same") (a ∷ b ∷ [])
+    (record { some = omega arith; plain = refl; shown = refl; words = words })
+    (worded (inside threads script items blocks) _ word.Same (a ∷ b ∷ []) refl (
+      omega arith,
+      omega (arith, h.0),
+      (omega arith, omega (arith, h.1), tt),
+    ) words refl)
 operation_leads threads script items blocks (op.Copy a b) few h =
     let words : AreWords (a ∷ b ∷ []) = (omega (arith, h.0), (omega (arith, h.1), tt)) in
-    leads_line (inside threads script items blocks) _ (codes "copy") (a ∷ b ∷ []) (record { some = omega arith; plain = refl; shown = refl; words = words })
-    (worded (inside threads script items blocks) _ word.Copy (a ∷ b ∷ []) refl (omega arith, omega (arith, h.0), (omega arith, omega (arith, h.1), tt)) words refl)
+    leads_line (inside threads script items blocks) _ (codes "copy") (a ∷ b ∷ [])
+    (record { some = omega arith; plain = refl; shown = refl; words = words })
+    (worded (inside threads script items blocks) _ word.Copy (a ∷ b ∷ []) refl (
+      omega arith,
+      omega (arith, h.0),
+      (omega arith, omega (arith, h.1), tt),
+    ) words refl)
 operation_leads threads script items blocks (op.Drop r) few h =
     let words : AreWords (r ∷ []) = (omega (arith, h), tt) in
-    leads_line (inside threads script items blocks) _ (codes "drop") (r ∷ []) (record { some = omega arith; plain = refl; shown = refl; words = words })
-    (worded (inside threads script items blocks) _ word.Drop (r ∷ []) refl (omega arith, omega (arith, h), tt) words refl)
+    leads_line (inside threads script items blocks) _ (codes "drop") (r ∷ [])
+    (record { some = omega arith; plain = refl; shown = refl; words = words })
+    (worded (inside threads script items blocks) _ word.Drop (r ∷ []) refl (omega arith, omega (arith, h), tt) words
+    refl)
 operation_leads threads script items blocks op.Collect few h =
-    leads_line (inside threads script items blocks) _ (codes "collect") [] (record { some = omega arith; plain = refl; shown = refl; words = tt })
+    leads_line (inside threads script items blocks) _ (codes "collect") []
+    (record { some = omega arith; plain = refl; shown = refl; words = tt })
     (worded (inside threads script items blocks) _ word.Collect [] refl tt tt refl)
 
-repeat_leads : (threads : ℕ) (script : Script) (items : List Item) (blocks : List Bool) (n : ℕ) → 0 < n → n ≤ 1048576 → length blocks < 4 → Leads (inside threads script items blocks) (line (codes "repeat") (n ∷ [])) (inside threads script (items ++ item.Repeat n ∷ []) (false ∷ blocks))
+repeat_leads : (threads : ℕ) (script : Script) (items : List Item) (blocks : List Bool) (n : ℕ) → 0 < n → n ≤ 1048576
+    → length blocks < 4 → Leads (inside threads script items blocks) (line (codes "repeat") (n ∷ []))
+    (inside threads script (items ++ item.Repeat n ∷ []) (false ∷ blocks))
 repeat_leads threads script items blocks n some few shallow =
     let words : AreWords (n ∷ []) = (omega arith, tt) in
-    leads_line (inside threads script items blocks) _ (codes "repeat") (n ∷ []) (record { some = omega arith; plain = refl; shown = refl; words = words })
-    (worded (inside threads script items blocks) _ word.Repeat (n ∷ []) refl (omega arith, few, tt) words (rw (lt-ltb _ _ shallow) refl))
+    leads_line (inside threads script items blocks) _ (codes "repeat") (n ∷ [])
+    (record { some = omega arith; plain = refl; shown = refl; words = words })
+    (worded (inside threads script items blocks) _ word.Repeat (n ∷ []) refl (omega arith, few, tt) words
+    (rw (lt-ltb _ _ shallow) refl))
 
-end_leads : (threads : ℕ) (script : Script) (items : List Item) (blocks : List Bool) → Leads (inside threads script items (true ∷ blocks)) (line (codes "end") []) (inside threads script (items ++ item.End ∷ []) (with_operation blocks))
+end_leads : (threads : ℕ) (script : Script) (items : List Item) (blocks : List Bool)
+    → Leads (inside threads script items (true ∷ blocks)) (line (codes "end") [])
+    (inside threads script (items ++ item.End ∷ []) (with_operation blocks))
 end_leads threads script items blocks =
-    leads_line (inside threads script items (true ∷ blocks)) _ (codes "end") [] (record { some = omega arith; plain = refl; shown = refl; words = tt })
+    leads_line (inside threads script items (true ∷ blocks)) _ (codes "end") []
+    (record { some = omega arith; plain = refl; shown = refl; words = tt })
     (worded (inside threads script items (true ∷ blocks)) _ word.End [] refl tt tt refl)
 
 -- one item, and those behind it
-then_items : (threads : ℕ) (script : Script) (before : List Item) (i : Item) (items : List Item) (blocks next : List Bool) (x y : List ℕ) → Leads (inside threads script before blocks) x (inside threads script (before ++ i ∷ []) next) → Leads (inside threads script (before ++ i ∷ []) next) y (inside threads script ((before ++ i ∷ []) ++ items) []) → Leads (inside threads script before blocks) (x ++ y) (inside threads script (before ++ i ∷ items) [])
+then_items : (threads : ℕ) (script : Script) (before : List Item) (i : Item) (items : List Item)
+    (blocks next : List Bool) (x y : List ℕ)
+    → Leads (inside threads script before blocks) x (inside threads script (before ++ i ∷ []) next)
+    → Leads (inside threads script (before ++ i ∷ []) next) y (inside threads script ((before ++ i ∷ []) ++ items) [])
+    → Leads (inside threads script before blocks) (x ++ y) (inside threads script (before ++ i ∷ items) [])
 then_items threads script before i items blocks next x y f g =
-    subst (λ (all : List Item). Leads (inside threads script before blocks) (x ++ y) (inside threads script all [])) (append_assoc before (i ∷ []) items)
-    (leads_both (inside threads script before blocks) (inside threads script (before ++ i ∷ []) next) (inside threads script ((before ++ i ∷ []) ++ items) []) x y f g)
+    subst (λ (all : List Item). Leads (inside threads script before blocks) (x ++ y) (inside threads script all []))
+    (append_assoc before (i ∷ []) items)
+    (leads_both (inside threads script before blocks) (inside threads script (before ++ i ∷ []) next)
+    (inside threads script ((before ++ i ∷ []) ++ items) []) x y f g)
 
-items_lead : (threads : ℕ) (script : Script) (before items : List Item) (blocks : List Bool) → script.globals ≤ 64 → AreItems script.globals blocks items → Leads (inside threads script before blocks) (flat_map item_line items) (inside threads script (before ++ items) [])
+items_lead : (threads : ℕ) (script : Script) (before items : List Item) (blocks : List Bool) → script.globals ≤ 64
+    → AreItems script.globals blocks items
+    → Leads (inside threads script before blocks) (flat_map item_line items)
+    (inside threads script (before ++ items) [])
 items_lead threads script before [] blocks few h =
-    subst (λ (b : List Bool). Leads (inside threads script before b) [] (inside threads script (before ++ []) [])) (sym h)
-    (subst (λ (all : List Item). Leads (inside threads script before []) [] (inside threads script all [])) (sym (append-nil before)) (leads_none (inside threads script before [])))
+    subst (λ (b : List Bool). Leads (inside threads script before b) [] (inside threads script (before ++ []) []))
+    (sym h)
+    (subst (λ (all : List Item). Leads (inside threads script before []) [] (inside threads script all []))
+    (sym (append-nil before)) (leads_none (inside threads script before [])))
 items_lead threads script before (item.Op o ∷ items) blocks few h =
-    then_items threads script before (item.Op o) items blocks (with_operation blocks) (op_line o) (flat_map item_line items)
+    then_items threads script before (item.Op o) items blocks (with_operation blocks) (op_line o)
+    (flat_map item_line items)
     (operation_leads threads script before blocks o few h.0)
     (items_lead threads script (before ++ item.Op o ∷ []) items (with_operation blocks) few h.1)
 items_lead threads script before (item.Repeat n ∷ items) blocks few h =
-    then_items threads script before (item.Repeat n) items blocks (false ∷ blocks) (line (codes "repeat") (n ∷ [])) (flat_map item_line items)
+    then_items threads script before (item.Repeat n) items blocks (false ∷ blocks) (line (codes "repeat") (n ∷ []))
+    (flat_map item_line items)
     (repeat_leads threads script before blocks n h.0 h.1 h.2)
     (items_lead threads script (before ++ item.Repeat n ∷ []) items (false ∷ blocks) few h.3)
 items_lead threads script before (item.End ∷ items) [] few h = absurd h
 items_lead threads script before (item.End ∷ items) (false ∷ blocks) few h = absurd h
 items_lead threads script before (item.End ∷ items) (true ∷ blocks) few h =
-    then_items threads script before item.End items (true ∷ blocks) (with_operation blocks) (line (codes "end") []) (flat_map item_line items)
+    then_items threads script before item.End items (true ∷ blocks) (with_operation blocks) (line (codes "end") [])
+    (flat_map item_line items)
     (end_leads threads script before blocks)
     (items_lead threads script (before ++ item.End ∷ []) items (with_operation blocks) few h)
 
 -- ---- programs
 
 -- where a program may begin, a line is read by its first word
-standing_fields : (s : Stage) (threads : ℕ) (script : Script) (held : List Item) (blocks : List Bool) (first : List ℕ) (fields : List (List ℕ)) (next : Place) → fits s blocks word.Thread ≡ true → after_word (placed s threads script held blocks) (word_of first) fields ≡ Ok next → after_fields (placed s threads script held blocks) s (first ∷ fields) ≡ Ok next
+standing_fields : (s : Stage) (threads : ℕ) (script : Script) (held : List Item) (blocks : List Bool) (first : List ℕ)
+    (fields : List (List ℕ)) (next : Place) → fits s blocks word.Thread ≡ true
+    → after_word (placed s threads script held blocks) (word_of first) fields ≡ Ok next
+    → after_fields (placed s threads script held blocks) s (first ∷ fields) ≡ Ok next
 standing_fields stage.Version threads script held blocks first fields next stands e = absurd cc
 standing_fields stage.Threads threads script held blocks first fields next stands e = absurd cc
 standing_fields stage.Globals threads script held blocks first fields next stands e = absurd cc
@@ -173,24 +264,34 @@ standing_fields stage.Between threads script held blocks first fields next stand
 standing_fields stage.Over threads script held blocks first fields next stands e = absurd cc
 
 -- a program, and what is wanted behind it
-program_leads : (s after : Stage) (threads : ℕ) (script : Script) (items : List Item) (held : List Item) (blocks : List Bool) → fits s blocks word.Thread ≡ true → script.globals ≤ 64 → length script.programs < 8 → AreItems script.globals [] items → operation_count (script.programs ++ items ∷ []) ≤ 1048576 → cond (eqb (length (script.programs ++ items ∷ [])) threads) stage.Over stage.Between ≡ after → Leads (placed s threads script held blocks) (line (codes "thread") (length script.programs ∷ []) ++ flat_map item_line items ++ line (codes "done") []) (placed after threads (with_program script items) [] [])
+program_leads : (s after : Stage) (threads : ℕ) (script : Script) (items : List Item) (held : List Item)
+    (blocks : List Bool) → fits s blocks word.Thread ≡ true → script.globals ≤ 64 → length script.programs < 8
+    → AreItems script.globals [] items → operation_count (script.programs ++ items ∷ []) ≤ 1048576
+    → cond (eqb (length (script.programs ++ items ∷ [])) threads) stage.Over stage.Between ≡ after
+    → Leads (placed s threads script held blocks) (line (codes "thread") (length script.programs ∷ [])
+    ++ flat_map item_line items ++ line (codes "done") []) (placed after threads (with_program script items) [] [])
 program_leads s after threads script items held blocks stands few small h count is =
     let begun : Place = inside threads script [] [] in
     let whole : Place = inside threads script items [] in
     let next : Place = placed after threads (with_program script items) [] [] in
     let t = length script.programs in
     let first : Leads (placed s threads script held blocks) (line (codes "thread") (t ∷ [])) begun =
-    leads_line (placed s threads script held blocks) begun (codes "thread") (t ∷ []) (record { some = omega arith; plain = refl; shown = refl; words = (omega arith, tt) })
+    leads_line (placed s threads script held blocks) begun (codes "thread") (t ∷ [])
+    (record { some = omega arith; plain = refl; shown = refl; words = (omega arith, tt) })
     (standing_fields s threads script held blocks (codes "thread") (map decimal (t ∷ [])) begun stands
-    (worded (placed s threads script held blocks) begun word.Thread (t ∷ []) stands (omega arith, omega arith, tt) (omega arith, tt) refl))
+    (worded (placed s threads script held blocks) begun word.Thread (t ∷ []) stands (omega arith, omega arith, tt)
+    (omega arith, tt) refl))
     in
     let last : Leads whole (line (codes "done") []) next =
     leads_line whole next (codes "done") [] (record { some = omega arith; plain = refl; shown = refl; words = tt })
     (worded whole next word.Done [] refl tt tt
-    (rw (le-leb (operation_count (script.programs ++ items ∷ [])) 1048576 count) (ap (λ (k : Stage). Ok (placed k threads (with_program script items) [] [])) is)))
+    (rw (le-leb (operation_count (script.programs ++ items ∷ [])) 1048576 count)
+    (ap (λ (k : Stage). Ok (placed k threads (with_program script items) [] [])) is)))
     in
-    leads_both (placed s threads script held blocks) whole next (line (codes "thread") (t ∷ []) ++ flat_map item_line items) (line (codes "done") [])
-    (leads_both (placed s threads script held blocks) begun whole (line (codes "thread") (t ∷ [])) (flat_map item_line items) first (items_lead threads script [] items [] few h))
+    leads_both (placed s threads script held blocks) whole next
+    (line (codes "thread") (t ∷ []) ++ flat_map item_line items) (line (codes "done") [])
+    (leads_both (placed s threads script held blocks) begun whole (line (codes "thread") (t ∷ []))
+    (flat_map item_line items) first (items_lead threads script [] items [] few h))
     last
 
 abbrev scripted : ℕ → List (ℕ × ℕ) → List (List Item) → Script
@@ -199,33 +300,50 @@ scripted globals orders programs = record { globals = globals; orders = orders; 
 count-front : (xs ys : List (List Item)) → operation_count xs ≤ operation_count (xs ++ ys)
 count-front xs ys = omega (arith, sum_by-append (λ (items : List Item). length (expand items)) xs ys)
 
-programs_lead : (after : List (List Item)) (program : List Item) (before : List (List Item)) (s : Stage) (held : List Item) (blocks : List Bool) (threads globals : ℕ) (orders : List (ℕ × ℕ)) → fits s blocks word.Thread ≡ true → globals ≤ 64 → threads ≤ 8 → threads ≡ length before + length (program ∷ after) → AllByRecursion (AreItems globals []) (program ∷ after) → operation_count (before ++ program ∷ after) ≤ 1048576 → Leads (placed s threads (scripted globals orders before) held blocks) (program_lines (length before) (program ∷ after)) (placed stage.Over threads (scripted globals orders (before ++ program ∷ after)) [] [])
+programs_lead : (after : List (List Item)) (program : List Item) (before : List (List Item)) (s : Stage)
+    (held : List Item) (blocks : List Bool) (threads globals : ℕ) (orders : List (ℕ × ℕ))
+    → fits s blocks word.Thread ≡ true → globals ≤ 64 → threads ≤ 8 → threads ≡ length before + length (program ∷ after)
+    → AllByRecursion (AreItems globals []) (program ∷ after) → operation_count (before ++ program ∷ after) ≤ 1048576
+    → Leads (placed s threads (scripted globals orders before) held blocks)
+    (program_lines (length before) (program ∷ after)) (placed stage.Over threads
+    (scripted globals orders (before ++ program ∷ after)) [] [])
 programs_lead [] program before s held blocks threads globals orders stands few most count all total =
     let from : Place = placed s threads (scripted globals orders before) held blocks in
     let to : Place = placed stage.Over threads (scripted globals orders (before ++ program ∷ [])) [] [] in
-    let text : List ℕ = line (codes "thread") (length before ∷ []) ++ flat_map item_line program ++ line (codes "done") [] in
+    let text : List ℕ = line (codes "thread") (length before ∷ []) ++ flat_map item_line program
+    ++ line (codes "done") [] in
     let whole : length (before ++ program ∷ []) ≡ threads = omega (arith, length_push before program) in
     leads_both from to to text []
-    (program_leads s stage.Over threads (scripted globals orders before) program held blocks stands few (omega arith) all.0 total (ap (λ (t : Bool). cond t stage.Over stage.Between) (eq-eqb _ _ whole)))
+    (program_leads s stage.Over threads (scripted globals orders before) program held blocks stands few (omega arith)
+    all.0 total (ap (λ (t : Bool). cond t stage.Over stage.Between) (eq-eqb _ _ whole)))
     (leads_none to)
 programs_lead (next ∷ after) program before s held blocks threads globals orders stands few most count all total =
     let from : Place = placed s threads (scripted globals orders before) held blocks in
     let more : List (List Item) = before ++ program ∷ [] in
     let middle : Place = placed stage.Between threads (scripted globals orders more) [] [] in
-    let text : List ℕ = line (codes "thread") (length before ∷ []) ++ flat_map item_line program ++ line (codes "done") [] in
+    let text : List ℕ = line (codes "thread") (length before ∷ []) ++ flat_map item_line program
+    ++ line (codes "done") [] in
     let longer : length more ≡ length before + 1 = length_push before program in
-    let joined : more ++ next ∷ after ≡ before ++ program ∷ next ∷ after = append_assoc before (program ∷ []) (next ∷ after) in
+    let joined : more ++ next ∷ after ≡ before ++ program ∷ next ∷ after =
+    append_assoc before (program ∷ []) (next ∷ after) in
     let left : length more ≡ threads → ⊥ = λ e. omega arith in
-    let part : operation_count more ≤ 1048576 = omega (arith, count-front more (next ∷ after), ap operation_count joined) in
+    let part : operation_count more ≤ 1048576 =
+    omega (arith, count-front more (next ∷ after), ap operation_count joined) in
     let first : Leads from text middle =
-    program_leads s stage.Between threads (scripted globals orders before) program held blocks stands few (omega arith) all.0 part (ap (λ (t : Bool). cond t stage.Over stage.Between) (ne_eqb _ _ left))
+    program_leads s stage.Between threads (scripted globals orders before) program held blocks stands few (omega arith)
+    all.0 part (ap (λ (t : Bool). cond t stage.Over stage.Between) (ne_eqb _ _ left))
     in
-    let rest = programs_lead after next more stage.Between [] [] threads globals orders refl few most (omega arith) all.1 (omega (arith, ap operation_count joined)) in
-    let others : Leads middle (program_lines (length before + 1) (next ∷ after)) (placed stage.Over threads (scripted globals orders (before ++ program ∷ next ∷ after)) [] []) =
-    subst (λ (programs : List (List Item)). Leads middle (program_lines (length before + 1) (next ∷ after)) (placed stage.Over threads (scripted globals orders programs) [] [])) joined
-    (subst (λ (t : ℕ). Leads middle (program_lines t (next ∷ after)) (placed stage.Over threads (scripted globals orders (more ++ next ∷ after)) [] [])) longer rest)
+    let rest = programs_lead after next more stage.Between [] [] threads globals orders refl few most (omega arith)
+    all.1 (omega (arith, ap operation_count joined)) in
+    let others : Leads middle (program_lines (length before + 1) (next ∷ after))
+    (placed stage.Over threads (scripted globals orders (before ++ program ∷ next ∷ after)) [] []) =
+    subst (λ (programs : List (List Item)). Leads middle (program_lines (length before + 1) (next ∷ after))
+    (placed stage.Over threads (scripted globals orders programs) [] [])) joined
+    (subst (λ (t : ℕ). Leads middle (program_lines t (next ∷ after))
+    (placed stage.Over threads (scripted globals orders (more ++ next ∷ after)) [] [])) longer rest)
     in
-    leads_both from middle (placed stage.Over threads (scripted globals orders (before ++ program ∷ next ∷ after)) [] []) text (program_lines (length before + 1) (next ∷ after)) first others
+    leads_both from middle (placed stage.Over threads (scripted globals orders (before ++ program ∷ next ∷ after)) []
+    []) text (program_lines (length before + 1) (next ∷ after)) first others
 
 -- ---- orders
 
@@ -235,66 +353,100 @@ ordering threads globals orders = placed stage.Orders threads (scripted globals 
 abbrev order_line : ℕ × ℕ → List ℕ
 order_line order = line (codes "order") (order.0 ∷ order.1 ∷ [])
 
-order_leads : (threads globals : ℕ) (orders : List (ℕ × ℕ)) (order : ℕ × ℕ) → IsOrder threads order → threads ≤ 8 → length orders < 65536 → Leads (ordering threads globals orders) (order_line order) (ordering threads globals (orders ++ order ∷ []))
+order_leads : (threads globals : ℕ) (orders : List (ℕ × ℕ)) (order : ℕ × ℕ) → IsOrder threads order → threads ≤ 8
+    → length orders < 65536 → Leads (ordering threads globals orders) (order_line order)
+    (ordering threads globals (orders ++ order ∷ []))
 order_leads threads globals orders order h most few =
     let place : Place = ordering threads globals orders in
     let words : AreWords (order.0 ∷ order.1 ∷ []) = (omega (arith, h.thread), (omega (arith, h.few), tt)) in
-    leads_line place (ordering threads globals (orders ++ order ∷ [])) (codes "order") (order.0 ∷ order.1 ∷ []) (record { some = omega arith; plain = refl; shown = refl; words = words })
-    (worded place (ordering threads globals (orders ++ order ∷ [])) word.Order (order.0 ∷ order.1 ∷ []) refl (omega arith, omega (arith, h.thread), (omega (arith, h.some), h.few, tt)) words (rw (lt-ltb _ _ few) refl))
+    leads_line place (ordering threads globals (orders ++ order ∷ [])) (codes "order") (order.0 ∷ order.1 ∷ [])
+    (record { some = omega arith; plain = refl; shown = refl; words = words })
+    (worded place (ordering threads globals (orders ++ order ∷ [])) word.Order (order.0 ∷ order.1 ∷ []) refl
+    (omega arith, omega (arith, h.thread), (omega (arith, h.some), h.few, tt)) words (rw (lt-ltb _ _ few) refl))
 
-orders_lead : (threads globals : ℕ) (before after : List (ℕ × ℕ)) → AllByRecursion (IsOrder threads) after → threads ≤ 8 → length before + length after ≤ 65536 → Leads (ordering threads globals before) (flat_map order_line after) (ordering threads globals (before ++ after))
+orders_lead : (threads globals : ℕ) (before after : List (ℕ × ℕ)) → AllByRecursion (IsOrder threads) after → threads ≤ 8
+    → length before + length after ≤ 65536
+    → Leads (ordering threads globals before) (flat_map order_line after) (ordering threads globals (before ++ after))
 orders_lead threads globals before [] h most few =
-    subst (λ (orders : List (ℕ × ℕ)). Leads (ordering threads globals before) [] (ordering threads globals orders)) (sym (append-nil before)) (leads_none (ordering threads globals before))
+    subst (λ (orders : List (ℕ × ℕ)). Leads (ordering threads globals before) [] (ordering threads globals orders))
+    (sym (append-nil before)) (leads_none (ordering threads globals before))
 orders_lead threads globals before (order ∷ after) h most few =
     let first = order_leads threads globals before order h.0 most (omega arith) in
-    let rest = orders_lead threads globals (before ++ order ∷ []) after h.1 most (omega (arith, length_push before order)) in
-    subst (λ (orders : List (ℕ × ℕ)). Leads (ordering threads globals before) (order_line order ++ flat_map order_line after) (ordering threads globals orders)) (append_assoc before (order ∷ []) after)
-    (leads_both (ordering threads globals before) (ordering threads globals (before ++ order ∷ [])) (ordering threads globals ((before ++ order ∷ []) ++ after)) (order_line order) (flat_map order_line after) first rest)
+    let rest = orders_lead threads globals (before ++ order ∷ []) after h.1 most
+    (omega (arith, length_push before order)) in
+    subst (λ (orders : List (ℕ × ℕ)). Leads (ordering threads globals before)
+    (order_line order ++ flat_map order_line after) (ordering threads globals orders))
+    (append_assoc before (order ∷ []) after)
+    (leads_both (ordering threads globals before) (ordering threads globals (before ++ order ∷ []))
+    (ordering threads globals ((before ++ order ∷ []) ++ after)) (order_line order) (flat_map order_line after)
+    first rest)
 
 -- ---- the first three lines
 
-heading_again : (text : List ℕ) (low high reason n : ℕ) → bytes_eq text text ≡ true → low ≤ n → n ≤ high → n < 2 ^ 64 → heading text low high reason (text ∷ decimal n ∷ []) ≡ Ok n
+heading_again : (text : List ℕ) (low high reason n : ℕ) → bytes_eq text text ≡ true → low ≤ n → n ≤ high → n < 2 ^ 64
+    → heading text low high reason (text ∷ decimal n ∷ []) ≡ Ok n
 heading_again text low high reason n same least most lt =
     ap (λ (t : Bool). cond t (in_heading low high reason (number_of (decimal n))) (Err reason)) same
     ∙ ap (in_heading low high reason) (number_again n lt)
     ∙ rw (le-leb _ _ least, le-leb _ _ most) refl
 
-opening_leads : (threads globals : ℕ) → 0 < threads → threads ≤ 8 → globals ≤ 64 → Leads start (line (codes "melt") (1 ∷ []) ++ line (codes "threads") (threads ∷ []) ++ line (codes "globals") (globals ∷ [])) (ordering threads globals [])
+opening_leads : (threads globals : ℕ) → 0 < threads → threads ≤ 8 → globals ≤ 64
+    → Leads start (line (codes "melt") (1 ∷ []) ++ line (codes "threads") (threads ∷ [])
+    ++ line (codes "globals") (globals ∷ [])) (ordering threads globals [])
 opening_leads threads globals some most few =
     let empty : Script = scripted 0 [] [] in
     let second : Place = placed stage.Threads 0 empty [] [] in
     let third : Place = placed stage.Globals threads empty [] [] in
     let last : Place = ordering threads globals [] in
     let f : Leads start (line (codes "melt") (1 ∷ [])) second =
-    leads_line start second (codes "melt") (1 ∷ []) (record { some = omega arith; plain = refl; shown = refl; words = (omega arith, tt) })
-    (ap (λ (r : Result ℕ ℕ). and_then r (λ n. Ok second)) (heading_again (codes "melt") 1 1 3 1 refl (omega arith) (omega arith) (omega arith)))
+    leads_line start second (codes "melt") (1 ∷ []) (record {
+      some = omega arith;
+      plain = refl;
+      shown = refl;
+      words = (omega arith, tt);
+    })
+    (ap (λ (r : Result ℕ ℕ). and_then r (λ n. Ok second))
+    (heading_again (codes "melt") 1 1 3 1 refl (omega arith) (omega arith) (omega arith)))
     in
     let g : Leads second (line (codes "threads") (threads ∷ [])) third =
-    leads_line second third (codes "threads") (threads ∷ []) (record { some = omega arith; plain = refl; shown = refl; words = (omega arith, tt) })
-    (ap (λ (r : Result ℕ ℕ). and_then r (λ n. Ok (placed stage.Globals n empty [] []))) (heading_again (codes "threads") 1 8 4 threads refl (omega arith) most (omega arith)))
+    leads_line second third (codes "threads") (threads ∷ [])
+    (record { some = omega arith; plain = refl; shown = refl; words = (omega arith, tt) })
+    (ap (λ (r : Result ℕ ℕ). and_then r (λ n. Ok (placed stage.Globals n empty [] [])))
+    (heading_again (codes "threads") 1 8 4 threads refl (omega arith) most (omega arith)))
     in
     let h : Leads third (line (codes "globals") (globals ∷ [])) last =
-    leads_line third last (codes "globals") (globals ∷ []) (record { some = omega arith; plain = refl; shown = refl; words = (omega arith, tt) })
-    (ap (λ (r : Result ℕ ℕ). and_then r (λ n. Ok (ordering threads n []))) (heading_again (codes "globals") 0 64 5 globals refl (omega arith) few (omega arith)))
+    leads_line third last (codes "globals") (globals ∷ [])
+    (record { some = omega arith; plain = refl; shown = refl; words = (omega arith, tt) })
+    (ap (λ (r : Result ℕ ℕ). and_then r (λ n. Ok (ordering threads n [])))
+    (heading_again (codes "globals") 0 64 5 globals refl (omega arith) few (omega arith)))
     in
-    leads_both start third last (line (codes "melt") (1 ∷ []) ++ line (codes "threads") (threads ∷ [])) (line (codes "globals") (globals ∷ []))
+    leads_both start third last (line (codes "melt") (1 ∷ []) ++ line (codes "threads") (threads ∷ []))
+    (line (codes "globals") (globals ∷ []))
     (leads_both start second third (line (codes "melt") (1 ∷ [])) (line (codes "threads") (threads ∷ [])) f g) h
 
 -- ---- a whole script
 
-script_leads : (globals : ℕ) (orders : List (ℕ × ℕ)) (programs : List (List Item)) → IsScript (scripted globals orders programs) → Leads start (canonical (scripted globals orders programs)) (placed stage.Over (length programs) (scripted globals orders programs) [] [])
+script_leads : (globals : ℕ) (orders : List (ℕ × ℕ)) (programs : List (List Item))
+    → IsScript (scripted globals orders programs)
+    → Leads start (canonical (scripted globals orders programs))
+    (placed stage.Over (length programs) (scripted globals orders programs) [] [])
 script_leads globals orders [] h = let some : 0 < 0 = h.some in absurd (omega arith)
 script_leads globals orders (program ∷ programs) h =
     let threads : ℕ = length (program ∷ programs) in
     let over : Place = placed stage.Over threads (scripted globals orders (program ∷ programs)) [] [] in
-    let opening : List ℕ = line (codes "melt") (1 ∷ []) ++ line (codes "threads") (threads ∷ []) ++ line (codes "globals") (globals ∷ []) in
+    let opening : List ℕ = line (codes "melt") (1 ∷ []) ++ line (codes "threads") (threads ∷ [])
+    ++ line (codes "globals") (globals ∷ []) in
     let ordered = orders_lead threads globals [] orders h.orders h.few (omega (arith, h.few_orders)) in
-    let lines = programs_lead programs program [] stage.Orders [] [] threads globals orders refl h.globals h.few (omega arith) h.programs h.count in
-    leads_both start (ordering threads globals orders) over (opening ++ flat_map order_line orders) (program_lines 0 (program ∷ programs))
-    (leads_both start (ordering threads globals []) (ordering threads globals orders) opening (flat_map order_line orders) (opening_leads threads globals h.some h.few h.globals) ordered)
+    let lines = programs_lead programs program [] stage.Orders [] [] threads globals orders refl h.globals h.few
+    (omega arith) h.programs h.count in
+    leads_both start (ordering threads globals orders) over (opening ++ flat_map order_line orders)
+    (program_lines 0 (program ∷ programs))
+    (leads_both start (ordering threads globals []) (ordering threads globals orders) opening
+    (flat_map order_line orders) (opening_leads threads globals h.some h.few h.globals) ordered)
     lines
 
-pub canonical_is_read : (script : Script) → IsScript script → length (canonical script) ≤ max_bytes → script_of (canonical script) ≡ Ok script
+pub canonical_is_read : (script : Script) → IsScript script → length (canonical script) ≤ max_bytes
+    → script_of (canonical script) ≡ Ok script
 canonical_is_read script h short =
     let whole = script_leads script.globals script.orders script.programs h 1 [] in
     ap (λ (t : Bool). cond t (script_from 1 start (lines_of (canonical script))) (Err (0, 1))) (le-leb _ _ short)

@@ -1,5 +1,6 @@
 -- How many operations a program has, counted line by line.
-use Rattle.std.proofs.Common.{◌≡◌, ℕ, zero, suc, ◌+◌, ◌*◌, ◌^◌, ◌<◌, ◌≤◌, Bool, List, [], ◌∷◌, ◌++◌, length, map, refl, sym, ap, subst, ◌∙◌, append_assoc, length-append, mul-le-mul_left, arith, inl, inr}
+use Rattle.std.proofs.Common.{◌≡◌, ℕ, zero, suc, ◌+◌, ◌*◌, ◌^◌, ◌<◌, ◌≤◌, Bool, List, [], ◌∷◌, ◌++◌, length, map, refl}
+use Rattle.std.proofs.Common.{sym, ap, subst, ◌∙◌, append_assoc, length-append, mul-le-mul_left, arith, inl, inr}
 use Rattle.std.specs.Prelude.{unwrap_or, slice_get}
 use Rattle.std.proofs.lemmas.List.{append-nil}
 use Rattle.std.proofs.lemmas.Bool.{cases_lt, lt-ltb}
@@ -9,7 +10,8 @@ use Rattle.melt_trace.specs.declared.script.Item.TheVariants as item
 use Rattle.melt_trace.specs.declared.parser.draft.Block.{Block}
 use Rattle.melt_trace.specs.Script.{times, before_first, unrolled, levels, expand}
 use Rattle.melt_trace.specs.Language.{with_operation}
-use Rattle.melt_trace.specs.Drafts.{blocks_of, lengths_of, add_first, copies, closing, Counts, capped, AreCapped, IsTallied}
+use Rattle.melt_trace.specs.Drafts.{blocks_of, lengths_of, add_first, copies, closing, Counts, capped, AreCapped}
+use Rattle.melt_trace.specs.Drafts.{IsTallied}
 
 -- ---- the lengths of levels
 
@@ -28,10 +30,12 @@ lengths_unrolled n (block ∷ rest ∷ around) =
     ap (λ (k : ℕ). k ∷ map length around) (omega (arith, length-append (times n block) rest, length-times n block))
 
 -- a program has at least its own level
-some_before : (o : Op) (ls : List (List Op)) (l : List Op) (around : List (List Op)) → ls ≡ l ∷ around → before_first o ls ≡ (o ∷ l) ∷ around
+some_before : (o : Op) (ls : List (List Op)) (l : List Op) (around : List (List Op)) → ls ≡ l ∷ around
+    → before_first o ls ≡ (o ∷ l) ∷ around
 some_before o ls l around e = ap (before_first o) e
 
-some_unrolled : (n : ℕ) (l : List Op) (around : List (List Op)) → (k : List Op) × (others : List (List Op)) × (unrolled n (l ∷ around) ≡ k ∷ others)
+some_unrolled : (n : ℕ) (l : List Op) (around : List (List Op))
+    → (k : List Op) × (others : List (List Op)) × (unrolled n (l ∷ around) ≡ k ∷ others)
 some_unrolled n l [] = (l, [], refl)
 some_unrolled n l (rest ∷ around) = (times n l ++ rest, around, refl)
 
@@ -56,37 +60,44 @@ add_both : (m n : ℕ) (ls : List ℕ) → add_first m (add_first n ls) ≡ add_
 add_both m n [] = refl
 add_both m n (l ∷ ls) = ap (λ (k : ℕ). k ∷ ls) (omega arith)
 
-closing_more : (count n : ℕ) (around : List (ℕ × ℕ)) (ls : List ℕ) → closing count around (add_first n ls) ≡ closing (count + n) around ls
+closing_more : (count n : ℕ) (around : List (ℕ × ℕ)) (ls : List ℕ)
+    → closing count around (add_first n ls) ≡ closing (count + n) around ls
 closing_more count n [] ls = add_both count n ls
-closing_more count n (block ∷ around) ls = ap (λ (k : List ℕ). closing block.1 around (copies block.0 k)) (add_both count n ls)
+closing_more count n (block ∷ around) ls =
+    ap (λ (k : List ℕ). closing block.1 around (copies block.0 k)) (add_both count n ls)
 
 -- one line more
-with_line : (items : List Item) (i : Item) (count : ℕ) (around : List (ℕ × ℕ)) → Counts items count around → (rest : List Item) → lengths_of ((items ++ i ∷ []) ++ rest) ≡ closing count around (lengths_of (i ∷ rest))
+with_line : (items : List Item) (i : Item) (count : ℕ) (around : List (ℕ × ℕ)) → Counts items count around
+    → (rest : List Item) → lengths_of ((items ++ i ∷ []) ++ rest) ≡ closing count around (lengths_of (i ∷ rest))
 with_line items i count around h rest = ap lengths_of (append_assoc items (i ∷ []) rest) ∙ h (i ∷ rest)
 
 counts_none : Counts [] 0 []
 counts_none rest = add_none (lengths_of rest)
 
-counts_operation : (items : List Item) (o : Op) (count : ℕ) (around : List (ℕ × ℕ)) → Counts items count around → Counts (items ++ item.Op o ∷ []) (count + 1) around
+counts_operation : (items : List Item) (o : Op) (count : ℕ) (around : List (ℕ × ℕ)) → Counts items count around
+    → Counts (items ++ item.Op o ∷ []) (count + 1) around
 counts_operation items o count around h rest =
     with_line items (item.Op o) count around h rest
     ∙ ap (closing count around) (lengths_before o (levels rest))
     ∙ closing_more count 1 around (lengths_of rest)
 
-counts_repeat : (items : List Item) (n count : ℕ) (around : List (ℕ × ℕ)) → Counts items count around → Counts (items ++ item.Repeat n ∷ []) 0 ((n, count) ∷ around)
+counts_repeat : (items : List Item) (n count : ℕ) (around : List (ℕ × ℕ)) → Counts items count around
+    → Counts (items ++ item.Repeat n ∷ []) 0 ((n, count) ∷ around)
 counts_repeat items n count around h rest =
     with_line items (item.Repeat n) count around h rest
     ∙ ap (closing count around) (lengths_unrolled n (levels rest))
     ∙ ap (λ (ls : List ℕ). closing count around (copies n ls)) (add_none (lengths_of rest))
 
-block_ends : (n count : ℕ) (ls : List (List Op)) (l : List Op) (around : List (List Op)) → ls ≡ l ∷ around → copies n (add_first count (0 ∷ map length ls)) ≡ add_first (n * count) (map length ls)
+block_ends : (n count : ℕ) (ls : List (List Op)) (l : List Op) (around : List (List Op)) → ls ≡ l ∷ around
+    → copies n (add_first count (0 ∷ map length ls)) ≡ add_first (n * count) (map length ls)
 block_ends n count ls l around e =
     let zero : count + 0 ≡ count = omega arith in
     ap (λ (k : List (List Op)). copies n (add_first count (0 ∷ map length k))) e
     ∙ ap (λ (k : ℕ). (n * k + length l) ∷ map length around) zero
     ∙ ap (λ (k : List (List Op)). add_first (n * count) (map length k)) (sym e)
 
-counts_end : (items : List Item) (n count outer : ℕ) (around : List (ℕ × ℕ)) → Counts items count ((n, outer) ∷ around) → Counts (items ++ item.End ∷ []) (outer + n * count) around
+counts_end : (items : List Item) (n count outer : ℕ) (around : List (ℕ × ℕ)) → Counts items count ((n, outer) ∷ around)
+    → Counts (items ++ item.End ∷ []) (outer + n * count) around
 counts_end items n count outer around h rest =
     let level = some_level rest in
     with_line items item.End count ((n, outer) ∷ around) h rest
@@ -104,7 +115,8 @@ counts_done items count h =
 
 -- ---- counts that stay at their highest
 
-capped_more : (outer n count : ℕ) → 0 < n → capped (capped outer + capped (n * capped count)) ≡ capped (outer + n * count)
+capped_more : (outer n count : ℕ) → 0 < n → capped (capped outer + capped (n * capped count))
+    ≡ capped (outer + n * count)
 capped_more outer n count some =
     elim (cases_lt count (2 ^ 32)) [
       | inl lt ↦
@@ -120,7 +132,8 @@ capped_more outer n count some =
 pub tallied_none : IsTallied [] 0 []
 tallied_none = record { exact = 0; around = []; counts = counts_none; capped_count = refl; capped_blocks = tt }
 
-pub tallied_operation : (items : List Item) (o : Op) (count : ℕ) (blocks : List Block) → IsTallied items count blocks → IsTallied (items ++ item.Op o ∷ []) (capped (count + 1)) blocks
+pub tallied_operation : (items : List Item) (o : Op) (count : ℕ) (blocks : List Block) → IsTallied items count blocks
+    → IsTallied (items ++ item.Op o ∷ []) (capped (count + 1)) blocks
 tallied_operation items o count blocks h = record {
   exact = h.exact + 1;
   around = h.around;
@@ -129,7 +142,8 @@ tallied_operation items o count blocks h = record {
   capped_blocks = h.capped_blocks;
 }
 
-pub tallied_repeat : (items : List Item) (n count : ℕ) (blocks : List Block) → 0 < n → IsTallied items count blocks → IsTallied (items ++ item.Repeat n ∷ []) 0 (record { times = n; before = count } ∷ blocks)
+pub tallied_repeat : (items : List Item) (n count : ℕ) (blocks : List Block) → 0 < n → IsTallied items count blocks
+    → IsTallied (items ++ item.Repeat n ∷ []) 0 (record { times = n; before = count } ∷ blocks)
 tallied_repeat items n count blocks some h = record {
   exact = 0;
   around = (n, h.exact) ∷ h.around;
@@ -139,7 +153,10 @@ tallied_repeat items n count blocks some h = record {
 }
 
 -- what is known where a block is open
-end_of : (items : List Item) (exact count : ℕ) (around : List (ℕ × ℕ)) (block : Block) (blocks : List Block) → Counts items exact around → count ≡ capped exact → AreCapped around (block ∷ blocks) → (0 < block.times) × IsTallied (items ++ item.End ∷ []) (capped (block.before + capped (block.times * count))) blocks
+end_of : (items : List Item) (exact count : ℕ) (around : List (ℕ × ℕ)) (block : Block) (blocks : List Block)
+    → Counts items exact around → count ≡ capped exact → AreCapped around (block ∷ blocks)
+    → (0 < block.times) × IsTallied (items ++ item.End ∷ []) (capped (block.before + capped (block.times * count)))
+    blocks
 end_of items exact count [] block blocks counts is h = absurd h
 end_of items exact count (outer ∷ around) block blocks counts is h =
     let times : block.times ≡ outer.0 = h.0 in
@@ -149,19 +166,28 @@ end_of items exact count (outer ∷ around) block blocks counts is h =
       record {
         exact = outer.1 + block.times * exact;
         around = around;
-        counts = counts_end items block.times exact outer.1 around (subst (λ (n : ℕ). Counts items exact ((n, outer.1) ∷ around)) (sym times) counts);
-        capped_count = ap (λ (k : ℕ). capped (k + capped (block.times * count))) before ∙ ap (λ (k : ℕ). capped (capped outer.1 + capped (block.times * k))) is ∙ capped_more outer.1 block.times exact some;
+        counts = counts_end items block.times exact outer.1 around
+            (subst (λ (n : ℕ). Counts items exact ((n, outer.1) ∷ around)) (sym times) counts);
+        capped_count = ap (λ (k : ℕ). capped (k + capped (block.times * count))) before
+            ∙ ap (λ (k : ℕ). capped (capped outer.1 + capped (block.times * k))) is
+            ∙ capped_more outer.1 block.times exact some;
         capped_blocks = h.3;
       },
     )
 
-pub tallied_end : (items : List Item) (count : ℕ) (block : Block) (blocks : List Block) → IsTallied items count (block ∷ blocks) → IsTallied (items ++ item.End ∷ []) (capped (block.before + capped (block.times * count))) blocks
-tallied_end items count block blocks h = (end_of items h.exact count h.around block blocks h.counts h.capped_count h.capped_blocks).1
+pub tallied_end : (items : List Item) (count : ℕ) (block : Block) (blocks : List Block)
+    → IsTallied items count (block ∷ blocks)
+    → IsTallied (items ++ item.End ∷ []) (capped (block.before + capped (block.times * count))) blocks
+tallied_end items count block blocks h =
+    (end_of items h.exact count h.around block blocks h.counts h.capped_count h.capped_blocks).1
 
-pub some_times : (items : List Item) (count : ℕ) (block : Block) (blocks : List Block) → IsTallied items count (block ∷ blocks) → 0 < block.times
-some_times items count block blocks h = (end_of items h.exact count h.around block blocks h.counts h.capped_count h.capped_blocks).0
+pub some_times : (items : List Item) (count : ℕ) (block : Block) (blocks : List Block)
+    → IsTallied items count (block ∷ blocks) → 0 < block.times
+some_times items count block blocks h =
+    (end_of items h.exact count h.around block blocks h.counts h.capped_count h.capped_blocks).0
 
-done_of : (items : List Item) (exact : ℕ) (around : List (ℕ × ℕ)) → Counts items exact around → AreCapped around [] → length (expand items) ≡ exact
+done_of : (items : List Item) (exact : ℕ) (around : List (ℕ × ℕ)) → Counts items exact around → AreCapped around []
+    → length (expand items) ≡ exact
 done_of items exact [] counts h = counts_done items exact counts
 done_of items exact (outer ∷ around) counts h = absurd h
 
@@ -170,9 +196,11 @@ tallied_done items count h = omega (arith, h.capped_count, done_of items h.exact
 
 -- ---- which blocks have an operation
 
-pub blocks_with_operation : (count more : ℕ) (blocks : List Block) → 0 < more → with_operation (blocks_of count blocks) ≡ blocks_of more blocks
+pub blocks_with_operation : (count more : ℕ) (blocks : List Block) → 0 < more
+    → with_operation (blocks_of count blocks) ≡ blocks_of more blocks
 blocks_with_operation count more [] some = refl
-blocks_with_operation count more (block ∷ blocks) some = ap (λ (b : Bool). b ∷ blocks_of block.before blocks) (sym (lt-ltb 0 more some))
+blocks_with_operation count more (block ∷ blocks) some =
+    ap (λ (b : Bool). b ∷ blocks_of block.before blocks) (sym (lt-ltb 0 more some))
 
 pub some_more : (before n count : ℕ) → 0 < n → 0 < count → 0 < capped (before + capped (n * count))
 some_more before n count some more =

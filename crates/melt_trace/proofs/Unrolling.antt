@@ -1,5 +1,6 @@
 -- Each step of a cursor keeps what is left, but for the operation that it gives.
-use Rattle.std.proofs.Common.{◌≡◌, ℕ, zero, suc, ◌+◌, ◌-◌, ◌<◌, ◌≤◌, Bool, true, false, cond, List, [], ◌∷◌, ◌++◌, length, drop, get_or, Option, None, Some, refl, sym, ap, subst, ◌∙◌, arith, ltb}
+use Rattle.std.proofs.Common.{◌≡◌, ℕ, zero, suc, ◌+◌, ◌-◌, ◌<◌, ◌≤◌, Bool, true, false, cond, List, [], ◌∷◌, ◌++◌}
+use Rattle.std.proofs.Common.{length, drop, get_or, Option, None, Some, refl, sym, ap, subst, ◌∙◌, arith, ltb}
 use Rattle.std.specs.Prelude.{unwrap_or, slice_get}
 use Rattle.std.proofs.lemmas.Option.{slice_get_within, slice_get_read, slice_get_past}
 use borrow.Author.Tests.{ltb-true, ltb-false}
@@ -10,7 +11,8 @@ use Rattle.melt_trace.specs.declared.blocks.Block.{Block}
 use Rattle.melt_trace.specs.Script.{times, before_first, unrolled, levels, expand}
 use Rattle.melt_trace.specs.Grammar.{InRange}
 use Rattle.melt_trace.specs.Language.{with_operation, AreItems}
-use Rattle.melt_trace.specs.Cursor.{Ahead, ended, left_of, left_at, begins_block, is_entered, AreOpen, IsFresh, IsUnderway}
+use Rattle.melt_trace.specs.Cursor.{Ahead, ended, left_of, left_at, begins_block, is_entered, AreOpen, IsFresh}
+use Rattle.melt_trace.specs.Cursor.{IsUnderway}
 
 -- ---- places of a list
 
@@ -37,10 +39,16 @@ length-unrolled n k (block ∷ []) e = absurd (omega (arith, e))
 length-unrolled n k (block ∷ rest ∷ around) e = omega (arith, e)
 
 -- there is a level for each open block, and one for the program itself
-length-levels : (globals : ℕ) (marks : List Bool) (items : List Item) → AreItems globals marks items → length (levels items) ≡ length marks + 1
+length-levels : (globals : ℕ) (marks : List Bool) (items : List Item) → AreItems globals marks items
+    → length (levels items) ≡ length marks + 1
 length-levels globals marks [] are = omega (arith, ap length are)
 length-levels globals marks (item.Op o ∷ items) are =
-    omega (arith, length-before_first o (levels items), length-levels globals (with_operation marks) items are.1, length-with_operation marks)
+    omega (
+      arith,
+      length-before_first o (levels items),
+      length-levels globals (with_operation marks) items are.1,
+      length-with_operation marks,
+    )
 length-levels globals marks (item.Repeat n ∷ items) are =
     length-unrolled n (length marks) (levels items) (omega (arith, length-levels globals (false ∷ marks) items are.3))
 length-levels globals [] (item.End ∷ items) are = absurd are
@@ -50,39 +58,49 @@ length-levels globals (true ∷ marks) (item.End ∷ items) are =
 
 -- ---- what is left
 
-left_of-op : (items : List Item) (blocks : List Block) (o : Op) (ops : List Op) (around : List (List Op)) → left_of items blocks ((o ∷ ops) ∷ around) ≡ o ∷ left_of items blocks (ops ∷ around)
+left_of-op : (items : List Item) (blocks : List Block) (o : Op) (ops : List Op) (around : List (List Op))
+    → left_of items blocks ((o ∷ ops) ∷ around) ≡ o ∷ left_of items blocks (ops ∷ around)
 left_of-op items [] o ops around = refl
 left_of-op items (block ∷ blocks) o ops [] = left_of-op items blocks o ops []
 left_of-op items (block ∷ blocks) o ops (rest ∷ around) =
     left_of-op items blocks o (ops ++ times block.turns (expand (drop block.start items)) ++ rest) around
 
-left_of-before_first : (items : List Item) (blocks : List Block) (o : Op) (around : List (List Op)) → 0 < length around → left_of items blocks (before_first o around) ≡ o ∷ left_of items blocks around
+left_of-before_first : (items : List Item) (blocks : List Block) (o : Op) (around : List (List Op)) → 0 < length around
+    → left_of items blocks (before_first o around) ≡ o ∷ left_of items blocks around
 left_of-before_first items blocks o [] some = absurd (omega (arith, some))
 left_of-before_first items blocks o (ops ∷ around) some = left_of-op items blocks o ops around
 
 -- ---- open blocks
 
-length-AreOpen : (globals : ℕ) (items : List Item) (blocks : List Block) (marks : List Bool) (around : List (List Op)) → AreOpen globals items blocks marks around → length blocks ≡ length marks
+length-AreOpen : (globals : ℕ) (items : List Item) (blocks : List Block) (marks : List Bool) (around : List (List Op))
+    → AreOpen globals items blocks marks around → length blocks ≡ length marks
 length-AreOpen globals items [] marks around are = ap length (sym are)
 length-AreOpen globals items (block ∷ blocks) [] around are = absurd are
 length-AreOpen globals items (block ∷ blocks) (mark ∷ marks) around are =
     ap suc (length-AreOpen globals items blocks marks (drop 1 around) are.1)
 
-AreOpen-with_operation : (globals : ℕ) (items : List Item) (blocks : List Block) (marks : List Bool) (around : List (List Op)) → AreOpen globals items blocks marks around → AreOpen globals items blocks (with_operation marks) around
+AreOpen-with_operation : (globals : ℕ) (items : List Item) (blocks : List Block) (marks : List Bool)
+    (around : List (List Op)) → AreOpen globals items blocks marks around
+    → AreOpen globals items blocks (with_operation marks) around
 AreOpen-with_operation globals items [] marks around are = ap with_operation are
 AreOpen-with_operation globals items (block ∷ blocks) [] around are = absurd are
 AreOpen-with_operation globals items (block ∷ blocks) (mark ∷ marks) around are = are
 
 -- what is left of the innermost block does not matter
-AreOpen-first : (globals : ℕ) (items : List Item) (blocks : List Block) (marks : List Bool) (ops others : List Op) (around : List (List Op)) → AreOpen globals items blocks marks (ops ∷ around) → AreOpen globals items blocks marks (others ∷ around)
+AreOpen-first : (globals : ℕ) (items : List Item) (blocks : List Block) (marks : List Bool) (ops others : List Op)
+    (around : List (List Op)) → AreOpen globals items blocks marks (ops ∷ around)
+    → AreOpen globals items blocks marks (others ∷ around)
 AreOpen-first globals items [] marks ops others around are = are
 AreOpen-first globals items (block ∷ blocks) [] ops others around are = are
 AreOpen-first globals items (block ∷ blocks) (mark ∷ marks) ops others around are =
     (record { lines = are.0.lines; around = are.0.around; entered = are.0.entered }, are.1)
 
-AreOpen-before_first : (globals : ℕ) (items : List Item) (blocks : List Block) (marks : List Bool) (o : Op) (around : List (List Op)) → AreOpen globals items blocks marks (before_first o around) → AreOpen globals items blocks marks around
+AreOpen-before_first : (globals : ℕ) (items : List Item) (blocks : List Block) (marks : List Bool) (o : Op)
+    (around : List (List Op)) → AreOpen globals items blocks marks (before_first o around)
+    → AreOpen globals items blocks marks around
 AreOpen-before_first globals items blocks marks o [] are = are
-AreOpen-before_first globals items blocks marks o (ops ∷ around) are = AreOpen-first globals items blocks marks (o ∷ ops) ops around are
+AreOpen-before_first globals items blocks marks o (ops ∷ around) are =
+    AreOpen-first globals items blocks marks (o ∷ ops) ops around are
 
 -- ---- a block, and its end
 
@@ -94,25 +112,33 @@ cons_first : (around : List (List Op)) → 0 < length around → around ≡ unwr
 cons_first [] some = absurd (omega (arith, some))
 cons_first (ops ∷ around) some = refl
 
-left_of-repeat : (items : List Item) (blocks : List Block) (start n k : ℕ) (around : List (List Op)) → 0 < n → length around ≡ k + 2 → expand (drop start items) ≡ unwrap_or (slice_get around 0) [] → left_of items (record { start = start; turns = n - 1 } ∷ blocks) around ≡ left_of items blocks (unrolled n around)
+left_of-repeat : (items : List Item) (blocks : List Block) (start n k : ℕ) (around : List (List Op)) → 0 < n
+    → length around ≡ k + 2 → expand (drop start items) ≡ unwrap_or (slice_get around 0) []
+    → left_of items (record { start = start; turns = n - 1 } ∷ blocks) around ≡ left_of items blocks (unrolled n around)
 left_of-repeat items blocks start n k [] some e is = absurd (omega (arith, e))
 left_of-repeat items blocks start n k (block ∷ []) some e is = absurd (omega (arith, e))
 left_of-repeat items blocks start n k (block ∷ rest ∷ around) some e is =
     ap (λ (ops : List Op). left_of items blocks (((block ++ times (n - 1) ops) ++ rest) ∷ around)) is
     ∙ ap (λ (ops : List Op). left_of items blocks ((ops ++ rest) ∷ around)) (sym (times-first n block some))
 
-AreOpen-unrolled : (globals : ℕ) (items : List Item) (blocks : List Block) (marks : List Bool) (n k : ℕ) (around : List (List Op)) → length around ≡ k + 2 → AreOpen globals items blocks marks (unrolled n around) → AreOpen globals items blocks marks (drop 1 around)
+AreOpen-unrolled : (globals : ℕ) (items : List Item) (blocks : List Block) (marks : List Bool) (n k : ℕ)
+    (around : List (List Op)) → length around ≡ k + 2 → AreOpen globals items blocks marks (unrolled n around)
+    → AreOpen globals items blocks marks (drop 1 around)
 AreOpen-unrolled globals items blocks marks n k [] e are = absurd (omega (arith, e))
 AreOpen-unrolled globals items blocks marks n k (block ∷ []) e are = absurd (omega (arith, e))
 AreOpen-unrolled globals items blocks marks n k (block ∷ rest ∷ around) e are =
     AreOpen-first globals items blocks marks (times n block ++ rest) rest around are
 
-left_of-leave : (items : List Item) (block : Block) (blocks : List Block) (around : List (List Op)) → 0 < length around → block.turns ≡ 0 → left_of items blocks around ≡ left_of items (block ∷ blocks) ([] ∷ around)
+left_of-leave : (items : List Item) (block : Block) (blocks : List Block) (around : List (List Op)) → 0 < length around
+    → block.turns ≡ 0 → left_of items blocks around ≡ left_of items (block ∷ blocks) ([] ∷ around)
 left_of-leave items block blocks [] some none = absurd (omega (arith, some))
 left_of-leave items block blocks (rest ∷ around) some none =
     ap (λ (n : ℕ). left_of items blocks ((times n (expand (drop block.start items)) ++ rest) ∷ around)) (sym none)
 
-left_of-again : (items : List Item) (block : Block) (blocks : List Block) (around : List (List Op)) → 0 < length around → 0 < block.turns → levels (drop block.start items) ≡ expand (drop block.start items) ∷ around → left_at items (record { start = block.start; turns = block.turns - 1 } ∷ blocks) block.start ≡ left_of items (block ∷ blocks) ([] ∷ around)
+left_of-again : (items : List Item) (block : Block) (blocks : List Block) (around : List (List Op)) → 0 < length around
+    → 0 < block.turns → levels (drop block.start items) ≡ expand (drop block.start items) ∷ around
+    → left_at items (record { start = block.start; turns = block.turns - 1 } ∷ blocks) block.start
+    ≡ left_of items (block ∷ blocks) ([] ∷ around)
 left_of-again items block blocks [] some more is = absurd (omega (arith, some))
 left_of-again items block blocks (rest ∷ around) some more is =
     let ops : List Op = expand (drop block.start items) in
@@ -122,7 +148,8 @@ left_of-again items block blocks (rest ∷ around) some more is =
 -- ---- one line
 
 is_entered-next : (items : List Item) (at : ℕ) → is_entered items (at + 1) ≡ begins_block (slice_get items at)
-is_entered-next items at = let same : (at + 1) - 1 ≡ at = omega arith in ap (λ (k : ℕ). begins_block (slice_get items k)) same
+is_entered-next items at = let same : (at + 1) - 1 ≡ at =
+    omega arith in ap (λ (k : ℕ). begins_block (slice_get items k)) same
 
 -- A bound on the lines before the next operation: only such as begin a block, or the ends of some and then those.
 abbrev pub lines_to_operation : List Item → ℕ → ℕ
@@ -133,20 +160,25 @@ pub record AtOperation (globals : ℕ) (items : List Item) (blocks : List Block)
   pub underway : IsUnderway globals items blocks (at + 1)
   pub in_range : InRange globals o
 
-pub at_operation : (globals : ℕ) (items : List Item) (blocks : List Block) (at : ℕ) (o : Op) → IsUnderway globals items blocks at → slice_get items at ≡ Some (item.Op o) → AtOperation globals items blocks at o
+pub at_operation : (globals : ℕ) (items : List Item) (blocks : List Block) (at : ℕ) (o : Op)
+    → IsUnderway globals items blocks at → slice_get items at ≡ Some (item.Op o) → AtOperation globals items blocks at o
 at_operation globals items blocks at o way is =
     let rest : List Item = drop (at + 1) items in
     let e : drop at items ≡ item.Op o ∷ rest = drop-slice_get items at (item.Op o) is in
     let lines : AreItems globals way.marks (item.Op o ∷ rest) = subst (AreItems globals way.marks) e way.lines in
-    let some : 0 < length (levels rest) = omega (arith, length-levels globals (with_operation way.marks) rest lines.1) in
-    let opened : AreOpen globals items blocks way.marks (before_first o (levels rest)) = subst (λ (r : List Item). AreOpen globals items blocks way.marks (levels r)) e way.opened in
+    let some : 0 < length (levels rest) =
+    omega (arith, length-levels globals (with_operation way.marks) rest lines.1) in
+    let opened : AreOpen globals items blocks way.marks (before_first o (levels rest)) =
+    subst (λ (r : List Item). AreOpen globals items blocks way.marks (levels r)) e way.opened in
     let entered : is_entered items (at + 1) ≡ false = is_entered-next items at ∙ ap begins_block is in
     record {
-      left = ap (λ (r : List Item). left_of items blocks (levels r)) e ∙ left_of-before_first items blocks o (levels rest) some;
+      left = ap (λ (r : List Item). left_of items blocks (levels r)) e
+          ∙ left_of-before_first items blocks o (levels rest) some;
       underway = record {
         marks = with_operation way.marks;
         lines = lines.1;
-        opened = AreOpen-with_operation globals items blocks way.marks (levels rest) (AreOpen-before_first globals items blocks way.marks o (levels rest) opened);
+        opened = AreOpen-with_operation globals items blocks way.marks (levels rest)
+            (AreOpen-before_first globals items blocks way.marks o (levels rest) opened);
         fresh = λ yes. absurd (cc);
       };
       in_range = lines.0;
@@ -159,48 +191,70 @@ pub record AtRepeat (globals : ℕ) (items : List Item) (blocks : List Block) (a
   pub underway : IsUnderway globals items (record { start = at + 1; turns = n - 1 } ∷ blocks) (at + 1)
   pub smaller : lines_to_operation items (at + 1) < lines_to_operation items at
 
-pub at_repeat : (globals : ℕ) (items : List Item) (blocks : List Block) (at n : ℕ) → IsUnderway globals items blocks at → slice_get items at ≡ Some (item.Repeat n) → AtRepeat globals items blocks at n
+pub at_repeat : (globals : ℕ) (items : List Item) (blocks : List Block) (at n : ℕ) → IsUnderway globals items blocks at
+    → slice_get items at ≡ Some (item.Repeat n) → AtRepeat globals items blocks at n
 at_repeat globals items blocks at n way is =
     let rest : List Item = drop (at + 1) items in
     let e : drop at items ≡ item.Repeat n ∷ rest = drop-slice_get items at (item.Repeat n) is in
     let lines : AreItems globals way.marks (item.Repeat n ∷ rest) = subst (AreItems globals way.marks) e way.lines in
-    let two : length (levels rest) ≡ length way.marks + 2 = omega (arith, length-levels globals (false ∷ way.marks) rest lines.3) in
-    let opened : AreOpen globals items blocks way.marks (unrolled n (levels rest)) = subst (λ (r : List Item). AreOpen globals items blocks way.marks (levels r)) e way.opened in
+    let two : length (levels rest) ≡ length way.marks + 2 =
+    omega (arith, length-levels globals (false ∷ way.marks) rest lines.3) in
+    let opened : AreOpen globals items blocks way.marks (unrolled n (levels rest)) =
+    subst (λ (r : List Item). AreOpen globals items blocks way.marks (levels r)) e way.opened in
     let entered : is_entered items (at + 1) ≡ true = is_entered-next items at ∙ ap begins_block is in
     let within : at < length items = slice_get_within items at (item.Repeat n) is in
     record {
       few = omega (arith, length-AreOpen globals items blocks way.marks (levels (drop at items)) way.opened, lines.2);
       some = lines.0;
-      left = left_of-repeat items blocks (at + 1) n (length way.marks) (levels rest) lines.0 two refl ∙ ap (λ (r : List Item). left_of items blocks (levels r)) (sym e);
+      left = left_of-repeat items blocks (at + 1) n (length way.marks) (levels rest) lines.0 two refl
+          ∙ ap (λ (r : List Item). left_of items blocks (levels r)) (sym e);
       underway = record {
         marks = false ∷ way.marks;
         lines = lines.3;
-        opened = (record { lines = lines.3; around = refl; entered = entered }, AreOpen-unrolled globals items blocks way.marks n (length way.marks) (levels rest) two opened);
+        opened = (
+          record { lines = lines.3; around = refl; entered = entered },
+          AreOpen-unrolled globals items blocks way.marks n (length way.marks) (levels rest) two opened,
+        );
         fresh = λ yes. tt;
       };
       smaller = rw entered (omega arith);
     }
 
 -- what the end of the innermost block leads to
-pub record Leads (globals : ℕ) (items : List Item) (blocks : List Block) (at : ℕ) (end : Option ℕ × List Block) : Type 0 where
+pub record Leads (globals : ℕ) (items : List Item) (blocks : List Block) (at : ℕ) (end : Option ℕ
+    × List Block) : Type 0 where
   pub left : left_at items end.1 (unwrap_or end.0 (at + 1)) ≡ left_at items blocks at
   pub underway : IsUnderway globals items end.1 (unwrap_or end.0 (at + 1))
   pub smaller : lines_to_operation items (unwrap_or end.0 (at + 1)) < lines_to_operation items at
 
-leads : (globals : ℕ) (items : List Item) (block : Block) (blocks : List Block) (marks : List Bool) (at : ℕ) (more : Bool) → ltb 0 block.turns ≡ more → slice_get items at ≡ Some item.End → is_entered items at ≡ false → AreItems globals (with_operation marks) (drop (at + 1) items) → AreOpen globals items (block ∷ blocks) (true ∷ marks) ([] ∷ levels (drop (at + 1) items)) → Leads globals items (block ∷ blocks) at (cond more (Some block.start, record { start = block.start; turns = block.turns - 1 } ∷ blocks) (None, blocks))
+leads : (globals : ℕ) (items : List Item) (block : Block) (blocks : List Block) (marks : List Bool) (at : ℕ)
+    (more : Bool) → ltb 0 block.turns ≡ more → slice_get items at ≡ Some item.End → is_entered items at ≡ false
+    → AreItems globals (with_operation marks) (drop (at + 1) items)
+    → AreOpen globals items (block ∷ blocks) (true ∷ marks) ([] ∷ levels (drop (at + 1) items))
+    → Leads globals items (block ∷ blocks) at (cond more (
+      Some block.start,
+      record { start = block.start; turns = block.turns - 1 } ∷ blocks,
+    ) (None, blocks))
 leads globals items block blocks marks at true more is old lines are =
     let rest : List Item = drop (at + 1) items in
     let e : drop at items ≡ item.End ∷ rest = drop-slice_get items at item.End is in
     let some : 0 < length (levels rest) = omega (arith, length-levels globals (with_operation marks) rest lines) in
-    let begun : 0 < length (levels (drop block.start items)) = omega (arith, length-levels globals (false ∷ marks) (drop block.start items) are.0.lines) in
-    let body : levels (drop block.start items) ≡ expand (drop block.start items) ∷ levels rest = cons_first (levels (drop block.start items)) begun ∙ ap (λ (around : List (List Op)). expand (drop block.start items) ∷ around) are.0.around in
+    let begun : 0 < length (levels (drop block.start items)) =
+    omega (arith, length-levels globals (false ∷ marks) (drop block.start items) are.0.lines) in
+    let body : levels (drop block.start items) ≡ expand (drop block.start items) ∷ levels rest =
+    cons_first (levels (drop block.start items)) begun
+    ∙ ap (λ (around : List (List Op)). expand (drop block.start items) ∷ around) are.0.around in
     let entered : is_entered items block.start ≡ true = are.0.entered in
     record {
-      left = left_of-again items block blocks (levels rest) some (ltb-true 0 block.turns more) body ∙ ap (λ (r : List Item). left_of items (block ∷ blocks) (levels r)) (sym e);
+      left = left_of-again items block blocks (levels rest) some (ltb-true 0 block.turns more) body
+          ∙ ap (λ (r : List Item). left_of items (block ∷ blocks) (levels r)) (sym e);
       underway = record {
         marks = false ∷ marks;
         lines = are.0.lines;
-        opened = (record { lines = are.0.lines; around = refl; entered = entered }, subst (AreOpen globals items blocks marks) (sym are.0.around) are.1);
+        opened = (
+          record { lines = are.0.lines; around = refl; entered = entered },
+          subst (AreOpen globals items blocks marks) (sym are.0.around) are.1,
+        );
         fresh = λ yes. tt;
       };
       smaller = rw (entered, old) (omega arith);
@@ -214,7 +268,8 @@ leads globals items block blocks marks at false more is old lines are =
     let entered : is_entered items (at + 1) ≡ false = is_entered-next items at ∙ ap begins_block is in
     let within : at < length items = slice_get_within items at item.End is in
     record {
-      left = left_of-leave items block blocks (levels rest) some none ∙ ap (λ (r : List Item). left_of items (block ∷ blocks) (levels r)) (sym e);
+      left = left_of-leave items block blocks (levels rest) some none
+          ∙ ap (λ (r : List Item). left_of items (block ∷ blocks) (levels r)) (sym e);
       underway = record {
         marks = with_operation marks;
         lines = lines;
@@ -224,21 +279,29 @@ leads globals items block blocks marks at false more is old lines are =
       smaller = rw (entered, old) (omega arith);
     }
 
-not_fresh : (items : List Item) (marks : List Bool) (at : ℕ) (b : Bool) → is_entered items at ≡ b → (is_entered items at ≡ true → IsFresh (true ∷ marks)) → is_entered items at ≡ false
+not_fresh : (items : List Item) (marks : List Bool) (at : ℕ) (b : Bool) → is_entered items at ≡ b
+    → (is_entered items at ≡ true → IsFresh (true ∷ marks)) → is_entered items at ≡ false
 not_fresh items marks at true is fresh = absurd (fresh is)
 not_fresh items marks at false is fresh = is
 
 abbrev AtEnd : ℕ → List Item → List Block → ℕ → Type 0
 AtEnd globals items blocks at = (0 < length blocks) × Leads globals items blocks at (ended blocks)
 
-end_leads : (globals : ℕ) (items : List Item) (blocks : List Block) (marks : List Bool) (at : ℕ) → slice_get items at ≡ Some item.End → AreItems globals marks (item.End ∷ drop (at + 1) items) → AreOpen globals items blocks marks ([] ∷ levels (drop (at + 1) items)) → (is_entered items at ≡ true → IsFresh marks) → AtEnd globals items blocks at
+end_leads : (globals : ℕ) (items : List Item) (blocks : List Block) (marks : List Bool) (at : ℕ)
+    → slice_get items at ≡ Some item.End → AreItems globals marks (item.End ∷ drop (at + 1) items)
+    → AreOpen globals items blocks marks ([] ∷ levels (drop (at + 1) items))
+    → (is_entered items at ≡ true → IsFresh marks) → AtEnd globals items blocks at
 end_leads globals items blocks [] at is lines are fresh = absurd lines
 end_leads globals items blocks (false ∷ marks) at is lines are fresh = absurd lines
 end_leads globals items [] (true ∷ marks) at is lines are fresh = absurd (cc)
-end_leads globals items (block ∷ blocks) (true ∷ marks) at is lines are fresh =
-    (omega arith, leads globals items block blocks marks at (ltb 0 block.turns) refl is (not_fresh items marks at (is_entered items at) refl fresh) lines are)
+end_leads globals items (block ∷ blocks) (true ∷ marks) at is lines are fresh = (
+  omega arith,
+  leads globals items block blocks marks at (ltb 0 block.turns) refl is
+      (not_fresh items marks at (is_entered items at) refl fresh) lines are,
+)
 
-pub at_end : (globals : ℕ) (items : List Item) (blocks : List Block) (at : ℕ) → IsUnderway globals items blocks at → slice_get items at ≡ Some item.End → (0 < length blocks) × Leads globals items blocks at (ended blocks)
+pub at_end : (globals : ℕ) (items : List Item) (blocks : List Block) (at : ℕ) → IsUnderway globals items blocks at
+    → slice_get items at ≡ Some item.End → (0 < length blocks) × Leads globals items blocks at (ended blocks)
 at_end globals items blocks at way is =
     let rest : List Item = drop (at + 1) items in
     let e : drop at items ≡ item.End ∷ rest = drop-slice_get items at item.End is in
@@ -252,7 +315,8 @@ at_end globals items blocks at way is =
 pub at_first : (globals : ℕ) (items : List Item) → AreItems globals [] items → IsUnderway globals items [] 0
 at_first globals items are = record { marks = []; lines = are; opened = refl; fresh = λ yes. tt }
 
-none_left : (globals : ℕ) (items : List Item) (blocks : List Block) (marks : List Bool) → AreItems globals marks [] → AreOpen globals items blocks marks ([] ∷ []) → left_of items blocks ([] ∷ []) ≡ []
+none_left : (globals : ℕ) (items : List Item) (blocks : List Block) (marks : List Bool) → AreItems globals marks []
+    → AreOpen globals items blocks marks ([] ∷ []) → left_of items blocks ([] ∷ []) ≡ []
 none_left globals items [] marks lines are = refl
 none_left globals items (block ∷ blocks) [] lines are = absurd are
 none_left globals items (block ∷ blocks) (mark ∷ marks) lines are = absurd (cc)
@@ -263,7 +327,8 @@ drop-past [] (suc i) e = refl
 drop-past (x ∷ xs) zero e = absurd (cc)
 drop-past (x ∷ xs) (suc i) e = drop-past xs i e
 
-pub at_last : (globals : ℕ) (items : List Item) (blocks : List Block) (at : ℕ) → IsUnderway globals items blocks at → slice_get items at ≡ None → left_at items blocks at ≡ []
+pub at_last : (globals : ℕ) (items : List Item) (blocks : List Block) (at : ℕ) → IsUnderway globals items blocks at
+    → slice_get items at ≡ None → left_at items blocks at ≡ []
 at_last globals items blocks at way is =
     let e : drop at items ≡ [] = drop-past items at is in
     ap (λ (r : List Item). left_of items blocks (levels r)) e
@@ -278,20 +343,26 @@ pub record IsAsBefore (before : Ahead) (globals : ℕ) (items : List Item) (bloc
   pub left : left_at items blocks at ≡ before.operations
   pub underway : IsUnderway globals items blocks at
 
-pub found_line : (items : List Item) (at : ℕ) (x y : Item) → at < length items → x ≡ get_or items at x → x ≡ y → slice_get items at ≡ Some y
+pub found_line : (items : List Item) (at : ℕ) (x y : Item) → at < length items → x ≡ get_or items at x → x ≡ y
+    → slice_get items at ≡ Some y
 found_line items at x y within is same = slice_get_read items (length items) at x refl within is ∙ ap Some same
 
-pub none_behind : (before : Ahead) (globals : ℕ) (items : List Item) (blocks : List Block) (at : ℕ) → IsAsBefore before globals items blocks at → length items ≤ at → before.operations ≡ []
-none_behind before globals items blocks at way past = sym way.left ∙ at_last globals items blocks at way.underway (slice_get_past items at past)
+pub none_behind : (before : Ahead) (globals : ℕ) (items : List Item) (blocks : List Block) (at : ℕ)
+    → IsAsBefore before globals items blocks at → length items ≤ at → before.operations ≡ []
+none_behind before globals items blocks at way past =
+    sym way.left ∙ at_last globals items blocks at way.underway (slice_get_past items at past)
 
 -- what a cursor gives, and what is left behind it
-pub record Gives (before : Ahead) (globals : ℕ) (items : List Item) (blocks : List Block) (at : ℕ) (o : Op) : Type 0 where
-  pub operation : Some o ≡ slice_get before.operations 0
-  pub rest : left_at items blocks at ≡ drop 1 before.operations
-  pub in_range : InRange before.globals o
-  pub underway : IsUnderway globals items blocks at
+pub record Gives (before : Ahead) (globals : ℕ) (items : List Item) (blocks : List Block) (at : ℕ) (o : Op) : Type 0
+  where
+    pub operation : Some o ≡ slice_get before.operations 0
+    pub rest : left_at items blocks at ≡ drop 1 before.operations
+    pub in_range : InRange before.globals o
+    pub underway : IsUnderway globals items blocks at
 
-pub behind_operation : (before : Ahead) (globals : ℕ) (items : List Item) (blocks : List Block) (at : ℕ) (o : Op) → IsAsBefore before globals items blocks at → slice_get items at ≡ Some (item.Op o) → Gives before globals items blocks (at + 1) o
+pub behind_operation : (before : Ahead) (globals : ℕ) (items : List Item) (blocks : List Block) (at : ℕ) (o : Op)
+    → IsAsBefore before globals items blocks at → slice_get items at ≡ Some (item.Op o)
+    → Gives before globals items blocks (at + 1) o
 behind_operation before globals items blocks at o way is =
     let step = at_operation globals items blocks at o way.underway is in
     let all : before.operations ≡ o ∷ left_at items blocks (at + 1) = sym way.left ∙ step.left in
@@ -302,29 +373,39 @@ behind_operation before globals items blocks at o way is =
       underway = step.underway;
     }
 
-pub behind_repeat : (before : Ahead) (globals : ℕ) (items : List Item) (blocks entered : List Block) (at n : ℕ) → IsAsBefore before globals items blocks at → slice_get items at ≡ Some (item.Repeat n) → entered ≡ record { start = at + 1; turns = n - 1 } ∷ blocks → IsAsBefore before globals items entered (at + 1)
+pub behind_repeat : (before : Ahead) (globals : ℕ) (items : List Item) (blocks entered : List Block) (at n : ℕ)
+    → IsAsBefore before globals items blocks at → slice_get items at ≡ Some (item.Repeat n)
+    → entered ≡ record { start = at + 1; turns = n - 1 } ∷ blocks → IsAsBefore before globals items entered (at + 1)
 behind_repeat before globals items blocks entered at n way is same =
     let step = at_repeat globals items blocks at n way.underway is in
     subst (λ (bs : List Block). IsAsBefore before globals items bs (at + 1)) (sym same)
     (record { globals_kept = way.globals_kept; left = step.left ∙ way.left; underway = step.underway })
 
 -- the innermost block ended, and its end leads there
-pub record IsEnded (items : List Item) (blocks : List Block) (at : ℕ) (start : Option ℕ) (after : List Block) (next : ℕ) : Type 0 where
+pub record IsEnded (items : List Item) (blocks : List Block) (at : ℕ) (start : Option ℕ) (after : List Block)
+    (next : ℕ) : Type 0 where
   pub starts : start ≡ (ended blocks).0
   pub leaves : after ≡ (ended blocks).1
   pub leads : next ≡ unwrap_or start (at + 1)
 
-next_place : (items : List Item) (blocks : List Block) (at : ℕ) (start : Option ℕ) (after : List Block) (next : ℕ) → IsEnded items blocks at start after next → next ≡ unwrap_or (ended blocks).0 (at + 1)
+next_place : (items : List Item) (blocks : List Block) (at : ℕ) (start : Option ℕ) (after : List Block) (next : ℕ)
+    → IsEnded items blocks at start after next → next ≡ unwrap_or (ended blocks).0 (at + 1)
 next_place items blocks at start after next is = is.leads ∙ ap (λ (s : Option ℕ). unwrap_or s (at + 1)) is.starts
 
-pub behind_end : (before : Ahead) (globals : ℕ) (items : List Item) (blocks : List Block) (at : ℕ) (start : Option ℕ) (after : List Block) (next : ℕ) → IsAsBefore before globals items blocks at → slice_get items at ≡ Some item.End → IsEnded items blocks at start after next → IsAsBefore before globals items after next
+pub behind_end : (before : Ahead) (globals : ℕ) (items : List Item) (blocks : List Block) (at : ℕ) (start : Option ℕ)
+    (after : List Block) (next : ℕ) → IsAsBefore before globals items blocks at → slice_get items at ≡ Some item.End
+    → IsEnded items blocks at start after next → IsAsBefore before globals items after next
 behind_end before globals items blocks at start after next way is end =
     let step = (at_end globals items blocks at way.underway is).1 in
     subst (λ (bs : List Block). IsAsBefore before globals items bs next) (sym end.leaves)
-    (subst (λ (k : ℕ). IsAsBefore before globals items (ended blocks).1 k) (sym (next_place items blocks at start after next end))
+    (subst (λ (k : ℕ). IsAsBefore before globals items (ended blocks).1 k)
+    (sym (next_place items blocks at start after next end))
     (record { globals_kept = way.globals_kept; left = step.left ∙ way.left; underway = step.underway }))
 
-pub end_smaller : (globals : ℕ) (items : List Item) (blocks : List Block) (at : ℕ) (start : Option ℕ) (after : List Block) (next : ℕ) → IsUnderway globals items blocks at → slice_get items at ≡ Some item.End → IsEnded items blocks at start after next → lines_to_operation items next < lines_to_operation items at
+pub end_smaller : (globals : ℕ) (items : List Item) (blocks : List Block) (at : ℕ) (start : Option ℕ)
+    (after : List Block) (next : ℕ) → IsUnderway globals items blocks at → slice_get items at ≡ Some item.End
+    → IsEnded items blocks at start after next → lines_to_operation items next < lines_to_operation items at
 end_smaller globals items blocks at start after next way is end =
-    subst (λ (k : ℕ). lines_to_operation items k < lines_to_operation items at) (sym (next_place items blocks at start after next end))
+    subst (λ (k : ℕ). lines_to_operation items k < lines_to_operation items at)
+    (sym (next_place items blocks at start after next end))
     (at_end globals items blocks at way is).1.smaller

@@ -1,5 +1,6 @@
 -- One thread's way through its program.
-use Rattle.std.specs.Prelude.{◌≡◌, ℕ, ◌-◌, Bool, true, false, List, [], ◌∷◌, ◌++◌, drop, Option, None, Some, slice_get, unwrap_or, cond, nat_lt}
+use Rattle.std.specs.Prelude.{◌≡◌, ℕ, ◌-◌, Bool, true, false, List, [], ◌∷◌, ◌++◌, drop, Option, None, Some, slice_get}
+use Rattle.std.specs.Prelude.{unwrap_or, cond, nat_lt}
 use Rattle.melt_model.specs.declared.operations.Op.{Op}
 use Rattle.melt_trace.specs.declared.script.Item.{Item}
 use Rattle.melt_trace.specs.declared.script.Item.TheVariants as item
@@ -17,7 +18,8 @@ pub record Ahead : Type 0 where
 abbrev pub ended : List Block → Option ℕ × List Block
 ended [] = (None, [])
 ended (block ∷ around) =
-    cond (nat_lt 0 block.turns) (Some block.start, record { start = block.start; turns = block.turns - 1 } ∷ around) (None, around)
+    cond (nat_lt 0 block.turns) (Some block.start, record { start = block.start; turns = block.turns - 1 } ∷ around)
+    (None, around)
 
 -- the first list, these operations and the second list are one
 abbrev pub joined : List Op → List (List Op) → List (List Op)
@@ -46,10 +48,11 @@ abbrev pub is_entered : List Item → ℕ → Bool
 is_entered items at = begins_block (slice_get items (at - 1))
 
 -- a block of these lines, of which a place with these levels is a part
-pub record IsBlock (globals : ℕ) (items : List Item) (start : ℕ) (outer : List Bool) (here : List (List Op)) : Type 0 where
-  pub lines : AreItems globals (false ∷ outer) (drop start items)
-  pub around : drop 1 (levels (drop start items)) ≡ drop 1 here
-  pub entered : is_entered items start ≡ true
+pub record IsBlock (globals : ℕ) (items : List Item) (start : ℕ) (outer : List Bool) (here : List (List Op)) : Type 0
+  where
+    pub lines : AreItems globals (false ∷ outer) (drop start items)
+    pub around : drop 1 (levels (drop start items)) ≡ drop 1 here
+    pub entered : is_entered items start ≡ true
 
 -- these blocks are open where a place has these levels, each with whether it has an operation before that place
 abbrev pub AreOpen : ℕ → List Item → List Block → List Bool → List (List Op) → Type 0

@@ -1,5 +1,6 @@
 -- What a script that is being read stands for.
-use Rattle.std.specs.Prelude.{◌≡◌, ℕ, ◌<◌, ◌≤◌, ◌+◌, ◌-◌, ◌*◌, ◌^◌, min, Bool, nat_lt, List, [], ◌∷◌, ◌++◌, length, map, Result, Ok, Err}
+use Rattle.std.specs.Prelude.{◌≡◌, ℕ, ◌<◌, ◌≤◌, ◌+◌, ◌-◌, ◌*◌, ◌^◌, min, Bool, nat_lt, List, [], ◌∷◌, ◌++◌, length, map}
+use Rattle.std.specs.Prelude.{Result, Ok, Err}
 use Rattle.melt_trace.specs.declared.script.Item.{Item}
 use Rattle.melt_trace.specs.declared.parser.fault.Fault.{Fault}
 use Rattle.melt_trace.specs.declared.parser.fault.Fault.TheVariants as fault
@@ -60,7 +61,8 @@ abbrev pub AreCapped : List (ℕ × ℕ) → List Block → Type 0
 AreCapped [] [] = Unit {0}
 AreCapped [] (block ∷ blocks) = ⊥
 AreCapped (exact ∷ around) [] = ⊥
-AreCapped (exact ∷ around) (block ∷ blocks) = (block.times ≡ exact.0) × (0 < exact.0) × (block.before ≡ capped exact.1) × AreCapped around blocks
+AreCapped (exact ∷ around) (block ∷ blocks) = (block.times ≡ exact.0) × (0 < exact.0) × (block.before ≡ capped exact.1)
+    × AreCapped around blocks
 
 -- The counts of the open program. No fact of the draft says how many there really are where they are capped.
 pub record IsTallied (items : List Item) (count : ℕ) (blocks : List Block) : Type 0 where

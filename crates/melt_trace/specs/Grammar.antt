@@ -34,13 +34,16 @@ item_line item.End = line (codes "end") []
 abbrev pub program_lines : ℕ → List (List Item) → List ℕ
 program_lines t [] = []
 program_lines t (program ∷ programs) =
-    line (codes "thread") (t ∷ []) ++ flat_map item_line program ++ line (codes "done") [] ++ program_lines (t + 1) programs
+    line (codes "thread") (t ∷ []) ++ flat_map item_line program ++ line (codes "done") []
+    ++ program_lines (t + 1) programs
 
 -- the canonical text of a trace
 abbrev pub canonical : Script → List ℕ
 canonical script =
-    line (codes "melt") (1 ∷ []) ++ line (codes "threads") (length script.programs ∷ []) ++ line (codes "globals") (script.globals ∷ [])
-    ++ flat_map (λ order. line (codes "order") (order.0 ∷ order.1 ∷ [])) script.orders ++ program_lines 0 script.programs
+    line (codes "melt") (1 ∷ []) ++ line (codes "threads") (length script.programs ∷ [])
+    ++ line (codes "globals") (script.globals ∷ [])
+    ++ flat_map (λ order. line (codes "order") (order.0 ∷ order.1 ∷ [])) script.orders
+    ++ program_lines 0 script.programs
 
 -- registers are 0 to 15, and an object has at most 62 parts of a kind; places of parts are 0 to 63
 abbrev pub InRange : ℕ → Op → Type 0

@@ -1,5 +1,7 @@
 -- The grammar of traces: which line may stand behind which, and what the lines say together.
-use Rattle.std.specs.Prelude.{◌≡◌, ℕ, ◌<◌, ◌≤◌, ◌+◌, ◌^◌, ◌*◌, ◌-◌, Bool, true, false, not, ◌&&◌, ◌||◌, ◌==◌, nat_lt, nat_le, if◌then◌else◌, zero, suc, List, [], ◌∷◌, ◌++◌, length, filter, sum_by, codes, Option, None, Some, option_and_then, Result, Ok, Err}
+use Rattle.std.specs.Prelude.{◌≡◌, ℕ, ◌<◌, ◌≤◌, ◌+◌, ◌^◌, ◌*◌, ◌-◌, Bool, true, false, not, ◌&&◌, ◌||◌, ◌==◌, nat_lt}
+use Rattle.std.specs.Prelude.{nat_le, if◌then◌else◌, zero, suc, List, [], ◌∷◌, ◌++◌, length, filter, sum_by, codes}
+use Rattle.std.specs.Prelude.{Option, None, Some, option_and_then, Result, Ok, Err}
 use Rattle.std.specs.List.{slice_split, list_all, AllByRecursion}
 use Rattle.std.specs.Str.{bytes_eq}
 use Rattle.std.specs.Char.{is_ascii_digit}
@@ -102,8 +104,10 @@ abbrev pub word_of : List ℕ → Option Word
 word_of = one_of (
     (codes "new", word.New) ∷ (codes "load", word.Load) ∷ (codes "store", word.Store) ∷ (codes "get", word.Get)
     ∷ (codes "put", word.Put) ∷ (codes "gload", word.GLoad) ∷ (codes "gstore", word.GStore) ∷ (codes "same", word.Same)
-    ∷ (codes "copy", word.Copy) ∷ (codes "drop", word.Drop) ∷ (codes "collect", word.Collect) ∷ (codes "repeat", word.Repeat)
-    ∷ (codes "end", word.End) ∷ (codes "done", word.Done) ∷ (codes "thread", word.Thread) ∷ (codes "order", word.Order) ∷ [])
+    ∷ (codes "copy", word.Copy) ∷ (codes "drop", word.Drop) ∷ (codes "collect", word.Collect)
+    ∷ (codes "repeat", word.Repeat)
+    ∷ (codes "end", word.End) ∷ (codes "done", word.Done) ∷ (codes "thread", word.Thread) ∷ (codes "order", word.Order)
+    ∷ [])
 
 -- 3. A line in its place
 
@@ -117,7 +121,13 @@ pub record Place : Type 0 where
   pub blocks : List Bool
 
 abbrev pub start : Place
-start = record { stage = stage.Version; threads = 0; script = record { globals = 0; orders = []; programs = [] }; items = []; blocks = [] }
+start = record {
+  stage = stage.Version;
+  threads = 0;
+  script = record { globals = 0; orders = []; programs = [] };
+  items = [];
+  blocks = [];
+}
 
 -- a program in which a line for an operation stands
 abbrev pub is_operation : Word → Bool
@@ -215,12 +225,25 @@ operation_count programs = sum_by (λ items. length (expand items)) programs
 -- the place behind an operation
 abbrev pub after_operation : Place → Option Op → Result Place ℕ
 after_operation place None = Err 6
-after_operation place (Some o) = Ok (record { stage = place.stage; threads = place.threads; script = place.script; items = place.items ++ item.Op o ∷ []; blocks = with_operation place.blocks })
+after_operation place (Some o) =
+    Ok (record {
+      stage = place.stage;
+      threads = place.threads;
+      script = place.script;
+      items = place.items ++ item.Op o ∷ [];
+      blocks = with_operation place.blocks;
+    })
 
 abbrev pub after_repeat : Place → List ℕ → Result Place ℕ
 after_repeat place (n ∷ []) =
     if nat_lt (length place.blocks) 4
-    then Ok (record { stage = place.stage; threads = place.threads; script = place.script; items = place.items ++ item.Repeat n ∷ []; blocks = false ∷ place.blocks })
+    then Ok (record {
+      stage = place.stage;
+      threads = place.threads;
+      script = place.script;
+      items = place.items ++ item.Repeat n ∷ [];
+      blocks = false ∷ place.blocks;
+    })
     else Err 11
 after_repeat place ns = Err 7
 
@@ -228,26 +251,58 @@ abbrev pub after_end : Place → List Bool → Result Place ℕ
 after_end place [] = Err 6
 after_end place (b ∷ blocks) =
     if b
-    then Ok (record { stage = place.stage; threads = place.threads; script = place.script; items = place.items ++ item.End ∷ []; blocks = with_operation blocks })
+    then Ok (record {
+      stage = place.stage;
+      threads = place.threads;
+      script = place.script;
+      items = place.items ++ item.End ∷ [];
+      blocks = with_operation blocks;
+    })
     else Err 12
 
 -- a script with one program more
 abbrev pub with_program : Script → List Item → Script
-with_program script items = record { globals = script.globals; orders = script.orders; programs = script.programs ++ items ∷ [] }
+with_program script items = record {
+  globals = script.globals;
+  orders = script.orders;
+  programs = script.programs ++ items ∷ [];
+}
 
 abbrev pub after_done : Place → Result Place ℕ
 after_done place = let script = with_program place.script place.items in
     if nat_le (operation_count script.programs) 1048576
-    then Ok (record { stage = if length script.programs == place.threads then stage.Over else stage.Between; threads = place.threads; script = script; items = []; blocks = [] })
+    then Ok (record {
+      stage = if length script.programs == place.threads then stage.Over else stage.Between;
+      threads = place.threads;
+      script = script;
+      items = [];
+      blocks = [];
+    })
     else Err 13
 
 abbrev pub after_thread : Place → Result Place ℕ
-after_thread place = Ok (record { stage = stage.Inside; threads = place.threads; script = place.script; items = []; blocks = [] })
+after_thread place = Ok (record {
+  stage = stage.Inside;
+  threads = place.threads;
+  script = place.script;
+  items = [];
+  blocks = [];
+})
 
 abbrev pub after_order : Place → List ℕ → Result Place ℕ
 after_order place (t ∷ n ∷ []) =
     if nat_lt (length place.script.orders) 65536
-    then Ok (record { stage = place.stage; threads = place.threads; script = record { globals = place.script.globals; orders = place.script.orders ++ (t, n) ∷ []; programs = place.script.programs }; items = place.items; blocks = place.blocks })
+    then Ok (record {
+      stage = place.stage;
+      threads = place.threads;
+      script = record {
+        globals = place.script.globals;
+        orders = place.script.orders ++ (t, n) ∷ [];
+        programs = place.script.programs;
+      };
+      items = place.items;
+      blocks = place.blocks;
+    })
     else Err 10
 after_order place ns = Err 7
 
@@ -277,17 +332,27 @@ in_heading low high reason (Some n) = if nat_le low n && nat_le n high then Ok n
 
 -- the one number of one of the first three lines
 abbrev pub heading : List ℕ → ℕ → ℕ → ℕ → List (List ℕ) → Result ℕ ℕ
-heading text low high reason (first ∷ second ∷ []) = if bytes_eq first text then in_heading low high reason (number_of second) else Err reason
+heading text low high reason (first ∷ second ∷ []) =
+    if bytes_eq first text then in_heading low high reason (number_of second) else Err reason
 heading text low high reason fields = Err reason
 
 -- the place behind a line that is not skipped
 abbrev pub after_fields : Place → Stage → List (List ℕ) → Result Place ℕ
 after_fields place stage.Version fields =
-    and_then (heading (codes "melt") 1 1 3 fields) (λ n. Ok (record { stage = stage.Threads; threads = 0; script = place.script; items = []; blocks = [] }))
+    and_then (heading (codes "melt") 1 1 3 fields) (λ n. Ok
+    (record { stage = stage.Threads; threads = 0; script = place.script; items = []; blocks = [] }))
 after_fields place stage.Threads fields =
-    and_then (heading (codes "threads") 1 8 4 fields) (λ n. Ok (record { stage = stage.Globals; threads = n; script = place.script; items = []; blocks = [] }))
+    and_then (heading (codes "threads") 1 8 4 fields) (λ n. Ok
+    (record { stage = stage.Globals; threads = n; script = place.script; items = []; blocks = [] }))
 after_fields place stage.Globals fields =
-    and_then (heading (codes "globals") 0 64 5 fields) (λ n. Ok (record { stage = stage.Orders; threads = place.threads; script = record { globals = n; orders = []; programs = [] }; items = []; blocks = [] }))
+    and_then (heading (codes "globals") 0 64 5 fields) (λ n. Ok
+    (record {
+      stage = stage.Orders;
+      threads = place.threads;
+      script = record { globals = n; orders = []; programs = [] };
+      items = [];
+      blocks = [];
+    }))
 after_fields place s [] = Err 6
 after_fields place s (first ∷ fields) = after_word place (word_of first) fields
 
@@ -309,7 +374,8 @@ ended n s script = Err (n, 14)
 -- number of the next line.
 abbrev pub script_from : ℕ → Place → List (List ℕ) → Result Script (ℕ × ℕ)
 script_from n place [] = ended n place.stage place.script
-script_from n place (bytes ∷ lines) = elim (after place bytes) [ Ok next ↦ script_from (n + 1) next lines | Err reason ↦ Err (n, reason) ]
+script_from n place (bytes ∷ lines) =
+    elim (after place bytes) [ Ok next ↦ script_from (n + 1) next lines | Err reason ↦ Err (n, reason) ]
 
 -- the most bytes that a trace may have
 abbrev pub max_bytes : ℕ
@@ -325,7 +391,8 @@ script_of bytes = if nat_le (length bytes) max_bytes then script_from 1 start (l
 abbrev pub AreItems : ℕ → List Bool → List Item → Type 0
 AreItems globals blocks [] = blocks ≡ []
 AreItems globals blocks (item.Op o ∷ items) = InRange globals o × AreItems globals (with_operation blocks) items
-AreItems globals blocks (item.Repeat n ∷ items) = (0 < n) × (n ≤ 1048576) × (length blocks < 4) × AreItems globals (false ∷ blocks) items
+AreItems globals blocks (item.Repeat n ∷ items) = (0 < n) × (n ≤ 1048576) × (length blocks < 4)
+    × AreItems globals (false ∷ blocks) items
 AreItems globals [] (item.End ∷ items) = ⊥
 AreItems globals (false ∷ blocks) (item.End ∷ items) = ⊥
 AreItems globals (true ∷ blocks) (item.End ∷ items) = AreItems globals (with_operation blocks) items

@@ -23,7 +23,10 @@ impl<'a> Model for Cursor<'a> {
 
     ghost Value = { Ahead };
 
-    ghost view = { λ cursor. record { globals = cursor.globals; operations = left_at cursor.items.now cursor.open_blocks cursor.place } };
+    ghost view = { λ cursor. record {
+      globals = cursor.globals;
+      operations = left_at cursor.items.now cursor.open_blocks cursor.place;
+    } };
 
     ghost invariant = { λ cursor. IsUnderway cursor.globals cursor.items.now cursor.open_blocks cursor.place };
 }

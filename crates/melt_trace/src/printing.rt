@@ -88,7 +88,8 @@ fn push_items(out: &mut Vec<u8>, items: &[Item]) -> Result<(), NoMemory>
 }
 
 fn push_program(out: &mut Vec<u8>, thread: u64, program: &Program) -> Result<(), NoMemory>
-    ensures { OnOk result (out.new.items ≡ out.old.items ++ (line (codes "thread") (thread ∷ []) ++ flat_map item_line program.now ++ line (codes "done") [])) }
+    ensures { OnOk result (out.new.items ≡ out.old.items
+        ++ (line (codes "thread") (thread ∷ []) ++ flat_map item_line program.now ++ line (codes "done") [])) }
 {
     push_line(out, b"thread", &[thread])?;
     push_items(out, program.items())?;
@@ -105,7 +106,8 @@ fn push_programs(out: &mut Vec<u8>, programs: &[Program]) -> Result<(), NoMemory
 }
 
 fn push_orders(out: &mut Vec<u8>, orders: &[(u32, u32)]) -> Result<(), NoMemory>
-    ensures { OnOk result (out.new.items ≡ out.old.items ++ flat_map (λ order. line (codes "order") (order.0 ∷ order.1 ∷ [])) orders.now) }
+    ensures { OnOk result (out.new.items ≡ out.old.items
+        ++ flat_map (λ order. line (codes "order") (order.0 ∷ order.1 ∷ [])) orders.now) }
 {
     for (thread, events) in orders {
         push_line(out, b"order", &[u64::from(*thread), u64::from(*events)])?;

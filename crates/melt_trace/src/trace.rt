@@ -65,9 +65,17 @@ impl Model for Trace {
 
     ghost Value = { Script };
 
-    ghost view = { λ trace. record { globals = trace.globals; orders = trace.orders.items; programs = trace.programs.items } };
+    ghost view = { λ trace. record {
+      globals = trace.globals;
+      orders = trace.orders.items;
+      programs = trace.programs.items;
+    } };
 
-    ghost invariant = { λ trace. IsScript (record { globals = trace.globals; orders = trace.orders.items; programs = trace.programs.items }) };
+    ghost invariant = { λ trace. IsScript (record {
+      globals = trace.globals;
+      orders = trace.orders.items;
+      programs = trace.programs.items;
+    }) };
 }
 
 impl Trace {

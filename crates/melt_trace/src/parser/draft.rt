@@ -60,7 +60,13 @@ impl Draft {
     /// No orders and no programs.
     pub fn empty(alloc: Global, stage: Stage, threads: u32, globals: u32) -> Draft
         requires { globals ≤ 64 }
-        ensures place { place_of result ≡ record { stage = stage; threads = threads; script = record { globals = globals; orders = []; programs = [] }; items = []; blocks = [] } }
+        ensures place { place_of result ≡ record {
+          stage = stage;
+          threads = threads;
+          script = record { globals = globals; orders = []; programs = [] };
+          items = [];
+          blocks = [];
+        } }
         ensures sound { IsSound result }
     {
         Draft {
@@ -151,7 +157,13 @@ impl Draft {
     /// Begins a stage in which no program has a line.
     pub fn restart(&mut self, stage: Stage, threads: u32)
         requires { IsSound self.old }
-        ensures place { place_of self.new ≡ record { stage = stage; threads = threads; script = (place_of self.old).script; items = []; blocks = [] } }
+        ensures place { place_of self.new ≡ record {
+          stage = stage;
+          threads = threads;
+          script = (place_of self.old).script;
+          items = [];
+          blocks = [];
+        } }
         ensures sound { IsSound self.new }
     {
         self.stage = stage;

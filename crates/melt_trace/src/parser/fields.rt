@@ -65,7 +65,8 @@ fn other_fields(bytes: &[u8]) -> Arguments<'_>
 
 /// The first field of a line, and the fields behind it.
 pub fn split_fields(line: &[u8]) -> Option<(&[u8], Arguments<'_>)>
-    ensures { MatchOption result (fields_of line.now ≡ []) (λ x. (fields : List (List ℕ)) × (fields_of line.now ≡ x.0.now ∷ fields) × AreArguments x.1 fields) }
+    ensures { MatchOption result (fields_of line.now ≡ []) (λ x. (fields : List (List ℕ))
+        × (fields_of line.now ≡ x.0.now ∷ fields) × AreArguments x.1 fields) }
 {
     let Some((first, rest)) = next_field(line) else {
         return None;

@@ -58,7 +58,8 @@ fn take_word(
 ) -> Result<(), Fault>
     requires sound { IsSound draft.old }
     requires fits { fits draft.old.stage (place_of draft.old).blocks word ≡ true }
-    ensures { (fields : List (List ℕ)) → AreArguments arguments.now fields → LeadsTo result draft.new (after_arguments (place_of draft.old) word fields) }
+    ensures { (fields : List (List ℕ)) → AreArguments arguments.now fields
+        → LeadsTo result draft.new (after_arguments (place_of draft.old) word fields) }
 {
     match word {
         Word::Repeat => {
@@ -98,7 +99,8 @@ fn take_fields(
     arguments: &Arguments<'_>,
 ) -> Result<(), Fault>
     requires { IsSound draft.old }
-    ensures { (fields : List (List ℕ)) → AreArguments arguments.now fields → LeadsTo result draft.new (after_fields (place_of draft.old) draft.old.stage (first.now ∷ fields)) }
+    ensures { (fields : List (List ℕ)) → AreArguments arguments.now fields
+        → LeadsTo result draft.new (after_fields (place_of draft.old) draft.old.stage (first.now ∷ fields)) }
 {
     match draft.stage {
         Stage::Version => {

@@ -105,7 +105,8 @@ fn number_in(limits: Limits, field: &[u8]) -> Result<u64, Reason>
 
 /// No numbers.
 pub fn none(arguments: &Arguments<'_>) -> Result<(), Reason>
-    ensures { (fields : List (List ℕ)) → AreArguments arguments.now fields → Gives (λ _. []) result (numbers [] fields) }
+    ensures { (fields : List (List ℕ)) → AreArguments arguments.now fields
+        → Gives (λ _. []) result (numbers [] fields) }
 {
     match arguments {
         Arguments::None => Ok(()),
@@ -115,7 +116,8 @@ pub fn none(arguments: &Arguments<'_>) -> Result<(), Reason>
 
 /// One number.
 pub fn one(arguments: &Arguments<'_>, a: Limits) -> Result<u64, Reason>
-    ensures value { (fields : List (List ℕ)) → AreArguments arguments.now fields → Gives (λ x. x ∷ []) result (numbers (range_of a ∷ []) fields) }
+    ensures value { (fields : List (List ℕ)) → AreArguments arguments.now fields
+        → Gives (λ x. x ∷ []) result (numbers (range_of a ∷ []) fields) }
     ensures within { IfOk result (λ x. (a.low ≤ x) × (x ≤ a.high)) }
 {
     match arguments {
@@ -126,7 +128,8 @@ pub fn one(arguments: &Arguments<'_>, a: Limits) -> Result<u64, Reason>
 
 /// Two numbers.
 pub fn two(arguments: &Arguments<'_>, a: Limits, b: Limits) -> Result<(u64, u64), Reason>
-    ensures value { (fields : List (List ℕ)) → AreArguments arguments.now fields → Gives (λ x. x.0 ∷ x.1 ∷ []) result (numbers (range_of a ∷ range_of b ∷ []) fields) }
+    ensures value { (fields : List (List ℕ)) → AreArguments arguments.now fields
+        → Gives (λ x. x.0 ∷ x.1 ∷ []) result (numbers (range_of a ∷ range_of b ∷ []) fields) }
     ensures within { IfOk result (λ x. (x.0 ≤ a.high) × (x.1 ≤ b.high)) }
 {
     match arguments {
@@ -142,7 +145,8 @@ pub fn three(
     b: Limits,
     c: Limits,
 ) -> Result<(u64, u64, u64), Reason>
-    ensures value { (fields : List (List ℕ)) → AreArguments arguments.now fields → Gives (λ x. x.0 ∷ x.1 ∷ x.2 ∷ []) result (numbers (range_of a ∷ range_of b ∷ range_of c ∷ []) fields) }
+    ensures value { (fields : List (List ℕ)) → AreArguments arguments.now fields
+        → Gives (λ x. x.0 ∷ x.1 ∷ x.2 ∷ []) result (numbers (range_of a ∷ range_of b ∷ range_of c ∷ []) fields) }
     ensures within { IfOk result (λ x. (x.0 ≤ a.high) × (x.1 ≤ b.high) × (x.2 ≤ c.high)) }
 {
     match arguments {
@@ -158,7 +162,9 @@ pub fn heading(
     text: &[u8],
     limits: Limits,
 ) -> Result<u64, Reason>
-    ensures value { (fields : List (List ℕ)) → AreArguments arguments.now fields → Gives (λ n. n) result (heading text.now limits.low limits.high (number_of_reason limits.reason) (first.now ∷ fields)) }
+    ensures value { (fields : List (List ℕ)) → AreArguments arguments.now fields
+        → Gives (λ n. n) result (heading text.now limits.low limits.high (number_of_reason limits.reason)
+        (first.now ∷ fields)) }
     ensures within { IfOk result (λ n. (limits.low ≤ n) × (n ≤ limits.high)) }
 {
     let Arguments::One(field) = arguments else {

@@ -13,7 +13,8 @@ use melt_model::Op;
 fn short_operation(word: Word, globals: u32, arguments: &Arguments<'_>) -> Result<Op, Reason>
     requires word { IsShort word }
     requires globals { globals ≤ 64 }
-    ensures { (place : Place) (fields : List (List ℕ)) → place.script.globals ≡ globals → AreArguments arguments.now fields → IsOperationOf place word fields result }
+    ensures { (place : Place) (fields : List (List ℕ)) → place.script.globals ≡ globals
+        → AreArguments arguments.now fields → IsOperationOf place word fields result }
 {
     let register = Limits::REGISTER;
     let global = Limits::global(globals);
@@ -54,7 +55,8 @@ fn short_operation(word: Word, globals: u32, arguments: &Arguments<'_>) -> Resul
 pub fn operation(word: Word, globals: u32, arguments: &Arguments<'_>) -> Result<Op, Reason>
     requires word { is_operation word ≡ true }
     requires globals { globals ≤ 64 }
-    ensures { (place : Place) (fields : List (List ℕ)) → place.script.globals ≡ globals → AreArguments arguments.now fields → IsOperationOf place word fields result }
+    ensures { (place : Place) (fields : List (List ℕ)) → place.script.globals ≡ globals
+        → AreArguments arguments.now fields → IsOperationOf place word fields result }
 {
     let register = Limits::REGISTER;
     match word {

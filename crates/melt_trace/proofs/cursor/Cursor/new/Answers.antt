@@ -6,4 +6,5 @@ use Rattle.melt_trace.proofs.cursor.Cursor.new.Goals as goal
 
 pub invariant_of-result : goal.invariant_of-result
 invariant_of-result c =
-    subst (λ (bs : List Block). IsUnderway c.args.globals c.args.items.now bs 0) (sym c.new.ensures) (at_first c.args.globals c.args.items.now c.requires)
+    subst (λ (bs : List Block). IsUnderway c.args.globals c.args.items.now bs 0) (sym c.new.ensures)
+    (at_first c.args.globals c.args.items.now c.requires)

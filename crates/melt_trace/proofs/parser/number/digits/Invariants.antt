@@ -4,4 +4,5 @@ use Rattle.melt_trace.proofs.parser.number.digits.Given as goal
 
 abbrev pub invariant-loop-b : goal.invariant-loop-b
 invariant-loop-b l =
-    (option_and_then if_word (spelled_from l.n (drop l.b-index l.bytes)) ≡ option_and_then if_word (spelled_from 0 l.bytes)) × (l.n < 2 ^ 64)
+    (option_and_then if_word (spelled_from l.n (drop l.b-index l.bytes))
+    ≡ option_and_then if_word (spelled_from 0 l.bytes)) × (l.n < 2 ^ 64)

@@ -13,13 +13,17 @@ returns c =
     let tallied = subst (IsTallied draft.items.items draft.count) is c.requires.tallied in
     let filled : 0 < draft.count = omega arith in
     let some : 0 < c.saturating_add-self.result =
-    rw (c.saturating_add-self.ensures, c.saturating_mul-unrolled.ensures) (some_more block.before block.times draft.count (some_times draft.items.items draft.count block around tallied) filled)
+    rw (c.saturating_add-self.ensures, c.saturating_mul-unrolled.ensures)
+    (some_more block.before block.times draft.count (some_times draft.items.items draft.count block around tallied)
+    filled)
     in (
       ends (place_of draft) draft.count block draft.blocks.items around is filled
-          ∙ same_place draft.stage draft.threads (place_of draft).script _ _ _ _ (sym c.in_ok-push.ensures.items) (blocks_with_operation block.before c.saturating_add-self.result around some),
+          ∙ same_place draft.stage draft.threads (place_of draft).script _ _ _ _ (sym c.in_ok-push.ensures.items)
+          (blocks_with_operation block.before c.saturating_add-self.result around some),
       record {
         globals = c.requires.globals;
-        tallied = rw (c.in_ok-push.ensures.items, c.saturating_add-self.ensures, c.saturating_mul-unrolled.ensures) (tallied_end draft.items.items draft.count block around tallied);
+        tallied = rw (c.in_ok-push.ensures.items, c.saturating_add-self.ensures, c.saturating_mul-unrolled.ensures)
+            (tallied_end draft.items.items draft.count block around tallied);
         total = c.requires.total;
         few = c.requires.few;
       },
