@@ -1,18 +1,22 @@
 //! A space of 64-bit words, in which objects are made one behind the other.
-ghost use Rattle.std.specs.Prelude.{◌≡◌, ◌+◌, ◌-◌, ◌^◌, ◌<◌, ◌≤◌, ◌++◌, [], drop, length, if◌then◌else◌, IfErr, IfOk, IsErr, OnErr};
+ghost use Rattle.std.specs.Prelude.{◌≡◌, ◌+◌, ◌-◌, ◌^◌, ◌<◌, ◌≤◌, ◌++◌, [], drop, length, if◌then◌else◌, IfErr, IfOk};
+ghost use Rattle.std.specs.Prelude.{IsErr, OnErr};
 ghost use Rattle.std.specs.Vec.{vec_capacity};
 ghost use Rattle.melt_word.specs.Words.{IsHeader, IsShape, cost_of, header_word};
 ghost use Rattle.melt_word.specs.declared.header.Header.{Header};
-ghost use Rattle.melt_space.specs.Space.{AreWords, HasHeader, IsFresh, IsSpace, IsWord, Lacks, Makes, Replaces, SetsWord, word_at};
+ghost use Rattle.melt_space.specs.Space.{AreWords, HasHeader, IsFresh, IsSpace, IsWord, Lacks, Makes, Replaces};
+ghost use Rattle.melt_space.specs.Space.{SetsWord, word_at};
 
 use melt_model::NoMemory;
 use melt_word::{Header, Shape, cost, decode_header, encode_header};
 use std::alloc::Global;
 use std::marker::Model;
 use std::mem::replace;
+use thiserror::Error;
 
 /// No room for an object: the words that are free, and those that it needs, from 2 to 126.
-#[derive(Clone, Copy, Debug, PartialEq, Eq)]
+#[derive(Clone, Copy, Debug, PartialEq, Eq, Error)]
+#[error("no room for an object of {need} words where {free} are free")]
 pub struct NoRoom {
     pub free: u32,
     pub need: u32,
@@ -50,7 +54,8 @@ fn put_front(list: &mut [u64], words: &[u64])
 /// Answers whether it did.
 fn complete(words: &mut Vec<u64>, list: &[u64]) -> bool
     requires { length words.old.items ≤ length list.now }
-    ensures { words.new.items ≡ (if result then words.old.items ++ drop (length words.old.items) list.now else words.old.items) }
+    ensures { words.new.items ≡ (if result then words.old.items
+        ++ drop (length words.old.items) list.now else words.old.items) }
 {
     let count = words.len();
     let behind = list.len() - count;
@@ -177,8 +182,8 @@ impl Space {
         self.used = used;
     }
 
-    /// An empty vector with room for the words in use, for a copy of them. Where they are most of all words, it has room
-    /// for all, so that `replace` can let it take their place.
+    /// An empty vector with room for the words in use, for a copy of them. Where they are most of all words, it has
+    /// room for all, so that `replace` can let it take their place.
     ///
     /// Takes memory only where no vector is kept, or one that is too small, which is let go first.
     pub fn room_for_copy(&mut self, alloc: Global) -> Result<Vec<u64>, NoMemory>

@@ -5,5 +5,6 @@ use Rattle.melt_space.proofs.tests.a_header_tells_its_shape.Goals as goal
 -- the word that was put there is that of a header
 pub shape-requires-clause-header : goal.shape-requires-clause-header
 shape-requires-clause-header g c =
-    has_header _ 1 (record { shape = record { refs = 2; nums = 1 }; stale = true }) (record { refs = lit≤ tt; nums = lit≤ tt })
+    has_header _ 1 (record { shape = record { refs = 2; nums = 1 }; stale = true })
+    (record { refs = lit≤ tt; nums = lit≤ tt })
     (c.set_word.ensures.here ∙ c.encode_header.ensures)
