@@ -1,11 +1,14 @@
 -- Laws of what one thread is told, while the history grows.
-use Rattle.std.proofs.Common.{◌≡◌, ◌≢◌, ℕ, ◌+◌, ◌<◌, zero, suc, true, false, cond, eqb, length-append, List, [], ◌∷◌, ◌++◌, length, refl, sym, ◌∙◌, ap, subst, arith, append_assoc}
+use Rattle.std.proofs.Common.{◌≡◌, ◌≢◌, ℕ, ◌+◌, ◌<◌, zero, suc, true, false, cond, eqb, length-append, List, [], ◌∷◌}
+use Rattle.std.proofs.Common.{◌++◌, length, refl, sym, ◌∙◌, ap, subst, arith, append_assoc}
 use Rattle.std.proofs.lemmas.List.{append-nil}
 use Rattle.std.proofs.Math.Seq.{take-append_seam}
 use Rattle.std.specs.Prelude.{fold, nat_lt, Option, None, Some, unwrap_or, replicate, if◌then◌else◌}
 use Rattle.std.specs.Option.{option_map_or}
 use Rattle.melt_model.specs.History.{Shape, shape, given, IsReference}
-use Rattle.melt_model.specs.Thread.{own_from, own, given_at, Deed, unchanged, value_in, on_part, does, Thread, beginning, next_given, deed, places_left, thread_after, registers_after, Takes, Answered, Transcript}
+use Rattle.melt_model.specs.Thread.{own_from, own, given_at, Deed, unchanged, value_in, on_part, does, Thread}
+use Rattle.melt_model.specs.Thread.{beginning, next_given, deed, places_left, thread_after, registers_after, Takes}
+use Rattle.melt_model.specs.Thread.{Answered, Transcript}
 use Rattle.melt_model.specs.Standing.{HoldReferences, Reaches, Stands}
 use Rattle.melt_model.specs.declared.history.Value.{Value}
 use Rattle.melt_model.specs.declared.history.Value.TheVariants.{Nil, Ref, Num}
@@ -15,7 +18,8 @@ use Rattle.melt_model.specs.declared.operations.Op.{Op}
 use Rattle.melt_model.specs.declared.operations.Op.TheVariants as op
 use Rattle.melt_model.specs.declared.operations.Reply.{Reply}
 use Rattle.melt_model.specs.declared.operations.Reply.TheVariants as reply
-use Rattle.melt_model.proofs.Histories.{shape-append, IsReference-append, own-push_own, own-push_other, act_at-append, given_at-append, slice_get-append_seam}
+use Rattle.melt_model.proofs.Histories.{shape-append, IsReference-append, own-push_own, own-push_other, act_at-append}
+use Rattle.melt_model.proofs.Histories.{given_at-append, slice_get-append_seam}
 
 -- all places are in the history
 abbrev pub Within : List Entry → List ℕ → Type 0
@@ -23,7 +27,9 @@ Within h [] = Unit {0}
 Within h (p ∷ places) = (p < length h) × Within h places
 
 -- one operation more
-Reaches-push : (h : List Entry) (a b : Thread) (ops : List Op) (replies : List Reply) (o : Op) → Reaches h a ops replies b → HoldReferences h b.registers → Takes h (deed h b o).act b.places → Reaches h a (ops ++ o ∷ []) (replies ++ (deed h b o).reply ∷ []) (thread_after h b o)
+Reaches-push : (h : List Entry) (a b : Thread) (ops : List Op) (replies : List Reply) (o : Op)
+    → Reaches h a ops replies b → HoldReferences h b.registers → Takes h (deed h b o).act b.places
+    → Reaches h a (ops ++ o ∷ []) (replies ++ (deed h b o).reply ∷ []) (thread_after h b o)
 Reaches-push h a b [] [] o reached holds takes =
     let P : Thread → Type 0 = λ x. Reaches h x (o ∷ []) ((deed h b o).reply ∷ []) (thread_after h b o) in
     subst P (sym reached) (holds, refl, takes, refl)
@@ -33,7 +39,8 @@ Reaches-push h a b [] (r ∷ replies) o reached holds takes = absurd reached
 Reaches-push h a b (p ∷ ops) [] o reached holds takes = absurd reached
 
 -- operations that got their replies, when no place is left, with any others behind them
-Answered_from : (h : List Entry) (a b : Thread) (ops more : List Op) (replies : List Reply) → Reaches h a ops replies b → b.places ≡ [] → Answered h a (ops ++ more) replies
+Answered_from : (h : List Entry) (a b : Thread) (ops more : List Op) (replies : List Reply) → Reaches h a ops replies b
+    → b.places ≡ [] → Answered h a (ops ++ more) replies
 Answered_from h a b [] more [] reached none = ap (λ (x : Thread). x.places) reached ∙ none
 Answered_from h a b (o ∷ ops) more (r ∷ replies) reached none =
     (reached.1, reached.2, Answered_from h (thread_after h a o) b ops more replies reached.3 none)
@@ -41,13 +48,16 @@ Answered_from h a b [] more (r ∷ replies) reached none = absurd reached
 Answered_from h a b (o ∷ ops) more [] reached none = absurd reached
 
 -- An operation does the same by a longer history.
-on_part-append : (parts : Shape → ℕ) (h k : List Entry) (registers : List Value) (v : Value) (i : ℕ) (f : ℕ → Deed) → IsReference h v → on_part parts (h ++ k) registers v i f ≡ on_part parts h registers v i f
+on_part-append : (parts : Shape → ℕ) (h k : List Entry) (registers : List Value) (v : Value) (i : ℕ) (f : ℕ → Deed)
+    → IsReference h v → on_part parts (h ++ k) registers v i f ≡ on_part parts h registers v i f
 on_part-append parts h k registers Nil i f known = refl
 on_part-append parts h k registers (Num v) i f known = refl
 on_part-append parts h k registers (Ref n) i f known =
-    ap (λ (z : Option Shape). if nat_lt i (option_map_or parts z 0) then f n else unchanged registers reply.Range) (shape-append h k n known)
+    ap (λ (z : Option Shape). if nat_lt i (option_map_or parts z 0) then f n else unchanged registers reply.Range)
+    (shape-append h k n known)
 
-pub does-append : (h k : List Entry) (registers : List Value) (o : Op) (x : Value) → HoldReferences h registers → does (h ++ k) registers o x ≡ does h registers o x
+pub does-append : (h k : List Entry) (registers : List Value) (o : Op) (x : Value) → HoldReferences h registers
+    → does (h ++ k) registers o x ≡ does h registers o x
 does-append h k regs (op.New dst refs nums) x holds = refl
 does-append h k regs (op.Load dst src i) x holds = on_part-append _ h k regs (value_in regs src) i _ (holds src)
 does-append h k regs (op.Store obj i src) x holds = on_part-append _ h k regs (value_in regs obj) i _ (holds obj)
@@ -61,16 +71,21 @@ does-append h k regs (op.Drop r) x holds = refl
 does-append h k regs op.Collect x holds = refl
 
 -- an operation without an entry does not look at what an entry gives
-on_part_local : (parts : Shape → ℕ) (h : List Entry) (registers : List Value) (v : Value) (i : ℕ) (f g : ℕ → Deed) → ((n : ℕ) → (f n).act ≡ None → ⊥) → (on_part parts h registers v i f).act ≡ None → on_part parts h registers v i g ≡ on_part parts h registers v i f
+on_part_local : (parts : Shape → ℕ) (h : List Entry) (registers : List Value) (v : Value) (i : ℕ) (f g : ℕ → Deed)
+    → ((n : ℕ) → (f n).act ≡ None → ⊥) → (on_part parts h registers v i f).act ≡ None
+    → on_part parts h registers v i g ≡ on_part parts h registers v i f
 on_part_local parts h registers Nil i f g has none = refl
 on_part_local parts h registers (Num v) i f g has none = refl
 on_part_local parts h registers (Ref n) i f g has nothing =
-    (elim (nat_lt i (option_map_or parts (shape h n) 0)) as (λ b. (if b then f n else unchanged registers reply.Range).act ≡ None → (if b then g n else unchanged registers reply.Range) ≡ (if b then f n else unchanged registers reply.Range)) [
+    (elim (nat_lt i (option_map_or parts (shape h n) 0)) as
+    (λ b. (if b then f n else unchanged registers reply.Range).act ≡ None
+    → (if b then g n else unchanged registers reply.Range) ≡ (if b then f n else unchanged registers reply.Range)) [
       | true ↦ λ none. absurd (has n none)
       | false ↦ λ none. refl
     ]) nothing
 
-does_local : (h : List Entry) (registers : List Value) (o : Op) (x y : Value) → (does h registers o x).act ≡ None → does h registers o y ≡ does h registers o x
+does_local : (h : List Entry) (registers : List Value) (o : Op) (x y : Value) → (does h registers o x).act ≡ None
+    → does h registers o y ≡ does h registers o x
 does_local h regs (op.New dst refs nums) x y none = absurd (cc)
 does_local h regs (op.Load dst src i) x y none = on_part_local _ h regs (value_in regs src) i _ _ (λ n e. cc) none
 does_local h regs (op.Store obj i src) x y none = on_part_local _ h regs (value_in regs obj) i _ _ (λ n e. cc) none
@@ -87,7 +102,8 @@ does_local h regs op.Collect x y none = refl
 abbrev pub with_places : Thread → List ℕ → Thread
 with_places a new = record { registers = a.registers; places = a.places ++ new }
 
-Within_left : (h : List Entry) (act : Option Act) (places : List ℕ) → Within h places → Within h (places_left act places)
+Within_left : (h : List Entry) (act : Option Act) (places : List ℕ) → Within h places
+    → Within h (places_left act places)
 Within_left h None places within = within
 Within_left h (Some act) [] within = within
 Within_left h (Some act) (p ∷ places) within = within.1
@@ -96,41 +112,56 @@ takes_none : (h : List Entry) (act : Option Act) → Takes h act [] → act ≡ 
 takes_none h None takes = refl
 takes_none h (Some act) takes = absurd takes
 
-same_deed : (h k : List Entry) (registers : List Value) (places new : List ℕ) (o : Op) → Within h places → Takes h (does h registers o (next_given h places)).act places → does h registers o (next_given (h ++ k) (places ++ new)) ≡ does h registers o (next_given h places)
+same_deed : (h k : List Entry) (registers : List Value) (places new : List ℕ) (o : Op) → Within h places
+    → Takes h (does h registers o (next_given h places)).act places
+    → does h registers o (next_given (h ++ k) (places ++ new)) ≡ does h registers o (next_given h places)
 same_deed h k registers [] new o within takes =
     does_local h registers o Nil (next_given (h ++ k) new) (takes_none h (does h registers o Nil).act takes)
 same_deed h k registers (p ∷ places) new o within takes =
     ap (λ (v : Option Value). does h registers o (unwrap_or v Nil)) (given_at-append h k p within.0)
 
 -- What an operation does is the same by a longer history, in which the thread has more places.
-deed-append : (h k : List Entry) (a : Thread) (new : List ℕ) (o : Op) → HoldReferences h a.registers → Within h a.places → Takes h (deed h a o).act a.places → deed (h ++ k) (with_places a new) o ≡ deed h a o
+deed-append : (h k : List Entry) (a : Thread) (new : List ℕ) (o : Op) → HoldReferences h a.registers → Within h a.places
+    → Takes h (deed h a o).act a.places → deed (h ++ k) (with_places a new) o ≡ deed h a o
 deed-append h k a new o holds within takes =
-    does-append h k a.registers o (next_given (h ++ k) (a.places ++ new)) holds ∙ same_deed h k a.registers a.places new o within takes
+    does-append h k a.registers o (next_given (h ++ k) (a.places ++ new)) holds
+    ∙ same_deed h k a.registers a.places new o within takes
 
-Takes-append : (h k : List Entry) (act : Option Act) (places new : List ℕ) → Within h places → Takes h act places → Takes (h ++ k) act (places ++ new)
+Takes-append : (h k : List Entry) (act : Option Act) (places new : List ℕ) → Within h places → Takes h act places
+    → Takes (h ++ k) act (places ++ new)
 Takes-append h k None places new within takes = tt
 Takes-append h k (Some act) [] new within takes = absurd takes
 Takes-append h k (Some act) (p ∷ places) new within takes = act_at-append h k p within.0 ∙ takes
 
-places_left-append : (h : List Entry) (act : Option Act) (places new : List ℕ) → Takes h act places → places_left act (places ++ new) ≡ places_left act places ++ new
+places_left-append : (h : List Entry) (act : Option Act) (places new : List ℕ) → Takes h act places
+    → places_left act (places ++ new) ≡ places_left act places ++ new
 places_left-append h None places new takes = refl
 places_left-append h (Some act) [] new takes = absurd takes
 places_left-append h (Some act) (p ∷ places) new takes = refl
 
-HoldReferences-append : (h k : List Entry) (registers : List Value) → HoldReferences h registers → HoldReferences (h ++ k) registers
+HoldReferences-append : (h k : List Entry) (registers : List Value) → HoldReferences h registers
+    → HoldReferences (h ++ k) registers
 HoldReferences-append h k registers holds r = IsReference-append h k (value_in registers r) (holds r)
 
 -- What a thread was told stays true when the history grows.
-pub Reaches-append : (h k : List Entry) (a b : Thread) (new : List ℕ) (ops : List Op) (replies : List Reply) → Within h a.places → Reaches h a ops replies b → Reaches (h ++ k) (with_places a new) ops replies (with_places b new)
+pub Reaches-append : (h k : List Entry) (a b : Thread) (new : List ℕ) (ops : List Op) (replies : List Reply)
+    → Within h a.places → Reaches h a ops replies b
+    → Reaches (h ++ k) (with_places a new) ops replies (with_places b new)
 Reaches-append h k a b new [] [] within reached = ap (λ (x : Thread). with_places x new) reached
 Reaches-append h k a b new (o ∷ ops) (r ∷ replies) within reached =
     let same : deed (h ++ k) (with_places a new) o ≡ deed h a o = deed-append h k a new o reached.0 within reached.2 in
-    let takes : Takes (h ++ k) (deed h a o).act (a.places ++ new) = Takes-append h k (deed h a o).act a.places new within reached.2 in
+    let takes : Takes (h ++ k) (deed h a o).act (a.places ++ new) =
+    Takes-append h k (deed h a o).act a.places new within reached.2 in
     let next : thread_after (h ++ k) (with_places a new) o ≡ with_places (thread_after h a o) new =
-    ap (λ (d : Deed). let t : Thread = record { registers = d.registers; places = places_left d.act (a.places ++ new) } in t) same
-    ∙ ap (λ (ps : List ℕ). let t : Thread = record { registers = (deed h a o).registers; places = ps } in t) (places_left-append h (deed h a o).act a.places new reached.2) in
+    ap (λ (d : Deed). let t : Thread = record {
+      registers = d.registers;
+      places = places_left d.act (a.places ++ new);
+    } in t) same
+    ∙ ap (λ (ps : List ℕ). let t : Thread = record { registers = (deed h a o).registers; places = ps } in
+    t) (places_left-append h (deed h a o).act a.places new reached.2) in
     let rest : Reaches (h ++ k) (with_places (thread_after h a o) new) ops replies (with_places b new) =
-    Reaches-append h k (thread_after h a o) b new ops replies (Within_left h (deed h a o).act a.places within) reached.3 in (
+    Reaches-append h k (thread_after h a o) b new ops replies (Within_left h (deed h a o).act a.places within)
+    reached.3 in (
       HoldReferences-append h k a.registers reached.0,
       ap (λ (d : Deed). d.reply) same ∙ reached.1,
       subst (λ (d : Deed). Takes (h ++ k) d.act (a.places ++ new)) (sym same) takes,
@@ -144,9 +175,12 @@ within_from : (h front rest : List Entry) (t : ℕ) → h ≡ front ++ rest → 
 within_from h front [] t is = tt
 within_from h front (e ∷ rest) t is =
     let below : length front < length h = omega (arith, ap length is, length-append front (e ∷ rest)) in
-    let more : Within h (own_from (length (front ++ e ∷ [])) rest t) = within_from h (front ++ e ∷ []) rest t (is ∙ sym (append_assoc front (e ∷ []) rest)) in
-    let rest_within : Within h (own_from (length front + 1) rest t) = subst (λ (n : ℕ). Within h (own_from n rest t)) (length-append front (e ∷ [])) more in
-    elim (eqb e.thread t) as (λ b. Within h (cond b (length front ∷ own_from (length front + 1) rest t) (own_from (length front + 1) rest t))) [
+    let more : Within h (own_from (length (front ++ e ∷ [])) rest t) =
+    within_from h (front ++ e ∷ []) rest t (is ∙ sym (append_assoc front (e ∷ []) rest)) in
+    let rest_within : Within h (own_from (length front + 1) rest t) =
+    subst (λ (n : ℕ). Within h (own_from n rest t)) (length-append front (e ∷ [])) more in
+    elim (eqb e.thread t) as (λ b. Within h (cond b (length front ∷ own_from (length front + 1) rest t)
+    (own_from (length front + 1) rest t))) [
       | true ↦ (below, rest_within)
       | false ↦ rest_within
     ]
@@ -172,7 +206,10 @@ takes_no_place : (h : List Entry) (act : Option Act) → act ≡ None → Takes 
 takes_no_place h act none = let P : Option Act → Type 0 = λ a. Takes h a [] in subst P (sym none) tt
 
 -- one operation more, without an entry
-pub Stands_local : (h : List Entry) (t : ℕ) (ops : List Op) (replies : List Reply) (registers : List Value) (o : Op) → Stands h t ops replies registers → (does h registers o Nil).act ≡ None → HoldReferences h (does h registers o Nil).registers → Stands h t (ops ++ o ∷ []) (replies ++ (does h registers o Nil).reply ∷ []) (does h registers o Nil).registers
+pub Stands_local : (h : List Entry) (t : ℕ) (ops : List Op) (replies : List Reply) (registers : List Value) (o : Op)
+    → Stands h t ops replies registers → (does h registers o Nil).act ≡ None
+    → HoldReferences h (does h registers o Nil).registers
+    → Stands h t (ops ++ o ∷ []) (replies ++ (does h registers o Nil).reply ∷ []) (does h registers o Nil).registers
 Stands_local h t ops replies registers o stands none references =
     let b : Thread = record { registers = registers; places = [] } in
     let d : Deed = does h registers o Nil in
@@ -180,7 +217,8 @@ Stands_local h t ops replies registers o stands none references =
     ap (λ (ps : List ℕ). let x : Thread = record { registers = d.registers; places = ps } in x) (no_places d.act) in
     record {
       reached = subst (λ (x : Thread). Reaches h (beginning h t) (ops ++ o ∷ []) (replies ++ d.reply ∷ []) x) after
-          (Reaches-push h (beginning h t) b ops replies o stands.reached stands.references (takes_no_place h d.act none));
+          (Reaches-push h (beginning h t) b ops replies o stands.reached stands.references
+          (takes_no_place h d.act none));
       references = references;
     }
 
@@ -188,66 +226,88 @@ given_at-seam : (h : List Entry) (e : Entry) → given_at (h ++ e ∷ []) (lengt
 given_at-seam h e = rw (slice_get-append_seam, take-append_seam)
 
 -- one operation more, whose entry is the new last one of the history
-pub Stands_entry : (h : List Entry) (t : ℕ) (ops : List Op) (replies : List Reply) (registers : List Value) (o : Op) (e : Entry) → Stands h t ops replies registers → e.thread ≡ t → (does h registers o (unwrap_or (given h e.act) Nil)).act ≡ Some e.act → HoldReferences (h ++ e ∷ []) (does h registers o (unwrap_or (given h e.act) Nil)).registers → Stands (h ++ e ∷ []) t (ops ++ o ∷ []) (replies ++ (does h registers o (unwrap_or (given h e.act) Nil)).reply ∷ []) (does h registers o (unwrap_or (given h e.act) Nil)).registers
+pub Stands_entry : (h : List Entry) (t : ℕ) (ops : List Op) (replies : List Reply) (registers : List Value) (o : Op)
+    (e : Entry) → Stands h t ops replies registers → e.thread ≡ t
+    → (does h registers o (unwrap_or (given h e.act) Nil)).act ≡ Some e.act
+    → HoldReferences (h ++ e ∷ []) (does h registers o (unwrap_or (given h e.act) Nil)).registers
+    → Stands (h ++ e ∷ []) t (ops ++ o ∷ []) (replies ++ (does h registers o (unwrap_or (given h e.act) Nil)).reply
+    ∷ []) (does h registers o (unwrap_or (given h e.act) Nil)).registers
 Stands_entry h t ops replies registers o e stands is act references =
     let k : List Entry = h ++ e ∷ [] in
     let d : Deed = does h registers o (unwrap_or (given h e.act) Nil) in
     let b : Thread = record { registers = registers; places = length h ∷ [] } in
     let start : beginning k t ≡ with_places (beginning h t) (length h ∷ []) =
-    ap (λ (ps : List ℕ). let x : Thread = record { registers = replicate 16 Nil; places = ps } in x) (own-push_own h e t is) in
+    ap (λ (ps : List ℕ). let x : Thread = record { registers = replicate 16 Nil; places = ps } in
+    x) (own-push_own h e t is) in
     let grown : Reaches k (with_places (beginning h t) (length h ∷ [])) ops replies b =
-    Reaches-append h (e ∷ []) (beginning h t) (record { registers = registers; places = [] }) (length h ∷ []) ops replies (Within-own h t) stands.reached in
-    let before : Reaches k (beginning k t) ops replies b = subst (λ (x : Thread). Reaches k x ops replies b) (sym start) grown in
+    Reaches-append h (e ∷ []) (beginning h t) (record { registers = registers; places = [] }) (length h ∷ []) ops
+    replies (Within-own h t) stands.reached in
+    let before : Reaches k (beginning k t) ops replies b =
+    subst (λ (x : Thread). Reaches k x ops replies b) (sym start) grown in
     let same : deed k b o ≡ d =
     ap (λ (v : Option Value). does k registers o (unwrap_or v Nil)) (given_at-seam h e)
     ∙ does-append h (e ∷ []) registers o (unwrap_or (given h e.act) Nil) stands.references in
     let takes : Takes k d.act (length h ∷ []) =
     subst (λ (a : Option Act). Takes k a (length h ∷ [])) (sym act) (rw slice_get-append_seam refl) in
     let more : Reaches k (beginning k t) (ops ++ o ∷ []) (replies ++ (deed k b o).reply ∷ []) (thread_after k b o) =
-    Reaches-push k (beginning k t) b ops replies o before (HoldReferences-append h (e ∷ []) registers stands.references) (subst (λ (x : Deed). Takes k x.act (length h ∷ [])) (sym same) takes) in
-    let told : Reaches k (beginning k t) (ops ++ o ∷ []) (replies ++ d.reply ∷ []) (record { registers = d.registers; places = places_left d.act (length h ∷ []) }) =
-    subst (λ (x : Deed). Reaches k (beginning k t) (ops ++ o ∷ []) (replies ++ x.reply ∷ []) (record { registers = x.registers; places = places_left x.act (length h ∷ []) })) same more in
+    Reaches-push k (beginning k t) b ops replies o before (HoldReferences-append h (e ∷ []) registers stands.references)
+    (subst (λ (x : Deed). Takes k x.act (length h ∷ [])) (sym same) takes) in
+    let told : Reaches k (beginning k t) (ops ++ o ∷ []) (replies ++ d.reply ∷ [])
+    (record { registers = d.registers; places = places_left d.act (length h ∷ []) }) =
+    subst (λ (x : Deed). Reaches k (beginning k t) (ops ++ o ∷ []) (replies ++ x.reply ∷ [])
+    (record { registers = x.registers; places = places_left x.act (length h ∷ []) })) same more in
     record {
-      reached = subst (λ (a : Option Act). Reaches k (beginning k t) (ops ++ o ∷ []) (replies ++ d.reply ∷ []) (record { registers = d.registers; places = places_left a (length h ∷ []) })) act told;
+      reached = subst (λ (a : Option Act). Reaches k (beginning k t) (ops ++ o ∷ []) (replies ++ d.reply ∷ [])
+          (record { registers = d.registers; places = places_left a (length h ∷ []) })) act told;
       references = references;
     }
 
 -- an entry of another thread
-pub Stands_other : (h : List Entry) (t : ℕ) (ops : List Op) (replies : List Reply) (registers : List Value) (e : Entry) → Stands h t ops replies registers → e.thread ≢ t → Stands (h ++ e ∷ []) t ops replies registers
+pub Stands_other : (h : List Entry) (t : ℕ) (ops : List Op) (replies : List Reply) (registers : List Value) (e : Entry)
+    → Stands h t ops replies registers → e.thread ≢ t → Stands (h ++ e ∷ []) t ops replies registers
 Stands_other h t ops replies registers e stands differs =
     let k : List Entry = h ++ e ∷ [] in
     let b : Thread = record { registers = registers; places = [] } in
     let start : beginning k t ≡ with_places (beginning h t) [] =
-    ap (λ (ps : List ℕ). let x : Thread = record { registers = replicate 16 Nil; places = ps } in x) (own-push_other h e t differs ∙ sym (append-nil (own h t))) in
+    ap (λ (ps : List ℕ). let x : Thread = record { registers = replicate 16 Nil; places = ps } in
+    x) (own-push_other h e t differs ∙ sym (append-nil (own h t))) in
     record {
-      reached = subst (λ (x : Thread). Reaches k x ops replies b) (sym start) (Reaches-append h (e ∷ []) (beginning h t) b [] ops replies (Within-own h t) stands.reached);
+      reached = subst (λ (x : Thread). Reaches k x ops replies b) (sym start)
+          (Reaches-append h (e ∷ []) (beginning h t) b [] ops replies (Within-own h t) stands.reached);
       references = HoldReferences-append h (e ∷ []) registers stands.references;
     }
 
 -- the replies so far are a transcript, whatever operations are still to come
-pub Transcript_so_far : (h : List Entry) (t : ℕ) (ops more : List Op) (replies : List Reply) (registers : List Value) → Stands h t ops replies registers → Transcript h t (ops ++ more) replies
+pub Transcript_so_far : (h : List Entry) (t : ℕ) (ops more : List Op) (replies : List Reply) (registers : List Value)
+    → Stands h t ops replies registers → Transcript h t (ops ++ more) replies
 Transcript_so_far h t ops more replies registers stands =
     Answered_from h (beginning h t) (record { registers = registers; places = [] }) ops more replies stands.reached refl
 
 -- the thread that was reached is that of the definition of registers
-reached_thread : (h : List Entry) (a b : Thread) (ops : List Op) (replies : List Reply) → Reaches h a ops replies b → fold (thread_after h) a ops ≡ b
+reached_thread : (h : List Entry) (a b : Thread) (ops : List Op) (replies : List Reply) → Reaches h a ops replies b
+    → fold (thread_after h) a ops ≡ b
 reached_thread h a b [] [] reached = reached
 reached_thread h a b (o ∷ ops) (r ∷ replies) reached = reached_thread h (thread_after h a o) b ops replies reached.3
 reached_thread h a b [] (r ∷ replies) reached = absurd reached
 reached_thread h a b (o ∷ ops) [] reached = absurd reached
 
-pub registers_so_far : (h : List Entry) (t : ℕ) (ops more : List Op) (replies : List Reply) (registers : List Value) → Stands h t ops replies registers → registers_after h t (ops ++ more) (length ops) ≡ registers
+pub registers_so_far : (h : List Entry) (t : ℕ) (ops more : List Op) (replies : List Reply) (registers : List Value)
+    → Stands h t ops replies registers → registers_after h t (ops ++ more) (length ops) ≡ registers
 registers_so_far h t ops more replies registers stands =
     let b : Thread = record { registers = registers; places = [] } in
     ap (λ (os : List Op). (fold (thread_after h) (beginning h t) os).registers) (take-append_seam ops more)
     ∙ ap (λ (x : Thread). x.registers) (reached_thread h (beginning h t) b ops replies stands.reached)
 
 -- each operation has one reply
-replies_count : (h : List Entry) (a b : Thread) (ops : List Op) (replies : List Reply) → Reaches h a ops replies b → length replies ≡ length ops
+replies_count : (h : List Entry) (a b : Thread) (ops : List Op) (replies : List Reply) → Reaches h a ops replies b
+    → length replies ≡ length ops
 replies_count h a b [] [] reached = refl
-replies_count h a b (o ∷ ops) (r ∷ replies) reached = ap suc (replies_count h (thread_after h a o) b ops replies reached.3)
+replies_count h a b (o ∷ ops) (r ∷ replies) reached =
+    ap suc (replies_count h (thread_after h a o) b ops replies reached.3)
 replies_count h a b [] (r ∷ replies) reached = absurd reached
 replies_count h a b (o ∷ ops) [] reached = absurd reached
 
-pub one_reply_each : (h : List Entry) (t : ℕ) (ops : List Op) (replies : List Reply) (registers : List Value) → Stands h t ops replies registers → length replies ≡ length ops
-one_reply_each h t ops replies registers stands = replies_count h (beginning h t) (record { registers = registers; places = [] }) ops replies stands.reached
+pub one_reply_each : (h : List Entry) (t : ℕ) (ops : List Op) (replies : List Reply) (registers : List Value)
+    → Stands h t ops replies registers → length replies ≡ length ops
+one_reply_each h t ops replies registers stands =
+    replies_count h (beginning h t) (record { registers = registers; places = [] }) ops replies stands.reached

@@ -1,5 +1,7 @@
 -- What one thread is told, by a history.
-use Rattle.std.specs.Prelude.{◌≡◌, ℕ, ◌+◌, Bool, true, false, ◌==◌, if◌then◌else◌, nat_lt, List, [], ◌∷◌, take, drop, fold, replicate, slice_set, slice_index_or, slice_get, Option, None, Some, unwrap_or, option_and_then}
+use Rattle.std.specs.Prelude.{◌≡◌, ℕ, ◌+◌, Bool, true, false, ◌==◌, if◌then◌else◌, nat_lt, List, [], ◌∷◌, take, drop}
+use Rattle.std.specs.Prelude.{fold, replicate, slice_set, slice_index_or, slice_get, Option, None, Some, unwrap_or}
+use Rattle.std.specs.Prelude.{option_and_then}
 use Rattle.std.specs.Option.{option_map, option_map_or}
 use Rattle.melt_model.specs.History.{Shape, shape, given}
 use Rattle.melt_model.specs.declared.history.Value.{Value}
@@ -77,7 +79,8 @@ on_part parts h registers (Ref n) k deed =
 
 -- What one operation does, by the registers before it, where `x` is what its entry gives.
 abbrev pub does : List Entry → List Value → Op → Value → Deed
-does h regs (op.New dst refs nums) x = record { act = Some (Make refs nums); reply = reply.Done; registers = slice_set regs dst x }
+does h regs (op.New dst refs nums) x =
+    record { act = Some (Make refs nums); reply = reply.Done; registers = slice_set regs dst x }
 does h regs (op.Load dst src i) x = on_part (λ z. z.refs) h regs (value_in regs src) i (λ n.
     record { act = Some (Read (Field n i) x); reply = found x; registers = slice_set regs dst x })
 does h regs (op.Store obj i src) x = on_part (λ z. z.refs) h regs (value_in regs obj) i (λ n.
@@ -86,10 +89,14 @@ does h regs (op.Get src j) x = on_part (λ z. z.nums) h regs (value_in regs src)
     record { act = Some (Read (Cell n j) (Num (number x))); reply = reply.Num (number x); registers = regs })
 does h regs (op.Put obj j v) x = on_part (λ z. z.nums) h regs (value_in regs obj) j (λ n.
     record { act = Some (Write (Cell n j) (Num v)); reply = reply.Done; registers = regs })
-does h regs (op.GLoad dst g) x = record { act = Some (Read (Global g) x); reply = found x; registers = slice_set regs dst x }
-does h regs (op.GStore g src) x = record { act = Some (Write (Global g) (value_in regs src)); reply = reply.Done; registers = regs }
-does h regs (op.Same a b) x = unchanged regs (if value_eq (value_in regs a) (value_in regs b) then reply.Yes else reply.No)
-does h regs (op.Copy dst src) x = record { act = None; reply = reply.Done; registers = slice_set regs dst (value_in regs src) }
+does h regs (op.GLoad dst g) x =
+    record { act = Some (Read (Global g) x); reply = found x; registers = slice_set regs dst x }
+does h regs (op.GStore g src) x =
+    record { act = Some (Write (Global g) (value_in regs src)); reply = reply.Done; registers = regs }
+does h regs (op.Same a b) x = unchanged regs (if value_eq (value_in regs a) (value_in regs b) then reply.Yes else
+    reply.No)
+does h regs (op.Copy dst src) x =
+    record { act = None; reply = reply.Done; registers = slice_set regs dst (value_in regs src) }
 does h regs (op.Drop r) x = record { act = None; reply = reply.Done; registers = slice_set regs r Nil }
 does h regs op.Collect x = unchanged regs reply.Done
 
@@ -118,7 +125,8 @@ places_left (Some act) places = drop 1 places
 
 -- the thread behind its next operation
 abbrev pub thread_after : List Entry → Thread → Op → Thread
-thread_after h thread o = let d = deed h thread o in record { registers = d.registers; places = places_left d.act thread.places }
+thread_after h thread o = let d =
+    deed h thread o in record { registers = d.registers; places = places_left d.act thread.places }
 
 -- the registers after the first k operations
 abbrev pub registers_after : List Entry → ℕ → List Op → ℕ → List Value
@@ -135,7 +143,8 @@ abbrev pub Answered : List Entry → Thread → List Op → List Reply → Type 
 Answered h thread ops [] = thread.places ≡ []
 Answered h thread [] (r ∷ replies) = ⊥
 Answered h thread (o ∷ ops) (r ∷ replies) =
-    ((deed h thread o).reply ≡ r) × Takes h (deed h thread o).act thread.places × Answered h (thread_after h thread o) ops replies
+    ((deed h thread o).reply ≡ r) × Takes h (deed h thread o).act thread.places
+    × Answered h (thread_after h thread o) ops replies
 
 -- the history gives the thread these replies to the first of its operations
 abbrev pub Transcript : List Entry → ℕ → List Op → List Reply → Type 0

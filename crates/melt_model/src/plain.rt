@@ -1,8 +1,10 @@
 //! Slow bodies of the definitions, for small inputs and for tests. Nothing of the program calls
 //! them.
 ghost use Rattle.std.specs.Prelude.{◌≡◌, ◌↔◌, IsTrue, IfOk, MatchOption, MatchResult, slice_set};
-ghost use Rattle.melt_model.specs.History.{made, write_of, slot_eq, first_value, after_write, last, shape, given, IsSlot, IsReference, CanHold, MayFollow, Legal};
-ghost use Rattle.melt_model.specs.Thread.{own, value_in, unchanged, found, number, does, act_at, given_at, next_given, Takes, places_left, Transcript};
+ghost use Rattle.melt_model.specs.History.{made, write_of, slot_eq, first_value, after_write, last, shape, given};
+ghost use Rattle.melt_model.specs.History.{IsSlot, IsReference, CanHold, MayFollow, Legal};
+ghost use Rattle.melt_model.specs.Thread.{own, value_in, unchanged, found, number, does, act_at, given_at, next_given};
+ghost use Rattle.melt_model.specs.Thread.{Takes, places_left, Transcript};
 ghost use Rattle.melt_model.specs.Plain.{deed_of, HasPart, LacksPart};
 
 use crate::history::{Act, Entry, Slot, Value};

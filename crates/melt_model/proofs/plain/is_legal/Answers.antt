@@ -15,6 +15,7 @@ loop-place-preserved c =
 
 pub returns : goal.returns
 returns c = (
-  λ yes p e is. let below : p < length c.args.history.now = slice_get_within c.args.history.now p e is in c.loop-place.invariant p (omega arith) e is,
+  λ yes p e is. let below : p < length c.args.history.now =
+      slice_get_within c.args.history.now p e is in c.loop-place.invariant p (omega arith) e is,
   λ legal. refl,
 )

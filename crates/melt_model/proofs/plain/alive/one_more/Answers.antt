@@ -6,4 +6,5 @@ pub returns-in-Some : goal.returns-in-Some
 returns-in-Some c = (inl (listed_held c.args.registers.now c.in-Some.object c.in-Some.ensures.0), c.in-Some.ensures.1)
 
 pub returns-in-None : goal.returns-in-None
-returns-in-None c = one_more_next c.args.history.now c.args.registers.now c.args.objects.now _ c.in-None.ensures c.one_more_in_slots.ensures
+returns-in-None c = one_more_next c.args.history.now c.args.registers.now c.args.objects.now _ c.in-None.ensures
+    c.one_more_in_slots.ensures

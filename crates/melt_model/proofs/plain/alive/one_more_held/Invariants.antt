@@ -4,4 +4,5 @@ use Rattle.melt_model.specs.declared.history.Value.TheVariants.{Ref}
 use Rattle.melt_model.proofs.plain.alive.one_more_held.Given as goal
 
 abbrev pub invariant-loop-value : goal.invariant-loop-value
-invariant-loop-value l = (k : ℕ) → k < l.value-index → (n : ℕ) → slice_index_or l.registers k (Ref n) ≡ Ref n → Contains l.objects n
+invariant-loop-value l = (k : ℕ) → k < l.value-index → (n : ℕ) → slice_index_or l.registers k (Ref n) ≡ Ref n
+    → Contains l.objects n

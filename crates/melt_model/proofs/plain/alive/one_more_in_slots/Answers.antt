@@ -10,7 +10,8 @@ pub loop-entry-preserved : goal.loop-entry-preserved
 loop-entry-preserved c =
     let none : Entry = record { thread = 0; act = Make 0 0 } in
     below_more _ _ c.loop-entry.invariant (λ e is n wrote.
-    c.in_default.ensures n (subst (λ (x : Entry). Wrote c.args.history.now c.args.objects.now x.act n) (sym (get_or_from_slice_get c.args.history.now c.loop-entry.entry-index e none is)) wrote))
+    c.in_default.ensures n (subst (λ (x : Entry). Wrote c.args.history.now c.args.objects.now x.act n)
+    (sym (get_or_from_slice_get c.args.history.now c.loop-entry.entry-index e none is)) wrote))
 
 pub returns : goal.returns
 returns c = slots_closed c.args.history.now c.args.objects.now (λ p below. c.loop-entry.invariant p (omega arith))

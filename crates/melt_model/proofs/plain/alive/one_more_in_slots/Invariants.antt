@@ -5,4 +5,5 @@ use Rattle.melt_model.specs.declared.history.Entry.{Entry}
 use Rattle.melt_model.proofs.plain.alive.one_more_in_slots.Given as goal
 
 abbrev pub invariant-loop-entry : goal.invariant-loop-entry
-invariant-loop-entry l = (p : ℕ) → p < l.entry-index → (e : Entry) → slice_get l.history p ≡ Some e → (n : ℕ) → Wrote l.history l.objects e.act n → Contains l.objects n
+invariant-loop-entry l = (p : ℕ) → p < l.entry-index → (e : Entry) → slice_get l.history p ≡ Some e → (n : ℕ)
+    → Wrote l.history l.objects e.act n → Contains l.objects n
