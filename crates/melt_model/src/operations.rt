@@ -1,6 +1,9 @@
 //! What a thread asks of the heap, and what it is told.
 use std::marker::Model;
 
+/// The most reference slots, and the most number words, that an object may have.
+pub const MAX_PARTS: u8 = 62;
+
 /// One operation of a thread. `dst`, `src`, `obj`, `a`, `b` and `r` are registers, from 0 to 15;
 /// `i` is a reference slot and `j` a number word of an object; `g` is a global.
 #[derive(Clone, Copy, Debug, PartialEq, Eq)]

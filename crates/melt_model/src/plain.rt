@@ -8,14 +8,11 @@ ghost use Rattle.melt_model.specs.Thread.{Takes, places_left, Transcript};
 ghost use Rattle.melt_model.specs.Plain.{deed_of, HasPart, LacksPart};
 
 use crate::history::{Act, Entry, Slot, Value};
-use crate::operations::{Op, Reply};
+use crate::operations::{MAX_PARTS, Op, Reply};
 use crate::words::NoMemory;
 use std::alloc::Global;
 
-pub mod alive;
-
-/// The most reference slots, and the most number words, that an object may have.
-const MOST_PARTS: u8 = 62;
+mod alive;
 
 /// How many objects were made.
 pub fn made(history: &[Entry]) -> u64
@@ -146,7 +143,7 @@ fn may_follow(before: &[Entry], globals: u8, act: Act) -> bool
     ensures { IsTrue result ↔ MayFollow before.now globals act }
 {
     match act {
-        Act::Make { refs, nums } => refs <= MOST_PARTS && nums <= MOST_PARTS,
+        Act::Make { refs, nums } => refs <= MAX_PARTS && nums <= MAX_PARTS,
         Act::Read { slot, value } => is_slot(before, globals, slot) && value == last(before, slot),
         Act::Write { slot, value } => {
             is_slot(before, globals, slot) && can_hold(before, slot, value)

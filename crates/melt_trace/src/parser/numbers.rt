@@ -8,6 +8,7 @@ use crate::parser::fields::Arguments;
 use crate::parser::number::number;
 use crate::parser::words::is;
 use crate::reason::Reason;
+use melt_model::MAX_PARTS;
 
 /// What a number may be, and the reason to refuse another.
 #[derive(Clone, Copy)]
@@ -27,7 +28,7 @@ impl Limits {
     /// How many parts of a kind an object has.
     pub const PARTS: Limits = Limits {
         low: 0,
-        high: 62,
+        high: MAX_PARTS as u64,
         reason: Reason::OutOfRange,
     };
 
