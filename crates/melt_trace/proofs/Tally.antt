@@ -10,7 +10,8 @@ use Rattle.melt_trace.specs.declared.script.Item.TheVariants as item
 use Rattle.melt_trace.specs.declared.parser.draft.Block.{Block}
 use Rattle.melt_trace.specs.Script.{times, before_first, unrolled, levels, expand}
 use Rattle.melt_trace.specs.Language.{with_operation}
-use Rattle.melt_trace.specs.Drafts.{blocks_of, lengths_of, add_first, copies, closing, Counts, capped, AreCapped}
+use Rattle.melt_trace.specs.Drafts.{blocks_of, lengths_of, add_first, copies, closing, CountsOperations, capped}
+use Rattle.melt_trace.specs.Drafts.{AreCapped}
 use Rattle.melt_trace.specs.Drafts.{IsTallied}
 
 -- ---- the lengths of levels
@@ -67,22 +68,23 @@ closing_more count n (block ∷ around) ls =
     ap (λ (k : List ℕ). closing block.1 around (copies block.0 k)) (add_both count n ls)
 
 -- one line more
-with_line : (items : List Item) (i : Item) (count : ℕ) (around : List (ℕ × ℕ)) → Counts items count around
+with_line : (items : List Item) (i : Item) (count : ℕ) (around : List (ℕ × ℕ)) → CountsOperations items count around
     → (rest : List Item) → lengths_of ((items ++ i ∷ []) ++ rest) ≡ closing count around (lengths_of (i ∷ rest))
 with_line items i count around h rest = ap lengths_of (append_assoc items (i ∷ []) rest) ∙ h (i ∷ rest)
 
-counts_none : Counts [] 0 []
+counts_none : CountsOperations [] 0 []
 counts_none rest = add_none (lengths_of rest)
 
-counts_operation : (items : List Item) (o : Op) (count : ℕ) (around : List (ℕ × ℕ)) → Counts items count around
-    → Counts (items ++ item.Op o ∷ []) (count + 1) around
+counts_operation : (items : List Item) (o : Op) (count : ℕ) (around : List (ℕ × ℕ))
+    → CountsOperations items count around
+    → CountsOperations (items ++ item.Op o ∷ []) (count + 1) around
 counts_operation items o count around h rest =
     with_line items (item.Op o) count around h rest
     ∙ ap (closing count around) (lengths_before o (levels rest))
     ∙ closing_more count 1 around (lengths_of rest)
 
-counts_repeat : (items : List Item) (n count : ℕ) (around : List (ℕ × ℕ)) → Counts items count around
-    → Counts (items ++ item.Repeat n ∷ []) 0 ((n, count) ∷ around)
+counts_repeat : (items : List Item) (n count : ℕ) (around : List (ℕ × ℕ)) → CountsOperations items count around
+    → CountsOperations (items ++ item.Repeat n ∷ []) 0 ((n, count) ∷ around)
 counts_repeat items n count around h rest =
     with_line items (item.Repeat n) count around h rest
     ∙ ap (closing count around) (lengths_unrolled n (levels rest))
@@ -96,8 +98,9 @@ block_ends n count ls l around e =
     ∙ ap (λ (k : ℕ). (n * k + length l) ∷ map length around) zero
     ∙ ap (λ (k : List (List Op)). add_first (n * count) (map length k)) (sym e)
 
-counts_end : (items : List Item) (n count outer : ℕ) (around : List (ℕ × ℕ)) → Counts items count ((n, outer) ∷ around)
-    → Counts (items ++ item.End ∷ []) (outer + n * count) around
+counts_end : (items : List Item) (n count outer : ℕ) (around : List (ℕ × ℕ))
+    → CountsOperations items count ((n, outer) ∷ around)
+    → CountsOperations (items ++ item.End ∷ []) (outer + n * count) around
 counts_end items n count outer around h rest =
     let level = some_level rest in
     with_line items item.End count ((n, outer) ∷ around) h rest
@@ -108,7 +111,7 @@ first_length : (ls : List (List Op)) (k : ℕ) → map length ls ≡ k ∷ [] �
 first_length [] k e = absurd cc
 first_length (l ∷ ls) k e = cc
 
-counts_done : (items : List Item) (count : ℕ) → Counts items count [] → length (expand items) ≡ count
+counts_done : (items : List Item) (count : ℕ) → CountsOperations items count [] → length (expand items) ≡ count
 counts_done items count h =
     let whole : lengths_of items ≡ (count + 0) ∷ [] = sym (ap lengths_of (append-nil items)) ∙ h [] in
     omega (arith, first_length (levels items) (count + 0) whole)
@@ -154,7 +157,7 @@ tallied_repeat items n count blocks some h = record {
 
 -- what is known where a block is open
 end_of : (items : List Item) (exact count : ℕ) (around : List (ℕ × ℕ)) (block : Block) (blocks : List Block)
-    → Counts items exact around → count ≡ capped exact → AreCapped around (block ∷ blocks)
+    → CountsOperations items exact around → count ≡ capped exact → AreCapped around (block ∷ blocks)
     → (0 < block.times) × IsTallied (items ++ item.End ∷ []) (capped (block.before + capped (block.times * count)))
     blocks
 end_of items exact count [] block blocks counts is h = absurd h
@@ -167,7 +170,7 @@ end_of items exact count (outer ∷ around) block blocks counts is h =
         exact = outer.1 + block.times * exact;
         around = around;
         counts = counts_end items block.times exact outer.1 around
-            (subst (λ (n : ℕ). Counts items exact ((n, outer.1) ∷ around)) (sym times) counts);
+            (subst (λ (n : ℕ). CountsOperations items exact ((n, outer.1) ∷ around)) (sym times) counts);
         capped_count = ap (λ (k : ℕ). capped (k + capped (block.times * count))) before
             ∙ ap (λ (k : ℕ). capped (capped outer.1 + capped (block.times * k))) is
             ∙ capped_more outer.1 block.times exact some;
@@ -186,7 +189,8 @@ pub some_times : (items : List Item) (count : ℕ) (block : Block) (blocks : Lis
 some_times items count block blocks h =
     (end_of items h.exact count h.around block blocks h.counts h.capped_count h.capped_blocks).0
 
-done_of : (items : List Item) (exact : ℕ) (around : List (ℕ × ℕ)) → Counts items exact around → AreCapped around []
+done_of : (items : List Item) (exact : ℕ) (around : List (ℕ × ℕ)) → CountsOperations items exact around
+    → AreCapped around []
     → length (expand items) ≡ exact
 done_of items exact [] counts h = counts_done items exact counts
 done_of items exact (outer ∷ around) counts h = absurd h

@@ -11,7 +11,7 @@ use Rattle.melt_trace.specs.declared.blocks.Block.{Block}
 use Rattle.melt_trace.specs.Script.{times, before_first, unrolled, levels, expand}
 use Rattle.melt_trace.specs.Grammar.{InRange}
 use Rattle.melt_trace.specs.Language.{with_operation, AreItems}
-use Rattle.melt_trace.specs.Cursor.{Ahead, ended, left_of, left_at, begins_block, is_entered, AreOpen, IsFresh}
+use Rattle.melt_trace.specs.Cursor.{Ahead, ended, left_of, left_at, begins_block, is_entered, AreOpen, IsStillEmpty}
 use Rattle.melt_trace.specs.Cursor.{IsUnderway}
 
 -- ---- places of a list
@@ -280,7 +280,7 @@ leads globals items block blocks marks at false more is old lines are =
     }
 
 not_fresh : (items : List Item) (marks : List Bool) (at : ℕ) (b : Bool) → is_entered items at ≡ b
-    → (is_entered items at ≡ true → IsFresh (true ∷ marks)) → is_entered items at ≡ false
+    → (is_entered items at ≡ true → IsStillEmpty (true ∷ marks)) → is_entered items at ≡ false
 not_fresh items marks at true is fresh = absurd (fresh is)
 not_fresh items marks at false is fresh = is
 
@@ -290,7 +290,7 @@ AtEnd globals items blocks at = (0 < length blocks) × Leads globals items block
 end_leads : (globals : ℕ) (items : List Item) (blocks : List Block) (marks : List Bool) (at : ℕ)
     → slice_get items at ≡ Some item.End → AreItems globals marks (item.End ∷ drop (at + 1) items)
     → AreOpen globals items blocks marks ([] ∷ levels (drop (at + 1) items))
-    → (is_entered items at ≡ true → IsFresh marks) → AtEnd globals items blocks at
+    → (is_entered items at ≡ true → IsStillEmpty marks) → AtEnd globals items blocks at
 end_leads globals items blocks [] at is lines are fresh = absurd lines
 end_leads globals items blocks (false ∷ marks) at is lines are fresh = absurd lines
 end_leads globals items [] (true ∷ marks) at is lines are fresh = absurd (cc)

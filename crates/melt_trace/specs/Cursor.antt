@@ -62,14 +62,14 @@ AreOpen globals items (block ∷ blocks) (mark ∷ marks) around =
     IsBlock globals items block.start marks around × AreOpen globals items blocks marks (drop 1 around)
 
 -- the innermost of these blocks, if there is one, has no operation yet
-abbrev pub IsFresh : List Bool → Type 0
-IsFresh [] = Unit {0}
-IsFresh (true ∷ marks) = ⊥
-IsFresh (false ∷ marks) = Unit {0}
+abbrev pub IsStillEmpty : List Bool → Type 0
+IsStillEmpty [] = Unit {0}
+IsStillEmpty (true ∷ marks) = ⊥
+IsStillEmpty (false ∷ marks) = Unit {0}
 
 -- a place in a program, and the blocks that are open there
 pub record IsUnderway (globals : ℕ) (items : List Item) (blocks : List Block) (at : ℕ) : Type 0 where
   pub marks : List Bool
   pub lines : AreItems globals marks (drop at items)
   pub opened : AreOpen globals items blocks marks (levels (drop at items))
-  pub fresh : is_entered items at ≡ true → IsFresh marks
+  pub fresh : is_entered items at ≡ true → IsStillEmpty marks

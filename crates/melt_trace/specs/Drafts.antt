@@ -17,14 +17,14 @@ abbrev pub blocks_of : ℕ → List Block → List Bool
 blocks_of count [] = []
 blocks_of count (block ∷ around) = nat_lt 0 count ∷ blocks_of block.before around
 
-abbrev pub programs_of : Draft → List (List Item)
-programs_of draft = draft.programs.items
+abbrev pub programs_so_far : Draft → List (List Item)
+programs_so_far draft = draft.programs.items
 
 abbrev pub place_of : Draft → Place
 place_of draft = record {
   stage = draft.stage;
   threads = draft.threads;
-  script = record { globals = draft.globals; orders = draft.orders.items; programs = programs_of draft };
+  script = record { globals = draft.globals; orders = draft.orders.items; programs = programs_so_far draft };
   items = draft.items.items;
   blocks = blocks_of draft.count draft.blocks.items;
 }
@@ -50,8 +50,9 @@ abbrev pub closing : ℕ → List (ℕ × ℕ) → List ℕ → List ℕ
 closing count [] ls = add_first count ls
 closing count (block ∷ around) ls = closing block.1 around (copies block.0 (add_first count ls))
 
-abbrev pub Counts : List Item → ℕ → List (ℕ × ℕ) → Type 0
-Counts items count around = (rest : List Item) → lengths_of (items ++ rest) ≡ closing count around (lengths_of rest)
+abbrev pub CountsOperations : List Item → ℕ → List (ℕ × ℕ) → Type 0
+CountsOperations items count around = (rest : List Item)
+    → lengths_of (items ++ rest) ≡ closing count around (lengths_of rest)
 
 -- a count that stays at the highest number of 32 bits
 abbrev pub capped : ℕ → ℕ
@@ -68,26 +69,26 @@ AreCapped (exact ∷ around) (block ∷ blocks) = (block.times ≡ exact.0) × (
 pub record IsTallied (items : List Item) (count : ℕ) (blocks : List Block) : Type 0 where
   pub exact : ℕ
   pub around : List (ℕ × ℕ)
-  pub counts : Counts items exact around
+  pub counts : CountsOperations items exact around
   pub capped_count : count ≡ capped exact
   pub capped_blocks : AreCapped around blocks
 
-pub record IsSound (draft : Draft) : Type 0 where
+pub record IsSoundDraft (draft : Draft) : Type 0 where
   pub globals : draft.globals ≤ 64
   pub tallied : IsTallied draft.items.items draft.count draft.blocks.items
-  pub total : draft.total ≡ operation_count (programs_of draft)
+  pub total : draft.total ≡ operation_count (programs_so_far draft)
   pub few : draft.total ≤ 1048576
 
 -- ---- one line
 
 -- a line was taken as reading does, unless memory ran out
 abbrev pub LeadsTo : {X : Type 0} → Result X Fault → Draft → Result Place ℕ → Type 0
-LeadsTo (Ok x) draft read = (read ≡ Ok (place_of draft)) × IsSound draft
+LeadsTo (Ok x) draft read = (read ≡ Ok (place_of draft)) × IsSoundDraft draft
 LeadsTo (Err (fault.Bad reason)) draft read = read ≡ Err (number_of_reason reason)
 LeadsTo (Err fault.NoMemory) draft read = Unit {0}
 
 -- the lines that are left lead to what all lines say
 pub record IsReadTo (bytes : List ℕ) (draft : Draft) (rest : List ℕ) (number : ℕ) : Type 0 where
-  pub sound : IsSound draft
+  pub sound : IsSoundDraft draft
   pub same : script_from number (place_of draft) (lines_of rest) ≡ script_from 1 start (lines_of bytes)
   pub few : number + length rest ≤ 1 + length bytes

@@ -9,9 +9,9 @@ use Rattle.melt_trace.specs.Reasons.{reason_of_number, reason_text}
 use Rattle.melt_trace.specs.Language.{script_of}
 
 -- the first bad line of the bytes is that one, for that reason; of memory that was refused it says nothing
-abbrev pub IsRefused : List ℕ → ParseRefusal → Type 0
-IsRefused bytes (refusal.Bad error) = script_of bytes ≡ Err (error.line, error.reason)
-IsRefused bytes refusal.NoMemory = Unit {0}
+abbrev pub IsRefusedTrace : List ℕ → ParseRefusal → Type 0
+IsRefusedTrace bytes (refusal.Bad error) = script_of bytes ≡ Err (error.line, error.reason)
+IsRefusedTrace bytes refusal.NoMemory = Unit {0}
 
 -- what is printed of it: its line and its number, and the sentence of the reason that has this number
 abbrev pub place_text : TraceError → List ℕ
@@ -24,6 +24,6 @@ sentence_text (Some reason) = codes ": " ++ reason_text reason
 abbrev pub trace_error_text : TraceError → List ℕ
 trace_error_text error = place_text error ++ sentence_text (reason_of_number error.reason)
 
-abbrev pub refusal_text : ParseRefusal → List ℕ
-refusal_text (refusal.Bad error) = trace_error_text error
-refusal_text refusal.NoMemory = codes "out of memory"
+abbrev pub parse_refusal_text : ParseRefusal → List ℕ
+parse_refusal_text (refusal.Bad error) = trace_error_text error
+parse_refusal_text refusal.NoMemory = codes "out of memory"

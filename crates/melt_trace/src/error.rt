@@ -1,7 +1,7 @@
 //! Why bytes are refused.
 ghost use Rattle.std.specs.Prelude.{◌≡◌, Some};
 ghost use Rattle.melt_trace.specs.Reasons.{number_of_reason};
-ghost use Rattle.melt_trace.specs.Refusal.{trace_error_text, refusal_text};
+ghost use Rattle.melt_trace.specs.Refusal.{trace_error_text, parse_refusal_text};
 ghost use Rattle.melt_trace.specs.declared.error.ParseRefusal.TheVariants.{NoMemory};
 
 use crate::reason::Reason;
@@ -59,7 +59,7 @@ pub enum ParseRefusal {
 }
 
 impl fmt::Display for ParseRefusal {
-    ghost output = { λ refusal. Some (refusal_text refusal) };
+    ghost output = { λ refusal. Some (parse_refusal_text refusal) };
 
     fn fmt<W: fmt::Write>(&self, f: &mut fmt::Formatter<W>) -> fmt::Result {
         match self {

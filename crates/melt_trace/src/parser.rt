@@ -2,7 +2,7 @@
 ghost use Rattle.std.specs.Prelude.{◌≡◌, Ok, IfOk, IfErr};
 ghost use Rattle.melt_trace.specs.Language.{number_of, script_of};
 ghost use Rattle.melt_trace.specs.Drafts.{place_of};
-ghost use Rattle.melt_trace.specs.Refusal.{IsRefused};
+ghost use Rattle.melt_trace.specs.Refusal.{IsRefusedTrace};
 
 mod draft;
 mod fault;
@@ -33,7 +33,7 @@ pub const MAX_BYTES: usize = 16_777_216;
 /// What the lines of the bytes say.
 fn read_lines(alloc: Global, bytes: &[u8]) -> Result<Draft, ParseRefusal>
     ensures found { IfOk result (λ draft. script_of bytes.now ≡ Ok (place_of draft).script) }
-    ensures refused { IfErr result (IsRefused bytes.now) }
+    ensures refused { IfErr result (IsRefusedTrace bytes.now) }
 {
     if bytes.len() > MAX_BYTES {
         return Err(ParseRefusal::Bad(TraceError::too_long()));
@@ -60,7 +60,7 @@ fn read_lines(alloc: Global, bytes: &[u8]) -> Result<Draft, ParseRefusal>
 /// The trace that the bytes are, or the first bad line and the reason. Takes at most `MAX_BYTES` of them.
 pub fn parse(alloc: Global, bytes: &[u8]) -> Result<Trace, ParseRefusal>
     ensures found { IfOk result (λ trace. script_of bytes.now ≡ Ok trace) }
-    ensures refused { IfErr result (IsRefused bytes.now) }
+    ensures refused { IfErr result (IsRefusedTrace bytes.now) }
 {
     let draft = read_lines(alloc, bytes)?;
     Ok(draft.into_trace())

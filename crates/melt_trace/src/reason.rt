@@ -3,6 +3,7 @@ ghost use Rattle.std.specs.Prelude.{◌≡◌, Some, IfSome};
 ghost use Rattle.melt_trace.specs.declared.reason.Reason.{Reason};
 ghost use Rattle.melt_trace.specs.Reasons.{number_of_reason, reason_of_number, reason_text};
 
+use std::error::Error;
 use std::fmt;
 
 /// What is wrong with a line of a trace, or with the whole of it. Each has the number that `docs/TRACES.md` lists.
@@ -99,3 +100,5 @@ impl fmt::Display for Reason {
         })
     }
 }
+
+impl Error for Reason {}

@@ -2,7 +2,7 @@
 ghost use Rattle.std.specs.Prelude.{◌≡◌, ◌==◌, ◌<◌, ◌≤◌, if◌then◌else◌, [], ◌∷◌};
 ghost use Rattle.melt_trace.specs.Language.{after_repeat, after_end, after_done, after_order};
 ghost use Rattle.melt_trace.specs.Language.{after_operation, IsScript};
-ghost use Rattle.melt_trace.specs.Drafts.{place_of, IsSound, LeadsTo};
+ghost use Rattle.melt_trace.specs.Drafts.{place_of, IsSoundDraft, LeadsTo};
 
 use crate::language::Stage;
 use crate::parser::fault::Fault;
@@ -67,7 +67,7 @@ impl Draft {
           items = [];
           blocks = [];
         } }
-        ensures sound { IsSound result }
+        ensures sound { IsSoundDraft result }
     {
         Draft {
             stage,
@@ -97,7 +97,7 @@ impl Draft {
     }
 
     pub fn operation(&mut self, op: Op) -> Result<(), Fault>
-        requires { IsSound self.old }
+        requires { IsSoundDraft self.old }
         ensures { LeadsTo result self.new (after_operation (place_of self.old) (Some op)) }
     {
         self.items.push(Item::Op(op))?;
@@ -106,7 +106,7 @@ impl Draft {
     }
 
     pub fn repeat(&mut self, times: u32) -> Result<(), Fault>
-        requires sound { IsSound self.old }
+        requires sound { IsSoundDraft self.old }
         requires some { 0 < times }
         ensures { LeadsTo result self.new (after_repeat (place_of self.old) (times ∷ [])) }
     {
@@ -121,7 +121,7 @@ impl Draft {
     }
 
     pub fn end(&mut self) -> Result<(), Fault>
-        requires { IsSound self.old }
+        requires { IsSoundDraft self.old }
         ensures { LeadsTo result self.new (after_end (place_of self.old) (place_of self.old).blocks) }
     {
         let Some(block) = self.blocks.pop_front() else {
@@ -137,7 +137,7 @@ impl Draft {
     }
 
     pub fn done(&mut self, alloc: Global) -> Result<(), Fault>
-        requires sound { IsSound self.old }
+        requires sound { IsSoundDraft self.old }
         requires closed { (place_of self.old).blocks ≡ [] }
         ensures { LeadsTo result self.new (after_done (place_of self.old)) }
     {
@@ -156,7 +156,7 @@ impl Draft {
 
     /// Begins a stage in which no program has a line.
     pub fn restart(&mut self, stage: Stage, threads: u32)
-        requires { IsSound self.old }
+        requires { IsSoundDraft self.old }
         ensures place { place_of self.new ≡ record {
           stage = stage;
           threads = threads;
@@ -164,7 +164,7 @@ impl Draft {
           items = [];
           blocks = [];
         } }
-        ensures sound { IsSound self.new }
+        ensures sound { IsSoundDraft self.new }
     {
         self.stage = stage;
         self.threads = threads;
@@ -174,7 +174,7 @@ impl Draft {
     }
 
     pub fn order(&mut self, thread: u32, events: u32) -> Result<(), Fault>
-        requires { IsSound self.old }
+        requires { IsSoundDraft self.old }
         ensures { LeadsTo result self.new (after_order (place_of self.old) (thread ∷ events ∷ [])) }
     {
         if self.orders.len() >= MAX_ORDERS {

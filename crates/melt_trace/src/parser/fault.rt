@@ -4,11 +4,14 @@ ghost use Rattle.melt_trace.specs.declared.parser.fault.Fault.TheVariants.{Bad, 
 
 use crate::reason::Reason;
 use std::alloc::AllocFailed;
+use thiserror::Error;
 
 /// The reason to refuse the line, or an allocation that was refused.
-#[derive(Clone, Copy, Debug)]
+#[derive(Clone, Copy, Debug, Error)]
 pub enum Fault {
+    #[error(transparent)]
     Bad(Reason),
+    #[error("out of memory")]
     NoMemory,
 }
 

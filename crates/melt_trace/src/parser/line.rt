@@ -2,7 +2,7 @@
 ghost use Rattle.std.specs.Prelude.{◌≡◌, ℕ, List, ◌∷◌, true};
 ghost use Rattle.melt_trace.specs.Language.{after, after_fields, has_open, fits, fits_inside};
 ghost use Rattle.melt_trace.specs.Parsing.{AreArguments, after_arguments};
-ghost use Rattle.melt_trace.specs.Drafts.{place_of, IsSound, LeadsTo};
+ghost use Rattle.melt_trace.specs.Drafts.{place_of, IsSoundDraft, LeadsTo};
 
 use crate::language::{Stage, Word};
 use crate::parser::draft::Draft;
@@ -56,7 +56,7 @@ fn take_word(
     word: Word,
     arguments: &Arguments<'_>,
 ) -> Result<(), Fault>
-    requires sound { IsSound draft.old }
+    requires sound { IsSoundDraft draft.old }
     requires fits { fits draft.old.stage (place_of draft.old).blocks word ≡ true }
     ensures { (fields : List (List ℕ)) → AreArguments arguments.now fields
         → LeadsTo result draft.new (after_arguments (place_of draft.old) word fields) }
@@ -98,7 +98,7 @@ fn take_fields(
     first: &[u8],
     arguments: &Arguments<'_>,
 ) -> Result<(), Fault>
-    requires { IsSound draft.old }
+    requires { IsSoundDraft draft.old }
     ensures { (fields : List (List ℕ)) → AreArguments arguments.now fields
         → LeadsTo result draft.new (after_fields (place_of draft.old) draft.old.stage (first.now ∷ fields)) }
 {
@@ -142,7 +142,7 @@ fn take_fields(
 
 /// Takes a line.
 pub fn take_line(draft: &mut Draft, alloc: Global, line: &[u8]) -> Result<(), Fault>
-    requires { IsSound draft.old }
+    requires { IsSoundDraft draft.old }
     ensures { LeadsTo result draft.new (after (place_of draft.old) line.now) }
 {
     if !is_printable_line(line) {

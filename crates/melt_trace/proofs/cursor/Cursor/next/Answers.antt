@@ -70,7 +70,8 @@ overflow_sub-turns c =
       (at_repeat c.loop-op.self-inside.globals c.loop-op.self-inside.items.now
           c.loop-op.self-inside.open_blocks c.loop-op.self-inside.place c.in-Repeat.turns c.loop-op.invariant.underway
           (found_line c.loop-op.self-inside.items.now c.loop-op.self-inside.place c.in_ok-op.field-0.now
-          (item.Repeat c.in-Repeat.turns) c.in_ok-op.ensures.lookup.3.0 c.in_ok-op.ensures.lookup.1 c.in-Repeat.is)).some,
+          (item.Repeat c.in-Repeat.turns) c.in_ok-op.ensures.lookup.3.0 c.in_ok-op.ensures.lookup.1
+          c.in-Repeat.is)).some,
     )
 
 pub enter-requires : goal.enter-requires

@@ -3,7 +3,7 @@ use Rattle.melt_trace.specs.declared.script.Item.{Item}
 use Rattle.melt_trace.specs.declared.language.Stage.TheVariants as stage
 use Rattle.melt_trace.specs.Script.{expand}
 use Rattle.melt_trace.specs.Language.{operation_count}
-use Rattle.melt_trace.specs.Drafts.{place_of, blocks_of, programs_of, capped, IsTallied}
+use Rattle.melt_trace.specs.Drafts.{place_of, blocks_of, programs_so_far, capped, IsTallied}
 use Rattle.melt_trace.proofs.Tally.{tallied_none, tallied_done}
 use Rattle.melt_trace.proofs.Steps.{no_blocks, too_many, few_enough, behind_done}
 use Rattle.melt_trace.proofs.parser.draft.Draft.done.Goals as goal
@@ -25,13 +25,13 @@ returns c =
     let few : c.saturating_add-total.result ≤ 1048576 = c.if-total-gt-MAX_OPERATIONS.false in
     let step = few_enough (place_of draft) draft.total draft.count c.requires.sound.total c.requires.sound.few whole
     (rw (← c.saturating_add-total.ensures) few) in
-    let pushed : new ≡ programs_of draft ++ draft.items.items ∷ [] =
-    c.in_ok-push.ensures.items ∙ ap (λ (p : List Item). programs_of draft ++ p ∷ []) (c.new-2.ensures
+    let pushed : new ≡ programs_so_far draft ++ draft.items.items ∷ [] =
+    c.in_ok-push.ensures.items ∙ ap (λ (p : List Item). programs_so_far draft ++ p ∷ []) (c.new-2.ensures
     ∙ ap (λ v. v.items) c.replace-items.ensures.value)
     in
     let none : c.replace-items.new.dest.items ≡ [] = ap (λ v. v.items) c.replace-items.ensures.after
     ∙ c.new.ensures.items in
-    let many : c.len.result ≡ length (programs_of draft ++ draft.items.items ∷ []) =
+    let many : c.len.result ≡ length (programs_so_far draft ++ draft.items.items ∷ []) =
     c.len.ensures ∙ c.push.new.self.ok.0 ∙ ap length pushed
     in
     let next = c.behind-self.ensures ∙ ap (λ n. cond (eqb n draft.threads) stage.Over stage.Between) many in (
