@@ -3,10 +3,8 @@ ghost use Rattle.std.specs.Prelude.{◌≡◌, ◌≢◌, IfOk, OnErr};
 ghost use Rattle.melt_word.specs.Words.{IsHeader, cost_of, header_word};
 ghost use Rattle.melt_word.specs.declared.header.Header.{Header};
 
+use melt_model::MAX_PARTS;
 use thiserror::Error;
-
-/// The greatest number of parts of each kind in an object.
-pub const MAX_PARTS: u8 = 62;
 
 const CLEAN: u64 = 1;
 

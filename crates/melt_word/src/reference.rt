@@ -68,8 +68,8 @@ pub fn encode_ref(reference: Ref) -> u64
     }
 }
 
-/// The word of what a register holds: a clean reference to the object at an address below 2^30, or none where the address
-/// is 0.
+/// The word of what a register holds: a clean reference to the object at an address below 2^30, or none where the
+/// address is 0.
 pub fn held_word(address: u32) -> u64
     requires { address < 2 ^ 30 }
     ensures { result ≡ 4 * address }
