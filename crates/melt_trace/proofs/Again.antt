@@ -10,7 +10,7 @@ use Rattle.std.proofs.lemmas.Bool.{lt-ltb, le-leb, leb-true, ne_eqb}
 use Rattle.std.proofs.lemmas.List.{append-nil, length_push, length-map}
 use Rattle.std.proofs.lemmas.List.Folds.{list_all-append}
 use Rattle.std.proofs.lemmas.Fmt.{decimal_by_steps}
-use Rattle.melt_trace.specs.Language.{Range, Place, checked, with_number, numbers_in, numbers, number_of, spelled_from}
+use Rattle.melt_trace.specs.Language.{Range, Place, checked, numbers_with, numbers_in, numbers, number_of, spelled_from}
 use Rattle.melt_trace.specs.Language.{if_word, is_empty, fields_of, is_printable, is_skipped, after_fields, after}
 use Rattle.melt_trace.proofs.Cuts.{filled}
 use Rattle.melt_trace.proofs.Kept.{AreWithin}
@@ -247,8 +247,8 @@ numbers_in_again [] [] h words = refl
 numbers_in_again [] (n ∷ ns) h words = absurd h
 numbers_in_again (range ∷ ranges) [] h words = absurd h
 numbers_in_again (range ∷ ranges) (n ∷ ns) h words =
-    ap (λ (r : Result ℕ ℕ). with_number r (numbers_in ranges (map decimal ns))) (checked_again range n h.0 h.1 words.0)
-    ∙ ap (λ (r : Result (List ℕ) ℕ). with_number (Ok n) r) (numbers_in_again ranges ns h.2 words.1)
+    ap (λ (r : Result ℕ ℕ). numbers_with r (numbers_in ranges (map decimal ns))) (checked_again range n h.0 h.1 words.0)
+    ∙ ap (λ (r : Result (List ℕ) ℕ). numbers_with (Ok n) r) (numbers_in_again ranges ns h.2 words.1)
 
 within_length : (ranges : List Range) (ns : List ℕ) → AreWithin ranges ns → length ns ≡ length ranges
 within_length [] [] h = refl

@@ -19,7 +19,7 @@ use Rattle.melt_trace.specs.declared.language.Stage.{Stage}
 use Rattle.melt_trace.specs.declared.language.Stage.TheVariants as stage
 use Rattle.melt_trace.specs.Script.{Script, expand}
 use Rattle.melt_trace.specs.Grammar.{line, op_line, item_line, program_lines, canonical, InRange}
-use Rattle.melt_trace.specs.Language.{max_bytes, Place, start, global, ranges_of, numbers, operation_count}
+use Rattle.melt_trace.specs.Language.{max_bytes, Place, first_place, global, ranges_of, numbers, operation_count}
 use Rattle.melt_trace.specs.Language.{with_operation, with_program, fits, is_skipped, lines_of, without_empty_rest}
 use Rattle.melt_trace.specs.Language.{word_of, after_line, after_word, and_then, heading, in_heading, number_of}
 use Rattle.melt_trace.specs.Language.{after_fields, after, script_from, script_of, AreItems, IsOrder, IsScript}
@@ -391,15 +391,15 @@ heading_again text low high reason n same least most lt =
     ∙ rw (le-leb _ _ least, le-leb _ _ most) refl
 
 opening_leads : (threads globals : ℕ) → 0 < threads → threads ≤ 8 → globals ≤ 64
-    → Leads start (line (codes "melt") (1 ∷ []) ++ line (codes "threads") (threads ∷ [])
+    → Leads first_place (line (codes "melt") (1 ∷ []) ++ line (codes "threads") (threads ∷ [])
     ++ line (codes "globals") (globals ∷ [])) (ordering threads globals [])
 opening_leads threads globals some most few =
     let empty : Script = scripted 0 [] [] in
     let second : Place = placed stage.Threads 0 empty [] [] in
     let third : Place = placed stage.Globals threads empty [] [] in
     let last : Place = ordering threads globals [] in
-    let f : Leads start (line (codes "melt") (1 ∷ [])) second =
-    leads_line start second (codes "melt") (1 ∷ []) (record {
+    let f : Leads first_place (line (codes "melt") (1 ∷ [])) second =
+    leads_line first_place second (codes "melt") (1 ∷ []) (record {
       some = omega arith;
       plain = refl;
       shown = refl;
@@ -420,15 +420,15 @@ opening_leads threads globals some most few =
     (ap (λ (r : Result ℕ ℕ). and_then r (λ n. Ok (ordering threads n [])))
     (heading_again (codes "globals") 0 64 5 globals refl (omega arith) few (omega arith)))
     in
-    leads_both start third last (line (codes "melt") (1 ∷ []) ++ line (codes "threads") (threads ∷ []))
+    leads_both first_place third last (line (codes "melt") (1 ∷ []) ++ line (codes "threads") (threads ∷ []))
     (line (codes "globals") (globals ∷ []))
-    (leads_both start second third (line (codes "melt") (1 ∷ [])) (line (codes "threads") (threads ∷ [])) f g) h
+    (leads_both first_place second third (line (codes "melt") (1 ∷ [])) (line (codes "threads") (threads ∷ [])) f g) h
 
 -- ---- a whole script
 
 script_leads : (globals : ℕ) (orders : List (ℕ × ℕ)) (programs : List (List Item))
     → IsScript (scripted globals orders programs)
-    → Leads start (canonical (scripted globals orders programs))
+    → Leads first_place (canonical (scripted globals orders programs))
     (placed stage.Over (length programs) (scripted globals orders programs) [] [])
 script_leads globals orders [] h = let some : 0 < 0 = h.some in absurd (omega arith)
 script_leads globals orders (program ∷ programs) h =
@@ -439,9 +439,9 @@ script_leads globals orders (program ∷ programs) h =
     let ordered = orders_lead threads globals [] orders h.orders h.few (omega (arith, h.few_orders)) in
     let lines = programs_lead programs program [] stage.Orders [] [] threads globals orders refl h.globals h.few
     (omega arith) h.programs h.count in
-    leads_both start (ordering threads globals orders) over (opening ++ flat_map order_line orders)
+    leads_both first_place (ordering threads globals orders) over (opening ++ flat_map order_line orders)
     (program_lines 0 (program ∷ programs))
-    (leads_both start (ordering threads globals []) (ordering threads globals orders) opening
+    (leads_both first_place (ordering threads globals []) (ordering threads globals orders) opening
     (flat_map order_line orders) (opening_leads threads globals h.some h.few h.globals) ordered)
     lines
 
@@ -449,6 +449,6 @@ pub canonical_is_read : (script : Script) → IsScript script → length (canoni
     → script_of (canonical script) ≡ Ok script
 canonical_is_read script h short =
     let whole = script_leads script.globals script.orders script.programs h 1 [] in
-    ap (λ (t : Bool). cond t (script_from 1 start (lines_of (canonical script))) (Err (0, 1))) (le-leb _ _ short)
-    ∙ ap (λ (bytes : List ℕ). script_from 1 start (lines_of bytes)) (sym (append-nil (canonical script)))
+    ap (λ (t : Bool). cond t (script_from 1 first_place (lines_of (canonical script))) (Err (0, 1))) (le-leb _ _ short)
+    ∙ ap (λ (bytes : List ℕ). script_from 1 first_place (lines_of bytes)) (sym (append-nil (canonical script)))
     ∙ whole.1

@@ -18,11 +18,13 @@ use Rattle.melt_trace.specs.declared.language.Stage.{Stage}
 use Rattle.melt_trace.specs.declared.language.Stage.TheVariants as stage
 use Rattle.melt_trace.specs.Script.{Script}
 use Rattle.melt_trace.specs.Grammar.{InRange}
-use Rattle.melt_trace.specs.Language.{max_bytes, Range, Place, start, within, checked, with_number, numbers_in, numbers}
+use Rattle.melt_trace.specs.Language.{max_bytes, Range, Place, first_place, within, checked, numbers_with, numbers_in}
+use Rattle.melt_trace.specs.Language.{numbers}
 use Rattle.melt_trace.specs.Language.{number_of, global, ranges_of, operation_of, operation_count, with_operation}
 use Rattle.melt_trace.specs.Language.{with_program, fits, is_printable, is_skipped, fields_of, lines_of, word_of}
 use Rattle.melt_trace.specs.Language.{after_operation, after_repeat, after_end, after_done, after_thread, after_order}
-use Rattle.melt_trace.specs.Language.{after_line, and_then, after_word, in_heading, heading, after_fields, after, ended}
+use Rattle.melt_trace.specs.Language.{after_line, and_then, after_word, in_heading, heading, after_fields, after}
+use Rattle.melt_trace.specs.Language.{script_at_end}
 use Rattle.melt_trace.specs.Language.{script_from, script_of, AreItems, IsOrder, IsScript}
 
 -- ---- results
@@ -69,7 +71,7 @@ checked_range range (Some m) n e =
 
 with_range : (range : Range) (ranges : List Range) (first : Result ℕ ℕ) (rest : Result (List ℕ) ℕ) (ns : List ℕ)
     → ((n : ℕ) → first ≡ Ok n → (range.low ≤ n) × (n ≤ range.high))
-    → ((ms : List ℕ) → rest ≡ Ok ms → AreWithin ranges ms) → with_number first rest ≡ Ok ns
+    → ((ms : List ℕ) → rest ≡ Ok ms → AreWithin ranges ms) → numbers_with first rest ≡ Ok ns
     → AreWithin (range ∷ ranges) ns
 with_range range ranges (Err reason) rest ns one others e = absurd cc
 with_range range ranges (Ok n) (Err reason) ns one others e = absurd cc
@@ -447,7 +449,7 @@ line_kept place bytes next h e =
 
 ended_kept : (n : ℕ) (s : Stage) (threads : ℕ) (script : Script) (items : List Item) (blocks : List Bool)
     (whole : Script) → IsAt s threads script items blocks
-    → ◌≡◌ {A = Result Script (ℕ × ℕ)} (ended n s script) (Ok whole) → IsScript whole
+    → ◌≡◌ {A = Result Script (ℕ × ℕ)} (script_at_end n s script) (Ok whole) → IsScript whole
 ended_kept n stage.Over threads script items blocks whole h e =
     let body = h.0 in
     let count : length script.programs ≡ threads = h.1 in
@@ -490,5 +492,5 @@ not_long false r script e = absurd cc
 -- what is read is in range
 pub is_script : (bytes : List ℕ) (script : Script) → script_of bytes ≡ Ok script → IsScript script
 is_script bytes script e =
-    from_kept 1 start (lines_of bytes) script tt (not_long (leb (length bytes) max_bytes)
-    (script_from 1 start (lines_of bytes)) script e)
+    from_kept 1 first_place (lines_of bytes) script tt (not_long (leb (length bytes) max_bytes)
+    (script_from 1 first_place (lines_of bytes)) script e)

@@ -11,7 +11,7 @@ use Rattle.melt_trace.specs.declared.blocks.Block.{Block}
 use Rattle.melt_trace.specs.Script.{times, before_first, unrolled, levels, expand}
 use Rattle.melt_trace.specs.Grammar.{InRange}
 use Rattle.melt_trace.specs.Language.{with_operation, AreItems}
-use Rattle.melt_trace.specs.Cursor.{Ahead, ended, left_of, left_at, begins_block, is_entered, AreOpen, IsStillEmpty}
+use Rattle.melt_trace.specs.Cursor.{Ahead, block_end, left_of, left_at, begins_block, is_entered, AreOpen, IsStillEmpty}
 use Rattle.melt_trace.specs.Cursor.{IsUnderway}
 
 -- ---- places of a list
@@ -285,7 +285,7 @@ not_fresh items marks at true is fresh = absurd (fresh is)
 not_fresh items marks at false is fresh = is
 
 abbrev AtEnd : ℕ → List Item → List Block → ℕ → Type 0
-AtEnd globals items blocks at = (0 < length blocks) × Leads globals items blocks at (ended blocks)
+AtEnd globals items blocks at = (0 < length blocks) × Leads globals items blocks at (block_end blocks)
 
 end_leads : (globals : ℕ) (items : List Item) (blocks : List Block) (marks : List Bool) (at : ℕ)
     → slice_get items at ≡ Some item.End → AreItems globals marks (item.End ∷ drop (at + 1) items)
@@ -301,7 +301,7 @@ end_leads globals items (block ∷ blocks) (true ∷ marks) at is lines are fres
 )
 
 pub at_end : (globals : ℕ) (items : List Item) (blocks : List Block) (at : ℕ) → IsUnderway globals items blocks at
-    → slice_get items at ≡ Some item.End → (0 < length blocks) × Leads globals items blocks at (ended blocks)
+    → slice_get items at ≡ Some item.End → (0 < length blocks) × Leads globals items blocks at (block_end blocks)
 at_end globals items blocks at way is =
     let rest : List Item = drop (at + 1) items in
     let e : drop at items ≡ item.End ∷ rest = drop-slice_get items at item.End is in
@@ -384,12 +384,12 @@ behind_repeat before globals items blocks entered at n way is same =
 -- the innermost block ended, and its end leads there
 pub record IsEnded (items : List Item) (blocks : List Block) (at : ℕ) (start : Option ℕ) (after : List Block)
     (next : ℕ) : Type 0 where
-  pub starts : start ≡ (ended blocks).0
-  pub leaves : after ≡ (ended blocks).1
+  pub starts : start ≡ (block_end blocks).0
+  pub leaves : after ≡ (block_end blocks).1
   pub leads : next ≡ unwrap_or start (at + 1)
 
 next_place : (items : List Item) (blocks : List Block) (at : ℕ) (start : Option ℕ) (after : List Block) (next : ℕ)
-    → IsEnded items blocks at start after next → next ≡ unwrap_or (ended blocks).0 (at + 1)
+    → IsEnded items blocks at start after next → next ≡ unwrap_or (block_end blocks).0 (at + 1)
 next_place items blocks at start after next is = is.leads ∙ ap (λ (s : Option ℕ). unwrap_or s (at + 1)) is.starts
 
 pub behind_end : (before : Ahead) (globals : ℕ) (items : List Item) (blocks : List Block) (at : ℕ) (start : Option ℕ)
@@ -398,7 +398,7 @@ pub behind_end : (before : Ahead) (globals : ℕ) (items : List Item) (blocks : 
 behind_end before globals items blocks at start after next way is end =
     let step = (at_end globals items blocks at way.underway is).1 in
     subst (λ (bs : List Block). IsAsBefore before globals items bs next) (sym end.leaves)
-    (subst (λ (k : ℕ). IsAsBefore before globals items (ended blocks).1 k)
+    (subst (λ (k : ℕ). IsAsBefore before globals items (block_end blocks).1 k)
     (sym (next_place items blocks at start after next end))
     (record { globals_kept = way.globals_kept; left = step.left ∙ way.left; underway = step.underway }))
 

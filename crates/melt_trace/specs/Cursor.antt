@@ -15,9 +15,9 @@ pub record Ahead : Type 0 where
 
 -- What becomes of open blocks, the innermost first, where the innermost ends: the place where it starts again, if it
 -- does, and the blocks that are open then.
-abbrev pub ended : List Block → Option ℕ × List Block
-ended [] = (None, [])
-ended (block ∷ around) =
+abbrev pub block_end : List Block → Option ℕ × List Block
+block_end [] = (None, [])
+block_end (block ∷ around) =
     cond (nat_lt 0 block.turns) (Some block.start, record { start = block.start; turns = block.turns - 1 } ∷ around)
     (None, around)
 

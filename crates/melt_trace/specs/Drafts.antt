@@ -8,7 +8,7 @@ use Rattle.melt_trace.specs.declared.parser.draft.Block.{Block}
 use Rattle.melt_trace.specs.declared.parser.draft.Draft.{Draft}
 use Rattle.melt_trace.specs.Reasons.{number_of_reason}
 use Rattle.melt_trace.specs.Script.{levels}
-use Rattle.melt_trace.specs.Language.{Place, operation_count, start, lines_of, script_from}
+use Rattle.melt_trace.specs.Language.{Place, operation_count, first_place, lines_of, script_from}
 
 -- ---- the place
 
@@ -90,5 +90,5 @@ LeadsTo (Err fault.NoMemory) draft read = Unit {0}
 -- the lines that are left lead to what all lines say
 pub record IsReadTo (bytes : List ℕ) (draft : Draft) (rest : List ℕ) (number : ℕ) : Type 0 where
   pub sound : IsSoundDraft draft
-  pub same : script_from number (place_of draft) (lines_of rest) ≡ script_from 1 start (lines_of bytes)
+  pub same : script_from number (place_of draft) (lines_of rest) ≡ script_from 1 first_place (lines_of bytes)
   pub few : number + length rest ≤ 1 + length bytes

@@ -80,17 +80,17 @@ abbrev pub checked : Range → Option ℕ → Result ℕ ℕ
 checked range None = Err 8
 checked range (Some n) = if within range n then Ok n else Err range.reason
 
-abbrev pub with_number : Result ℕ ℕ → Result (List ℕ) ℕ → Result (List ℕ) ℕ
-with_number (Err reason) rest = Err reason
-with_number (Ok n) (Err reason) = Err reason
-with_number (Ok n) (Ok ns) = Ok (n ∷ ns)
+abbrev pub numbers_with : Result ℕ ℕ → Result (List ℕ) ℕ → Result (List ℕ) ℕ
+numbers_with (Err reason) rest = Err reason
+numbers_with (Ok n) (Err reason) = Err reason
+numbers_with (Ok n) (Ok ns) = Ok (n ∷ ns)
 
 -- the numbers of a line, from left to right
 abbrev pub numbers_in : List Range → List (List ℕ) → Result (List ℕ) ℕ
 numbers_in [] [] = Ok []
 numbers_in [] (field ∷ fields) = Err 7
 numbers_in (range ∷ ranges) [] = Err 7
-numbers_in (range ∷ ranges) (field ∷ fields) = with_number (checked range (number_of field)) (numbers_in ranges fields)
+numbers_in (range ∷ ranges) (field ∷ fields) = numbers_with (checked range (number_of field)) (numbers_in ranges fields)
 
 -- another number of fields is told before what a field holds
 abbrev pub numbers : List Range → List (List ℕ) → Result (List ℕ) ℕ
@@ -120,8 +120,8 @@ pub record Place : Type 0 where
   pub items : List Item
   pub blocks : List Bool
 
-abbrev pub start : Place
-start = record {
+abbrev pub first_place : Place
+first_place = record {
   stage = stage.Version;
   threads = 0;
   script = record { globals = 0; orders = []; programs = [] };
@@ -366,14 +366,14 @@ after place bytes =
 -- 4. A whole trace
 
 -- the end of the input at line n, where no line is wanted any more or one is missing
-abbrev pub ended : ℕ → Stage → Script → Result Script (ℕ × ℕ)
-ended n stage.Over script = Ok script
-ended n s script = Err (n, 14)
+abbrev pub script_at_end : ℕ → Stage → Script → Result Script (ℕ × ℕ)
+script_at_end n stage.Over script = Ok script
+script_at_end n s script = Err (n, 14)
 
 -- The script of a trace whose first lines led to this place, or the first bad line and the reason. `n` is the
 -- number of the next line.
 abbrev pub script_from : ℕ → Place → List (List ℕ) → Result Script (ℕ × ℕ)
-script_from n place [] = ended n place.stage place.script
+script_from n place [] = script_at_end n place.stage place.script
 script_from n place (bytes ∷ lines) =
     elim (after place bytes) [ Ok next ↦ script_from (n + 1) next lines | Err reason ↦ Err (n, reason) ]
 
@@ -383,7 +383,7 @@ max_bytes = 16777216
 
 -- the script of the bytes, or the first bad line and the reason
 abbrev pub script_of : List ℕ → Result Script (ℕ × ℕ)
-script_of bytes = if nat_le (length bytes) max_bytes then script_from 1 start (lines_of bytes) else Err (0, 1)
+script_of bytes = if nat_le (length bytes) max_bytes then script_from 1 first_place (lines_of bytes) else Err (0, 1)
 
 -- 5. What a script may be
 

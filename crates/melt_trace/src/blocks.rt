@@ -1,6 +1,6 @@
 //! The blocks that are open at a place of a program.
 ghost use Rattle.std.specs.Prelude.{◌≡◌, ◌<◌, [], ◌∷◌, length};
-ghost use Rattle.melt_trace.specs.Cursor.{ended};
+ghost use Rattle.melt_trace.specs.Cursor.{block_end};
 
 use std::marker::Model;
 
@@ -54,8 +54,8 @@ impl OpenBlocks {
     /// Ends the innermost block. If it is to come again, this is the place of its first line.
     pub fn end(&mut self) -> Option<usize>
         requires { 0 < length self.old }
-        ensures start { result ≡ (ended self.old).0 }
-        ensures after { self.new ≡ (ended self.old).1 }
+        ensures start { result ≡ (block_end self.old).0 }
+        ensures after { self.new ≡ (block_end self.old).1 }
     {
         let innermost = self.depth - 1;
         let Block { start, turns } = self.blocks[innermost];
