@@ -35,9 +35,6 @@ way_step n (suc i) some =
     let same : i ≡ suc i - 1 = omega arith in
     ap (λ (j : ℕ). op.Load 0 0 (bit_at n (suc i)) ∷ way n j) same
 
-pub root_round : (t w k : ℕ) → k ≡ 0 → tree_round t w k ≡ op.New 0 2 1 ∷ op.Put 0 0 w ∷ op.GStore t 0 ∷ []
-root_round t w k e = ap (tree_round t w) e
-
 pub leaf_round : (t w k : ℕ) → 0 < k → tree_round t w k ≡ leaf t w (k + 1)
 leaf_round t w zero some = absurd (omega arith)
 leaf_round t w (suc k) some = refl

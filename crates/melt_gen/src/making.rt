@@ -12,7 +12,7 @@ use melt_trace::{Program, Trace};
 use std::alloc::Global;
 
 /// The most operations that a trace may have.
-const MAX_OPERATIONS: u32 = 1_048_576;
+pub(crate) const MAX_OPERATIONS: u32 = 1_048_576;
 
 fn globals(kind: Workload, threads: u32) -> u32
     requires { threads ≤ 8 }

@@ -7,11 +7,14 @@ ghost use Rattle.melt_gen.specs.Workloads.{tree_round, operations_of};
 
 use crate::lines::{drop, get, gload, gstore, load, new, put, store};
 use crate::workload::Workload;
-use melt_model::{NoMemory, Op};
+use melt_model::{MAX_PARTS, NoMemory, Op};
 use melt_trace::Item;
 use rand_core::utils::NextWord;
 use rand_xoshiro::SplitMix64;
 use std::alloc::Global;
+
+/// How many lists a table has: one in each slot of its object, of which no object has more.
+const LISTS: u64 = MAX_PARTS as u64;
 
 fn push_all(items: &mut Vec<Item>, operations: &[Op]) -> Result<(), NoMemory>
     ensures { OnOk result (items.new.items ≡ items.old.items ++ map item.Op operations.now) }
@@ -117,9 +120,9 @@ fn table(alloc: Global, thread: u8, mut draws: SplitMix64, size: u32) -> Result<
         ≡ map item.Op (operations_of workload.Table thread (drawn draws) size)) }
 {
     let mut items = Vec::new(alloc);
-    push_all(&mut items, &[new(0, 62, 0), gstore(thread, 0)])?;
+    push_all(&mut items, &[new(0, MAX_PARTS, 0), gstore(thread, 0)])?;
     for k in 0..size {
-        let list = (draws.next_word() % 62) as u8;
+        let list = (draws.next_word() % LISTS) as u8;
         let object = [
             gload(0, thread),
             new(1, 1, 1),

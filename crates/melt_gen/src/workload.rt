@@ -2,6 +2,9 @@
 ghost use Rattle.std.specs.Prelude.{◌≡◌};
 ghost use Rattle.melt_gen.specs.declared.workload.GenRefusal.TheVariants.{NoMemory};
 
+use crate::making::MAX_OPERATIONS;
+use thiserror::Error;
+
 /// The kinds of work. In each, all that a thread makes stays reached by its own globals.
 #[derive(Clone, Copy, Debug, PartialEq, Eq)]
 pub enum Workload {
@@ -16,10 +19,12 @@ pub enum Workload {
 }
 
 /// Why a trace was not made.
-#[derive(Clone, Copy, Debug, PartialEq, Eq)]
+#[derive(Clone, Copy, Debug, PartialEq, Eq, Error)]
 pub enum GenRefusal {
-    /// It would have more than 1,048,576 operations.
+    /// It would have more operations than a trace may have.
+    #[error("the trace would have more than {most} operations", most = MAX_OPERATIONS)]
     TooMany,
+    #[error("out of memory")]
     NoMemory,
 }
 
