@@ -84,4 +84,5 @@ pub record BodyIsRead (home end : ℕ) (shape : Shape) (words : List ℕ) : Type
 
 -- a reader of the words finds a Stub of the shape with the scion
 abbrev pub StubIsRead : ℕ → ℕ → Shape → ℕ → List ℕ → Type 0
-StubIsRead home end shape scion words = IsHead home end (slice_index words 0) (slice_index words 1) (record { shape = shape; kind = Stub scion })
+StubIsRead home end shape scion words =
+    IsHead home end (slice_index words 0) (slice_index words 1) (record { shape = shape; kind = Stub scion })

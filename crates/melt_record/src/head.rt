@@ -1,5 +1,6 @@
 //! The head of a record: its first two words.
-ghost use Rattle.std.specs.Prelude.{◌≡◌, ◌≢◌, ℕ, ◌+◌, ◌*◌, ◌%◌, ◌^◌, ◌<◌, ◌≤◌, ◌⊎◌, IfSome, IfNone, IfOk, IfErr, slice_index};
+ghost use Rattle.std.specs.Prelude.{◌≡◌, ◌≢◌, ℕ, ◌+◌, ◌*◌, ◌%◌, ◌^◌, ◌<◌, ◌≤◌, ◌⊎◌, IfSome, IfNone, IfOk, IfErr};
+ghost use Rattle.std.specs.Prelude.{slice_index};
 ghost use Rattle.melt_word.specs.Words.{IsShape, cost_of};
 ghost use Rattle.melt_word.specs.declared.header.Shape.{Shape};
 ghost use Rattle.melt_record.specs.Records.{IsFirstWord, IsHead, IsHeadDamage, IsSecondWord, head_word, kind_number};

@@ -9,7 +9,9 @@ returns-in_default-kind_of-clause-err c =
       place = inr (record {
         at = refl;
         word = refl;
-        good = some_first c.args.home c.args.end (slice_index c.args.words 0) c.in-Some.shape c.in-Some.ensures.number c.in-Some.ensures.shape.0 c.in-Some.ensures.shape.1 c.in-Some.ensures.word;
-        bad = λ head p. c.in_default-kind_of.ensures.none head.kind (kind_number-first _ _ _ _ _ p.first_word) p.second_word;
+        good = some_first c.args.home c.args.end (slice_index c.args.words 0) c.in-Some.shape c.in-Some.ensures.number
+            c.in-Some.ensures.shape.0 c.in-Some.ensures.shape.1 c.in-Some.ensures.word;
+        bad = λ head p. c.in_default-kind_of.ensures.none head.kind (kind_number-first _ _ _ _ _ p.first_word)
+            p.second_word;
       });
     }
