@@ -1,8 +1,10 @@
 -- What a search knows on its way through the words.
-use Rattle.std.proofs.Common.{◌≡◌, ◌≢◌, inl, inr, ℕ, ◌+◌, ◌<◌, List, length, Option, None, Some, sym, subst, arith, below_more}
+use Rattle.std.proofs.Common.{◌≡◌, ◌≢◌, inl, inr, ℕ, ◌+◌, ◌<◌, List, length, Option, None, Some, sym, subst, arith}
+use Rattle.std.proofs.Common.{below_more}
 use Rattle.std.specs.Prelude.{slice_index}
 use Rattle.std.specs.Option.{option_or}
-use Rattle.melt_forward.specs.Forwarding.{Sends, SendsNot, SendsAnother, IsForwarding, AreForwarding, SentTo, FirstEmpty, Finds}
+use Rattle.melt_forward.specs.Forwarding.{Sends, SendsNot, SendsAnother, IsForwarding, AreForwarding, SentTo}
+use Rattle.melt_forward.specs.Forwarding.{FirstEmpty, Finds}
 use Rattle.melt_forward.specs.declared.forwarding.Found.TheVariants.{Empty, Full}
 use Rattle.melt_forward.proofs.Probing.{probe_is}
 

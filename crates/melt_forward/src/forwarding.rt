@@ -44,8 +44,8 @@ pub fn unpack(word: u64) -> Option<(u32, u32)>
     Some(((word >> HOME_SHIFT) as u32, address as u32))
 }
 
-/// Searches a home, from 1 on, among fewer than 2^32 words, each 0 or made by `pack`. Where two of them send the home, it
-/// is found at the address of the first.
+/// Searches a home, from 1 on, among fewer than 2^32 words, each 0 or made by `pack`. Where two of them send the home,
+/// it is found at the address of the first.
 pub fn find(words: &[u64], home: u32) -> Found
     requires home { IsDiskHome home }
     requires few { length words.now < 2 ^ 32 }

@@ -1,12 +1,11 @@
 -- What stands at an address, in a space that is known by its list of words.
-use Rattle.std.proofs.Common.{◌≡◌, ◌≢◌, ◌∙◌, ap, false, ℕ, ◌-◌, ◌<◌, ◌≤◌, suc, zero, List, length, arith, refl}
-use Rattle.std.proofs.Common.{replicate, slice_index, slice_set, get_or-set_same, get_or-set_other}
-use Rattle.std.proofs.lemmas.List.{get_or_past, length-set, length-replicate, ext_get_or}
+use Rattle.std.proofs.Common.{◌≡◌, ◌≢◌, ℕ, ◌-◌, ◌≤◌, suc, zero, arith, refl}
+use Rattle.std.proofs.Common.{replicate, slice_index}
+use Rattle.std.proofs.lemmas.List.{length-replicate}
 use Rattle.std.proofs.lemmas.Grind.{common_steps}
-use Rattle.melt_word.specs.Words.{IsHeader, IsShape, header_word}
-use Rattle.melt_word.specs.declared.header.Shape.{Shape}
+use Rattle.melt_word.specs.Words.{IsHeader, header_word}
 use Rattle.melt_word.specs.declared.header.Header.{Header}
-use Rattle.melt_space.specs.Space.{SpaceWords, word_at, IsWord, IsFresh, HasHeader, Makes, SetsWord}
+use Rattle.melt_space.specs.Space.{SpaceWords, word_at, IsFresh, HasHeader, SetsWord}
 
 -- the word of a number has the index one below
 pub word_at-index : (space : SpaceWords) (at : ℕ) → 1 ≤ at → word_at space at ≡ slice_index space.list (at - 1)
