@@ -11,7 +11,7 @@ use Rattle.csv.specs.Writing.{default_writer, field_text, needs_byte, needs_quot
 use Rattle.melt_model.specs.declared.reports.Journal.{Journal}
 use Rattle.melt_model.specs.declared.reports.Phase.{Phase}
 use Rattle.melt_model.specs.declared.reports.Phase.TheVariants.{Inactive, Mark, Move}
-use Rattle.melt_stats.specs.Table.{header, line, phase_name}
+use Rattle.melt_stats.specs.Table.{header, journal_line, phase_name}
 
 digit_is_plain : (d : ℕ) → d < 10 → needs_byte default_writer (48 + d) ≡ false
 digit_is_plain d small =
@@ -47,7 +47,7 @@ header_row = refl
 row_of : (number : ℕ) (of : Journal)
     → number < 2 ^ 64 → of.held < 2 ^ 64 → of.live < 2 ^ 64 → of.bodies < 2 ^ 64 → of.stubs < 2 ^ 64 → of.end < 2 ^ 64
     → row_text default_writer (decimal number ∷ phase_name of.phase ∷ decimal of.held ∷ decimal of.live
-    ∷ decimal of.bodies ∷ decimal of.stubs ∷ decimal of.end ∷ []) ≡ line number of
+    ∷ decimal of.bodies ∷ decimal of.stubs ∷ decimal of.end ∷ []) ≡ journal_line number of
 unfolding fields_text is_blank
 row_of number of a b c d e f =
     rw (
@@ -66,6 +66,6 @@ pub collection_row : (number : ℕ) (of : Journal) → (first second third fourt
     → first ≡ decimal number → second ≡ phase_name of.phase → third ≡ decimal of.held → fourth ≡ decimal of.live
     → fifth ≡ decimal of.bodies → sixth ≡ decimal of.stubs → seventh ≡ decimal of.end
     → number < 2 ^ 64 → of.held < 2 ^ 64 → of.live < 2 ^ 64 → of.bodies < 2 ^ 64 → of.stubs < 2 ^ 64 → of.end < 2 ^ 64
-    → row_text default_writer (first ∷ second ∷ third ∷ fourth ∷ fifth ∷ sixth ∷ seventh ∷ []) ≡ line number of
+    → row_text default_writer (first ∷ second ∷ third ∷ fourth ∷ fifth ∷ sixth ∷ seventh ∷ []) ≡ journal_line number of
 collection_row number of _ _ _ _ _ _ _ one two three four five six seven a b c d e f =
     rw (one, two, three, four, five, six, seven) (row_of number of a b c d e f)

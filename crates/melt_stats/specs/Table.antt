@@ -19,15 +19,15 @@ abbrev pub next_number : ℕ → List ℕ
 next_number n = codes "," ++ decimal n
 
 -- the line of one collection
-abbrev pub line : (number : ℕ) → Journal → List ℕ
-line number of = decimal number ++ codes "," ++ phase_name of.phase
+abbrev pub journal_line : (number : ℕ) → Journal → List ℕ
+journal_line number of = decimal number ++ codes "," ++ phase_name of.phase
     ++ next_number of.held ++ next_number of.live ++ next_number of.bodies ++ next_number of.stubs ++ next_number of.end
     ++ codes "\n"
 
 -- the lines of collections that are numbered from this number on
 abbrev pub lines_from : (number : ℕ) → List Journal → List ℕ
 lines_from number [] = []
-lines_from number (first ∷ rest) = line number first ++ lines_from (number + 1) rest
+lines_from number (first ∷ rest) = journal_line number first ++ lines_from (number + 1) rest
 
 abbrev pub table_text : List Journal → List ℕ
 table_text journal = header ++ lines_from 1 journal

@@ -2,7 +2,7 @@
 ghost use Rattle.std.specs.Prelude.{◌≡◌, ◌++◌, IfOk, OnOk, map};
 ghost use Rattle.csv.specs.Writing.{default_writer, row_text};
 ghost use Rattle.melt_stats.specs.Rows.{IsAtLine, written};
-ghost use Rattle.melt_stats.specs.Table.{header, line, phase_name, table_text};
+ghost use Rattle.melt_stats.specs.Table.{header, journal_line, phase_name, table_text};
 
 use csv::Writer;
 use itoa::Buffer;
@@ -49,7 +49,7 @@ fn write_collection(
 ) -> Result<(), NoMemory>
     requires { IsAtLine writer.old }
     ensures at_line { OnOk result (IsAtLine writer.new) }
-    ensures text { OnOk result (written writer.new ≡ written writer.old ++ line number collection.now) }
+    ensures text { OnOk result (written writer.new ≡ written writer.old ++ journal_line number collection.now) }
 {
     write_row(
         writer,
