@@ -1,5 +1,6 @@
 -- Parts of a list that are read one after another.
-use Rattle.std.proofs.Common.{◌≡◌, ℕ, ◌+◌, ◌-◌, ◌≤◌, List, ◌++◌, length, min, take, drop, length-drop, arith, inl, inr, sym, ◌∙◌, ap}
+use Rattle.std.proofs.Common.{◌≡◌, ℕ, ◌+◌, ◌-◌, ◌≤◌, List, ◌++◌, length, min, take, drop, length-drop, arith, inl, inr}
+use Rattle.std.proofs.Common.{sym, ◌∙◌, ap}
 use Rattle.std.proofs.lemmas.List.{take-append-drop, drop_all, length-take}
 use Rattle.std.proofs.lemmas.Bool.{cases_lt}
 use Rattle.std.proofs.Math.Seq.{drop-append-add, take-append_seam, take-length}
@@ -18,7 +19,8 @@ drop-add m n xs h =
     rw (len, take-append-drop m xs) at e
 
 -- what a read gives, and what it leaves
-pub drop-front : (xs : List ℕ) (start n : ℕ) → start ≤ length xs → take n (drop start xs) ++ drop (start + n) xs ≡ drop start xs
+pub drop-front : (xs : List ℕ) (start n : ℕ) → start ≤ length xs
+    → take n (drop start xs) ++ drop (start + n) xs ≡ drop start xs
 drop-front xs start n h = rw (drop-add start n xs h) (take-append-drop n (drop start xs))
 
 -- the rest of the bytes, as a slice gives it
@@ -27,11 +29,15 @@ take-rest bytes at =
     ap (λ n. take n (drop at bytes)) (sym (length-drop at bytes)) ∙ take-length (drop at bytes)
 
 -- A piece of n bytes, in front of what a buffer had behind it, is what was left but for what is left then.
-pub front_taken : (xs : List ℕ) (pos start n : ℕ) (piece behind : List ℕ) → start ≡ min (length xs) pos → n ≤ length xs - start → piece ≡ take n (take (length xs - start) (drop start xs)) → drop pos xs ≡ take n (piece ++ behind) ++ drop (start + n) xs
+pub front_taken : (xs : List ℕ) (pos start n : ℕ) (piece behind : List ℕ) → start ≡ min (length xs) pos
+    → n ≤ length xs - start → piece ≡ take n (take (length xs - start) (drop start xs))
+    → drop pos xs ≡ take n (piece ++ behind) ++ drop (start + n) xs
 front_taken xs pos start n piece behind begins fits e =
     let flat : piece ≡ take n (drop start xs) = rw (take-rest xs start) at e in
-    let len : length piece ≡ n = ap length flat ∙ length-take n (drop start xs) ∙ (omega (arith, length-drop start xs)) in
-    let front : take n (piece ++ behind) ≡ piece = ap (λ m. take m (piece ++ behind)) (sym len) ∙ take-append_seam piece behind in
+    let len : length piece ≡ n = ap length flat ∙ length-take n (drop start xs)
+    ∙ (omega (arith, length-drop start xs)) in
+    let front : take n (piece ++ behind) ≡ piece = ap (λ m. take m (piece ++ behind)) (sym len)
+    ∙ take-append_seam piece behind in
     let whole : drop start xs ≡ drop pos xs = ap (λ m. drop m xs) begins ∙ drop-min pos xs in
     let within : start ≤ length xs = omega arith in
     sym (ap (λ bytes. bytes ++ drop (start + n) xs) (front ∙ flat) ∙ drop-front xs start n within ∙ whole)

@@ -1,5 +1,6 @@
 -- The words in which the traits of the outside are told.
-use Rattle.std.specs.Prelude.{◌≡◌, ℕ, ◌+◌, ◌-◌, ◌^◌, ◌<◌, ◌≤◌, List, ◌++◌, length, take, drop, replicate, min, slice_index, Option, None, Some, Result, OnOk, OnErr}
+use Rattle.std.specs.Prelude.{◌≡◌, ℕ, ◌+◌, ◌-◌, ◌^◌, ◌<◌, ◌≤◌, List, ◌++◌, length, take, drop, replicate, min}
+use Rattle.std.specs.Prelude.{slice_index, Option, None, Some, Result, OnOk, OnErr}
 
 -- A counter is a word, and stands still once it is at its end.
 abbrev pub counted : ℕ → ℕ → ℕ

@@ -1,5 +1,6 @@
 //! A disk in a file.
-ghost use Rattle.std.specs.Prelude.{◌≡◌, ◌+◌, ◌*◌, ◌<◌, ◌≤◌, ◌^◌, ◌↔◌, true, None, length, take, drop, vec_len, IsNone, IsSome, IsErr, IsErrOf, IfOk, IfSome, OnOk, OnErr};
+ghost use Rattle.std.specs.Prelude.{◌≡◌, ◌+◌, ◌*◌, ◌<◌, ◌≤◌, ◌^◌, ◌↔◌, true, None, length, take, drop, vec_len, IsNone};
+ghost use Rattle.std.specs.Prelude.{IsSome, IsErr, IsErrOf, IfOk, IfSome, OnOk, OnErr};
 ghost use Rattle.melt_io.specs.Outside.{CountsFault, KeepsOthers, Rose, Writes, counted};
 ghost use Rattle.melt_io.specs.Words.{word_bytes, words_of};
 
@@ -95,11 +96,14 @@ impl<F: PositionedReader> RecordReader for FileReader<F> {
         requires some { 0 < length words.old }
         requires in_range { at + length words.old ≤ 2 ^ 32 }
         ensures no_file { IsNone self.old.file → IsErr result }
-        ensures words { OnOk result (IfSome self.old.file (λ old. IfSome (F.bytes old) (λ bytes. words.new ≡ words_of (length words.old) (drop (8 * at) bytes)))) }
+        ensures words { OnOk result (IfSome self.old.file (λ old. IfSome (F.bytes old) (λ bytes. words.new
+            ≡ words_of (length words.old) (drop (8 * at) bytes)))) }
         ensures stays_open { IsSome self.new.file ↔ IsSome self.old.file }
         ensures kept { IfSome self.old.file (λ old. IfSome self.new.file (λ new. F.bytes new ≡ F.bytes old)) }
-        ensures no_file_fault { OnOk result (IfSome self.old.file (λ old. IfSome self.new.file (λ new. F.faults new ≡ F.faults old))) }
-        ensures file_failed { OnErr result (IfSome self.old.file (λ old. IfSome self.new.file (λ new. Rose (F.faults old) (F.faults new)))) }
+        ensures no_file_fault { OnOk result (IfSome self.old.file
+            (λ old. IfSome self.new.file (λ new. F.faults new ≡ F.faults old))) }
+        ensures file_failed { OnErr result (IfSome self.old.file
+            (λ old. IfSome self.new.file (λ new. Rose (F.faults old) (F.faults new)))) }
         ensures faults { CountsFault result self.old.faults self.new.faults }
         ensures reads { self.new.reads ≡ counted self.old.reads 1 }
         ensures reads_rise { self.old.reads ≤ self.new.reads }
@@ -133,8 +137,10 @@ where
     fn write_at(&mut self, at: u32, words: &[u64]) -> Result<(), Failed>
         requires some { 0 < length words.now }
         requires in_range { at + length words.now ≤ 2 ^ 32 }
-        ensures written { OnOk result (Writes (F.bytes self.old.file) (8 * at) (word_bytes words.now) (F.bytes self.new.file)) }
-        ensures others { OnErr result (KeepsOthers (F.bytes self.old.file) (8 * at) (8 * length words.now) (F.bytes self.new.file)) }
+        ensures written { OnOk result (Writes (F.bytes self.old.file) (8 * at) (word_bytes words.now)
+            (F.bytes self.new.file)) }
+        ensures others { OnErr result (KeepsOthers (F.bytes self.old.file) (8 * at) (8 * length words.now)
+            (F.bytes self.new.file)) }
         ensures made { OnOk result (F.made self.new.file ≡ true) }
         ensures stays_made { F.made self.old.file ≡ true → F.made self.new.file ≡ true }
         ensures no_file_fault { OnOk result (F.faults self.new.file ≡ F.faults self.old.file) }
@@ -153,7 +159,8 @@ where
     }
 
     fn lend(&mut self, alloc: Global) -> Result<FileReader<F::Reader>, LendRefusal>
-        ensures lent { IfOk result (λ reader. IfSome reader.file (λ file. F.Reader.bytes file ≡ F.bytes self.old.file)) }
+        ensures lent { IfOk result (λ reader. IfSome reader.file (λ file. F.Reader.bytes file
+            ≡ F.bytes self.old.file)) }
         ensures open { IfOk result (λ reader. IsSome reader.file ↔ (F.made self.old.file ≡ true)) }
         ensures no_file_fault_yet { IfOk result (λ reader. IfSome reader.file (λ file. F.Reader.faults file ≡ 0)) }
         ensures no_fault_yet { IfOk result (λ reader. reader.faults ≡ 0) }
@@ -161,7 +168,8 @@ where
         ensures kept { F.bytes self.new.file ≡ F.bytes self.old.file }
         ensures made { F.made self.new.file ≡ F.made self.old.file }
         ensures no_file_fault { OnOk result (F.faults self.new.file ≡ F.faults self.old.file) }
-        ensures file_failed { IsErrOf result LendRefusal.Failed → Rose (F.faults self.old.file) (F.faults self.new.file) }
+        ensures file_failed { IsErrOf result LendRefusal.Failed
+            → Rose (F.faults self.old.file) (F.faults self.new.file) }
         ensures no_fault { OnOk result (self.new.faults ≡ self.old.faults) }
         ensures failed { IsErrOf result LendRefusal.Failed → Rose self.old.faults self.new.faults }
         ensures count { self.old.faults ≤ self.new.faults }
@@ -295,11 +303,13 @@ fn read_file<F: PositionedReader>(
     requires room { 8 ≤ length piece.old }
     requires in_range { at + length words.old ≤ 2 ^ 32 }
     ensures no_file { IsNone file.old → IsErr result }
-    ensures words { OnOk result (IfSome file.old (λ old. IfSome (F.bytes old) (λ bytes. words.new ≡ words_of (length words.old) (drop (8 * at) bytes)))) }
+    ensures words { OnOk result (IfSome file.old (λ old. IfSome (F.bytes old) (λ bytes. words.new
+        ≡ words_of (length words.old) (drop (8 * at) bytes)))) }
     ensures stays_open { IsSome file.new ↔ IsSome file.old }
     ensures kept { IfSome file.old (λ old. IfSome file.new (λ new. F.bytes new ≡ F.bytes old)) }
     ensures no_fault { OnOk result (IfSome file.old (λ old. IfSome file.new (λ new. F.faults new ≡ F.faults old))) }
-    ensures failed { OnErr result (IfSome file.old (λ old. IfSome file.new (λ new. Rose (F.faults old) (F.faults new)))) }
+    ensures failed { OnErr result (IfSome file.old (λ old. IfSome file.new
+        (λ new. Rose (F.faults old) (F.faults new)))) }
 {
     match file {
         Some(file) => read_words(file, piece, at, words),
@@ -317,7 +327,8 @@ fn read_words<F: PositionedReader>(
 ) -> Result<(), Failed>
     requires room { 8 ≤ length piece.old }
     requires in_range { at + length words.old ≤ 2 ^ 32 }
-    ensures words { OnOk result (IfSome (F.bytes file.old) (λ bytes. words.new ≡ words_of (length words.old) (drop (8 * at) bytes))) }
+    ensures words { OnOk result (IfSome (F.bytes file.old) (λ bytes. words.new
+        ≡ words_of (length words.old) (drop (8 * at) bytes))) }
     ensures kept { F.bytes file.new ≡ F.bytes file.old }
     ensures no_fault { OnOk result (F.faults file.new ≡ F.faults file.old) }
     ensures failed { OnErr result (Rose (F.faults file.old) (F.faults file.new)) }
@@ -345,7 +356,8 @@ fn read_run<F: PositionedReader>(
 ) -> Result<(), Failed>
     requires room { 8 * length words.old ≤ length piece.old }
     requires in_range { at + length words.old ≤ 2 ^ 32 }
-    ensures words { OnOk result (IfSome (F.bytes file.old) (λ bytes. words.new ≡ words_of (length words.old) (drop (8 * at) bytes))) }
+    ensures words { OnOk result (IfSome (F.bytes file.old) (λ bytes. words.new
+        ≡ words_of (length words.old) (drop (8 * at) bytes))) }
     ensures kept { F.bytes file.new ≡ F.bytes file.old }
     ensures no_fault { OnOk result (F.faults file.new ≡ F.faults file.old) }
     ensures failed { OnErr result (Rose (F.faults file.old) (F.faults file.new)) }

@@ -1,5 +1,6 @@
 //! A disk in memory, of which calls can be made to fail, and whose readers can be made to lie.
-ghost use Rattle.std.specs.Prelude.{◌≡◌, ◌≢◌, ℕ, ◌+◌, ◌<◌, ◌≤◌, ◌^◌, ◌↔◌, [], length, vec_len, IsErr, IsErrOf, IfOk, OnOk, OnErr, Contains};
+ghost use Rattle.std.specs.Prelude.{◌≡◌, ◌≢◌, ℕ, ◌+◌, ◌<◌, ◌≤◌, ◌^◌, ◌↔◌, [], length, vec_len, IsErr, IsErrOf, IfOk};
+ghost use Rattle.std.specs.Prelude.{OnOk, OnErr, Contains};
 ghost use Rattle.std.specs.Vec.{vec_capacity};
 ghost use Rattle.melt_io.specs.Outside.{CountsFault, Rose, counted, words_at, with_words};
 ghost use Rattle.melt_io.specs.Lies.{told, with_lie, with_lies};
@@ -52,7 +53,8 @@ impl MemDisk {
         ensures image { result.image.items ≡ [] }
         ensures no_writes { result.writes ≡ 0 }
         ensures no_lends { result.lends ≡ 0 }
-        ensures sound { (result.fail_writes.items ≡ []) × (result.fail_lends.items ≡ []) × (result.fail_reads.items ≡ []) }
+        ensures sound { (result.fail_writes.items ≡ []) × (result.fail_lends.items ≡ [])
+            × (result.fail_reads.items ≡ []) }
         ensures honest { result.lies.items ≡ [] }
         ensures no_faults { result.faults ≡ 0 }
         ensures no_read_faults { result.read_faults ≡ 0 }
@@ -79,7 +81,8 @@ impl RecordReader for MemReader {
     ghost reads = { λ r. r.reads };
 
     fn read_at(&mut self, at: u32, words: &mut [u64]) -> Result<(), Failed>
-        ensures words { OnOk result (words.new ≡ with_lies self.old.lend at (words_at self.old.image.items at (length words.old)) self.old.lies.items) }
+        ensures words { OnOk result (words.new ≡ with_lies self.old.lend at
+            (words_at self.old.image.items at (length words.old)) self.old.lies.items) }
         ensures image { (self.new.image.items ≡ self.old.image.items) × (self.new.lies.items ≡ self.old.lies.items) }
         ensures faults { CountsFault result self.old.faults self.new.faults }
         ensures reads { self.new.reads ≡ counted self.old.reads 1 }
@@ -122,9 +125,12 @@ impl StaleDisk for MemDisk {
         ensures lends { self.new.lends ≡ self.old.lends }
 
         ensures due { Contains self.old.fail_writes.items (counted self.old.writes 1) → IsErr result }
-        ensures full { IsErr result → ¬ Contains self.old.fail_writes.items (counted self.old.writes 1) → vec_capacity self.old.image < at + length words.now }
+        ensures full { IsErr result → ¬ Contains self.old.fail_writes.items (counted self.old.writes 1)
+            → vec_capacity self.old.image < at + length words.now }
         ensures writes { self.new.writes ≡ counted self.old.writes 1 }
-        ensures kept { (self.new.fail_writes.items ≡ self.old.fail_writes.items) × (self.new.fail_lends.items ≡ self.old.fail_lends.items) × (self.new.fail_reads.items ≡ self.old.fail_reads.items) }
+        ensures kept { (self.new.fail_writes.items ≡ self.old.fail_writes.items)
+            × (self.new.fail_lends.items ≡ self.old.fail_lends.items)
+            × (self.new.fail_reads.items ≡ self.old.fail_reads.items) }
         ensures lies { self.new.lies.items ≡ self.old.lies.items }
     {
         if is_due(&mut self.writes, &self.fail_writes)
@@ -147,11 +153,15 @@ impl StaleDisk for MemDisk {
         ensures read_faults { self.new.read_faults ≡ self.old.read_faults }
         ensures lends { self.new.lends ≡ counted self.old.lends 1 }
 
-        ensures due { IsErrOf result LendRefusal.Failed ↔ Contains self.old.fail_lends.items (counted self.old.lends 1) }
+        ensures due { IsErrOf result LendRefusal.Failed
+            ↔ Contains self.old.fail_lends.items (counted self.old.lends 1) }
         ensures number { IfOk result (λ reader. reader.lend ≡ counted self.old.lends 1) }
-        ensures lists { IfOk result (λ reader. (reader.fail_reads.items ≡ self.old.fail_reads.items) × (reader.lies.items ≡ self.old.lies.items)) }
+        ensures lists { IfOk result (λ reader. (reader.fail_reads.items ≡ self.old.fail_reads.items)
+            × (reader.lies.items ≡ self.old.lies.items)) }
         ensures writes { self.new.writes ≡ self.old.writes }
-        ensures kept { (self.new.fail_writes.items ≡ self.old.fail_writes.items) × (self.new.fail_lends.items ≡ self.old.fail_lends.items) × (self.new.fail_reads.items ≡ self.old.fail_reads.items) }
+        ensures kept { (self.new.fail_writes.items ≡ self.old.fail_writes.items)
+            × (self.new.fail_lends.items ≡ self.old.fail_lends.items)
+            × (self.new.fail_reads.items ≡ self.old.fail_reads.items) }
         ensures lies { self.new.lies.items ≡ self.old.lies.items }
     {
         if is_due(&mut self.lends, &self.fail_lends) {
@@ -168,7 +178,9 @@ impl StaleDisk for MemDisk {
         ensures lends { self.new.lends ≡ self.old.lends }
 
         ensures writes { self.new.writes ≡ self.old.writes }
-        ensures kept { (self.new.fail_writes.items ≡ self.old.fail_writes.items) × (self.new.fail_lends.items ≡ self.old.fail_lends.items) × (self.new.fail_reads.items ≡ self.old.fail_reads.items) }
+        ensures kept { (self.new.fail_writes.items ≡ self.old.fail_writes.items)
+            × (self.new.fail_lends.items ≡ self.old.fail_lends.items)
+            × (self.new.fail_reads.items ≡ self.old.fail_reads.items) }
         ensures lies { self.new.lies.items ≡ self.old.lies.items }
     {
         self.read_faults = self.read_faults.saturating_add(reader.faults.count());

@@ -1,5 +1,6 @@
 //! A file in memory, of which calls can be made to fail, and whose reads can be made short.
-ghost use Rattle.std.specs.Prelude.{◌≡◌, ◌+◌, ◌-◌, ◌^◌, ◌<◌, ◌↔◌, [], length, take, drop, min, max, true, false, is_some, Some, IsErr, IsNone, IfOk, IfSome, OnOk, OnErr, Contains};
+ghost use Rattle.std.specs.Prelude.{◌≡◌, ◌+◌, ◌-◌, ◌^◌, ◌<◌, ◌↔◌, [], length, take, drop, min, max, true, false};
+ghost use Rattle.std.specs.Prelude.{is_some, Some, IsErr, IsNone, IfOk, IfSome, OnOk, OnErr, Contains};
 ghost use Rattle.std.specs.Vec.{vec_capacity};
 ghost use Rattle.melt_io.specs.Outside.{CountsFault, counted, with_words};
 ghost use Rattle.std.proofs.Common.{rules};
@@ -67,7 +68,8 @@ impl MemFile {
         requires { is_some self.now.bytes ≡ true }
         ensures bytes { IfOk result (λ reader. reader.bytes.items ≡ bytes_of self.now) }
         ensures uncalled { IfOk result (λ reader. reader.calls ≡ 0) }
-        ensures reads { IfOk result (λ reader. (reader.fail.items ≡ self.now.fail_reads.items) × (reader.most ≡ self.now.most)) }
+        ensures reads { IfOk result (λ reader. (reader.fail.items ≡ self.now.fail_reads.items)
+            × (reader.most ≡ self.now.most)) }
         ensures no_faults { IfOk result (λ reader. reader.faults ≡ 0) }
     {
         let Some(bytes) = &self.bytes else {
@@ -90,7 +92,8 @@ impl PositionedReader for MemFileReader {
     ghost faults = { λ r. r.faults };
 
     fn read_at(&mut self, buf: &mut [u8], at: u64) -> Result<usize, Failed>
-        ensures within { IfOk result (λ n. n ≡ min (min (length buf.old) (max self.old.most 1)) (length (drop at self.old.bytes.items))) }
+        ensures within { IfOk result (λ n. n ≡ min (min (length buf.old) (max self.old.most 1))
+            (length (drop at self.old.bytes.items))) }
         ensures read { IfOk result (λ n. take n buf.new ≡ take n (drop at self.old.bytes.items)) }
         ensures kept { self.new.bytes.items ≡ self.old.bytes.items }
         ensures faults { CountsFault result self.old.faults self.new.faults }
@@ -133,7 +136,8 @@ impl PositionedFile for MemFile {
 
         ensures due { IsErr result ↔ Contains self.old.fail.items (counted self.old.calls 1) }
         ensures calls { self.new.calls ≡ counted self.old.calls 1 }
-        ensures lists { (self.new.fail.items ≡ self.old.fail.items) × (self.new.fail_reads.items ≡ self.old.fail_reads.items) × (self.new.most ≡ self.old.most) }
+        ensures lists { (self.new.fail.items ≡ self.old.fail.items)
+            × (self.new.fail_reads.items ≡ self.old.fail_reads.items) × (self.new.most ≡ self.old.most) }
     {
         if is_due(&mut self.calls, &self.fail) {
             return Err(self.faults.rise());
@@ -153,9 +157,11 @@ impl PositionedFile for MemFile {
         ensures faults { CountsFault result self.old.faults self.new.faults }
 
         ensures due { Contains self.old.fail.items (counted self.old.calls 1) → IsErr result }
-        ensures full { IsErr result → ¬ Contains self.old.fail.items (counted self.old.calls 1) → IfSome self.old.bytes (λ bytes. vec_capacity bytes < at + length piece.now) }
+        ensures full { IsErr result → ¬ Contains self.old.fail.items (counted self.old.calls 1)
+            → IfSome self.old.bytes (λ bytes. vec_capacity bytes < at + length piece.now) }
         ensures calls { self.new.calls ≡ counted self.old.calls 1 }
-        ensures lists { (self.new.fail.items ≡ self.old.fail.items) × (self.new.fail_reads.items ≡ self.old.fail_reads.items) × (self.new.most ≡ self.old.most) }
+        ensures lists { (self.new.fail.items ≡ self.old.fail.items)
+            × (self.new.fail_reads.items ≡ self.old.fail_reads.items) × (self.new.most ≡ self.old.most) }
     {
         let is_refused = is_due(&mut self.calls, &self.fail);
         let Some(bytes) = &mut self.bytes else {
@@ -172,13 +178,15 @@ impl PositionedFile for MemFile {
         ensures opened { IfOk result (λ reader. reader.bytes.items ≡ bytes_of self.old) }
         ensures no_fault_yet { IfOk result (λ reader. reader.faults ≡ 0) }
         ensures no_read_yet { IfOk result (λ reader. reader.calls ≡ 0) }
-        ensures reads { IfOk result (λ reader. (reader.fail.items ≡ self.old.fail_reads.items) × (reader.most ≡ self.old.most)) }
+        ensures reads { IfOk result (λ reader. (reader.fail.items ≡ self.old.fail_reads.items)
+            × (reader.most ≡ self.old.most)) }
         ensures kept { self.new.bytes ≡ self.old.bytes }
         ensures faults { CountsFault result self.old.faults self.new.faults }
 
         ensures due { Contains self.old.fail.items (counted self.old.calls 1) → IsErr result }
         ensures calls { self.new.calls ≡ counted self.old.calls 1 }
-        ensures lists { (self.new.fail.items ≡ self.old.fail.items) × (self.new.fail_reads.items ≡ self.old.fail_reads.items) × (self.new.most ≡ self.old.most) }
+        ensures lists { (self.new.fail.items ≡ self.old.fail.items)
+            × (self.new.fail_reads.items ≡ self.old.fail_reads.items) × (self.new.most ≡ self.old.most) }
     {
         let is_refused = is_due(&mut self.calls, &self.fail);
         match self.reader() {

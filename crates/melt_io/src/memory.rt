@@ -1,5 +1,6 @@
 //! A source and a sink in memory, of which calls can be made to fail.
-ghost use Rattle.std.specs.Prelude.{◌^◌, ◌≡◌, ℕ, ◌+◌, ◌<◌, ◌≤◌, ◌↔◌, Some, [], ◌++◌, length, take, drop, min, vec_len, IsTrue, IsOk, IsErr, IfOk, OnOk, OnErr, Contains};
+ghost use Rattle.std.specs.Prelude.{◌^◌, ◌≡◌, ℕ, ◌+◌, ◌<◌, ◌≤◌, ◌↔◌, Some, [], ◌++◌, length, take, drop, min, vec_len};
+ghost use Rattle.std.specs.Prelude.{IsTrue, IsOk, IsErr, IfOk, OnOk, OnErr, Contains};
 ghost use Rattle.std.specs.Vec.{vec_capacity};
 ghost use Rattle.melt_io.specs.Outside.{CountsFault, counted};
 
@@ -74,9 +75,11 @@ impl Source for MemSource {
 
     fn read(&mut self, buf: &mut [u8]) -> Result<usize, Failed>
         ensures within { IfOk result (λ n. n ≤ length buf.old) }
-        ensures taken { IfOk result (λ n. drop self.old.pos self.old.bytes.items ≡ take n buf.new ++ drop self.new.pos self.new.bytes.items) }
+        ensures taken { IfOk result (λ n. drop self.old.pos self.old.bytes.items
+            ≡ take n buf.new ++ drop self.new.pos self.new.bytes.items) }
         ensures faults { CountsFault result self.old.faults self.new.faults }
-        ensures untouched { OnErr result (drop self.new.pos self.new.bytes.items ≡ drop self.old.pos self.old.bytes.items) }
+        ensures untouched { OnErr result (drop self.new.pos self.new.bytes.items
+            ≡ drop self.old.pos self.old.bytes.items) }
 
         ensures whole { IfOk result (λ n. n ≡ min (length buf.old) (length (drop self.old.pos self.old.bytes.items))) }
         ensures due { IsErr result ↔ Contains self.old.fail.items (counted self.old.calls 1) }
@@ -102,7 +105,8 @@ impl Sink for MemSink {
 
         ensures whole { IfOk result (λ n. n ≡ length piece.now) }
         ensures due { Contains self.old.fail.items (counted self.old.calls 1) → IsErr result }
-        ensures full { IsErr result → ¬ Contains self.old.fail.items (counted self.old.calls 1) → vec_capacity self.old.bytes < vec_len self.old.bytes + length piece.now }
+        ensures full { IsErr result → ¬ Contains self.old.fail.items (counted self.old.calls 1)
+            → vec_capacity self.old.bytes < vec_len self.old.bytes + length piece.now }
         ensures calls { self.new.calls ≡ counted self.old.calls 1 }
         ensures kept { self.new.fail.items ≡ self.old.fail.items }
     {

@@ -1,5 +1,6 @@
 //! The traits of the outside.
-ghost use Rattle.std.specs.Prelude.{◌≡◌, ℕ, ◌+◌, ◌-◌, ◌^◌, ◌<◌, ◌≤◌, Bool, true, false, List, [], Option, Some, codes, take, drop, length, min, is_some, IfOk, IfSome, OnOk, OnErr, IsErrOf};
+ghost use Rattle.std.specs.Prelude.{◌≡◌, ℕ, ◌+◌, ◌-◌, ◌^◌, ◌<◌, ◌≤◌, Bool, true, false, List, [], Option, Some, codes};
+ghost use Rattle.std.specs.Prelude.{take, drop, length, min, is_some, IfOk, IfSome, OnOk, OnErr, IsErrOf};
 ghost use Rattle.melt_io.specs.Outside.{Rose, counted, TakesFront, Appends, words_at, Writes, KeepsOthers};
 
 use std::alloc::Global;
@@ -85,7 +86,8 @@ pub trait RecordReader {
     fn read_at(&mut self, at: u32, words: &mut [u64]) -> Result<(), Failed>
         requires some { 0 < length words.old }
         requires in_range { at + length words.old ≤ 2 ^ 32 }
-        ensures words { OnOk result (IfSome (image self.old) (λ image. words.new ≡ words_at image at (length words.old))) }
+        ensures words { OnOk result (IfSome (image self.old) (λ image. words.new
+            ≡ words_at image at (length words.old))) }
         ensures image { image self.new ≡ image self.old }
         ensures failed { OnErr result (Rose (faults self.old) (faults self.new)) }
         ensures count { faults self.old ≤ faults self.new }
@@ -164,7 +166,8 @@ pub trait PositionedReader {
         requires in_range { at + length buf.old < 2 ^ 63 }
         ensures within { IfOk result (λ n. n ≤ length buf.old) }
         ensures read { IfOk result (λ n. IfSome (bytes self.old) (λ bytes. take n buf.new ≡ take n (drop at bytes))) }
-        ensures end { IfOk result (λ n. n ≡ 0 → 0 < length buf.old → IfSome (bytes self.old) (λ bytes. length bytes ≤ at)) }
+        ensures end { IfOk result (λ n. n ≡ 0 → 0 < length buf.old
+            → IfSome (bytes self.old) (λ bytes. length bytes ≤ at)) }
         ensures kept { bytes self.new ≡ bytes self.old }
         ensures no_fault { OnOk result (faults self.new ≡ faults self.old) }
         ensures failed { OnErr result (Rose (faults self.old) (faults self.new)) }

@@ -1,5 +1,6 @@
 //! Forms in memory with no lists of calls that fail: they fail only where a write finds no memory.
-ghost use Rattle.std.specs.Prelude.{◌≡◌, ℕ, ◌+◌, ◌<◌, ◌≤◌, ◌^◌, ◌-◌, Some, [], ◌++◌, length, take, drop, min, vec_len, IsOk, IsOkUnless, IfOk, OnOk, OnErr};
+ghost use Rattle.std.specs.Prelude.{◌≡◌, ℕ, ◌+◌, ◌<◌, ◌≤◌, ◌^◌, ◌-◌, Some, [], ◌++◌, length, take, drop, min, vec_len};
+ghost use Rattle.std.specs.Prelude.{IsOk, IsOkUnless, IfOk, OnOk, OnErr};
 ghost use Rattle.std.specs.Vec.{vec_capacity};
 ghost use Rattle.melt_io.specs.Outside.{CountsFault, counted, words_at, with_words};
 
@@ -94,7 +95,8 @@ impl Source for SteadySource {
     fn read(&mut self, buf: &mut [u8]) -> Result<usize, Failed>
         ensures ok { IsOk result }
         ensures whole { IfOk result (λ n. n ≡ min (length buf.old) (length (drop self.old.pos self.old.bytes.items))) }
-        ensures taken { IfOk result (λ n. drop self.old.pos self.old.bytes.items ≡ take n buf.new ++ drop self.new.pos self.new.bytes.items) }
+        ensures taken { IfOk result (λ n. drop self.old.pos self.old.bytes.items
+            ≡ take n buf.new ++ drop self.new.pos self.new.bytes.items) }
         ensures kept { self.new.bytes.items ≡ self.old.bytes.items }
     {
         Ok(take_next(&self.bytes, &mut self.pos, buf))

@@ -1,5 +1,6 @@
 //! Reads all of a source, and writes all of a piece.
-ghost use Rattle.std.specs.Prelude.{◌≡◌, ℕ, ◌+◌, ◌<◌, ◌≤◌, ◌↔◌, List, [], ◌++◌, Some, length, vec_len, true, false, take, IfOk, IfSome, OnOk, OnErr, IsErrOf};
+ghost use Rattle.std.specs.Prelude.{◌≡◌, ℕ, ◌+◌, ◌<◌, ◌≤◌, ◌↔◌, List, [], ◌++◌, Some, length, vec_len, true, false};
+ghost use Rattle.std.specs.Prelude.{take, IfOk, IfSome, OnOk, OnErr, IsErrOf};
 ghost use Rattle.melt_io.specs.Outside.{Rose, TakesFront, Appends};
 ghost use Rattle.melt_io.specs.Whole.{TakesCount, refusal_text};
 ghost use Rattle.melt_io.specs.declared.whole.ReadRefusal.TheVariants.{Fault, NoMemory};
@@ -60,7 +61,8 @@ pub fn read_all<S: Source>(alloc: Global, s: &mut S, limit: usize) -> Result<Vec
     ensures within { IfOk result (λ bytes. length bytes.items ≤ limit) }
 
     // What was taken is a front, and it is longer than the limit, by one byte, only at `TooLong`.
-    ensures front { (n : ℕ) × (n ≤ limit + 1) × TakesCount (S.left s.old) n (S.left s.new) × (IsErrOf result ReadRefusal.TooLong ↔ (n ≡ limit + 1)) }
+    ensures front { (n : ℕ) × (n ≤ limit + 1) × TakesCount (S.left s.old) n (S.left s.new)
+        × (IsErrOf result ReadRefusal.TooLong ↔ (n ≡ limit + 1)) }
     ensures fault { IsErrOf result ReadRefusal.Fault → Rose (S.faults s.old) (S.faults s.new) }
     ensures count { S.faults s.old ≤ S.faults s.new }
 {
@@ -80,12 +82,15 @@ fn read_more<S: Source>(
     requires piece { 0 < length piece.old }
     requires room { vec_len bytes.old ≤ limit }
 
-    ensures read { OnOk result ((front : List ℕ) × (bytes.new.items ≡ bytes.old.items ++ front) × TakesFront (S.left s.old) front (S.left s.new)) }
+    ensures read { OnOk result ((front : List ℕ) × (bytes.new.items ≡ bytes.old.items ++ front)
+        × TakesFront (S.left s.old) front (S.left s.new)) }
     ensures within { OnOk result (vec_len bytes.new ≤ limit) }
     ensures more { result ≡ Ok true → vec_len bytes.old < vec_len bytes.new }
     ensures ended { result ≡ Ok false → IfSome (S.left s.new) (λ left. left ≡ []) }
 
-    ensures front { OnErr result ((n : ℕ) × (vec_len bytes.old + n ≤ limit + 1) × TakesCount (S.left s.old) n (S.left s.new) × (IsErrOf result ReadRefusal.TooLong ↔ (vec_len bytes.old + n ≡ limit + 1))) }
+    ensures front { OnErr result ((n : ℕ) × (vec_len bytes.old + n ≤ limit + 1)
+        × TakesCount (S.left s.old) n (S.left s.new) × (IsErrOf result ReadRefusal.TooLong
+        ↔ (vec_len bytes.old + n ≡ limit + 1))) }
     ensures fault { IsErrOf result ReadRefusal.Fault → Rose (S.faults s.old) (S.faults s.new) }
     ensures count { S.faults s.old ≤ S.faults s.new }
 {
@@ -105,7 +110,8 @@ pub fn write_all<K: Sink>(k: &mut K, bytes: &[u8]) -> Result<(), Failed>
     ensures all { OnOk result (Appends (K.written k.old) bytes.now (K.written k.new)) }
 
     // What was appended before a failure is a proper front of the bytes.
-    ensures part { OnErr result ((n : ℕ) × (n < length bytes.now) × Appends (K.written k.old) (take n bytes.now) (K.written k.new)) }
+    ensures part { OnErr result ((n : ℕ) × (n < length bytes.now)
+        × Appends (K.written k.old) (take n bytes.now) (K.written k.new)) }
     ensures failed { OnErr result (Rose (K.faults k.old) (K.faults k.new)) }
     ensures count { K.faults k.old ≤ K.faults k.new }
 {

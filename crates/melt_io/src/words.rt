@@ -22,5 +22,6 @@ pub fn get_words(bytes: &[u8], words: &mut [u64])
 
 /// The words that are read from the bytes of words are those words.
 pub fn words_read_back()
-    ensures { (words : List ℕ) → All (λ word. word < 2 ^ 64) words → words_of (length words) (word_bytes words) ≡ words }
+    ensures { (words : List ℕ) → All (λ word. word < 2 ^ 64) words
+        → words_of (length words) (word_bytes words) ≡ words }
 {}

@@ -6,7 +6,8 @@ abbrev pub invariant-loop-done : goal.invariant-loop-done
 invariant-loop-done g l = record {
   room : 8 ≤ length l.piece;
   within : l.done ≤ length l.words;
-  read : IfSome (g.F.PositionedReader.bytes l.initial.file) (λ bytes. take l.done l.words ≡ words_of l.done (drop (8 * l.at) bytes));
+  read : IfSome (g.F.PositionedReader.bytes l.initial.file) (λ bytes. take l.done l.words
+      ≡ words_of l.done (drop (8 * l.at) bytes));
   kept : g.F.PositionedReader.bytes l.file ≡ g.F.PositionedReader.bytes l.initial.file;
   no_fault : g.F.PositionedReader.faults l.file ≡ g.F.PositionedReader.faults l.initial.file;
 }

@@ -12,7 +12,8 @@ loop-done-preserved g c =
       made = c.in_ok-write_run.ensures.made;
       room = omega arith;
       within = omega arith;
-      written = writes-run _ _ _ c.args.at c.args.words.now c.loop-done.done c.min-end.result (omega arith) (omega arith) c.loop-done.invariant.written (rw place at c.in_ok-write_run.ensures.written);
+      written = writes-run _ _ _ c.args.at c.args.words.now c.loop-done.done c.min-end.result (omega arith)
+          (omega arith) c.loop-done.invariant.written (rw place at c.in_ok-write_run.ensures.written);
       no_fault = c.in_ok-write_run.ensures.no_fault ∙ c.loop-done.invariant.no_fault;
     }
 
@@ -22,9 +23,12 @@ returns-in_err-write_run-clause-others g c =
     let done = c.loop-done.done in
     let end = c.min-end.result in
     let place : c.from.result ≡ c.args.at = search rules in
-    let run : length (take (end - done) (drop done words)) ≡ end - done = simp (length-take, length-drop) (omega arith) in
-    let kept : KeepsOthers (g.F.PositionedFile.bytes c.args.file.now) (8 * c.args.at) (8 * length words) (g.F.PositionedFile.bytes c.write_run.new.file)
-    = keeps-run _ _ _ c.args.at words done (length (take (end - done) (drop done words))) (omega (arith, run)) c.loop-done.invariant.written (rw place at c.in_err-write_run.ensures.others) in
+    let run : length (take (end - done) (drop done words)) ≡ end - done =
+    simp (length-take, length-drop) (omega arith) in
+    let kept : KeepsOthers (g.F.PositionedFile.bytes c.args.file.now) (8 * c.args.at) (8 * length words)
+    (g.F.PositionedFile.bytes c.write_run.new.file)
+    = keeps-run _ _ _ c.args.at words done (length (take (end - done) (drop done words))) (omega (arith, run))
+    c.loop-done.invariant.written (rw place at c.in_err-write_run.ensures.others) in
     search rules
 
 pub returns-clause-written : goal.returns-clause-written

@@ -8,7 +8,8 @@ invariant-loop-done g l = record {
   made : g.F.PositionedFile.made l.file ≡ true;
   room : 8 ≤ length l.piece;
   within : l.done ≤ length l.words;
-  written : WritesSoFar (g.F.PositionedFile.bytes l.initial.file) (8 * l.at) (word_bytes (take l.done l.words)) (g.F.PositionedFile.bytes l.file);
+  written : WritesSoFar (g.F.PositionedFile.bytes l.initial.file) (8 * l.at) (word_bytes (take l.done l.words))
+      (g.F.PositionedFile.bytes l.file);
   no_fault : g.F.PositionedFile.faults l.file ≡ g.F.PositionedFile.faults l.initial.file;
 }
 

@@ -7,7 +7,8 @@ returns-clause-written g c =
     let items = c.args.items.now in
     let new = c.args.new.now in
     let long = c.deref_mut.result.now in
-    let reached : long ≡ items.items ++ replicate (c.args.start + length new - length items.items) c.args.blank = search rules in
+    let reached : long ≡ items.items ++ replicate (c.args.start + length new - length items.items) c.args.blank =
+    search rules in
     let len : length c.overwrite.new.items ≡ c.reach.new.items.len = search rules in
     written_back c.reach.new.items.len c.overwrite.new.items c.reach.new.items.items len
     ∙ overwritten c.args.blank items.items long c.overwrite.new.items c.args.start new reached c.overwrite.ensures

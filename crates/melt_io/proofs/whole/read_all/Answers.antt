@@ -17,7 +17,9 @@ returns-in_err-read_more-clause-front g c =
     let front = c.in_err-read_more.ensures.front in
     let len : length bytes.items ≡ vec_len bytes = cc (bytes.ok.0) in
     let within : length bytes.items + front.0 ≤ c.args.limit + 1 = omega (arith, front.1, len) in
-    let out = err_from_is_err_and c.from_residual-in_err-read_more.result c.from_residual-in_err-read_more.ensures.1 in (
+    let out =
+    err_from_is_err_and c.from_residual-in_err-read_more.result c.from_residual-in_err-read_more.ensures.1
+    in (
       length bytes.items + front.0,
       within,
       TakesCount-behind _ _ _ _ _ c.loop-bytes.invariant.taken front.2,
@@ -38,12 +40,17 @@ loop-bytes-preserved g c = record {
 pub returns-clause-all : goal.returns-clause-all
 returns-clause-all g c =
     let read = c.in_ok-read_more.ensures.read in
-    TakesFront-all _ _ _ (TakesFront-on _ _ _ _ _ c.loop-bytes.invariant.taken read) (c.in_ok-read_more.ensures.ended cc)
+    TakesFront-all _ _ _ (TakesFront-on _ _ _ _ _ c.loop-bytes.invariant.taken read)
+    (c.in_ok-read_more.ensures.ended cc)
 
 pub returns-clause-front : goal.returns-clause-front
 returns-clause-front g c =
     let read = c.in_ok-read_more.ensures.read in
     let taken = TakesFront-on _ _ _ _ _ c.loop-bytes.invariant.taken read in
     let bytes = c.read_more.new.bytes in
-    let len : length bytes.items ≡ vec_len bytes = cc (bytes.ok.0) in
-    (vec_len bytes, omega (arith, c.in_ok-read_more.ensures.within), TakesCount-front _ _ _ _ len taken, ((λ h. cc), (λ h. absurd (omega (arith, c.in_ok-read_more.ensures.within)))))
+    let len : length bytes.items ≡ vec_len bytes = cc (bytes.ok.0) in (
+      vec_len bytes,
+      omega (arith, c.in_ok-read_more.ensures.within),
+      TakesCount-front _ _ _ _ len taken,
+      ((λ h. cc), (λ h. absurd (omega (arith, c.in_ok-read_more.ensures.within)))),
+    )
