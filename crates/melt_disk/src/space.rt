@@ -1,6 +1,7 @@
 //! Homes on a disk, and the records that are written at them. Homes follow one another from word 1 to the end, so
 //! two of them are one or have no word in common, and no list of them is kept.
-ghost use Rattle.std.specs.Prelude.{◌≡◌, ◌↔◌, ◌+◌, ◌^◌, ◌<◌, ◌≤◌, List, [], ◌∷◌, ◌++◌, length, IsErr, IfSome, IfOk, IfErr, OnOk, OnErr, IsErrOf};
+ghost use Rattle.std.specs.Prelude.{◌≡◌, ◌↔◌, ◌+◌, ◌^◌, ◌<◌, ◌≤◌, List, [], ◌∷◌, ◌++◌, length, IsErr, IfSome, IfOk};
+ghost use Rattle.std.specs.Prelude.{IfErr, OnOk, OnErr, IsErrOf};
 ghost use Rattle.melt_disk.specs.Homes.{AreHomes, Home, KeepsApart, LiesIn, Stale, need_of};
 ghost use Rattle.melt_io.specs.Outside.{KeepsOthers, Rose, Writes, counted, words_at};
 ghost use Rattle.melt_record.specs.Records.{AreSlots, IsScion, body_words, stub_words};
@@ -114,9 +115,9 @@ impl<'d, D: StaleDisk> StaleSpace<'d, D> {
         Ok(home)
     }
 
-    /// Writes the Body of an object of the shape at its home, which lies between word 1 and the end. A disk that lied may
-    /// have told another shape than the home was reserved for, and then words of other homes are written. `slots` has the reference slots and then
-    /// the number words. After an `Err` the words of the home may be anything.
+    /// Writes the Body of an object of the shape at its home, which lies between word 1 and the end. A disk that lied
+    /// may have told another shape than the home was reserved for, and then words of other homes are written. `slots`
+    /// has the reference slots and then the number words. After an `Err` the words of the home may be anything.
     pub fn write_body(&mut self, home: u32, shape: Shape, slots: &[u64]) -> Result<(), Failed>
         requires lies { LiesIn 1 self.old.end (record { at = home; shape = shape }) }
         requires slots { length slots.now ≡ shape.refs + shape.nums }
@@ -144,8 +145,8 @@ impl<'d, D: StaleDisk> StaleSpace<'d, D> {
         write_record(self.disk, home, &words[..len])
     }
 
-    /// Writes the head of the Stub of an object of the shape at its home, as `write_body` does, and leaves the words behind
-    /// the head as they are. After an `Err` the two words of the head may be anything.
+    /// Writes the head of the Stub of an object of the shape at its home, as `write_body` does, and leaves the words
+    /// behind the head as they are. After an `Err` the two words of the head may be anything.
     pub fn write_stub(&mut self, home: u32, shape: Shape, scion: u32) -> Result<(), Failed>
         requires lies { LiesIn 1 self.old.end (record { at = home; shape = shape }) }
         requires scion { IsScion scion }

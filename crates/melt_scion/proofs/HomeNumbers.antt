@@ -5,8 +5,8 @@ use Rattle.std.specs.Prelude.{nat_eq, is_some}
 use Rattle.std.specs.Ordering.{nat_cmp, eq_by_cmp}
 use Rattle.std.specs.Cmp.{nat_cmp_total}
 use Rattle.std.specs.Map.{lookup}
-use Rattle.std.specs.FinMap.{FinMap, get, empty, insert, remove, contains_key, find, from_entries, get-from_entries}
-use Rattle.std.specs.FinMap.{get-insert, get-remove, get-empty, same_map, nat_cmp-IsAntisymmetric}
+use Rattle.std.specs.FinMap.{FinMap, get, insert, remove, contains_key, find, from_entries, get-from_entries}
+use Rattle.std.specs.FinMap.{get-insert, get-remove, same_map, nat_cmp-IsAntisymmetric}
 use Rattle.std.proofs.lemmas.Bool.Decides.{nat_tests}
 use Rattle.melt_scion.specs.HomeNames.{NamedHomes, home_name}
 
@@ -71,10 +71,6 @@ same_home home = grind (arith, nat_tests)
 other_home : (q home : ℕ) → q ≢ home → eq_by_cmp nat_cmp q home ≡ false
 other_home q home differ = grind (arith, nat_tests)
 
--- no home has a name in a map that is empty
-pub home_none : (homes : NamedHomes) (q : ℕ) → homes.names ≡ empty → home_name homes q ≡ None
-home_none homes q is = ap (λ (names : FinMap nat_cmp ℕ). get names q) is ∙ get-empty nat_cmp q
-
 -- a home whose name was set, and the others
 pub home_set : (old new : NamedHomes) (home number : ℕ) → new.names ≡ insert old.names home number
     → home_name new home ≡ Some number
@@ -89,17 +85,3 @@ home_set_others old new home number q is differ =
     ap (λ (names : FinMap nat_cmp ℕ). get names q) is
     ∙ (get-insert nat_cmp_total old.names home number q
     ∙ ap (λ (b : Bool). cond b (Some number) (get old.names q)) (other_home q home differ))
-
--- a home that was taken out, and the others
-pub home_removed : (old new : NamedHomes) (home : ℕ) → new.names ≡ remove old.names home → home_name new home ≡ None
-home_removed old new home is =
-    ap (λ (names : FinMap nat_cmp ℕ). get names home) is
-    ∙ (get-remove nat_cmp_total old.names home home
-    ∙ ap (λ (b : Bool). cond b None (get old.names home)) (same_home home))
-
-pub home_removed_others : (old new : NamedHomes) (home q : ℕ) → new.names ≡ remove old.names home → q ≢ home
-    → home_name new q ≡ home_name old q
-home_removed_others old new home q is differ =
-    ap (λ (names : FinMap nat_cmp ℕ). get names q) is
-    ∙ (get-remove nat_cmp_total old.names home q
-    ∙ ap (λ (b : Bool). cond b None (get old.names q)) (other_home q home differ))

@@ -1,10 +1,10 @@
 -- Lists of numbers: what they contain, each once, and one more put somewhere.
 use Rattle.std.proofs.Common.{◌≡◌, ◌≢◌, ◌⊎◌, inl, inr, ℕ, zero, suc, ◌+◌, Bool, true, false, List, [], ◌∷◌, ◌++◌}
 use Rattle.std.proofs.Common.{length, refl, sym, ◌∙◌, ap, subst, arith, length-append}
-use Rattle.std.specs.Prelude.{◌↔◌, nat_eq, if◌then◌else◌}
+use Rattle.std.specs.Prelude.{nat_eq, if◌then◌else◌}
 use Rattle.std.specs.List.{Contains}
 use Rattle.std.proofs.lemmas.Bool.Decides.{nat_tests}
-use Rattle.std.proofs.lemmas.List.Elements.{Contains-append_left, Contains-append_right, Contains-append_cases}
+use Rattle.std.proofs.lemmas.List.Elements.{Contains-append_right}
 use Rattle.std.proofs.lemmas.List.{get_or_default}
 use Rattle.std.proofs.lemmas.List.Kept.{AllPairs-cons}
 use Rattle.melt_scion.specs.Scions.{EachOnce, IsPutIn, behind, first_of}
@@ -55,27 +55,6 @@ put_length x less more put =
     let a = ap length put.less_is ∙ length-append put.front put.back in
     let b = ap length put.more_is ∙ length-append put.front (x ∷ put.back) in
     omega (arith, a, b)
-
-pub put_contains : (x y : ℕ) (less more : List ℕ) → IsPutIn x less more
-    → Contains more y ↔ ((y ≡ x) ⊎ Contains less y)
-put_contains x y less more put =
-    let in_less : List ℕ → Type 0 = λ xs. Contains xs y in (
-      (λ there. elim (Contains-append_cases put.front (x ∷ put.back) y (subst in_less put.more_is there)) [
-        | inl before ↦ inr (subst in_less (sym put.less_is) (Contains-append_left put.front put.back y before))
-        | inr from ↦ elim (contains_cases x y put.back from) [
-          | inl same ↦ inl (sym same)
-          | inr after ↦ inr (subst in_less (sym put.less_is) (Contains-append_right put.front put.back y after))
-        ]
-      ]),
-      (λ either. subst in_less (sym put.more_is) (elim either [
-        | inl same ↦ Contains-append_right put.front (x ∷ put.back) y
-            (subst (Contains (x ∷ put.back)) (sym same) (contains_here x put.back))
-        | inr there ↦ elim (Contains-append_cases put.front put.back y (subst in_less put.less_is there)) [
-          | inl before ↦ Contains-append_left put.front (x ∷ put.back) y before
-          | inr after ↦ Contains-append_right put.front (x ∷ put.back) y (contains_more x y put.back after)
-        ]
-      ])),
-    )
 
 -- a number that a list has parts it in two
 pub record IsSplit (x : ℕ) (xs : List ℕ) : Type 0 where

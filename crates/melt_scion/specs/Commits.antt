@@ -39,8 +39,8 @@ pub record HasCopy (maps : Maps) (s : State) (address home : ℕ) (z : Shape) (r
   pub owns : Owns maps s (record { at = address; words = cost_of z })
   pub are : (k : ℕ) → k < cost_of z → s.word (address + k) ≡ copy_word home z rest k
 
--- What a commit asks: the search for the home read other homes alone and then an empty word, at this place; the words are
--- those of a copy of the Body at the home, which, where it is told, is that of the object of this number.
+-- What a commit asks: the search for the home read other homes alone and then an empty word, at this place; the words
+-- are those of a copy of the Body at the home, which, where it is told, is that of the object of this number.
 pub record MayCommit (told : Bool) (maps : Maps) (s : State) (home tried p n address : ℕ) (z : Shape) (rest : List ℕ)
     : Type 0 where
   pub probed : Probed s home tried

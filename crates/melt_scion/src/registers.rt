@@ -1,9 +1,6 @@
 //! The registers of a thread.
 
-/// How many registers a thread has.
-pub const REGISTERS: usize = 16;
-
-/// What the registers of a thread hold: each holds 0 for nothing, or the address of an object.
+/// What the 16 registers of a thread hold: each holds 0 for nothing, or the address of an object.
 #[derive(Clone, Copy, Debug, PartialEq, Eq)]
 pub struct Registers {
     pub regs: [u32; 16],

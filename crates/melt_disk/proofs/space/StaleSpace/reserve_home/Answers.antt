@@ -7,6 +7,9 @@ use Rattle.melt_disk.proofs.space.StaleSpace.reserve_home.Goals as goal
 pub returns-clause-homes : goal.returns-clause-homes
 returns-clause-homes g c = λ homes are.
     let home : Home = record { at = c.self.inside.end; shape = c.args.shape } in
-    let end : c.self.inside.end ≡ c.args.self.now.end = ap (λ (space : Stale g.row.D.Denot). space.end) c.self.view_is in
-    let raised : c.args.self.now.end + cost_of c.args.shape ≡ c.self.inside.end + c.cost-need.result = omega (arith, end, c.cost-need.ensures) in
-    subst (λ (n : ℕ). Follow 1 (homes ++ home ∷ []) n) raised (Follow-more homes 1 c.args.self.now.end home are end c.requires)
+    let end : c.self.inside.end ≡ c.args.self.now.end =
+    ap (λ (space : Stale g.row.D.Denot). space.end) c.self.view_is in
+    let raised : c.args.self.now.end + cost_of c.args.shape ≡ c.self.inside.end + c.cost-need.result =
+    omega (arith, end, c.cost-need.ensures) in
+    subst (λ (n : ℕ). Follow 1 (homes ++ home ∷ []) n) raised
+    (Follow-more homes 1 c.args.self.now.end home are end c.requires)
