@@ -25,7 +25,7 @@ use Rattle.melt_copy.specs.Moving.{Relocates, IsCopy, ObjectMoves, WordMoves, mo
 use Rattle.melt_copy.specs.Moving.{maps_after}
 use Rattle.melt_copy.specs.Tracking.{goes, moved_pair, word_in}
 use Rattle.melt_copy.proofs.Pairs.{pairs_after}
-use Rattle.melt_copy.specs.Copied.{NumbersAre, IsCopied, Copies, PlacesApart, MayRename, AreRenamed, IsPutBack}
+use Rattle.melt_copy.specs.Copied.{NumbersAre, IsCopied, CopiesHeap, PlacesApart, MayRename, AreRenamed, IsPutBack}
 use Rattle.melt_copy.specs.Copying.{IsCopying, Journals, Collects}
 use Rattle.melt_scion.proofs.NobodyLeaves.{old_home, old_scion}
 use Rattle.melt_copy.proofs.Places.{place_below, same_place}
@@ -86,7 +86,7 @@ moves_apart s names copied is i j m n here there same =
     same).0
 
 pub may_rename : (phase : Phase) (heap : Heap) (held : List Registers) (copied : Copied) → IsFormed heap held
-    → Copies phase heap held copied
+    → CopiesHeap phase heap held copied
     → MayRename heap.space.used heap.names copied.forwarding.moves.items copied.numbers.items
 may_rename phase heap held copied formed copies =
     let s : State = state_of heap held formed.disk in
@@ -204,7 +204,7 @@ pub record IsToldBy (journal : Journal) (phase : Phase) (copied : Copied) (used 
 
 -- what was put back is a collection
 pub put_collects : (old new : Heap) (held after : List Registers) (copied : Copied) (phase : Phase) (journal : Journal)
-    → IsCopying phase → IsSettled old → Copies phase old held copied → IsPutBack old new held after copied
+    → IsCopying phase → IsSettled old → CopiesHeap phase old held copied → IsPutBack old new held after copied
     → IsToldBy journal phase copied new.space.used → Collects old held new after phase journal
 put_collects old new held after copied phase journal copying settled copies put told = record {
   each = λ maps disk names formed.

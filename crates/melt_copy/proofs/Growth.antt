@@ -61,15 +61,6 @@ WordMoves-more {phase} a b old new grows moves = record {
   is = moves.is ∙ ap ref_word (sym (same_reference phase a b moves.reference grows moves.found));
 }
 
-pub Extends-start : (words : List ℕ) → Extends words words 0
-Extends-start words = record { size = omega arith; before = λ k below. refl }
-
-pub Extends-more : (a b c : List ℕ) (m n : ℕ) → Extends a b m → Extends b c n → Extends a c (m + n)
-Extends-more a b c m n first then_ = record {
-  size = omega (arith, first.size, then_.size);
-  before = λ k below. then_.before k (omega (arith, below, first.size)) ∙ first.before k below;
-}
-
 pub word_in_before : (a b : List ℕ) (n at : ℕ) → Extends a b n → at ≤ length a → word_in b at ≡ word_in a at
 word_in_before a b n zero extends below = refl
 word_in_before a b n (suc k) extends below = extends.before k (omega (arith, below))

@@ -10,7 +10,7 @@ use Rattle.melt_scion.specs.declared.registers.Registers.{Registers}
 use Rattle.melt_copy.specs.declared.forwarding.Relocation.{Relocation}
 use Rattle.melt_copy.specs.declared.forwarding.Forwarding.{Forwarding}
 use Rattle.melt_copy.proofs.Growth.{Grows-more}
-use Rattle.melt_copy.specs.Tracking.{goes, Tracks, TracksAt, TracksHeld, TracksThreads, Grows, FindsHeld, FindsThreads}
+use Rattle.melt_copy.specs.Tracking.{goes, Tracks, TracksAt, TracksHeld, TracksThreads, Grows, FindsHeld}
 
 -- an object that was found is found in a forwarding that grew
 pub still_known : (a b : Forwarding) (address : ℕ) → Grows a b → goes a address ≢ 0 → goes b address ≢ 0
@@ -126,10 +126,3 @@ all_threads forwarding held before t r full =
       | inl below ↦ before t r below full
       | inr above ↦ absurd (full (past_threads held t r above))
     ]
-
-pub finds_threads : (old new : Forwarding) (held : List Registers) (n : ℕ) → length held ≤ n
-    → ((t r : ℕ) → t < n → register_in held t r ≢ 0 → goes new (register_in held t r) ≢ 0)
-    → ((k : ℕ) (m : Relocation) → slice_get new.moves.items k ≡ Some m → (slice_get old.moves.items k ≡ Some m)
-    ⊎ ((t : ℕ) × (r : ℕ) × (register_in held t r ≡ m.from))) → FindsThreads old new held
-finds_threads old new held n whole all each =
-    record { all = all_threads new held (λ t r below. all t r (omega (arith, below, whole))); each = each }

@@ -7,7 +7,7 @@ use Rattle.melt_scion.specs.declared.heap.Heap.{Heap}
 use Rattle.melt_copy.specs.declared.forwarding.Forwarding.{Forwarding}
 use Rattle.melt_copy.specs.declared.live.LiveSet.{LiveSet}
 use Rattle.melt_copy.specs.Tracking.{goes, Tracks, TracksIn, TracksScions, FindsScions, Grows}
-use Rattle.melt_copy.specs.Reaching.{FindsFront, FindsWords, FindsAll, IsLiveSet, Reaches}
+use Rattle.melt_copy.specs.Reaching.{FindsFront, FindsWords, FindsAll, IsLiveSet, ReachesLive}
 use Rattle.melt_copy.proofs.Held.{still_known}
 use Rattle.melt_copy.proofs.Sources.{IsClosed, reached_found}
 use Rattle.melt_copy.proofs.Roots.{FindsRoots, since_globals, front_held, front_words, scions_found}
@@ -45,10 +45,10 @@ pub reaches : (old now : Heap) (held : List Registers) (same : old ≡ now) (liv
     → ((s : State) → TracksScions old.space s second old.scions → Tracks old.space s third) → Grows third last
     → ((s : State) → Tracks old.space s third → Tracks old.space s last)
     → ((s : State) → Tracks old.space s third → FindsAll s (goes last) last.moves.items)
-    → Reaches now held (record live { forwarding = last })
+    → ReachesLive now held (record live { forwarding = last })
 reaches old now held same live front words words_are second finds_globals third last grows globals grows_scions scions
     finds_scions grows_last finds_rest slots =
-    subst (λ (heap : Heap). Reaches heap held (record live { forwarding = last })) same (λ maps disk formed.
+    subst (λ (heap : Heap). ReachesLive heap held (record live { forwarding = last })) same (λ maps disk formed.
     let moved = finds_scions (state_of old held disk)
     (before_scions old now held same live front words words_are second finds_globals maps disk formed) in
     is_live_set old held disk live second third last

@@ -17,7 +17,7 @@ use Rattle.melt_copy.specs.Moving.{Relocates, AreHeld, ObjectMoves, WordMoves, w
 use Rattle.melt_copy.specs.Tracking.{goes, word_in, Tracks, TracksIn, TracksScions}
 use Rattle.melt_copy.specs.Tracking.{FindsScions, Grows, HasCopied, Extends}
 use Rattle.melt_copy.specs.Reaching.{FindsFront}
-use Rattle.melt_copy.specs.Copied.{NumbersAre, IsCopied, Copies}
+use Rattle.melt_copy.specs.Copied.{NumbersAre, IsCopied, CopiesHeap}
 use Rattle.melt_copy.proofs.Growth.{WordMoves-more}
 use Rattle.melt_copy.proofs.Roots.{FindsRoots, since_globals, front_held, front_words, scions_found}
 use Rattle.melt_copy.proofs.Roots.{roots_found, before_scions}
@@ -86,11 +86,11 @@ pub copies : (old now : Heap) (held : List Registers) (same : old ≡ now) (live
     → HasCopied phase live.front old.space s last copied.words.items (length last.moves.items))
     → (moves : List Relocation) → moves ≡ last.moves.items → NumbersAre old.names moves copied.numbers.items
     → copied.forwarding ≡ last → copied.globals.items ≡ globals → copied.held ≡ live.held_words
-    → copied.live.items ≡ old.scions.live → IsTable old.scions → Copies phase now held copied
+    → copied.live.items ≡ old.scions.live → IsTable old.scions → CopiesHeap phase now held copied
 copies old now held same live front words words_are second finds_globals phase third last none globals copied grows
     empty extends move grows_scions scions finds_scions grows_last has ms ms_is numbers forwarding_is globals_is held_is
     live_is table =
-    subst (λ (heap : Heap). Copies phase heap held copied) same (record {
+    subst (λ (heap : Heap). CopiesHeap phase heap held copied) same (record {
       is = λ maps disk formed.
           is_copied phase old held disk live second third last none globals copied forwarding_is globals_is held_is
           empty (roots_found old now held same live front second third last grows grows_scions scions grows_last maps

@@ -11,20 +11,18 @@ use Rattle.std.proofs.lemmas.List.Sums.{count_by_more_yes, count_by_more_no}
 use Rattle.std.proofs.lemmas.Bool.Decides.{nat_tests}
 use Rattle.std.specs.Prelude.{◌/◌, ◌^◌, true, false, nat_lt, take, Option, None, Some, slice_index}
 use Rattle.std.specs.Option.{option_map}
-use Rattle.melt_model.specs.declared.history.Entry.{Entry}
-use Rattle.melt_model.specs.declared.history.Value.{Value}
 use Rattle.melt_forward.specs.Forwarding.{Sends, IsForwarding}
 use Rattle.melt_forward.proofs.Pairs.{one_pair, forward_word-filled}
 use Rattle.melt_space.specs.Space.{word_at}
 use Rattle.melt_io.specs.Outside.{counted}
 use Rattle.melt_scion.specs.State.{Scion}
-use Rattle.melt_scion.specs.Placed.{Maps, ForwardStands, FormedWords, Formed, Placed}
+use Rattle.melt_scion.specs.Placed.{Maps, ForwardStands, FormedWords, Formed}
 use Rattle.melt_scion.specs.Scions.{scion_at}
 use Rattle.melt_scion.specs.Heaps.{OnDisk, NamesMade, TablesMade, IsSettled, scion_in, state_of, register_in}
 use Rattle.melt_scion.specs.declared.registers.Registers.{Registers}
 use Rattle.melt_scion.specs.declared.heap.Heap.{Heap}
 use Rattle.melt_scion.proofs.Numbers.{put_length}
-use Rattle.melt_copy.specs.Settling.{IsFormedTo, Keeps, HasKept, HasScion, SendsBelow, SettlesBelow, SettlesAt}
+use Rattle.melt_copy.specs.Settling.{IsFormedTo, Keeps, HasKept, HasLiveScion, SendsBelow, SettlesBelow, SettlesAt}
 use Rattle.melt_copy.specs.Settling.{RisesBy, filled, with_image}
 use Rattle.melt_copy.proofs.SettlingOne.{stands, formed_more, maps_kept}
 
@@ -179,7 +177,7 @@ module _ (old now : Heap) (place : ℕ) (so_far : SettlesBelow old now place) wh
     ]
 
     -- an object that was settled before is another
-    settled_elsewhere : (k a : ℕ) → HasScion now k a → a ≢ address
+    settled_elsewhere : (k a : ℕ) → HasLiveScion now k a → a ≢ address
     settled_elsewhere k a has same =
         let x : Scion = record { home = k; address = a } in
         let live : scion_in now.scions has.scion ≡ Some x =
@@ -222,11 +220,11 @@ module _ (old now : Heap) (place : ℕ) (so_far : SettlesBelow old now place) wh
         | inl here ↦
             let was = here_before home address sends in
             let same = one_pair (slice_index old.forward place) home address k a was here in
-            subst (λ (j : ℕ). HasScion new j a) same.0
-            (subst (λ (b : ℕ). HasScion new home b) same.1
+            subst (λ (j : ℕ). HasLiveScion new j a) same.0
+            (subst (λ (b : ℕ). HasLiveScion new home b) same.1
             (record { scion = settles.scion; live = settles.adds.here; word = settles.space.here }))
         | inr earlier ↦
-            let has : HasScion now k a = so_far.settled k a earlier in
+            let has : HasLiveScion now k a = so_far.settled k a earlier in
             let differ : a ≢ address = settled_elsewhere k a has in
             record {
               scion = has.scion;
@@ -372,15 +370,4 @@ pub kept_formed : (maps : Maps) (disk : OnDisk) (held : List Registers) (old new
 kept_formed maps disk held old new after kept formed = record {
   words = kept.formed;
   registers = λ t r. kept.holds (register_in held t r) (formed.registers t r);
-}
-
--- And what they stood for they stand for, with the same values in registers.
-pub kept_placed : (maps : Maps) (disk : OnDisk) (held : List Registers) (old new : Heap) (after : Option (List ℕ))
-    → (kept : HasKept maps disk held old new after) → (h : List Entry) (value : ℕ → ℕ → Value)
-    → Placed h value maps (state_of old held disk)
-    → Placed h value maps (state_of new held (with_image disk kept.image))
-kept_placed maps disk held old new after kept h value placed = record {
-  formed = kept_formed maps disk held old new after kept placed.formed;
-  tells = kept.tells h placed.tells;
-  registers = placed.registers;
 }

@@ -6,7 +6,7 @@ use Rattle.std.specs.List.{Contains}
 use Rattle.std.specs.Option.{option_map}
 use Rattle.std.proofs.lemmas.Bool.{cases_eq}
 use Rattle.std.proofs.lemmas.Option.{same_Some}
-use Rattle.std.proofs.lemmas.List.{append-nil, get_or_default}
+use Rattle.std.proofs.lemmas.List.{get_or_default}
 use Rattle.std.proofs.lemmas.List.Elements.{Contains-append_right}
 use Rattle.melt_space.specs.Space.{SpaceWords}
 use Rattle.melt_scion.specs.State.{State}
@@ -22,10 +22,6 @@ pub record IsWalked (live done : List ℕ) (next : Option ℕ) : Type 0 where
   pub rest : List ℕ
   pub whole : live ≡ done ++ rest
   pub next_is : next ≡ first_of rest
-
-pub walk_start : (live done : List ℕ) (next : Option ℕ) → done ≡ [] → next ≡ first_of live → IsWalked live done next
-walk_start live done next none is =
-    record { rest = live; whole = ap (λ (xs : List ℕ). xs ++ live) (sym none); next_is = is }
 
 -- the list that begins with a scion
 begins : (rest : List ℕ) (x : ℕ) → Some x ≡ first_of rest → (more : List ℕ) × (rest ≡ x ∷ more)
@@ -60,10 +56,6 @@ module _ (live done : List ℕ) (x : ℕ) (walked : IsWalked live done (Some x))
 nothing_left : (rest : List ℕ) → None ≡ first_of rest → rest ≡ []
 nothing_left [] is = refl
 nothing_left (y ∷ more) is = absurd (cc)
-
-pub walk_end : (live done : List ℕ) → IsWalked live done None → done ≡ live
-walk_end live done walked =
-    sym (walked.whole ∙ (ap (λ (xs : List ℕ). done ++ xs) (nothing_left walked.rest walked.next_is) ∙ append-nil done))
 
 -- an element of a list by its place
 pub record IsPlaced (xs : List ℕ) (x : ℕ) : Type 0 where
@@ -128,14 +120,6 @@ module _ (f : ℕ → ℕ) (old new : Scions) (live : List ℕ) (n : ℕ) (once 
   pub moved_none : scion_at new (slice_index live n) ≡ None → HasMoved f old new live (n + 1)
   moved_none is =
       done_more new (is ∙ ap (option_map (moved_pair f)) (sym is ∙ not_moved)) (λ k other. refl) moved.is_table refl
-
-pub moved_start : (f : ℕ → ℕ) (table : Scions) (live : List ℕ) → IsTable table → HasMoved f table table live 0
-moved_start f table live is = record {
-  is_table = is;
-  done = λ j below. absurd (omega (arith, below));
-  rest = λ k free. refl;
-  size = refl;
-}
 
 cases_place : (table : Scions) (live : List ℕ) (k : ℕ) (o : Option (ℕ × ℕ)) → o ≡ scion_at table k → IsTable table
     → live ≡ table.live → (scion_at table k ≡ None) ⊎ IsPlaced live k

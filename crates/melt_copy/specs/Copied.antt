@@ -39,7 +39,7 @@ pub record IsCopied (phase : Phase) (s : State) (names : Option Names) (copied :
   pub numbers : NumbersAre names copied.forwarding.moves.items copied.numbers.items
 
 -- for each map and disk with which the heap is well formed
-pub record Copies (phase : Phase) (heap : Heap) (held : List Registers) (copied : Copied) : Type 0 where
+pub record CopiesHeap (phase : Phase) (heap : Heap) (held : List Registers) (copied : Copied) : Type 0 where
   pub is : (maps : Maps) (disk : OnDisk) → Formed maps (state_of heap held disk)
       → IsCopied phase (state_of heap held disk) heap.names copied
   pub live : copied.live.items ≡ heap.scions.live

@@ -44,6 +44,6 @@ pub record IsLiveSet (s : State) (live : LiveSet) : Type 0 where
   pub held_words : live.held_words ≡ words_in (take live.front live.forwarding.moves.items)
 
 -- for each map and disk with which the heap is well formed
-abbrev pub Reaches : Heap → List Registers → LiveSet → Type 0
-Reaches heap held live = (maps : Maps) (disk : OnDisk) → Formed maps (state_of heap held disk)
+abbrev pub ReachesLive : Heap → List Registers → LiveSet → Type 0
+ReachesLive heap held live = (maps : Maps) (disk : OnDisk) → Formed maps (state_of heap held disk)
     → IsLiveSet (state_of heap held disk) live

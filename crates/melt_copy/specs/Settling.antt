@@ -57,7 +57,7 @@ abbrev pub StillTold : Option (List ℕ) → Option (List ℕ) → Type 0
 StillTold before after = IsSome before → IsSome after
 
 -- The object at the address has its home by a live scion.
-pub record HasScion (heap : Heap) (home address : ℕ) : Type 0 where
+pub record HasLiveScion (heap : Heap) (home address : ℕ) : Type 0 where
   pub scion : ℕ
   pub live : scion_at heap.scions scion ≡ Some (home, address)
   pub word : word_at heap.space (address + 1) ≡ home_word (Some (record { home = home; scion = scion }))
@@ -72,7 +72,7 @@ pub record SendsBelow (heap : Heap) (place home address : ℕ) : Type 0 where
 -- words of their objects, nor any other word, nor scions that were live.
 pub record SettlesBelow (old new : Heap) (place : ℕ) : Type 0 where
   pub empty : (p : ℕ) → p < place → slice_index new.forward p ≡ 0
-  pub settled : (home address : ℕ) → SendsBelow old place home address → HasScion new home address
+  pub settled : (home address : ℕ) → SendsBelow old place home address → HasLiveScion new home address
   pub forwards : length new.forward ≡ length old.forward
   pub rest : (p : ℕ) → place ≤ p → slice_index new.forward p ≡ slice_index old.forward p
   pub rest_homes : (p home address : ℕ) → place ≤ p → Sends (slice_index old.forward p) home address

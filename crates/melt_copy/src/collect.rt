@@ -12,7 +12,7 @@ ghost use Rattle.std.specs.Prelude.{◌≡◌, ℕ, ◌+◌, ◌*◌, ◌<◌, �
 ghost use Rattle.melt_scion.specs.Heaps.{IsFormed, IsSettled};
 ghost use Rattle.melt_scion.specs.Scions.{IsTable};
 ghost use Rattle.melt_copy.specs.Copying.{Collects, IsCopying};
-ghost use Rattle.melt_copy.specs.Copied.{AreRenamed, Copies, IsPutBack, MayRename, NumbersAre};
+ghost use Rattle.melt_copy.specs.Copied.{AreRenamed, CopiesHeap, IsPutBack, MayRename, NumbersAre};
 ghost use Rattle.melt_copy.specs.Tracking.{goes};
 ghost use Rattle.melt_copy.specs.Visits.{CountsReached, VisitsAtMost};
 
@@ -56,7 +56,7 @@ pub fn numbers_for<L: Ledger>(
 }
 
 /// A vector for what is to be copied.
-pub fn room_for_copy(alloc: Global, heap: &mut Heap) -> Result<Vec<u64>, NoMemory>
+fn room_for_copy(alloc: Global, heap: &mut Heap) -> Result<Vec<u64>, NoMemory>
     ensures { heap.new ≡ heap.old }
 {
     heap.space.room_for_copy(alloc)
@@ -73,7 +73,7 @@ fn copy_out<L: Ledger>(
     steps: &mut Steps<L>,
 ) -> Result<Copied, NoMemory>
     requires formed { IsFormed heap.now held.now }
-    ensures copies { IfOk result (Copies phase heap.now held.now) }
+    ensures copies { IfOk result (CopiesHeap phase heap.now held.now) }
     ensures visits { (objects : ℕ) → CountsReached heap.now held.now objects
         → steps.new ≤ steps.old + 17 * length held.now + length heap.now.globals
         + 2 * length heap.now.scions.live + 3 * objects }

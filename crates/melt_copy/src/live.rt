@@ -8,7 +8,7 @@ ghost use Rattle.std.specs.Prelude.{◌≡◌, ◌≢◌, ℕ, ◌+◌, ◌*◌,
 ghost use Rattle.melt_scion.specs.Heaps.{IsFormed};
 ghost use Rattle.melt_scion.specs.State.{State};
 ghost use Rattle.melt_copy.specs.Moving.{words_in};
-ghost use Rattle.melt_copy.specs.Reaching.{FindsAll, FindsFront, FindsSlots, FindsWords, Reaches};
+ghost use Rattle.melt_copy.specs.Reaching.{FindsAll, FindsFront, FindsSlots, FindsWords, ReachesLive};
 ghost use Rattle.melt_copy.specs.Tracking.{FindsHeld, FindsThreads, Grows, Tracks, TracksHeld, TracksIn, TracksOf};
 ghost use Rattle.melt_copy.specs.Tracking.{TracksThreads, goes};
 ghost use Rattle.melt_copy.specs.Visits.{CountsReached};
@@ -171,7 +171,7 @@ pub fn reach<L: Ledger>(
     steps: &mut Steps<L>,
 ) -> Result<LiveSet, NoMemory>
     requires formed { IsFormed heap.now held.now }
-    ensures reaches { IfOk result (Reaches heap.now held.now) }
+    ensures reaches { IfOk result (ReachesLive heap.now held.now) }
     ensures visits { (objects : ℕ) → CountsReached heap.now held.now objects
         → steps.new ≤ steps.old + 17 * length held.now + length heap.now.globals
         + 2 * length heap.now.scions.live + objects }

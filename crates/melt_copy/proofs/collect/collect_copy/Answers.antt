@@ -1,7 +1,7 @@
 use Rattle.std.proofs.Common.{ℕ, ◌+◌, ◌*◌, ◌≤◌, length, refl, sym, subst, ap, arith}
 use Rattle.melt_scion.specs.Heaps.{IsFormed}
 use Rattle.melt_scion.specs.declared.heap.Heap.{Heap}
-use Rattle.melt_copy.specs.Copied.{Copies, IsPutBack}
+use Rattle.melt_copy.specs.Copied.{CopiesHeap, IsPutBack}
 use Rattle.melt_copy.proofs.Collects.{copied_fits, nothing_goes, may_rename, put_collects}
 use Rattle.melt_copy.proofs.collect.collect_copy.Given.{Over}
 use Rattle.melt_copy.specs.Visits.{CountsReached, EntryWords}
@@ -38,7 +38,7 @@ put_back-requires-clause-names g c =
 pub returns-clause-collected : goal.returns-clause-collected
 returns-clause-collected g c =
     let copied = c.in_ok-copied.copied in
-    let OfCopy : Heap → Type 0 = λ h. Copies c.args.phase h c.args.held.now copied in
+    let OfCopy : Heap → Type 0 = λ h. CopiesHeap c.args.phase h c.args.held.now copied in
     let OfPut : Heap → Type 0 = λ h. IsPutBack h c.put_back.new.heap c.args.held.now c.put_back.new.held copied in
     put_collects c.args.heap.now _ c.args.held.now c.put_back.new.held copied c.args.phase _ c.requires.phase
     c.requires.settled (subst OfCopy c.room_for_copy.ensures c.in_ok-copied.ensures.copies)
