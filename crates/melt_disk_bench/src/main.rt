@@ -6,7 +6,7 @@ ghost use Rattle.std.specs.Prelude.{◌≡◌, ◌^◌, ◌<◌, ◌≤◌};
 ghost use Rattle.melt_record.specs.Records.{AreSlots};
 ghost use Rattle.melt_word.specs.Words.{IsDiskHome};
 
-use anyhow::{Context, Result, anyhow, ensure};
+use anyhow::{Context, Result, ensure};
 use melt_disk::StaleSpace;
 use melt_io::{FileDisk, RecordReader, StaleDisk};
 use melt_record::{Head, Kind, decode_head, decode_rest};
@@ -41,9 +41,7 @@ fn slots_of(home: u32) -> [u64; 6]
 fn write_records<D: StaleDisk>(disk: &mut D, count: u32) -> Result<StaleSpace<'_, D>> {
     let mut space = StaleSpace::new(disk, u32::MAX);
     for _ in 0..count {
-        let home = space
-            .reserve_home(SHAPE)
-            .map_err(|_| anyhow!("there is no room for so many records"))?;
+        let home = space.reserve_home(SHAPE)?;
         space.write_body(home, SHAPE, &slots_of(home))?;
     }
     Ok(space)
@@ -71,9 +69,7 @@ fn main(rt: HostRuntime) -> Result<()> {
     let count = word.parse::<u32>().context("no number of records")?;
     let mut disk = FileDisk::new(rt.alloc(), rt)?;
     let mut space = write_records(&mut disk, count)?;
-    let mut reader = space
-        .lend(rt.alloc())
-        .map_err(|_| anyhow!("no reader was lent"))?;
+    let mut reader = space.lend(rt.alloc())?;
     let sum = sum_of_records(&mut reader, space.end())?;
     space.give_back(reader);
     println!(rt; "{sum}")?;
