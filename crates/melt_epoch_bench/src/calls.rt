@@ -1,10 +1,10 @@
 //! Calls of threads at once. Register 0 of each holds an object of its own, whose slot 0 refers to itself.
 //! These objects are so large that no two threads write into one line of a cache.
-ghost use Rattle.std.specs.Prelude.{◌<◌, ◌≤◌, ◌^◌};
+ghost use Rattle.std.specs.Prelude.{◌<◌, ◌≤◌, ◌^◌, IfOk};
 ghost use Rattle.melt_epoch.specs.Tests.{HasBegun, MayCall};
-ghost use Rattle.melt_epoch_tests.specs.Stages.{Goes};
+ghost use Rattle.melt_epoch_tests.specs.Stages.{GoesOnStage};
 
-use anyhow::{Context, Result, anyhow, ensure};
+use anyhow::{Context, Result, ensure};
 use melt_core::Refusal;
 use melt_epoch::{Epoch, Mutator};
 use melt_epoch_tests::{Stage, World};
@@ -206,8 +206,8 @@ pub fn repeat_on<T: Threads + Sync, D: StaleDisk, R: RecordReader + Send>(
     call: Call,
     count: u32,
 ) -> Option<u64>
-    requires { Goes R.image stage.old.epoch stage.old.mutators stage.old.globals stage.old.disk.end }
-    ensures { Goes R.image stage.new.epoch stage.new.mutators stage.new.globals stage.new.disk.end }
+    requires { GoesOnStage R.image stage.old.epoch stage.old.mutators stage.old.globals stage.old.disk.end }
+    ensures { GoesOnStage R.image stage.new.epoch stage.new.mutators stage.new.globals stage.new.disk.end }
 {
     if stage.globals == 0 {
         return None;
@@ -232,8 +232,8 @@ const OBJECT: [Op; 3] = [
 
 /// Lets each thread make its object. Answers whether all did.
 fn make_objects<D: StaleDisk, R: RecordReader>(stage: &mut Stage<'_, D, R>) -> bool
-    requires { Goes R.image stage.old.epoch stage.old.mutators stage.old.globals stage.old.disk.end }
-    ensures { Goes R.image stage.new.epoch stage.new.mutators stage.new.globals stage.new.disk.end }
+    requires { GoesOnStage R.image stage.old.epoch stage.old.mutators stage.old.globals stage.old.disk.end }
+    ensures { GoesOnStage R.image stage.new.epoch stage.new.mutators stage.new.globals stage.new.disk.end }
 {
     let mut is_made = true;
     for thread in 0..8 {
@@ -253,10 +253,11 @@ pub fn time_calls<T: Threads + Sync>(
     threads: usize,
 ) -> Result<(u64, u32)>
     requires { words < 2 ^ 30 }
+    ensures { IfOk result (λ told. told.1 < 2 ^ 30) }
 {
     let mut disk = MemDisk::new(alloc);
-    let world = World::new(alloc, &mut disk, 1, words, 1, 0).map_err(|_| anyhow!("no memory"))?;
-    let mut stage = world.open(alloc).map_err(|_| anyhow!("no memory"))?;
+    let world = World::new(alloc, &mut disk, 1, words, 1, 0)?;
+    let mut stage = world.open(alloc)?;
     let is_made = make_objects(&mut stage);
     let sum = repeat_on(rt, &mut stage, threads, call, count);
     let world = stage.finish();

@@ -3,7 +3,7 @@ ghost use Rattle.std.specs.Prelude.{◌≡◌, ◌<◌, ◌^◌, [], length, IfO
 ghost use Rattle.melt_move.specs.Collecting.{IsFormedOn};
 
 use crate::calls::{Call, repeat_on};
-use anyhow::{Context, Result, anyhow};
+use anyhow::{Context, Result};
 use melt_epoch_tests::World;
 use melt_io::MemDisk;
 use std::alloc::Global;
@@ -30,7 +30,7 @@ fn fill<'d, T: Threads + Sync>(
     ensures { IfOk result (λ world. IsFormedOn world.heap [] world.disk.end) }
 {
     let count = world.heap.space.words() / COST;
-    let mut stage = world.open(alloc).map_err(|_| anyhow!("no memory"))?;
+    let mut stage = world.open(alloc)?;
     let sum = repeat_on(rt, &mut stage, 1, Call::Make64, count);
     let world = stage.finish();
     sum.context("the heap was full too early")?;
@@ -47,13 +47,9 @@ fn begin_and_finish<'d, C: Clock>(
     ensures { IfOk result (λ r. IsFormedOn r.0.heap [] r.0.disk.end) }
 {
     let mut world = world;
-    let readers = world
-        .lend(alloc)
-        .map_err(|_| anyhow!("no reader was lent"))?;
+    let readers = world.lend(alloc)?;
     let before = Instant::now(clock)?;
-    let stage = world
-        .begin(alloc, readers)
-        .map_err(|_| anyhow!("no memory"))?;
+    let stage = world.begin(alloc, readers)?;
     let between = Instant::now(clock);
     let world = stage.finish();
     let after = Instant::now(clock)?;
@@ -76,7 +72,7 @@ pub fn time_turns<T: Threads + Sync + Clock>(
     ensures { IfOk result (λ turns. length turns.items ≡ count) }
 {
     let mut disk = MemDisk::new(alloc);
-    let world = World::new(alloc, &mut disk, 1, words, 1, 0).map_err(|_| anyhow!("no memory"))?;
+    let world = World::new(alloc, &mut disk, 1, words, 1, 0)?;
     let mut world = fill(rt, alloc, world)?;
     let mut turns = Vec::new(alloc);
     for _ in 0..count {

@@ -27,7 +27,7 @@ use Rattle.melt_epoch.specs.Tests.{HasBegun, MayCall, eight}
 use Rattle.melt_epoch.specs.declared.epoch.Epoch.{Epoch}
 use Rattle.melt_epoch.specs.declared.mutator.Mutator.{Mutator}
 use Rattle.melt_epoch.proofs.Empty.{begun_all, eight_once, none_held}
-use Rattle.melt_epoch_tests.specs.Stages.{AreNew, Goes, IsNew, IsReady}
+use Rattle.melt_epoch_tests.specs.Stages.{AreNew, GoesOnStage, IsNewMutator, IsReadyHeap}
 use Rattle.melt_epoch_tests.proofs.OtherDisk.{words_on_other}
 
 -- what such an epoch begins with
@@ -69,7 +69,7 @@ threads_are {R} (t ∷ ts) (m ∷ ms) (new, rest) =
     ap (λ (x : ℕ). x ∷ map (λ (m : Mutator R). m.thread) ms) new.thread_is
     ∙ ap (λ (xs : List ℕ). t ∷ xs) (threads_are ts ms rest)
 
-module _ (heap : Heap) (end : ℕ) (formed : IsFormedOn heap [] end) (ready : IsReady heap) where
+module _ (heap : Heap) (end : ℕ) (formed : IsFormedOn heap [] end) (ready : IsReadyHeap heap) where
   abbrev start : Start
   start = untold_start heap end
 
@@ -109,7 +109,7 @@ module _ (heap : Heap) (end : ℕ) (formed : IsFormedOn heap [] end) (ready : Is
     fresh = λ address n has. absurd (cc);
   }
 
-  new_begins : {R : Type 0} (image : R → Option (List ℕ)) (t : ℕ) (m : Mutator R) → IsNew t m
+  new_begins : {R : Type 0} (image : R → Option (List ℕ)) (t : ℕ) (m : Mutator R) → IsNewMutator t m
       → MutatorBegins image start m
   new_begins image t m new = record {
     unseated_yet = new.unseated;
@@ -146,7 +146,7 @@ module _ (heap : Heap) (end : ℕ) (formed : IsFormedOn heap [] end) (ready : Is
       → IfOk result (λ (epoch : Epoch). epoch.words.start ≡ start)
       → IfOk result (λ (epoch : Epoch). All (HasJoined epoch.words) ms)
       → IfOk result (λ (epoch : Epoch). All (HasReader image epoch.words) ms)
-      → IfOk result (λ (epoch : Epoch). Goes image epoch ms (length heap.globals) end)
+      → IfOk result (λ (epoch : Epoch). GoesOnStage image epoch ms (length heap.globals) end)
   untold_goes {R} image (Ok epoch) ms olds new kept is joined readers =
       let threads : map (λ (m : Mutator R). m.thread) olds ≡ eight = threads_are eight olds new in
       let size : length olds ≡ 8 = sym (length-map olds (λ (m : Mutator R). m.thread)) ∙ ap length threads in

@@ -9,14 +9,14 @@ use Rattle.melt_epoch.specs.declared.mutator.Mutator.{Mutator}
 
 -- The heap keeps no names, no object came back to it since the last collection, and it has few enough globals and
 -- forwarding words.
-pub record IsReady (heap : Heap) : Type 0 where
+pub record IsReadyHeap (heap : Heap) : Type 0 where
   pub nameless : heap.names ≡ None
   pub few_globals : length heap.globals ≤ 255
   pub few_forwards : length heap.forward ≤ 2 ^ 16
   pub settled : IsSettled heap
 
 -- The mutator of the thread has a reader. It takes part in no epoch, and nothing is in its registers.
-pub record IsNew {R : Type 0} (thread : ℕ) (m : Mutator R) : Type 0 where
+pub record IsNewMutator {R : Type 0} (thread : ℕ) (m : Mutator R) : Type 0 where
   pub thread_is : m.thread ≡ thread
   pub unseated : m.seat ≡ None
   pub reader : R
@@ -29,11 +29,11 @@ abbrev pub AreNew : {R : Type 0} → List ℕ → List (Mutator R) → Type 0
 AreNew [] [] = Unit {0}
 AreNew [] (m ∷ ms) = ⊥
 AreNew (t ∷ ts) [] = ⊥
-AreNew (t ∷ ts) (m ∷ ms) = IsNew t m × AreNew ts ms
+AreNew (t ∷ ts) (m ∷ ms) = IsNewMutator t m × AreNew ts ms
 
 -- The epoch is that of a heap with so many globals, over a disk on which homes end before the word. All mutators take
 -- part in it.
-pub record Goes {R : Type 0} (image : R → Option (List ℕ)) (epoch : Epoch) (ms : List (Mutator R))
+pub record GoesOnStage {R : Type 0} (image : R → Option (List ℕ)) (epoch : Epoch) (ms : List (Mutator R))
     (globals end : ℕ) : Type 0 where
   pub begun : HasBegun image epoch.words ms
   pub globals_is : globals ≡ epoch.words.start.began.globals

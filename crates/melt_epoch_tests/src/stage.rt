@@ -2,7 +2,7 @@
 ghost use Rattle.std.specs.Prelude.{◌≡◌, []};
 ghost use Rattle.melt_epoch.specs.Tests.{HasBegun, MayCall};
 ghost use Rattle.melt_move.specs.Collecting.{IsFormedOn};
-ghost use Rattle.melt_epoch_tests.specs.Stages.{Goes};
+ghost use Rattle.melt_epoch_tests.specs.Stages.{GoesOnStage};
 
 use crate::play::{Signals, Step, play_all};
 use crate::told::Log;
@@ -11,7 +11,7 @@ use melt_core::Refusal;
 use melt_disk::StaleSpace;
 use melt_epoch::{Epoch, Mutator};
 use melt_io::{RecordReader, StaleDisk};
-use melt_model::{Op, Reply};
+use melt_model::{MAX_PARTS, Op, Reply};
 use std::sync::Wait;
 use std::thread::Threads;
 
@@ -36,7 +36,7 @@ pub fn call<R: RecordReader>(
     ensures may { MayCall R.image epoch.now.words m.new }
 {
     match op {
-        Op::New { dst, refs, nums } if dst < 16 && refs <= 62 && nums <= 62 => {
+        Op::New { dst, refs, nums } if dst < 16 && refs <= MAX_PARTS && nums <= MAX_PARTS => {
             Some(epoch.make(m, dst, refs, nums))
         }
         Op::Load { dst, src, i } if dst < 16 && src < 16 => Some(epoch.load(m, dst, src, i)),
@@ -86,8 +86,8 @@ fn held_in<R>(mutators: &[Mutator<R>], r: usize) -> [u32; 8] {
 impl<'d, D: StaleDisk, R: RecordReader> Stage<'d, D, R> {
     /// Makes calls of a thread, where there is one of this number. Answers whether all were answered.
     pub fn call_all(&mut self, thread: usize, ops: &[Op]) -> bool
-        requires { Goes R.image self.old.epoch self.old.mutators self.old.globals self.old.disk.end }
-        ensures { Goes R.image self.new.epoch self.new.mutators self.new.globals self.new.disk.end }
+        requires { GoesOnStage R.image self.old.epoch self.old.mutators self.old.globals self.old.disk.end }
+        ensures { GoesOnStage R.image self.new.epoch self.new.mutators self.new.globals self.new.disk.end }
     {
         call_each(&self.epoch, self.globals, &mut self.mutators, thread, ops)
     }
@@ -101,8 +101,8 @@ impl<'d, D: StaleDisk, R: RecordReader> Stage<'d, D, R> {
     ) -> [Log; 8]
     where
         R: Send,
-        requires { Goes R.image self.old.epoch self.old.mutators self.old.globals self.old.disk.end }
-        ensures { Goes R.image self.new.epoch self.new.mutators self.new.globals self.new.disk.end }
+        requires { GoesOnStage R.image self.old.epoch self.old.mutators self.old.globals self.old.disk.end }
+        ensures { GoesOnStage R.image self.new.epoch self.new.mutators self.new.globals self.new.disk.end }
     {
         play_all(
             rt,
@@ -123,7 +123,7 @@ impl<'d, D: StaleDisk, R: RecordReader> Stage<'d, D, R> {
 impl<'d, D: StaleDisk, R: RecordReader + Drop> Stage<'d, D, R> {
     /// Ends the epoch.
     pub fn finish(self) -> World<'d, D>
-        requires { Goes R.image self.epoch self.mutators self.globals self.disk.end }
+        requires { GoesOnStage R.image self.epoch self.mutators self.globals self.disk.end }
         ensures { IsFormedOn result.heap [] result.disk.end }
     {
         let Stage {

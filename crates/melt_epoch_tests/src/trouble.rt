@@ -1,16 +1,21 @@
 //! What can go wrong with a heap that is only to be tried.
 use melt_model::NoMemory;
 use std::alloc::{AllocError, AllocFailed};
+use thiserror::Error;
 
 /// Why a heap cannot be used further.
-#[derive(Clone, Copy, Debug, PartialEq, Eq)]
+#[derive(Clone, Copy, Debug, PartialEq, Eq, Error)]
 pub enum Trouble {
+    #[error("out of memory")]
     NoMemory,
     /// A collection or a lend was refused.
+    #[error("a collection or a lend was refused")]
     Disk,
     /// An epoch cannot begin: there are names, or objects that came back from the disk and were not collected since.
+    #[error("an epoch cannot begin over names or over what came back from the disk")]
     Unsettled,
     /// A call was not answered.
+    #[error("a call was not answered")]
     Call,
 }
 

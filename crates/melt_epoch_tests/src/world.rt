@@ -1,9 +1,9 @@
 //! A heap over a disk, from one epoch to the next. Nothing is in registers when an epoch begins or a collection comes.
-ghost use Rattle.std.specs.Prelude.{◌≡◌, ◌<◌, ◌^◌, [], IfOk, IsTrue, length};
+ghost use Rattle.std.specs.Prelude.{◌≡◌, ◌<◌, ◌^◌, [], IfOk, IfSome, IsTrue, count_by, length, nat_lt};
 ghost use Rattle.melt_epoch.specs.Tests.{eight};
 ghost use Rattle.melt_io.specs.Lies.{told};
 ghost use Rattle.melt_move.specs.Collecting.{IsFormedOn};
-ghost use Rattle.melt_epoch_tests.specs.Stages.{AreNew, Goes, IsNew, IsReady};
+ghost use Rattle.melt_epoch_tests.specs.Stages.{AreNew, GoesOnStage, IsNewMutator, IsReadyHeap};
 
 use crate::stage::Stage;
 use crate::trouble::Trouble;
@@ -82,7 +82,7 @@ fn lend_all<D: StaleDisk>(
 
 /// Whether an epoch can begin on the heap: no object came back since the last collection, and there are no names.
 fn is_ready(heap: &Heap) -> bool
-    ensures { IsTrue result → IsReady heap.now }
+    ensures { IsTrue result → IsReadyHeap heap.now }
 {
     let globals = heap.globals.items.len();
     let forwards = heap.forward.items.len();
@@ -95,7 +95,7 @@ fn is_ready(heap: &Heap) -> bool
 /// The mutator of a thread, with a reader.
 fn new_mutator<R: RecordReader + Drop>(thread: u32, reader: R) -> Mutator<R>
     requires { thread < 8 }
-    ensures { IsNew thread result }
+    ensures { IsNewMutator thread result }
 {
     let mut mutator = Mutator::new(thread);
     mutator.set_reader(reader);
@@ -127,9 +127,9 @@ fn begin_untold<R: RecordReader>(
     mutators: &mut [Mutator<R>],
 ) -> Result<Epoch, NoMemory>
     requires formed { IsFormedOn heap [] end }
-    requires ready { IsReady heap }
+    requires ready { IsReadyHeap heap }
     requires mutators { AreNew eight mutators.old }
-    ensures { IfOk result (λ epoch. Goes R.image epoch mutators.new (length heap.globals) end) }
+    ensures { IfOk result (λ epoch. GoesOnStage R.image epoch mutators.new (length heap.globals) end) }
 {
     Epoch::begin(alloc, heap, Pass::new(), end, mutators)
 }
@@ -154,26 +154,26 @@ impl<'d, D: StaleDisk> World<'d, D> {
     }
 
     /// How many words are in use.
-    pub fn used(&self) -> u32 {
+    pub fn used(&self) -> u32
+        ensures value { result ≡ self.now.heap.space.used }
+        ensures few { result < 2 ^ 30 }
+    {
         self.heap.space.used()
     }
 
     /// How many objects came back from the disk since the last collection, or nothing where two forwarding words have
     /// the same home.
-    pub fn returned(&self) -> Option<usize> {
+    pub fn returned(&self) -> Option<usize>
+        ensures { IfSome result (λ count. count ≡ count_by (λ word. nat_lt 0 word) self.now.heap.forward) }
+    {
         let words = &self.heap.forward.items;
-        let mut count = 0_usize;
         for (at, word) in words.iter().enumerate() {
-            if *word == 0 {
-                continue;
-            }
-            count = count.saturating_add(1);
             let home = *word >> 32;
-            if words.iter().take(at).any(|other| *other >> 32 == home) {
+            if 0 < *word && words.iter().take(at).any(|other| *other >> 32 == home) {
                 return None;
             }
         }
-        Some(count)
+        Some(words.iter().filter(|word| 0 < **word).count())
     }
 
     /// Collects in this phase.
@@ -202,7 +202,7 @@ impl<'d, D: StaleDisk> World<'d, D> {
     ) -> Result<Stage<'d, D, R>, Trouble>
         requires { IsFormedOn self.heap [] self.disk.end }
         ensures { IfOk result
-            (λ stage. Goes R.image stage.epoch stage.mutators stage.globals stage.disk.end) }
+            (λ stage. GoesOnStage R.image stage.epoch stage.mutators stage.globals stage.disk.end) }
     {
         let World { heap, disk } = self;
         if !is_ready(&heap) {
@@ -225,7 +225,7 @@ impl<'d> World<'d, MemDisk> {
     pub fn open(self, alloc: Global) -> Result<Stage<'d, MemDisk, MemReader>, Trouble>
         requires { IsFormedOn self.heap [] self.disk.end }
         ensures { IfOk result
-            (λ stage. Goes (λ reader. told reader.lies.items reader.image.items)
+            (λ stage. GoesOnStage (λ reader. told reader.lies.items reader.image.items)
             stage.epoch stage.mutators stage.globals stage.disk.end) }
     {
         let World { heap, mut disk } = self;

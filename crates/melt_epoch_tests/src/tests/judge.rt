@@ -1,4 +1,6 @@
 //! Whether what threads were told stands in one order, in which each load finds what was stored last.
+ghost use Rattle.std.specs.Prelude.{◌≡◌, ◌+◌, ◌*◌, ◌^◌, ◌<◌, slice_get, slice_set, unwrap_or};
+
 use crate::told::{Log, Told};
 use melt_model::{Op, Reply};
 use std::alloc::{AllocError, Global};
@@ -16,19 +18,25 @@ pub const PLACES: usize = GLOBALS + 3 * (OBJECTS + 1);
 pub type Memory = [u64; PLACES];
 
 /// The place of a global.
-pub fn global(g: u8) -> usize {
+pub fn global(g: u8) -> usize
+    ensures { result ≡ g }
+{
     usize::from(g)
 }
 
 /// The place of a slot, of which each object has two. It lies past all places where there is no such object.
-pub fn slot(object: u64, i: u8) -> usize {
+pub fn slot(object: u64, i: u8) -> usize
+    ensures { 3 * object + GLOBALS + i < 2 ^ 64 → result ≡ 3 * object + GLOBALS + i }
+{
     (object as usize)
         .saturating_mul(3)
         .saturating_add(GLOBALS + usize::from(i))
 }
 
 /// The place of the second number of an object.
-pub fn cell(object: u64) -> usize {
+pub fn cell(object: u64) -> usize
+    ensures { 3 * object + GLOBALS + 2 < 2 ^ 64 → result ≡ 3 * object + GLOBALS + 2 }
+{
     slot(object, 2)
 }
 
@@ -65,11 +73,15 @@ enum Meaning {
 }
 
 impl Held {
-    fn at(&self, r: u8) -> u64 {
+    fn at(&self, r: u8) -> u64
+        ensures { result ≡ unwrap_or (slice_get self.now.objects r) 0 }
+    {
         self.objects.get(usize::from(r)).copied().unwrap_or(0)
     }
 
-    fn set(&mut self, r: u8, object: u64) {
+    fn set(&mut self, r: u8, object: u64)
+        ensures { self.new.objects ≡ slice_set self.old.objects r object }
+    {
         if let Some(held) = self.objects.get_mut(usize::from(r)) {
             *held = object;
         }
