@@ -36,15 +36,19 @@ use melt_model::{Journal, NoMemory, Phase, Steps};
 use melt_scion::{Heap, Names, Registers};
 use std::alloc::Global;
 use std::sync::ledger::Ledger;
+use thiserror::Error;
 
 /// Why a Move collection was not made. What hands the heap back leaves heap, registers and disk as they were.
-#[derive(Debug, Drop)]
+#[derive(Debug, Drop, Error)]
 pub enum MoveRefusal {
     /// There was no memory.
+    #[error("out of memory")]
     NoMemory(Heap),
     /// The new homes reach past the limit of the disk.
+    #[error("{full}")]
     DiskFull { heap: Heap, full: DiskFull },
     /// A write to the disk failed. The heap is given up, since homes may hold records that no heap knows.
+    #[error("a write to the disk failed")]
     DiskFault,
 }
 
