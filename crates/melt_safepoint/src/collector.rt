@@ -18,28 +18,35 @@ use melt_scion::{Heap, Registers};
 use std::alloc::Global;
 use std::marker::Brand;
 use std::sync::ledger::{Blank, Ledger};
+use thiserror::Error;
 
 /// Why a collection was not made, and what is left then.
-#[derive(Debug, Drop)]
+#[derive(Debug, Drop, Error)]
 pub enum CollectRefusal {
     /// There was no memory.
+    #[error("out of memory")]
     NoMemory,
     /// The disk has no room for the new homes. Objects that had come back from it are settled, and else nothing is
     /// changed.
+    #[error("{full}")]
     DiskFull { left: Left, full: DiskFull },
     /// A write to the disk failed, and the heap is lost.
+    #[error("a write to the disk failed")]
     DiskFault { left: Left },
 }
 
 /// Why a heap was not collected.
-#[derive(Debug, Drop)]
+#[derive(Debug, Drop, Error)]
 pub enum HeapRefusal {
     /// There was no memory.
+    #[error("out of memory")]
     NoMemory,
     /// The disk has no room for the new homes. Objects that had come back from it are settled, and else nothing is
     /// changed.
+    #[error("{full}")]
     DiskFull { heap: Heap, full: DiskFull },
     /// A write to the disk failed, and the heap is lost.
+    #[error("a write to the disk failed")]
     DiskFault,
 }
 
