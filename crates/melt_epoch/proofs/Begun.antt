@@ -15,7 +15,7 @@ use Rattle.melt_rule.proofs.Laying.{parts_shown, space_laid, state_by}
 use Rattle.melt_rule.specs.Beginning.{MayBegin}
 use Rattle.melt_rule.specs.Rule.{is_bound}
 use Rattle.melt_rule.specs.Seats.{EpochWords}
-use Rattle.melt_rule.specs.Shown.{base_of, maps_of, shows}
+use Rattle.melt_rule.specs.Shown.{base_of, globals_from, maps_of, shows}
 use Rattle.melt_rule.specs.Tells.{Sees}
 use Rattle.melt_rule.specs.declared.began.Began.{Began}
 use Rattle.melt_rule.specs.declared.began.Pair.{Pair}
@@ -58,7 +58,7 @@ module _ (start : Start) (heap : Heap) (end : ℕ) (history : List Entry) (begin
       parts_shown b 0 (heap.space.used + 1) heap.globals heap.forward heap.space begins.globals begins.forwards
       ∙ same_parts b heap begins.size begins.globals begins.forwards begins.scions
 
-  words_size : length (words_of heap) ≡ 2 + b.globals + b.forwards + b.size
+  words_size : length (words_of heap) ≡ globals_from + b.globals + b.forwards + b.size
   words_size =
       let behind = length-append heap.forward heap.space.list in
       let all = length-append heap.globals (heap.forward ++ heap.space.list) in

@@ -25,7 +25,7 @@ use Rattle.melt_rule.proofs.Laying.{shown_by_parts, state_by}
 use Rattle.melt_rule.specs.Ending.{HasEnded as WordsEnd, HistoryEnds as HistorySeen}
 use Rattle.melt_rule.specs.Rule.{Has, Saw, filled, has_cause, threads_of}
 use Rattle.melt_rule.specs.Seats.{EpochWords}
-use Rattle.melt_rule.specs.Shown.{forwards_in, globals_in, shows}
+use Rattle.melt_rule.specs.Shown.{forwards_in, free_place, globals_from, globals_in, shows}
 use Rattle.melt_rule.specs.Sights.{first_sight, last_sight, no_calls}
 use Rattle.melt_rule.specs.Tells.{Names}
 use Rattle.melt_rule.specs.declared.began.Began.{Began}
@@ -98,41 +98,41 @@ module _ {R : Type 0} (words : EpochWords) (ms : List (Mutator R)) (may : MayEnd
   back k d below = comes_back words (get_or ms k d) (may.seated k d below)
 
   new_globals : new.globals ≡ globals_in b ended
-  new_globals = puts.globals ∙ ap (λ (n : ℕ). take n (drop 2 ended)) fits.globals
+  new_globals = puts.globals ∙ ap (λ (n : ℕ). take n (drop globals_from ended)) fits.globals
 
   new_forwards : new.forward ≡ forwards_in b ended
   new_forwards =
       puts.forwards
-      ∙ (ap (λ (n : ℕ). take n (drop (2 + length old.globals) ended)) fits.forwards
-      ∙ ap (λ (n : ℕ). take b.forwards (drop (2 + n) ended)) fits.globals)
+      ∙ (ap (λ (n : ℕ). take n (drop (globals_from + length old.globals) ended)) fits.forwards
+      ∙ ap (λ (n : ℕ). take b.forwards (drop (globals_from + n) ended)) fits.globals)
 
-  new_space : new.space.list ≡ take b.size (drop (2 + b.globals + b.forwards) ended)
+  new_space : new.space.list ≡ take b.size (drop (globals_from + b.globals + b.forwards) ended)
   new_space =
       puts.space
-      ∙ (ap (λ (n : ℕ). take n (drop (2 + length old.globals + length old.forward) ended)) fits.size
-      ∙ (ap (λ (n : ℕ). take b.size (drop (2 + n + length old.forward) ended)) fits.globals
-      ∙ ap (λ (n : ℕ). take b.size (drop (2 + b.globals + n) ended)) fits.forwards))
+      ∙ (ap (λ (n : ℕ). take n (drop (globals_from + length old.globals + length old.forward) ended)) fits.size
+      ∙ (ap (λ (n : ℕ). take b.size (drop (globals_from + n + length old.forward) ended)) fits.globals
+      ∙ ap (λ (n : ℕ). take b.size (drop (globals_from + b.globals + n) ended)) fits.forwards))
 
   size_is : length new.space.list ≡ b.size
   size_is =
-      let dropped = length-drop (2 + b.globals + b.forwards) ended in
-      let taken = length-take b.size (drop (2 + b.globals + b.forwards) ended) in
+      let dropped = length-drop (globals_from + b.globals + b.forwards) ended in
+      let taken = length-take b.size (drop (globals_from + b.globals + b.forwards) ended) in
       let same = ap length new_space in
       let all = has.size in
       omega arith
 
   globals_are : length new.globals ≡ b.globals
   globals_are =
-      let dropped = length-drop 2 ended in
-      let taken = length-take b.globals (drop 2 ended) in
+      let dropped = length-drop globals_from ended in
+      let taken = length-take b.globals (drop globals_from ended) in
       let same = ap length new_globals in
       let all = has.size in
       omega arith
 
   forwards_are : length new.forward ≡ b.forwards
   forwards_are =
-      let dropped = length-drop (2 + b.globals) ended in
-      let taken = length-take b.forwards (drop (2 + b.globals) ended) in
+      let dropped = length-drop (globals_from + b.globals) ended in
+      let taken = length-take b.forwards (drop (globals_from + b.globals) ended) in
       let same = ap length new_forwards in
       let all = has.size in
       omega arith
@@ -141,7 +141,7 @@ module _ {R : Type 0} (words : EpochWords) (ms : List (Mutator R)) (may : MayEnd
   scions_are = puts.scions ∙ fits.scions
 
   abbrev before : State
-  before = state_by b (slice_index ended 1) new.globals new.forward new.space
+  before = state_by b (slice_index ended free_place) new.globals new.forward new.space
 
   abbrev after : State
   after = state_by b (new.space.used + 1) new.globals new.forward new.space
@@ -149,7 +149,7 @@ module _ {R : Type 0} (words : EpochWords) (ms : List (Mutator R)) (may : MayEnd
   shown : shows b ended ≡ before
   shown =
       shown_by_parts b ended new.space has.size new_space
-      ∙ (λ i. state_by b (slice_index ended 1) (sym new_globals i) (sym new_forwards i) new.space)
+      ∙ (λ i. state_by b (slice_index ended free_place) (sym new_globals i) (sym new_forwards i) new.space)
 
   rests : after ≡ state_of new [] (disk_of b)
   rests = same_parts b new size_is globals_are forwards_are scions_are
@@ -159,7 +159,7 @@ module _ {R : Type 0} (words : EpochWords) (ms : List (Mutator R)) (may : MayEnd
 
   ends : (e : ℕ) → e ≤ before.free → e ≤ before.base.size + 1 → e ≤ after.free
   ends e below within =
-      let used : new.space.used ≡ min (slice_index ended 1 - 1) (length old.space.list) = puts.used in
+      let used : new.space.used ≡ min (slice_index ended free_place - 1) (length old.space.list) = puts.used in
       let size : length old.space.list ≡ b.size = fits.size in
       omega (arith, used, size, below, within)
 
@@ -175,7 +175,7 @@ module _ {R : Type 0} (words : EpochWords) (ms : List (Mutator R)) (may : MayEnd
   won_is : v.won ≡ sum_by (λ (m : Mutator R). (view_of m).won) ms
   won_is = ap (λ (x : View). x.won) gathers ∙ all_sum (λ (x : View). x.won) (λ x w. refl) refl ms
 
-  free_is : slice_index ended 1 ≡ free_behind b ms
+  free_is : slice_index ended free_place ≡ free_behind b ms
   free_is = has.counts.free ∙ ap (λ (n : ℕ). b.free + n) claimed_is
 
   nameless_is : new.names ≡ None

@@ -17,7 +17,7 @@ use Rattle.melt_core.specs.StaleBits.{BitsTold}
 use Rattle.melt_rule.specs.Giving.{spent_view}
 use Rattle.melt_rule.specs.Rule.{Begins, Has, Saw, filled, has_cause}
 use Rattle.melt_rule.specs.Seats.{EpochWords, knows_of}
-use Rattle.melt_rule.specs.Shown.{home_of, maps_of}
+use Rattle.melt_rule.specs.Shown.{globals_from, home_of, maps_of}
 use Rattle.melt_rule.specs.Sights.{first_sight, last_sight}
 use Rattle.melt_rule.specs.declared.began.Began.{Began}
 use Rattle.melt_rule.specs.declared.began.Start.{Start}
@@ -55,7 +55,7 @@ pub record HeapBegins (b : Began) (heap : Heap) (end : ℕ) : Type 0 where
   pub nameless : heap.names ≡ None
   pub settled : IsSettled heap
   pub few_globals : b.globals ≤ 255
-  pub few_words : 2 + b.globals + b.forwards + b.size ≤ 2 ^ 32
+  pub few_words : globals_from + b.globals + b.forwards + b.size ≤ 2 ^ 32
 
 -- The heap stands for the history, which is legal, by the maps. What registers hold are objects without the stale bit.
 pub record HistoryBegins (start : Start) (heap : Heap) (history : List Entry) : Type 0 where

@@ -5,22 +5,23 @@ use Rattle.melt_scion.specs.declared.heap.Heap.{Heap}
 use Rattle.melt_rule.specs.Giving.{joined_view, spent_view}
 use Rattle.melt_rule.specs.Rule.{first_view}
 use Rattle.melt_rule.specs.Seats.{EpochWords, IsSeat, knows_of}
+use Rattle.melt_rule.specs.Shown.{free_place, front, globals_from}
 use Rattle.melt_rule.specs.declared.began.Start.{Start}
 use Rattle.melt_rule.specs.declared.view.View.{View}
 use Rattle.melt_epoch.specs.declared.mutator.Mutator.{Mutator}
 
--- the stop word, the first free place, globals, forwarding words and the words of the space
+-- the stop word and the first free place, globals, forwarding words and the words of the space
 abbrev pub words_of : Heap → List ℕ
-words_of heap = 0 ∷ (heap.space.used + 1) ∷ (heap.globals ++ (heap.forward ++ heap.space.list))
+words_of heap = front 0 (heap.space.used + 1) ++ (heap.globals ++ (heap.forward ++ heap.space.list))
 
 -- The words stand in the heap again, each where it came from. Those before the first free place are in use, of the
 -- words that there are.
 pub record PutsBack (old new : Heap) (words : List ℕ) : Type 0 where
-  pub globals : new.globals ≡ take (length old.globals) (drop 2 words)
-  pub forwards : new.forward ≡ take (length old.forward) (drop (2 + length old.globals) words)
+  pub globals : new.globals ≡ take (length old.globals) (drop globals_from words)
+  pub forwards : new.forward ≡ take (length old.forward) (drop (globals_from + length old.globals) words)
   pub space : new.space.list
-      ≡ take (length old.space.list) (drop (2 + length old.globals + length old.forward) words)
-  pub used : new.space.used ≡ min (slice_index words 1 - 1) (length old.space.list)
+      ≡ take (length old.space.list) (drop (globals_from + length old.globals + length old.forward) words)
+  pub used : new.space.used ≡ min (slice_index words free_place - 1) (length old.space.list)
   pub scions : new.scions ≡ old.scions
   pub names : new.names ≡ old.names
   pub maps : new.maps ≡ old.maps

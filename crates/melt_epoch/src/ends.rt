@@ -13,19 +13,18 @@ use crate::epoch::Epoch;
 use crate::mutator::Mutator;
 use melt_io::RecordReader;
 use melt_model::{Ghost, NoMemory};
-use melt_rule::{EndedWords, Pass, Seated, Start, Words};
+use melt_rule::{EndedWords, FREE_AT, GLOBALS_AT, Pass, Seated, Start, Words, front};
 use melt_scion::{GhostMaps, Heap};
 use melt_space::Space;
 use std::alloc::Global;
 
-/// The words of a heap as those of an epoch: the stop word, the first free place, the globals, the forwarding words,
-/// and the words of the space.
+/// The words of a heap as those of an epoch: those of the front, the globals, the forwarding words, and the words of the
+/// space.
 fn lay_out(alloc: Global, heap: &Heap) -> Result<Vec<u64>, NoMemory>
     ensures { IfOk result (λ words. words.items ≡ words_of heap.now) }
 {
     let mut words = Vec::new(alloc);
-    words.push(0)?;
-    words.push(heap.space.used() as u64 + 1)?;
+    words.extend_from_slice(&front(heap.space.used() as u64 + 1))?;
     words.extend_from_slice(&heap.globals.items)?;
     words.extend_from_slice(&heap.forward.items)?;
     words.extend_from_slice(heap.space.words_at(1, heap.space.words()))?;
@@ -45,16 +44,16 @@ fn put_words(ended: &EndedWords, from: usize, space: &mut Space)
 
 /// Puts the words of an epoch that has ended back into the heap from which they came.
 fn put_back(ended: &EndedWords, heap: &mut Heap)
-    requires { length ended.now ≡ 2 + length heap.old.globals + length heap.old.forward + length heap.old.space.list }
+    requires { length ended.now ≡ 16 + length heap.old.globals + length heap.old.forward + length heap.old.space.list }
     ensures { PutsBack heap.old heap.new ended.now }
 {
-    let forwards_at = 2 + heap.globals.items.len();
+    let forwards_at = GLOBALS_AT + heap.globals.items.len();
     let space_at = forwards_at + heap.forward.items.len();
-    ended.copy(2, &mut heap.globals.items);
+    ended.copy(GLOBALS_AT, &mut heap.globals.items);
     ended.copy(forwards_at, &mut heap.forward.items);
     put_words(ended, space_at, &mut heap.space);
     let size = heap.space.words();
-    let used = ended.word(1).saturating_sub(1).min(size as u64);
+    let used = ended.word(FREE_AT).saturating_sub(1).min(size as u64);
     heap.space.set_used(used as u32);
 }
 

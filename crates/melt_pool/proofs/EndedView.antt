@@ -36,7 +36,7 @@ use Rattle.melt_core.specs.Views.{held_values, maps, max_rest, registers_in, sta
 use Rattle.melt_core.proofs.Making.{hold_words}
 use Rattle.melt_core.proofs.Resting.{holds_shifts}
 use Rattle.melt_core.proofs.Values.{get_or_replicate, held_is, named_made, named_value, value_held}
-use Rattle.melt_rule.specs.Shown.{base_of, maps_of}
+use Rattle.melt_rule.specs.Shown.{base_of, globals_from, maps_of}
 use Rattle.melt_rule.specs.Sights.{first_sight, last_sight}
 use Rattle.melt_rule.specs.declared.began.Began.{Began}
 use Rattle.melt_epoch.specs.Ends.{HasEnded, HoldsValues, disk_of, free_behind}
@@ -161,7 +161,7 @@ module _ {R : Type 0} (image : R → Option (List ℕ)) (told : Bool) (heap new 
           some_forward = subst (λ (n : ℕ). 1 ≤ n) (sym forwards) nameless.some_forward;
           few_globals = subst (λ (n : ℕ). n ≤ 255) (sym globals) nameless.few_globals;
           few_words =
-              let few : 2 + length heap.globals + length heap.forward + length heap.space.list ≤ 2 ^ 32 =
+              let few : globals_from + length heap.globals + length heap.forward + length heap.space.list ≤ 2 ^ 32 =
               nameless.few_words in
               omega (arith, few, words, globals, forwards);
         }

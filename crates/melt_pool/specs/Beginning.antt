@@ -13,6 +13,7 @@ use Rattle.melt_scion.specs.Heaps.{HasMaps, IsSettled, OnDisk, state_of}
 use Rattle.melt_scion.specs.Placed.{Holds, Maps}
 use Rattle.melt_scion.specs.Scions.{EachOnce}
 use Rattle.melt_scion.specs.declared.heap.Heap.{Heap}
+use Rattle.melt_rule.specs.Shown.{globals_from}
 use Rattle.melt_rule.specs.declared.began.Began.{Began}
 use Rattle.melt_rule.specs.declared.began.Pair.{Pair}
 use Rattle.melt_rule.specs.declared.began.Start.{Start}
@@ -107,7 +108,7 @@ pub record IsAtRest {R : Type 0} (image : R → Option (List ℕ)) (told : Bool)
   pub holds : Holds told h maps (state_of heap [] disk)
   pub legal : told ≡ true → Legal h (length heap.globals)
   pub few_globals : length heap.globals ≤ 255
-  pub few_words : 2 + length heap.globals + length heap.forward + length heap.space.list ≤ 2 ^ 32
+  pub few_words : globals_from + length heap.globals + length heap.forward + length heap.space.list ≤ 2 ^ 32
   pub some_thread : 1 ≤ length ms
   pub few : length ms ≤ 8
   pub each_once : EachOnce (map (λ (m : Mutator R). m.thread) ms)

@@ -12,6 +12,7 @@ use Rattle.melt_scion.specs.declared.heap.Heap.{Heap}
 use Rattle.melt_scion.specs.declared.registers.Registers.{Registers}
 use Rattle.melt_core.specs.Views.{View, max_rest, values_of}
 use Rattle.melt_epoch.specs.declared.mutator.Mutator.{Mutator}
+use Rattle.melt_rule.specs.Shown.{globals_from}
 use Rattle.melt_safepoint.specs.Resting.{Beside, rest_view}
 
 -- the names that pairs give to so many addresses from this one on
@@ -52,7 +53,7 @@ pub record IsNameless (heap : Heap) : Type 0 where
       → (1 ≤ address) × (address ≤ length heap.space.list)
   pub some_forward : 1 ≤ length heap.forward
   pub few_globals : length heap.globals ≤ 255
-  pub few_words : 2 + length heap.globals + length heap.forward + length heap.space.list ≤ 2 ^ 32
+  pub few_words : globals_from + length heap.globals + length heap.forward + length heap.space.list ≤ 2 ^ 32
 
 -- The mutator of a thread between two epochs has neither a seat nor a reader. It has the values that its registers stand
 -- for, which are kept apart.

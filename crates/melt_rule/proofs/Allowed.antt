@@ -31,7 +31,7 @@ use Rattle.melt_rule.proofs.Within.{allowed, within, headed_fits}
 use Rattle.melt_rule.specs.Plays.{PollPlay, HeadPlay, LookPlay, GlobalLookPlay, NumberPlay, StorePlay, GlobalStorePlay}
 use Rattle.melt_rule.specs.Plays.{NumberStorePlay, FindsHeader, FindsReference}
 use Rattle.melt_rule.specs.Rule.{Has, Kept, Rule, has_cause, is_lacking, is_reading}
-use Rattle.melt_rule.specs.Shown.{shows, word_place, Knows}
+use Rattle.melt_rule.specs.Shown.{shows, global_place, word_place, Knows}
 use Rattle.melt_rule.specs.Tells.{FitsIn, behind, Names, Ends}
 use Rattle.melt_rule.specs.declared.began.Began.{Began}
 use Rattle.melt_rule.specs.declared.began.Start.{Start}
@@ -203,13 +203,13 @@ looks_at start slots id at_i a n i z me live has headed below place_is =
 
 pub global_looks : (start : Start) (slots id g : ℕ) (me : Me ℕ View) → 0 < me.0.parts
     → is_lacking me.0.doing ≡ false → is_reading me.0.doing ≡ false → g < me.0.began.globals
-    → Allows (Rule start) slots id me (2 + g) (λ n. n) (GlobalLookPlay (step slots (2 + g) 0 0 none) me)
+    → Allows (Rule start) slots id me (global_place g) (λ n. n) (GlobalLookPlay (step slots (global_place g) 0 0 none) me)
 global_looks start slots id g me live goes_on left below =
-    allowed start slots id (2 + g) me (λ n. n) (GlobalLookPlay (step slots (2 + g) 0 0 none) me) live
+    allowed start slots id (global_place g) me (λ n. n) (GlobalLookPlay (step slots (global_place g) 0 0 none) me) live
     (λ words views kept at alive small.
     let stood = kept.seats id me.0 at alive in
     let here : g < start.began.globals = subst (λ (b : Began). g < b.globals) stood.began below in
-    let r = look_step start words views kept id me.0 at alive goes_on left (2 + g) (Global g) (slot.Global g) here refl
+    let r = look_step start words views kept id me.0 at alive goes_on left (global_place g) (Global g) (slot.Global g) here refl
     (kept.holds.formed.globals g here)
     (sym (global_is start.began words g here)) in (
       r.0,
@@ -218,7 +218,7 @@ global_looks start slots id g me live goes_on left below =
         (refl, inside),
         λ h under place.
             let same : g ≡ h = omega arith in
-            subst (λ (x : ℕ). FindsReference me.0 r.0 (slot.Global x) (Global x) (get_or words (2 + g) 0)) same r.2,
+            subst (λ (x : ℕ). FindsReference me.0 r.0 (slot.Global x) (Global x) (get_or words (global_place g) 0)) same r.2,
       ),
     ))
 
@@ -345,21 +345,21 @@ stores_at start slots id i a n k held x z value me live has headed below place_i
 pub global_stores : (start : Start) (slots id g held x : ℕ) (value : Value) (me : Me ℕ View) → 0 < me.0.parts
     → is_lacking me.0.doing ≡ false → is_reading me.0.doing ≡ false → g < me.0.began.globals
     → Names me.0.known held value → x ≡ 4 * held
-    → Allows (Rule start) slots id me (2 + g) (λ _. x) (λ found. GlobalStorePlay (step slots (2 + g) x 0 none) me x)
+    → Allows (Rule start) slots id me (global_place g) (λ _. x) (λ found. GlobalStorePlay (step slots (global_place g) x 0 none) me x)
 global_stores start slots id g held x value me live goes_on left below names word =
-    allowed start slots id (2 + g) me (λ _. x) (λ found. GlobalStorePlay (step slots (2 + g) x 0 none) me x) live
+    allowed start slots id (global_place g) me (λ _. x) (λ found. GlobalStorePlay (step slots (global_place g) x 0 none) me x) live
     (λ words views kept at alive small.
     let stood = kept.seats id me.0 at alive in
     let now : State = shows start.began words in
     let here : g < start.began.globals = subst (λ (b : Began). g < b.globals) stood.began below in
-    let in_words : 2 + g < length words = let size = kept.size in omega arith in
+    let in_words : global_place g < length words = let size = kept.size in omega arith in
     let changes = global_changes start.began words g x here in_words in
-    let only : OnlyObjects start words (set words (2 + g) x) = only_global start words g x here in_words in
-    let r = stores start words (set words (2 + g) x) views kept id me.0 at alive goes_on only (Global g) (slot.Global g) held
+    let only : OnlyObjects start words (set words (global_place g) x) = only_global start words g x here in_words in
+    let r = stores start words (set words (global_place g) x) views kept id me.0 at alive goes_on only (Global g) (slot.Global g) held
     value here refl names
-    (subst (λ (y : ℕ). GlobalChanges now (shows start.began (set words (2 + g) x)) g y) word changes)
+    (subst (λ (y : ℕ). GlobalChanges now (shows start.began (set words (global_place g) x)) g y) word changes)
     left in
-    let w : View = wrote start words (set words (2 + g) x) views kept id me.0 at alive goes_on only
+    let w : View = wrote start words (set words (global_place g) x) views kept id me.0 at alive goes_on only
     (Write (slot.Global g) value) in (
       w,
       r.0,

@@ -7,7 +7,7 @@ use Rattle.melt_rule.proofs.Ending.{sum_is}
 use Rattle.melt_rule.proofs.Views.{sum_set}
 use Rattle.melt_rule.specs.Making.{FirstFree}
 use Rattle.melt_rule.specs.Rule.{Kept, SeatStands}
-use Rattle.melt_rule.specs.Shown.{shows}
+use Rattle.melt_rule.specs.Shown.{shows, free_place}
 use Rattle.melt_rule.specs.declared.began.Began.{Began}
 use Rattle.melt_rule.specs.declared.began.Start.{Start}
 use Rattle.melt_rule.specs.declared.view.View.{View}
@@ -17,14 +17,14 @@ module _ (start : Start) (words : List ℕ) (views : List View) (kept : Kept sta
   abbrev claimed_by_all : ℕ
   claimed_by_all = sum_by (λ (u : View). u.claimed) views
 
-  free_is : get_or words 1 0 ≡ v.began.free + claimed_by_all
+  free_is : get_or words free_place 0 ≡ v.began.free + claimed_by_all
   free_is =
       let stood : SeatStands start.began kept.maps (shows start.began words) kept.history v = kept.seats id v at live in
       let began : v.began.free ≡ start.began.free = ap (λ (b : Began). b.free) stood.began in
-      let sum : get_or words 1 0 ≡ start.began.free + claimed_by_all = kept.sums.free in
+      let sum : get_or words free_place 0 ≡ start.began.free + claimed_by_all = kept.sums.free in
       omega arith
 
-  pub found_first : FirstFree v (get_or words 1 0)
+  pub found_first : FirstFree v (get_or words free_place 0)
   found_first = record {
     from =
         let none : View = record v { claimed = 0 } in

@@ -41,7 +41,7 @@ use Rattle.melt_rule.specs.Coming.{HomeHas, ClaimsCopy, LacksCopy, CopyPlay, Fil
 use Rattle.melt_rule.specs.Plays.{Stays}
 use Rattle.melt_rule.specs.Rule.{Begins, SeatStands, Kept, Rule, has_cause, is_lacking, is_reading}
 use Rattle.melt_rule.specs.Seats.{EpochWords, IsSeat, knows_of}
-use Rattle.melt_rule.specs.Shown.{base_of, shows, Knows, owned, staged, word_place}
+use Rattle.melt_rule.specs.Shown.{base_of, shows, Knows, owned, staged, free_place, word_place}
 use Rattle.melt_rule.specs.Tells.{FitsIn, IsWithin, behind, Reaches}
 use Rattle.melt_rule.specs.declared.began.Began.{Began}
 use Rattle.melt_rule.specs.declared.began.Start.{Start}
@@ -299,16 +299,16 @@ module _ (start : Start) (words : List ℕ) (views : List View) (kept : Kept sta
 pub copies_at : (start : Start) (slots id : ℕ) (search : Search) (z : Shape) (rest : List ℕ) (me : Me ℕ View)
     → 0 < me.0.parts → has_cause me.0 ≡ false → me.0.doing ≡ Some (Missed search)
     → HasBody start.began.told (base_of start.began) search.home z rest
-    → Allows (Rule start) slots id me 1 (λ n. (n + cost_of z) % 2 ^ 64)
-    (CopyPlay z rest (step slots 1 (cost_of z) 0 none) me)
+    → Allows (Rule start) slots id me free_place (λ n. (n + cost_of z) % 2 ^ 64)
+    (CopyPlay z rest (step slots free_place (cost_of z) 0 none) me)
 copies_at start slots id search z rest me live no_cause is body =
-    allowed start slots id 1 me (λ n. (n + cost_of z) % 2 ^ 64) (CopyPlay z rest (step slots 1 (cost_of z) 0 none) me)
+    allowed start slots id free_place me (λ n. (n + cost_of z) % 2 ^ 64) (CopyPlay z rest (step slots free_place (cost_of z) 0 none) me)
     live
     (λ words views kept at alive small.
     let cost : ℕ = cost_of z in
     let refs : z.refs ≤ 62 = body.head.small.refs in
     let nums : z.nums ≤ 62 = body.head.small.nums in
-    let first_free : ℕ = get_or words 1 0 in
+    let first_free : ℕ = get_or words free_place 0 in
     let wide : first_free + cost < 2 ^ 64 = claim_small start words views kept id me.0 at alive cost (omega arith) in
     let whole : (first_free + cost) % 2 ^ 64 ≡ first_free + cost = mod-eq_of_lt wide in
     let size : me.0.began.size ≡ start.began.size = ap (λ (b : Began). b.size) (kept.seats id me.0 at alive).began in
@@ -316,11 +316,11 @@ copies_at start slots id search z rest me live no_cause is body =
       | inl past ↦
           let w : View =
           claimed start words views kept id me.0 at alive me.0.rest cost (me.0.over + 1) true (LackingCopy search z) in
-          let r : IsStep start words (set words 1 (first_free + cost)) views kept id me.0 at alive w
+          let r : IsStep start words (set words free_place (first_free + cost)) views kept id me.0 at alive w
           × LacksCopy me.0 w search z =
           lacking_copy start words views kept id me.0 at alive search z rest is no_cause body past in (
             w,
-            subst (λ (n : ℕ). IsStep start words (set words 1 n) views kept id me.0 at alive w) (sym whole) r.0,
+            subst (λ (n : ℕ). IsStep start words (set words free_place n) views kept id me.0 at alive w) (sym whole) r.0,
             λ inside. (
               (refl, inside),
               wide,
@@ -333,11 +333,11 @@ copies_at start slots id search z rest me live no_cause is body =
       | inr fits ↦
           let doing : Doing = Copying (record { search = search; address = first_free; shape = z }) 0 in
           let w : View = claimed start words views kept id me.0 at alive rest cost me.0.over me.0.spaced doing in
-          let r : IsStep start words (set words 1 (first_free + cost)) views kept id me.0 at alive w
+          let r : IsStep start words (set words free_place (first_free + cost)) views kept id me.0 at alive w
           × ClaimsCopy me.0 w search z rest first_free =
           copying start words views kept id me.0 at alive search z rest is no_cause body (omega arith) in (
             w,
-            subst (λ (n : ℕ). IsStep start words (set words 1 n) views kept id me.0 at alive w) (sym whole) r.0,
+            subst (λ (n : ℕ). IsStep start words (set words free_place n) views kept id me.0 at alive w) (sym whole) r.0,
             λ inside. (
               (refl, inside),
               wide,

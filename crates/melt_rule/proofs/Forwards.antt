@@ -13,6 +13,7 @@ use Rattle.melt_rule.proofs.Seating.{seated_behind}
 use Rattle.melt_rule.specs.Coming.{IsForward, Probes, probe_place}
 use Rattle.melt_rule.specs.Plays.{Stays}
 use Rattle.melt_rule.specs.Seats.{EpochWords, IsSeat, IsTable, knows_of}
+use Rattle.melt_rule.specs.Shown.{globals_from}
 use Rattle.melt_rule.specs.declared.began.Began.{Began}
 use Rattle.melt_rule.specs.declared.began.Start.{Start}
 use Rattle.melt_rule.specs.declared.view.Doing.{Doing}
@@ -27,7 +28,7 @@ module _ (id : TableId) (start : Start) (before forwards_at : ℕ) (seat : Seat 
   -- where the next forwarding word of a search stands
   pub probe_at : forwards_at + search.tried ≡ probe_place began search
   probe_at =
-      let first : forwards_at ≡ 2 + start.began.globals = table.forwards_is in
+      let first : forwards_at ≡ globals_from + start.began.globals = table.forwards_is in
       let globals : began.globals ≡ start.began.globals = ap (λ (b : Began). b.globals) is_seat.began in
       let place : probe search.home began.forwards search.tried ≡ search.tried =
       probe_is search.home began.forwards search.tried in
@@ -36,7 +37,7 @@ module _ (id : TableId) (start : Start) (before forwards_at : ℕ) (seat : Seat 
   -- the table has it
   pub has_forward : search.tried < began.forwards → forwards_at + search.tried < id.words
   has_forward more =
-      let first : forwards_at ≡ 2 + start.began.globals = table.forwards_is in
+      let first : forwards_at ≡ globals_from + start.began.globals = table.forwards_is in
       let words = table.words in
       let forwards : began.forwards ≡ start.began.forwards = ap (λ (b : Began). b.forwards) is_seat.began in
       omega arith

@@ -6,12 +6,12 @@ use Rattle.std.proofs.lemmas.List.{length-drop}
 use Rattle.std.specs.Prelude.{slice_index}
 use Rattle.melt_space.specs.Space.{SpaceWords, word_at}
 use Rattle.melt_scion.specs.State.{State}
-use Rattle.melt_rule.specs.Shown.{base_of, globals_in, forwards_in, space_in, shows}
+use Rattle.melt_rule.specs.Shown.{base_of, forwards_in, free_place, front, globals_from, globals_in, space_in, shows}
 use Rattle.melt_rule.specs.declared.began.Began.{Began}
 
 -- the stop word, the first free place, globals, forwarding words and the words of the space, as an epoch has them
 abbrev pub laid_out : ℕ → ℕ → List ℕ → List ℕ → List ℕ → List ℕ
-laid_out stop free globals forwards space = stop ∷ free ∷ (globals ++ (forwards ++ space))
+laid_out stop free globals forwards space = front stop free ++ (globals ++ (forwards ++ space))
 
 -- the state of these parts, registers aside
 abbrev pub state_by : Began → ℕ → List ℕ → List ℕ → SpaceWords → State
@@ -46,18 +46,21 @@ module _ (b : Began) (stop free : ℕ) (globals forwards : List ℕ) (space : Sp
 
   pub forwards_laid : forwards_in b words ≡ forwards
   forwards_laid =
-      let from : 2 + b.globals ≡ suc (suc (length globals)) = omega arith in
+      let from : globals_from + b.globals ≡ length (front stop free) + length globals = omega arith in
       ap (λ (n : ℕ). take b.forwards (drop n words)) from
-      ∙ (ap (λ (l : List ℕ). take b.forwards l) (drop-append_seam globals (forwards ++ space.list))
+      ∙ (ap (λ (l : List ℕ). take b.forwards l) (drop-append-add (front stop free) behind (length globals)
+      ∙ drop-append_seam globals (forwards ++ space.list))
       ∙ (ap (λ (n : ℕ). take n (forwards ++ space.list)) (sym forwards_are)
       ∙ take-append_seam forwards space.list))
 
   pub space_laid : (space_in b words).list ≡ space.list
   space_laid =
-      let from : 2 + b.globals + b.forwards ≡ suc (suc (length globals + length forwards)) = omega arith in
+      let from : globals_from + b.globals + b.forwards
+      ≡ length (front stop free) + (length globals + length forwards) = omega arith in
       ap (λ (n : ℕ). drop n words) from
+      ∙ (drop-append-add (front stop free) behind (length globals + length forwards)
       ∙ (drop-append-add globals (forwards ++ space.list) (length forwards)
-      ∙ drop-append_seam forwards space.list)
+      ∙ drop-append_seam forwards space.list))
 
   -- the words show the state of the parts
   pub parts_shown : shows b words ≡ state_by b free globals forwards space
@@ -72,18 +75,18 @@ module _ (b : Began) (stop free : ℕ) (globals forwards : List ℕ) (space : Sp
 
 -- and back: what is copied from the words of an epoch, part by part, is of the state that they show
 pub shown_by_parts : (b : Began) (words : List ℕ) (space : SpaceWords)
-    → length words ≡ 2 + b.globals + b.forwards + b.size
-    → space.list ≡ take b.size (drop (2 + b.globals + b.forwards) words)
-    → shows b words ≡ state_by b (slice_index words 1) (globals_in b words) (forwards_in b words) space
+    → length words ≡ globals_from + b.globals + b.forwards + b.size
+    → space.list ≡ take b.size (drop (globals_from + b.globals + b.forwards) words)
+    → shows b words ≡ state_by b (slice_index words free_place) (globals_in b words) (forwards_in b words) space
 shown_by_parts b words space size is =
-    let all : List ℕ = drop (2 + b.globals + b.forwards) words in
-    let left : length all ≡ length words - (2 + b.globals + b.forwards) =
-    length-drop (2 + b.globals + b.forwards) words in
+    let all : List ℕ = drop (globals_from + b.globals + b.forwards) words in
+    let left : length all ≡ length words - (globals_from + b.globals + b.forwards) =
+    length-drop (globals_from + b.globals + b.forwards) words in
     let as_many : b.size ≡ length all = omega arith in
     let whole : all ≡ space.list = sym (is ∙ (ap (λ (n : ℕ). take n all) as_many ∙ take-length all)) in
     λ k. record {
       base = base_of b;
-      free = slice_index words 1;
+      free = slice_index words free_place;
       word = same_words (space_in b words) space whole k;
       global = slice_index (globals_in b words);
       forward = slice_index (forwards_in b words);

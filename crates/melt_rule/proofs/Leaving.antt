@@ -20,7 +20,7 @@ use Rattle.melt_core.specs.Known.{Evolves}
 use Rattle.melt_rule.proofs.Keeping.{Bits, IsStep}
 use Rattle.melt_rule.proofs.Showing.{filled_same, word_changes, global_changes}
 use Rattle.melt_rule.specs.Rule.{Has, SeatStands, Kept, is_lacking}
-use Rattle.melt_rule.specs.Shown.{shows, Knows, owned, global_place, word_place}
+use Rattle.melt_rule.specs.Shown.{shows, Knows, owned, free_place, global_place, word_place}
 use Rattle.melt_rule.specs.Tells.{HasAll, behind}
 use Rattle.melt_rule.specs.declared.began.Pair.{Pair}
 use Rattle.melt_rule.specs.declared.began.Start.{Start}
@@ -31,7 +31,7 @@ use Rattle.melt_rule.specs.declared.view.View.{View}
 pub record OnlyObjects (start : Start) (words after : List ℕ) : Type 0 where
   pub size : length after ≡ length words
   pub stop : get_or after 0 0 ≡ get_or words 0 0
-  pub free : get_or after 1 0 ≡ get_or words 1 0
+  pub free : get_or after free_place 0 ≡ get_or words free_place 0
   pub forward : (p : ℕ) → (shows start.began after).forward p ≡ (shows start.began words).forward p
 
 pub only_same : (start : Start) (words : List ℕ) → OnlyObjects start words words

@@ -39,7 +39,7 @@ use Rattle.melt_rule.proofs.Leaving.{OnlyObjects, leaves, leaves_same, only_spac
 use Rattle.melt_rule.proofs.Showing.{free_moves, word_changes, filled_same}
 use Rattle.melt_rule.specs.Making.{Claims, Lacks, Makes}
 use Rattle.melt_rule.specs.Rule.{Has, SeatStands, Kept, has_cause, is_lacking, is_reading}
-use Rattle.melt_rule.specs.Shown.{shows, Knows, owned, word_place}
+use Rattle.melt_rule.specs.Shown.{shows, Knows, owned, free_place, globals_from, word_place}
 use Rattle.melt_rule.specs.Tells.{Adds, behind, Reaches}
 use Rattle.melt_rule.specs.declared.began.Began.{Began}
 use Rattle.melt_rule.specs.declared.began.Pair.{Pair}
@@ -133,9 +133,9 @@ module _ (start : Start) (words : List ℕ) (views : List View) (kept : Kept sta
   stood = kept.seats id v at live
 
   abbrev pub free : ℕ
-  free = get_or words 1 0
+  free = get_or words free_place 0
 
-  pub sizes : length words ≡ 2 + start.began.globals + start.began.forwards + start.began.size
+  pub sizes : length words ≡ globals_from + start.began.globals + start.began.forwards + start.began.size
   sizes = kept.size
 
   -- the first free place stays so small that no claim wraps
@@ -152,7 +152,7 @@ module _ (start : Start) (words : List ℕ) (views : List View) (kept : Kept sta
 
   -- the words behind a claim of so many
   abbrev pub claimed_words : ℕ → List ℕ
-  claimed_words cost = set words 1 (free + cost)
+  claimed_words cost = set words free_place (free + cost)
 
   moves : (cost : ℕ) → FreeMoves old (shows start.began (claimed_words cost)) (free + cost)
   moves cost = free_moves start.began words (free + cost) (let size = sizes in omega arith)
@@ -198,7 +198,7 @@ module _ (start : Start) (words : List ℕ) (views : List View) (kept : Kept sta
       claims cost refl moves in
       let evolves : Evolves kept.maps kept.maps old new 0 = claim_evolves cost in
       let stop : get_or (claimed_words cost) 0 0 ≡ get_or words 0 0 =
-      get_or-set_other words 1 0 (free + cost) 0 (λ same. omega arith) in (
+      get_or-set_other words free_place 0 (free + cost) 0 (λ same. omega arith) in (
         record {
           maps = kept.maps;
           mine = no_region;
@@ -206,7 +206,7 @@ module _ (start : Start) (words : List ℕ) (views : List View) (kept : Kept sta
           act = None;
           event = event;
           mine_apart = λ i u other is alive. no_region_apart (owned u.doing);
-          size = length-set words 1 (free + cost);
+          size = length-set words free_place (free + cost);
           names = λ a n named. inl named;
           parts = refl;
           thread = refl;

@@ -15,7 +15,7 @@ use Rattle.melt_rule.proofs.Makes.{shape_of_cost, claim_small, claimed, claiming
 use Rattle.melt_rule.proofs.Within.{allowed}
 use Rattle.melt_rule.specs.Making.{Claims, Lacks, Makes, ClaimPlay, FillPlay, PublishPlay}
 use Rattle.melt_rule.specs.Rule.{Rule, has_cause, is_reading}
-use Rattle.melt_rule.specs.Shown.{word_place}
+use Rattle.melt_rule.specs.Shown.{free_place, word_place}
 use Rattle.melt_rule.specs.Tells.{FitsIn, IsWithin, behind, Reaches}
 use Rattle.melt_rule.specs.declared.began.Began.{Began}
 use Rattle.melt_rule.specs.declared.began.Start.{Start}
@@ -24,35 +24,35 @@ use Rattle.melt_rule.specs.declared.view.View.{View}
 
 pub claims : (start : Start) (slots id cost : ℕ) (me : Me ℕ View) → 0 < me.0.parts → has_cause me.0 ≡ false
     → is_reading me.0.doing ≡ false → 2 ≤ cost → cost ≤ 126
-    → Allows (Rule start) slots id me 1 (λ n. (n + cost) % 2 ^ 64) (ClaimPlay (step slots 1 cost 0 none) me)
+    → Allows (Rule start) slots id me free_place (λ n. (n + cost) % 2 ^ 64) (ClaimPlay (step slots free_place cost 0 none) me)
 claims start slots id cost me live no_cause left low high =
-    allowed start slots id 1 me (λ n. (n + cost) % 2 ^ 64) (ClaimPlay (step slots 1 cost 0 none) me) live
+    allowed start slots id free_place me (λ n. (n + cost) % 2 ^ 64) (ClaimPlay (step slots free_place cost 0 none) me) live
     (λ words views kept at alive small.
-    let free : ℕ = get_or words 1 0 in
+    let free : ℕ = get_or words free_place 0 in
     let wide : free + cost < 2 ^ 64 = claim_small start words views kept id me.0 at alive cost high in
     let whole : (free + cost) % 2 ^ 64 ≡ free + cost = mod-eq_of_lt wide in
     let size : me.0.began.size ≡ start.began.size = ap (λ (b : Began). b.size) (kept.seats id me.0 at alive).began in
     elim (cases_lt (start.began.size + 1) (free + cost)) [
       | inl past ↦
           let w : View = claimed start words views kept id me.0 at alive me.0.rest cost (me.0.over + 1) true (Lacking cost) in
-          let r : IsStep start words (set words 1 (free + cost)) views kept id me.0 at alive w × Lacks me.0 w cost =
+          let r : IsStep start words (set words free_place (free + cost)) views kept id me.0 at alive w × Lacks me.0 w cost =
           lacking start words views kept id me.0 at alive cost high no_cause left past in (
             w,
-            subst (λ (n : ℕ). IsStep start words (set words 1 n) views kept id me.0 at alive w) (sym whole) r.0,
+            subst (λ (n : ℕ). IsStep start words (set words free_place n) views kept id me.0 at alive w) (sym whole) r.0,
             λ inside. ((refl, inside), wide, (λ fits. absurd (omega arith)), (λ over. r.1)),
           )
       | inr fits ↦
           let z = shape_of_cost cost low high in
           let w : ℕ → View =
           λ n. claimed start words views kept id me.0 at alive me.0.rest n me.0.over me.0.spaced (Claimed free z.0 0) in
-          let r : IsStep start words (set words 1 (free + cost)) views kept id me.0 at alive (w cost)
+          let r : IsStep start words (set words free_place (free + cost)) views kept id me.0 at alive (w cost)
           × Claims me.0 (w cost) free cost =
-          subst (λ (n : ℕ). IsStep start words (set words 1 (free + n)) views kept id me.0 at alive (w n)
+          subst (λ (n : ℕ). IsStep start words (set words free_place (free + n)) views kept id me.0 at alive (w n)
           × Claims me.0 (w n) free n) z.2
           (claiming start words views kept id me.0 at alive z.0 z.1 no_cause left
           (let cost_is : cost_of z.0 ≡ cost = z.2 in omega arith)) in (
             w cost,
-            subst (λ (n : ℕ). IsStep start words (set words 1 n) views kept id me.0 at alive (w cost)) (sym whole) r.0,
+            subst (λ (n : ℕ). IsStep start words (set words free_place n) views kept id me.0 at alive (w cost)) (sym whole) r.0,
             λ inside. ((refl, inside), wide, (λ within. r.1), (λ past. absurd (omega arith))),
           )
     ])

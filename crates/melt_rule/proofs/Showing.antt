@@ -7,7 +7,8 @@ use Rattle.std.proofs.lemmas.List.{get_or-set_same, get_or-set_other}
 use Rattle.melt_space.specs.Space.{word_at}
 use Rattle.melt_scion.specs.Changes.{SameWords, WordChanges, GlobalChanges, ForwardChanges, FreeMoves}
 use Rattle.melt_rule.specs.Rule.{filled, filled_one}
-use Rattle.melt_rule.specs.Shown.{shows, forwards_in, globals_in, space_in, forward_place, global_place, word_place}
+use Rattle.melt_rule.specs.Shown.{shows, forwards_in, globals_in, space_in}
+use Rattle.melt_rule.specs.Shown.{forward_place, free_place, global_place, globals_from, word_place}
 use Rattle.melt_rule.specs.declared.began.Began.{Began}
 
 -- a number of a list behind so many others
@@ -51,7 +52,7 @@ stretch_here from n xs x i below within =
 module _ (b : Began) (words : List ℕ) where
   -- so many words stand before those of the space
   abbrev front : ℕ
-  front = 2 + b.globals + b.forwards
+  front = globals_from + b.globals + b.forwards
 
   place_is : (k : ℕ) → front + k ≡ word_place b (suc k)
   place_is k = omega arith
@@ -61,10 +62,10 @@ module _ (b : Began) (words : List ℕ) where
   word_is (suc k) first = get_drop front words k ∙ ap (λ (n : ℕ). get_or words n 0) (place_is k)
 
   pub global_is : (g : ℕ) → g < b.globals → get_or (globals_in b words) g 0 ≡ get_or words (global_place g) 0
-  global_is g below = get_take b.globals (drop 2 words) g below ∙ get_drop 2 words g
+  global_is g below = get_take b.globals (drop globals_from words) g below ∙ get_drop globals_from words g
 
   pub forward_is : (p : ℕ) → p < b.forwards → get_or (forwards_in b words) p 0 ≡ get_or words (forward_place b p) 0
-  forward_is p below = get_take b.forwards (drop (2 + b.globals) words) p below ∙ get_drop (2 + b.globals) words p
+  forward_is p below = get_take b.forwards (drop (globals_from + b.globals) words) p below ∙ get_drop (globals_from + b.globals) words p
 
   -- a word of the space stays where another is set
   space_other : (at x address : ℕ) → (1 ≤ address → word_place b address ≢ at)
@@ -88,11 +89,11 @@ module _ (b : Began) (words : List ℕ) where
       → WordChanges (shows b words) (shows b (set words (word_place b address) x)) address x
   word_changes address x first within = record {
     base = refl;
-    free = get_or-set_other words (word_place b address) 1 x 0 (λ same. omega arith);
+    free = get_or-set_other words (word_place b address) free_place x 0 (λ same. omega arith);
     here = space_here x address first within;
     others = λ k other. space_other (word_place b address) x k (λ from same. other (omega arith));
-    global = λ g. stretch_other 2 b.globals words (word_place b address) x g (λ below same. omega arith);
-    forward = λ p. stretch_other (2 + b.globals) b.forwards words (word_place b address) x p
+    global = λ g. stretch_other globals_from b.globals words (word_place b address) x g (λ below same. omega arith);
+    forward = λ p. stretch_other (globals_from + b.globals) b.forwards words (word_place b address) x p
         (λ below same. omega arith);
   }
 
@@ -101,11 +102,11 @@ module _ (b : Began) (words : List ℕ) where
       → GlobalChanges (shows b words) (shows b (set words (global_place g) x)) g x
   global_changes g x below within = record {
     base = refl;
-    free = get_or-set_other words (global_place g) 1 x 0 (λ same. omega arith);
+    free = get_or-set_other words (global_place g) free_place x 0 (λ same. omega arith);
     word_stays = λ k. space_other (global_place g) x k (λ from same. omega arith);
-    here = stretch_here 2 b.globals words x g below within;
-    others = λ k other. stretch_other 2 b.globals words (global_place g) x k (λ under same. other (omega arith));
-    forward = λ p. stretch_other (2 + b.globals) b.forwards words (global_place g) x p (λ under same. omega arith);
+    here = stretch_here globals_from b.globals words x g below within;
+    others = λ k other. stretch_other globals_from b.globals words (global_place g) x k (λ under same. other (omega arith));
+    forward = λ p. stretch_other (globals_from + b.globals) b.forwards words (global_place g) x p (λ under same. omega arith);
   }
 
   -- a forwarding word is set
@@ -113,11 +114,11 @@ module _ (b : Began) (words : List ℕ) where
       → ForwardChanges (shows b words) (shows b (set words (forward_place b p) x)) p x
   forward_changes p x below within = record {
     base = refl;
-    free = get_or-set_other words (forward_place b p) 1 x 0 (λ same. omega arith);
+    free = get_or-set_other words (forward_place b p) free_place x 0 (λ same. omega arith);
     word_stays = λ k. space_other (forward_place b p) x k (λ from same. omega arith);
-    global = λ g. stretch_other 2 b.globals words (forward_place b p) x g (λ under same. omega arith);
-    here = stretch_here (2 + b.globals) b.forwards words x p below within;
-    others = λ k other. stretch_other (2 + b.globals) b.forwards words (forward_place b p) x k
+    global = λ g. stretch_other globals_from b.globals words (forward_place b p) x g (λ under same. omega arith);
+    here = stretch_here (globals_from + b.globals) b.forwards words x p below within;
+    others = λ k other. stretch_other (globals_from + b.globals) b.forwards words (forward_place b p) x k
         (λ under same. other (omega arith));
   }
 
@@ -125,20 +126,21 @@ module _ (b : Began) (words : List ℕ) where
   pub stop_sets : (x : ℕ) → SameWords (shows b words) (shows b (set words 0 x))
   stop_sets x = record {
     base = refl;
-    free = get_or-set_other words 0 1 x 0 (λ same. omega arith);
+    free = get_or-set_other words 0 free_place x 0 (λ same. omega arith);
     word = λ k. space_other 0 x k (λ from same. omega arith);
-    global = λ g. stretch_other 2 b.globals words 0 x g (λ below same. omega arith);
-    forward = λ p. stretch_other (2 + b.globals) b.forwards words 0 x p (λ below same. omega arith);
+    global = λ g. stretch_other globals_from b.globals words 0 x g (λ below same. omega arith);
+    forward = λ p. stretch_other (globals_from + b.globals) b.forwards words 0 x p (λ below same. omega arith);
   }
 
   -- the first free place moves on
-  pub free_moves : (free : ℕ) → 1 < length words → FreeMoves (shows b words) (shows b (set words 1 free)) free
+  pub free_moves : (free : ℕ) → free_place < length words
+      → FreeMoves (shows b words) (shows b (set words free_place free)) free
   free_moves free within = record {
     base = refl;
-    is = get_or-set_same words 1 free 0 within;
-    word = λ k. space_other 1 free k (λ from same. omega arith);
-    global = λ g. stretch_other 2 b.globals words 1 free g (λ below same. omega arith);
-    forward = λ p. stretch_other (2 + b.globals) b.forwards words 1 free p (λ below same. omega arith);
+    is = get_or-set_same words free_place free 0 within;
+    word = λ k. space_other free_place free k (λ from same. omega arith);
+    global = λ g. stretch_other globals_from b.globals words free_place free g (λ below same. omega arith);
+    forward = λ p. stretch_other (globals_from + b.globals) b.forwards words free_place free p (λ below same. omega arith);
   }
 
 -- as many words are filled where all of them are the same

@@ -42,7 +42,7 @@ use Rattle.melt_rule.proofs.Leaving.{OnlyObjects, leaves, only_global, only_spac
 use Rattle.melt_rule.proofs.Within.{allowed, within}
 use Rattle.melt_rule.specs.Barriers.{Untags, UntagPlay, GlobalUntagPlay}
 use Rattle.melt_rule.specs.Rule.{Has, SeatStands, Kept, Rule, is_lacking}
-use Rattle.melt_rule.specs.Shown.{shows, owned, word_place, Knows, stage_of}
+use Rattle.melt_rule.specs.Shown.{shows, owned, global_place, word_place, Knows, stage_of}
 use Rattle.melt_rule.specs.Tells.{FitsIn, behind, Reads}
 use Rattle.melt_rule.specs.declared.began.Began.{Began}
 use Rattle.melt_rule.specs.declared.began.Pair.{Pair}
@@ -308,20 +308,20 @@ untags_at start slots id i a n k target before_ after_ found me live has cleared
 pub global_untags : (start : Start) (slots id g target before_ after_ : ℕ) (found : Ref) (me : Me ℕ View)
     → 0 < me.0.parts → me.0.doing ≡ Some (Cleared (Global g) found target) → before_ ≡ ref_word found
     → after_ ≡ ref_word (Clean target)
-    → Allows (Rule start) slots id me (2 + g) (λ x. either (x == before_) after_ x)
-    (GlobalUntagPlay (step slots (2 + g) before_ after_ none) me)
+    → Allows (Rule start) slots id me (global_place g) (λ x. either (x == before_) after_ x)
+    (GlobalUntagPlay (step slots (global_place g) before_ after_ none) me)
 global_untags start slots id g target before_ after_ found me live cleared from to =
-    allowed start slots id (2 + g) me (λ x. either (x == before_) after_ x)
-    (GlobalUntagPlay (step slots (2 + g) before_ after_ none) me)
+    allowed start slots id (global_place g) me (λ x. either (x == before_) after_ x)
+    (GlobalUntagPlay (step slots (global_place g) before_ after_ none) me)
     live
     (λ words views kept at alive small.
     let s : State = shows start.began words in
     let known_ = knows start words views kept id me.0 at alive (Global g) found target cleared in
     let below : g < start.began.globals = known_.0.at in
-    let in_words : 2 + g < length words = let size = kept.size in omega arith in
-    let after : List ℕ = set words (2 + g) after_ in
+    let in_words : global_place g < length words = let size = kept.size in omega arith in
+    let after : List ℕ = set words (global_place g) after_ in
     let changes = global_changes start.began words g after_ below in_words in
-    let r = exchanges start words views kept id me.0 at alive (Global g) found target cleared (slot.Global g) refl (2 + g)
+    let r = exchanges start words views kept id me.0 at alive (Global g) found target cleared (slot.Global g) refl (global_place g)
     before_ after_ from
     (kept.holds.formed.globals g below)
     (sym (global_is start.began words g below))
@@ -336,7 +336,7 @@ global_untags start slots id g target before_ after_ found me live cleared from 
             let is_g : g ≡ h = cc in
             let is_f : found ≡ f = cc in
             let is_t : target ≡ t = cc in
-            let U : ℕ → Ref → ℕ → Type 0 = λ p q u. Untags me.0 r.0 (slot.Global p) q u (get_or words (2 + g) 0) in
+            let U : ℕ → Ref → ℕ → Type 0 = λ p q u. Untags me.0 r.0 (slot.Global p) q u (get_or words (global_place g) 0) in
             subst (λ (p : ℕ). U p f t) is_g (subst (λ (q : Ref). U g q t) is_f (subst (λ (u : ℕ). U g found u) is_t r.2)),
       ),
     ))

@@ -9,7 +9,7 @@ use Rattle.melt_scion.specs.Placed.{Maps, Holds}
 use Rattle.melt_scion.specs.State.{State, IsFresh}
 use Rattle.melt_core.specs.StaleBits.{BitsTold}
 use Rattle.melt_rule.specs.Rule.{Has, Begins, MadeStay, Saw, threads_of, filled, has_cause, is_lacking}
-use Rattle.melt_rule.specs.Shown.{shows}
+use Rattle.melt_rule.specs.Shown.{globals_from, shows}
 use Rattle.melt_rule.specs.Sights.{first_sight, last_sight}
 use Rattle.melt_rule.specs.declared.began.Began.{Began}
 use Rattle.melt_rule.specs.declared.began.Start.{Start}
@@ -48,7 +48,7 @@ pub record CountsEnd (b : Began) (stop : ℕ) (s : State) (v : View) : Type 0 wh
 -- The words stand for the history that the view has seen. Where it is told, each object that was made in the epoch has an
 -- address, and the words have the stale bit as the history says.
 pub record HasEnded (start : Start) (words : List ℕ) (v : View) : Type 0 where
-  pub size : length words ≡ 2 + start.began.globals + start.began.forwards + start.began.size
+  pub size : length words ≡ globals_from + start.began.globals + start.began.forwards + start.began.size
   pub maps : Maps
   pub holds : Holds start.began.told v.seen maps (shows start.began words)
   pub history : HistoryEnds start v

@@ -16,7 +16,7 @@ use Rattle.melt_scion.specs.Regions.{Apart}
 use Rattle.melt_scion.specs.State.{State, IsFresh}
 use Rattle.melt_rule.specs.Giving.{spent_view}
 use Rattle.melt_core.specs.StaleBits.{Tied, sight_of}
-use Rattle.melt_rule.specs.Shown.{base_of, shows, Knows, owned}
+use Rattle.melt_rule.specs.Shown.{base_of, shows, globals_from, Knows, owned}
 use Rattle.melt_rule.specs.Sights.{first_sight, stage_at}
 use Rattle.melt_rule.specs.declared.began.Began.{Began}
 use Rattle.melt_rule.specs.declared.began.Pair.{Pair}
@@ -148,7 +148,7 @@ pub record StopStands (b : Began) (stop : ℕ) (s : State) (views : List View) :
 pub record Kept (start : Start) (words : List ℕ) (views : List View) : Type 0 where
   pub history : List Entry
   pub maps : Maps
-  pub size : length words ≡ 2 + start.began.globals + start.began.forwards + start.began.size
+  pub size : length words ≡ globals_from + start.began.globals + start.began.forwards + start.began.size
   pub legal : start.began.told ≡ true → Legal history start.began.globals
   pub holds : Holds start.began.told history maps (shows start.began words)
   pub first : 1 ≤ start.began.free

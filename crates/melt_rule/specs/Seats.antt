@@ -4,6 +4,7 @@ use Rattle.atomic_table.specs.Seated.{TableId}
 use Rattle.atomic_table.specs.declared.shared.Seat.{Seat}
 use Rattle.melt_word.specs.declared.header.Shape.{Shape}
 use Rattle.melt_rule.specs.Rule.{Has, is_bound}
+use Rattle.melt_rule.specs.Shown.{globals_from}
 use Rattle.melt_rule.specs.Tells.{IsWithin}
 use Rattle.melt_rule.specs.declared.began.Start.{Start}
 use Rattle.melt_rule.specs.declared.view.Doing.TheVariants.{Headed}
@@ -17,9 +18,9 @@ pub record EpochWords : Type 0 where
 -- a table of as many words as an epoch has, and no slots
 pub record IsTable (id : TableId) (start : Start) (before forwards_at : ℕ) : Type 0 where
   pub none : id.slots ≡ 0
-  pub words : id.words ≡ 2 + start.began.globals + start.began.forwards + start.began.size
-  pub before_is : before ≡ 1 + start.began.globals + start.began.forwards
-  pub forwards_is : forwards_at ≡ 2 + start.began.globals
+  pub words : id.words ≡ globals_from + start.began.globals + start.began.forwards + start.began.size
+  pub before_is : before ≡ 15 + start.began.globals + start.began.forwards
+  pub forwards_is : forwards_at ≡ globals_from + start.began.globals
   pub few : before + start.began.size < 2 ^ 32
   pub small : start.began.size < 2 ^ 30
 

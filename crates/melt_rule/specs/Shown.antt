@@ -1,5 +1,5 @@
 -- The state of a core that the words of an epoch show, and what is known of a call over it.
-use Rattle.std.specs.Prelude.{ℕ, ◌+◌, Bool, List, map, take, drop, slice_index, Option, None, Some}
+use Rattle.std.specs.Prelude.{ℕ, ◌+◌, Bool, List, [], ◌∷◌, map, take, drop, slice_index, Option, None, Some}
 use Rattle.std.specs.Option.{option_map}
 use Rattle.melt_word.specs.declared.header.Shape.{Shape}
 use Rattle.melt_space.specs.Space.{SpaceWords, word_at}
@@ -39,31 +39,42 @@ abbrev pub maps_of : Began → Maps
 maps_of b = record { address = named b.maps.addresses; home = named b.maps.homes }
 
 -- The words of an epoch are, in this order: the stop word, the first free place, the globals, the forwarding words, and
--- the words of the space.
+-- the words of the space. Behind the stop word and the first free place stand seven words each that nobody uses, so that a
+-- line of the cache, which has eight, holds no two of stop word, first free place and globals.
+abbrev pub free_place : ℕ
+free_place = 8
+
+abbrev pub globals_from : ℕ
+globals_from = 16
+
+-- the words before the globals
+abbrev pub front : (stop free : ℕ) → List ℕ
+front stop free = stop ∷ 0 ∷ 0 ∷ 0 ∷ 0 ∷ 0 ∷ 0 ∷ 0 ∷ free ∷ 0 ∷ 0 ∷ 0 ∷ 0 ∷ 0 ∷ 0 ∷ 0 ∷ []
+
 abbrev pub globals_in : Began → List ℕ → List ℕ
-globals_in b words = take b.globals (drop 2 words)
+globals_in b words = take b.globals (drop globals_from words)
 
 abbrev pub forwards_in : Began → List ℕ → List ℕ
-forwards_in b words = take b.forwards (drop (2 + b.globals) words)
+forwards_in b words = take b.forwards (drop (globals_from + b.globals) words)
 
 abbrev pub space_in : Began → List ℕ → SpaceWords
-space_in b words = record { list = drop (2 + b.globals + b.forwards) words; used = 0 }
+space_in b words = record { list = drop (globals_from + b.globals + b.forwards) words; used = 0 }
 
--- where the word of a global stands, a forwarding word, and the word of an address, which begin at 1
+-- where the word of a global stands, a forwarding word, and the word of an address; these begin at 1, and not at 0
 abbrev pub global_place : ℕ → ℕ
-global_place g = 2 + g
+global_place g = globals_from + g
 
 abbrev pub forward_place : Began → ℕ → ℕ
-forward_place b p = 2 + b.globals + p
+forward_place b p = globals_from + b.globals + p
 
 abbrev pub word_place : Began → ℕ → ℕ
-word_place b address = 1 + b.globals + b.forwards + address
+word_place b address = 15 + b.globals + b.forwards + address
 
 -- the state of the words, registers aside
 abbrev pub shows : Began → List ℕ → State
 shows b words = record {
   base = base_of b;
-  free = slice_index words 1;
+  free = slice_index words free_place;
   word = word_at (space_in b words);
   global = slice_index (globals_in b words);
   forward = slice_index (forwards_in b words);

@@ -12,7 +12,7 @@ ghost use Rattle.melt_rule.specs.Tells.{Reaches, Reads};
 ghost use Rattle.melt_rule.specs.declared.view.Doing.TheVariants.{Looked, Cleared};
 
 use crate::view::View;
-use crate::words::{Seated, Words};
+use crate::words::{GLOBALS_AT, Seated, Words};
 use atomic_table::Play;
 use melt_word::{Ref, decode_ref, encode_ref};
 
@@ -88,7 +88,7 @@ impl Words {
         let seen = self
             .table
             .shared
-            .compare_exchange::<UntagGlobal>(seat, 2 + g as usize, old, new);
+            .compare_exchange::<UntagGlobal>(seat, GLOBALS_AT + g as usize, old, new);
         answer(seen, old, target)
     }
 }

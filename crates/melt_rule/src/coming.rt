@@ -23,7 +23,7 @@ ghost use Rattle.melt_rule.specs.declared.view.Doing.TheVariants.{Cleared, Copie
 
 use crate::barrier::ALL_BUT_STALE;
 use crate::view::View;
-use crate::words::{Seated, Words};
+use crate::words::{FREE_AT, Seated, Words};
 use atomic_table::Play;
 use melt_core::call::{Activation, Search};
 use melt_forward::{pack, unpack};
@@ -193,7 +193,10 @@ impl Words {
         ensures tells { CopyTells (knows_of seat.old) (knows_of seat.new) search shape rest.now result }
     {
         let need = u64::from(cost(shape));
-        let found = self.table.shared.fetch_add::<ClaimCopy<B>>(seat, 1, need);
+        let found = self
+            .table
+            .shared
+            .fetch_add::<ClaimCopy<B>>(seat, FREE_AT, need);
         if found + need > u64::from(self.size) + 1 {
             return None;
         }

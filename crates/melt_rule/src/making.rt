@@ -10,7 +10,7 @@ ghost use Rattle.melt_rule.specs.Tells.{Reaches};
 ghost use Rattle.melt_rule.specs.declared.view.Doing.TheVariants.{Claimed, Polled};
 
 use crate::view::View;
-use crate::words::{Seated, Words};
+use crate::words::{FREE_AT, Seated, Words};
 use atomic_table::Play;
 use melt_word::{Header, Shape, encode_header};
 
@@ -47,7 +47,7 @@ impl Words {
         ensures tells { ClaimTells (knows_of seat.old) (knows_of seat.new) cost result }
     {
         let need = u64::from(cost);
-        let found = self.table.shared.fetch_add::<Claim>(seat, 1, need);
+        let found = self.table.shared.fetch_add::<Claim>(seat, FREE_AT, need);
         if found + need > u64::from(self.size) + 1 {
             return None;
         }

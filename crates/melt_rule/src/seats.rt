@@ -9,7 +9,7 @@ ghost use Rattle.melt_rule.specs.Seats.{IsSeat, MayGoOn, Sits, knows_of};
 use crate::began::Start;
 use crate::ended::EndedWords;
 use crate::view::View;
-use crate::words::{Seated, Words};
+use crate::words::{GLOBALS_AT, Seated, Words};
 use atomic_table::{Join, Split, Table};
 use melt_model::{Ghost, NoMemory};
 use std::alloc::Global;
@@ -38,7 +38,7 @@ impl Join<View> for Takes {
 
 impl Words {
     /// Makes words of memory those of an epoch, with a first seat that speaks for all threads. So many of them, the
-    /// last ones, are words of the space, and so many are globals, behind the first two.
+    /// last ones, are words of the space, and so many are globals, behind `front`.
     pub fn begin(
         alloc: Global,
         words: &[u64],
@@ -59,7 +59,7 @@ impl Words {
             Words {
                 table,
                 before,
-                forwards_at: 2 + globals as usize,
+                forwards_at: GLOBALS_AT + globals as usize,
                 size,
             },
             seat,

@@ -9,6 +9,7 @@ ghost use Rattle.melt_model.specs.declared.history.Value.{Value};
 ghost use Rattle.melt_model.specs.declared.history.Value.TheVariants.{Num};
 ghost use Rattle.melt_core.specs.declared.call.Place.TheVariants as place;
 ghost use Rattle.melt_rule.specs.Rule.{Has, has_cause, is_reading};
+ghost use Rattle.melt_rule.specs.Shown.{front};
 ghost use Rattle.melt_rule.specs.Seats.{IsSeat, MayGoOn, knows_of, SpeaksOf, HasName};
 ghost use Rattle.melt_rule.specs.Tells.{Asks, Ends, Heads, Looks, Names, Polls, Stops};
 ghost use Rattle.melt_rule.specs.declared.view.Doing.TheVariants.{Polled};
@@ -27,13 +28,30 @@ use melt_word::{Ref, Shape, held_word};
 use std::alloc::Global;
 use std::marker::Model;
 
+/// Where the first free place stands among the words of an epoch.
+pub const FREE_AT: usize = 8;
+
+/// Where the first global stands, or what stands behind the globals where there is none.
+pub const GLOBALS_AT: usize = 16;
+
+/// The words before the globals as an epoch begins: the stop word, which is not set, and the first free place. Each begins
+/// a line of the cache of its own, so that a thread that makes an object takes the stop word from no other thread, which
+/// reads it in each call.
+pub fn front(free: u64) -> [u64; GLOBALS_AT]
+    ensures { result ≡ front 0 free }
+{
+    let mut words = [0; GLOBALS_AT];
+    words[FREE_AT] = free;
+    words
+}
+
 /// The seat of a thread.
 pub type Seated = Seat<u64, View>;
 
 /// The words that the threads of an epoch share.
 pub struct Words {
     pub(crate) table: Table<u64, View, Ghost<Start>, Law, Global>,
-    /// How many words stand before that of address 0.
+    /// How many words stand before that of address 0, if there were one.
     pub(crate) before: usize,
     /// How many stand before the forwarding words.
     pub(crate) forwards_at: usize,
@@ -121,7 +139,10 @@ impl Words {
         ensures seat { IsSeat self.now seat.new }
         ensures looks { Looks (knows_of seat.old) (knows_of seat.new) (slot.Global g) (place.Global g) result }
     {
-        let word = self.table.shared.load::<LoadGlobal>(seat, 2 + g as usize);
+        let word = self
+            .table
+            .shared
+            .load::<LoadGlobal>(seat, GLOBALS_AT + g as usize);
         ref_of(word)
     }
 
@@ -165,7 +186,7 @@ impl Words {
     {
         self.table
             .shared
-            .store::<StoreGlobal>(seat, 2 + g as usize, held_word(held));
+            .store::<StoreGlobal>(seat, GLOBALS_AT + g as usize, held_word(held));
     }
 
     /// Writes number word `j` of an object of this shape, whose header was loaded.

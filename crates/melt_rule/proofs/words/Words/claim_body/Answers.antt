@@ -9,7 +9,7 @@ use Rattle.melt_rule.proofs.Seating.{inside_seat}
 use Rattle.melt_rule.specs.Coming.{ClaimsCopy, CopyPlay}
 use Rattle.melt_rule.specs.Rule.{Rule}
 use Rattle.melt_rule.specs.Seats.{EpochWords, knows_of}
-use Rattle.melt_rule.specs.Shown.{base_of}
+use Rattle.melt_rule.specs.Shown.{base_of, free_place}
 use Rattle.melt_rule.specs.declared.began.Began.{Began}
 use Rattle.melt_rule.proofs.words.Words.claim_body.Goals as goal
 
@@ -32,8 +32,8 @@ fetch_add-found-requires g c =
     c.from-need.ensures ∙ (c.cost.ensures ∙ ap cost_of (sym c.requires.is_shape)) in (
       seat.same,
       (let size = c.self.invariant.words in omega arith),
-      subst (λ (cost : ℕ). Allows (Rule start) id.slots c.args.seat.now.id c.args.seat.now.me 1
-          (λ n. (n + cost) % 2 ^ 64) (CopyPlay z rest (step id.slots 1 cost 0 none) c.args.seat.now.me))
+      subst (λ (cost : ℕ). Allows (Rule start) id.slots c.args.seat.now.id c.args.seat.now.me free_place
+          (λ n. (n + cost) % 2 ^ 64) (CopyPlay z rest (step id.slots free_place cost 0 none) c.args.seat.now.me))
           (sym need)
           (copies_at start id.slots c.args.seat.now.id c.args.search z rest c.args.seat.now.me seat.live
           c.requires.no_cause
