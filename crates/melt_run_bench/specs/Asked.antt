@@ -23,18 +23,18 @@ with_number config name number =
     else if bytes_eq name (codes "every") then Some (record config { every = number })
     else None
 
--- the same, with a number and its name, which stand round the first `=` of a word
-abbrev pub with_named : Asked → (word : List ℕ) → Option Asked
-with_named asked word = option_map (λ config. record asked { config = config })
-    (option_and_then (with_number asked.config (before_first (λ b. b == 61) word))
-    (within_word (number_of (after_first (λ b. b == 61) word))))
+-- the same, and how many runs are timed, or a number of the run
+abbrev pub with_named : Asked → (name : List ℕ) → (number : ℕ) → Option Asked
+with_named asked name number =
+    if bytes_eq name (codes "time") then Some (record asked { timed = number })
+    else option_map (λ config. record asked { config = config }) (with_number asked.config name number)
 
--- the same, and what one more word asks for, if it asks for something
+-- the same, and what one more word asks for, if it asks for something: a number stands behind the first `=` of a word
 abbrev pub with_word : Asked → (word : List ℕ) → Option Asked
 with_word asked word =
     if bytes_eq word (codes "file") then Some (record asked { is_on_file = true })
-    else if bytes_eq word (codes "time") then Some (record asked { is_timed = true })
-    else with_named asked word
+    else option_and_then (with_named asked (before_first (λ b. b == 61) word))
+    (within_word (number_of (after_first (λ b. b == 61) word)))
 
 -- what these words ask for together, beside what was asked for before, if each of them asks for something
 abbrev pub with_words : Asked → (words : List (List ℕ)) → Option Asked

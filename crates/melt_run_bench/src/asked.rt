@@ -2,7 +2,7 @@
 ghost use Rattle.std.specs.Prelude.{◌≡◌, ◌≤◌, ◌↔◌, map, string_bytes, IsTrue, IfOk, IfSome, OnErr};
 ghost use Rattle.melt_trace.specs.Language.{number_of};
 ghost use Rattle.melt_model.specs.Config.{InRanges};
-ghost use Rattle.melt_run_bench.specs.Asked.{with_number, with_word, with_words, within_word};
+ghost use Rattle.melt_run_bench.specs.Asked.{with_named, with_number, with_word, with_words, within_word};
 
 use anyhow::{Context, Result, ensure};
 use melt_model::Config;
@@ -14,8 +14,8 @@ pub struct Asked {
     pub config: Config,
     /// Whether the disk is the file `melt.stale` of the current folder, and not one in memory.
     pub is_on_file: bool,
-    /// Whether it is told how long the run took.
-    pub is_timed: bool,
+    /// How many runs are made, of which each is told how long it took. At 0 there is one, and nothing is told of it.
+    pub timed: u32,
 }
 
 /// What is asked for without a word: a run in a small heap, over a disk that it does not fill.
@@ -29,7 +29,7 @@ const NO_WORDS: Asked = Asked {
         every: 0,
     },
     is_on_file: false,
-    is_timed: false,
+    timed: 0,
 };
 
 /// The number that a text spells, if it is small enough.
@@ -56,7 +56,21 @@ fn with_number(config: Config, name: &str, number: u32) -> Option<Config>
     Some(config)
 }
 
-/// The same, and what one more word asks for: `file`, `time`, or a number by its name, as `heap=4096`.
+/// The same, and how many runs are timed, or a number of the run.
+fn with_named(asked: Asked, name: &str, number: u32) -> Option<Asked>
+    ensures { result ≡ with_named asked name.now number }
+{
+    if name == "time" {
+        return Some(Asked {
+            timed: number,
+            ..asked
+        });
+    }
+    let config = with_number(asked.config, name, number)?;
+    Some(Asked { config, ..asked })
+}
+
+/// The same, and what one more word asks for: `file`, or a number by its name, as `heap=4096` or `time=9`.
 fn with_word(asked: Asked, word: &str) -> Option<Asked>
     ensures { result ≡ with_word asked word.now }
 {
@@ -65,14 +79,9 @@ fn with_word(asked: Asked, word: &str) -> Option<Asked>
             is_on_file: true,
             ..asked
         }),
-        "time" => Some(Asked {
-            is_timed: true,
-            ..asked
-        }),
         _ => {
             let (name, number) = word.split_once('=')?;
-            let config = with_number(asked.config, name, number_in(number)?)?;
-            Some(Asked { config, ..asked })
+            with_named(asked, name, number_in(number)?)
         }
     }
 }

@@ -1,7 +1,9 @@
 //! Runs a trace from standard input by real threads, over a disk in memory or in the file `melt.stale` of the current
-//! folder. The words behind its name are numbers of the heap, as `heap=4096`, and `file` and `time`. It tells how each
-//! thread ended and how many collections there were, and behind `time` how long the run took. `bench/threads` times it.
+//! folder. The words behind its name are `file`, and numbers, as `heap=4096`. It tells how each thread ended and how many
+//! collections there were, and with `time=9` makes nine runs and tells how long each took. `bench/threads` times it.
 #![tactic(auto)]
+
+ghost use Rattle.melt_model.specs.Config.{InRanges};
 
 mod asked;
 mod timed;
@@ -11,7 +13,11 @@ use crate::timed::{Timed, time_run};
 use anyhow::Result;
 use melt_io::{FileDisk, StdSource, SteadyDisk, read_all};
 use melt_model::Report;
-use melt_trace::{MAX_BYTES, parse};
+use melt_safepoint::keep_memory;
+use melt_trace::{MAX_BYTES, Trace, parse};
+use std::alloc::Global;
+use std::thread::Threads;
+use std::time::{Clock, Duration};
 use std::{env, io};
 
 fn tell(rt: &impl Print, report: &Report) -> io::Result<()> {
@@ -24,26 +30,45 @@ fn tell(rt: &impl Print, report: &Report) -> io::Result<()> {
     println!(rt; "collections {collections}")
 }
 
-fn main(rt: HostRuntime) -> Result<()> {
-    let alloc = rt.alloc();
-    let words: Vec<String> = env::args(&rt)?.skip(1).collect(alloc)?;
-    let Asked {
-        config,
-        is_on_file,
-        is_timed,
-    } = asked_by(&words)?;
-    let bytes = read_all(alloc, &mut StdSource::new(rt.stdin()), MAX_BYTES)?;
-    let trace = parse(alloc, &bytes)?;
-    let Timed { report, took } = if is_on_file {
-        let mut disk = FileDisk::new(alloc, rt)?;
-        time_run(&rt, alloc, &trace, config, &mut disk)?
+/// Runs the trace once, over a disk that is new.
+fn run_once<X: Threads + Sync + Clock>(
+    rt: &X,
+    files: HostRuntime,
+    alloc: Global,
+    trace: &Trace,
+    asked: Asked,
+) -> Result<Timed>
+    requires ranges { InRanges asked.config }
+{
+    if asked.is_on_file {
+        let mut disk = FileDisk::new(alloc, files)?;
+        time_run(rt, alloc, trace, asked.config, &mut disk)
     } else {
         let mut disk = SteadyDisk::new(alloc);
-        time_run(&rt, alloc, &trace, config, &mut disk)?
-    };
-    tell(&rt, &report)?;
-    if is_timed {
-        println!(rt; "nanoseconds {}", took.as_nanos())?;
+        time_run(rt, alloc, trace, asked.config, &mut disk)
+    }
+}
+
+fn tell_time(rt: &impl Print, took: Duration) -> io::Result<()> {
+    println!(rt; "nanoseconds {}", took.as_nanos())
+}
+
+fn main(rt: HostRuntime) -> Result<()> {
+    let alloc = rt.alloc();
+    keep_memory(alloc);
+    let words: Vec<String> = env::args(&rt)?.skip(1).collect(alloc)?;
+    let asked = asked_by(&words)?;
+    let bytes = read_all(alloc, &mut StdSource::new(rt.stdin()), MAX_BYTES)?;
+    let trace = parse(alloc, &bytes)?;
+    let first = run_once(&rt, rt, alloc, &trace, asked)?;
+    tell(&rt, &first.report)?;
+    if asked.timed > 0 {
+        tell_time(&rt, first.took)?;
+    }
+    drop(first);
+    for _ in 1..asked.timed {
+        let Timed { took, .. } = run_once(&rt, rt, alloc, &trace, asked)?;
+        tell_time(&rt, took)?;
     }
     Ok(())
 }
