@@ -10,6 +10,7 @@ mod text;
 mod top;
 
 use melt_io::{FileDisk, OpenGate, StdSink, StdSource};
+use melt_safepoint::keep_memory;
 use status::Status;
 use std::alloc::{AllocError, Global};
 use std::process::ExitCode;
@@ -27,6 +28,7 @@ fn words<R: Env + AllocGlobal>(rt: &R) -> Result<Vec<String>, AllocError> {
 }
 
 fn main(rt: HostRuntime) -> ExitCode {
+    keep_memory(rt.alloc());
     let mut input = StdSource::new(rt.stdin());
     let mut out = StdSink::new(rt.stdout());
     // The disk's file is made at the first write, so a run that writes none does not touch it.
