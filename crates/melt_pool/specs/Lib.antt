@@ -1,6 +1,5 @@
 pub mod Arming
 pub mod Beginning
-pub mod Begun
 pub mod Calling
 pub mod Epochs
 pub mod Firsts

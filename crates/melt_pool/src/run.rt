@@ -8,7 +8,7 @@ ghost use Rattle.melt_model.specs.Config.{InRanges};
 ghost use Rattle.melt_model.specs.declared.config.Config.{Config};
 ghost use Rattle.melt_trace.specs.Script.{Script};
 ghost use Rattle.melt_safepoint.specs.Collections.{MayCollect, NoneForwarded};
-ghost use Rattle.melt_safepoint.specs.Engines.{CollectsSo, LendsEach, RunsSo};
+ghost use Rattle.melt_safepoint.specs.Engines.{CollectsSo, RunsSo};
 ghost use Rattle.melt_safepoint.specs.Epochs.{SomeMayRun};
 ghost use Rattle.melt_safepoint.specs.Lends.{LendsAtMost};
 ghost use Rattle.melt_safepoint.specs.Losses.{CountsLosses, losses};
@@ -18,7 +18,6 @@ ghost use Rattle.melt_safepoint.specs.Run.{CountsFaults, CountsLends, HasNoOpera
 ghost use Rattle.melt_safepoint.specs.Shown.{Shown, shown_by};
 ghost use Rattle.melt_safepoint.specs.Spaces.{sees_stale};
 ghost use Rattle.melt_safepoint.specs.Threads.{AllEnded};
-ghost use Rattle.melt_pool.specs.Begun.{IsBegun};
 ghost use Rattle.melt_pool.specs.Machines.{AreReady, MachineEnds, SomeMachineMayRun, parallel_view};
 ghost use Rattle.melt_pool.specs.Parts.{AreAway, IsNameless, parts_view};
 
@@ -32,8 +31,7 @@ use melt_epoch::Mutator;
 use melt_io::{Gate, LendRefusal, StaleDisk};
 use melt_model::{Config, Ghost, Halt, NoMemory, Report};
 use melt_safepoint::{
-    CollectRefusal, Collector, Engine, Machine, Run, Space, Stop, ThreadState, halt_run,
-    new_states, tells,
+    Collector, Engine, Run, Stop, ThreadState, halt_run, new_states, run_by_engine, tells,
 };
 use melt_scion::{Heap, Registers};
 use melt_trace::Trace;
@@ -196,37 +194,6 @@ fn new_run<'a, R: Drop>(
         every: config.every,
         told,
     })
-}
-
-/// Runs all epochs of a run that was just begun by an engine, until its threads have ended or the disk halts it, and
-/// answers what came of it.
-fn run_by_engine<'a, E: Machine, S: Space, C, F>(
-    run: Run<'a, E>,
-    alloc: Global,
-    space: &mut S,
-    engine: &Engine<C, F>,
-) -> Result<(Report, Option<Heap>), NoMemory>
-where
-    C: Fn(E, Global, &mut Collector, &mut S, bool) -> Result<E, CollectRefusal>,
-    F: Fn(Run<'a, E>, Global, &mut S, Option<u32>) -> Result<(Run<'a, E>, Option<u32>), Stop<'a>>,
-    requires begins { IsBegun C.Fn F.Fn E.view E.stored S.sees engine.now space.old run }
-    ensures has_run { IfOk result (λ done. (told : Bool) (script : Script) (config : Config)
-        → RunStands told script config (S.sees.shown space.old) (row_of E.view run.entry)
-        → HasRun told script config (S.sees.shown space.new) done.0 done.1) }
-    ensures same_disk { S.sees.name space.new ≡ S.sees.name space.old }
-    ensures counts { IfOk result (λ done. CountsFaults done.0 (S.sees.faults space.old) (S.sees.faults space.new)
-        (S.sees.read_faults space.old) (S.sees.read_faults space.new)) }
-    ensures lends { IfOk result (λ done. (n : ℕ) → LendsEach C.Fn F.Fn E.view E.stored S.sees engine.now n
-        → (script : Script) → (HasNoOperations script → AllEnded run.entry.states.items)
-        → CountsLends n script done.0 (S.sees.lends space.old) (S.sees.lends space.new)) }
-    ensures log { IfOk result (λ done. done.0.log ≡ E.stored done.0.history) }
-{
-    let ended = match run.run_all(alloc, space, engine) {
-        Ok(ended) => ended,
-        Err(Stop::Halted(ended)) => ended,
-        Err(Stop::NoMemory) => return Err(NoMemory),
-    };
-    ended.report(alloc)
 }
 
 /// Runs all epochs of a run that was just begun by real threads.

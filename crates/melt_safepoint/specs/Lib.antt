@@ -1,3 +1,4 @@
+pub mod Begun
 pub mod Collections
 pub mod Counts
 pub mod Cuts

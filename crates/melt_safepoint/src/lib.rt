@@ -9,17 +9,21 @@
 pub mod collector;
 pub mod ending;
 pub mod engine;
+pub mod memory;
 pub mod run;
 mod safepoint;
 pub mod space;
 pub mod thread;
+pub mod whole;
 
 pub use collector::{CollectRefusal, Collector, HeapRefusal, collect_heap};
 pub use ending::{Ended, Left, Stop, halt_run};
 pub use engine::{Engine, Machine};
+pub use memory::keep_memory;
 pub use run::Run;
 pub use space::{Space, tells};
 pub use thread::{Mode, ThreadState, halt_all, mode_after, new_states, words_lacked};
+pub use whole::run_by_engine;
 
 #[cfg(test)]
 mod tests;

@@ -135,7 +135,7 @@ impl<'a, E: Machine> Run<'a, E> {
     }
 
     /// Runs epoch after epoch until all threads have ended.
-    pub fn run_all<S: Space, C, F>(
+    pub(crate) fn run_all<S: Space, C, F>(
         self,
         alloc: Global,
         space: &mut S,
@@ -162,8 +162,9 @@ impl<'a, E: Machine> Run<'a, E> {
             (S.sees.read_faults space.old) (S.sees.read_faults space.new)) }
         ensures same_disk { S.sees.name space.new ≡ S.sees.name space.old }
         ensures count { S.sees.faults space.old ≤ S.sees.faults space.new }
-        ensures lends { IfOk result (λ ended. (n : ℕ) → LendsEach C.Fn F.Fn E.view E.stored S.sees engine.now n → LendsTwice n 1 (S.sees.lends space.old)
-            (S.sees.lends space.new) (journal_of (row_of E.view self.entry)) ended.journal.items) }
+        ensures lends { IfOk result (λ ended. (n : ℕ) → LendsEach C.Fn F.Fn E.view E.stored S.sees engine.now n
+            → LendsTwice n 1 (S.sees.lends space.old) (S.sees.lends space.new) (journal_of (row_of E.view self.entry))
+            ended.journal.items) }
         ensures idle { AllEnded self.entry.states.items → S.sees.lends space.new ≡ S.sees.lends space.old }
         ensures stopped { IfErr result (StopsRun (S.sees.shown space.old) (S.sees.shown space.new)
             (row_of E.view self.entry)) }
@@ -171,8 +172,9 @@ impl<'a, E: Machine> Run<'a, E> {
             (S.sees.faults space.old) (S.sees.faults space.new) (S.sees.read_faults space.old)
             (S.sees.read_faults space.new)) }
         ensures stores { IfErr result (StopStores E.stored) }
-        ensures stop_lends { IfErr result (λ stop. (n : ℕ) → LendsEach C.Fn F.Fn E.view E.stored S.sees engine.now n → StopTwice n 1 (S.sees.lends space.old) (S.sees.lends space.new)
-            (journal_of (row_of E.view self.entry)) stop) }
+        ensures stop_lends { IfErr result (λ stop. (n : ℕ) → LendsEach C.Fn F.Fn E.view E.stored S.sees engine.now n
+            → StopTwice n 1 (S.sees.lends space.old) (S.sees.lends space.new) (journal_of (row_of E.view self.entry))
+            stop) }
     {
         let mut run = self.go_on(alloc, space, engine)?;
         while !run.has_ended() {

@@ -22,7 +22,7 @@ use melt_core::{Core, Rest};
 use melt_disk::StaleSpace;
 use melt_io::StaleDisk;
 use melt_model::{Config, Ghost, NoMemory, Report};
-use melt_safepoint::{Collector, Engine, Run, Stop, new_states, tells};
+use melt_safepoint::{Collector, Engine, Run, new_states, run_by_engine, tells};
 use melt_scion::Heap;
 use melt_trace::Trace;
 use std::alloc::Global;
@@ -103,10 +103,5 @@ pub fn run_schedule<D: StaleDisk>(
             ensures lends { LendsAtMost 1 (D.lends space.old.disk.now) (D.lends space.new.disk.now) }
         { run_ordered(run, alloc, space, first) },
     };
-    let ended = match run.run_all(alloc, space, &engine) {
-        Ok(ended) => ended,
-        Err(Stop::Halted(ended)) => ended,
-        Err(Stop::NoMemory) => return Err(NoMemory),
-    };
-    ended.report(alloc)
+    run_by_engine(run, alloc, space, &engine)
 }
