@@ -184,7 +184,8 @@ over_advances disk v w t o stage act reply asks is =
       last = λ next goes. ends.last next
           (subst (λ (g : Option Stage). Next (maps v) (state disk v) (register_in v.held t) v.stop o g next) ends.at
           goes);
-      no_pause = λ pause. ends.no_pause (subst (MustPause (length v.forward) (register_in v.held t) v.stop o) ends.at pause);
+      no_pause = λ pause. ends.no_pause (subst (MustPause (length v.forward) (register_in v.held t) v.stop o) ends.at
+          pause);
       answers = is.answers;
       registers = is.registers;
       room = λ told. is.room;

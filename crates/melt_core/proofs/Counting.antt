@@ -248,7 +248,8 @@ Counts_committed disk v w t address n shape after s within is =
       calls = is.calls;
     })
 
--- what was made had room beside all that is alive: its region and the objects in use lie in the heap, the others on disk
+-- what was made had room beside all that is alive: its region and the objects in use
+-- lie in the heap, the others on disk
 pub room_for : (disk : OnDisk) (v : View) (t address stored dst : ℕ) (c : Call) (shape : Shape) → Standing true disk v
     → t < length v.held
     → call_of v t ≡ Some c → c.stage ≡ Claimed address shape stored dst

@@ -1,9 +1,6 @@
 -- What is well formed over one disk is so over each that ends at the same word: only that word is looked at.
 use Rattle.std.proofs.Common.{◌≡◌, ℕ, ◌+◌, ◌*◌, ◌<◌, ◌≤◌, ◌^◌, inl, inr, refl, sym, ◌∙◌, subst, arith}
-use Rattle.std.specs.Prelude.{Bool, true, false, List, length, slice_index, Option}
-use Rattle.std.proofs.Common.{get_or}
-use Rattle.std.proofs.lemmas.Bool.{cases_lt}
-use Rattle.std.proofs.lemmas.List.{get_or_past}
+use Rattle.std.specs.Prelude.{Bool, true, false, List, Option}
 use Rattle.melt_model.specs.declared.history.Entry.{Entry}
 use Rattle.melt_model.specs.declared.operations.Op.{Op}
 use Rattle.melt_core.specs.declared.answer.StepResult.{StepResult}
@@ -318,19 +315,6 @@ none_forwarded maps s ends formed p below = elim (formed.forwards p below) [
             omega (arith, within, ends)
       ])
 ]
-
-pub settled_words : (words : List ℕ) → ((p : ℕ) → p < length words → get_or words p 0 ≡ 0) → (p : ℕ)
-    → get_or words p 0 ≡ 0
-settled_words words each p = elim (cases_lt p (length words)) [
-  | inl below ↦ each p below
-  | inr past ↦ get_or_past words p 0 past
-]
-
--- and so it is of a view
-pub stands_settled : (told : Bool) (disk : OnDisk) (v : View) → disk.end ≡ 1 → Standing told disk v → (p : ℕ)
-    → slice_index v.forward p ≡ 0
-stands_settled told disk v ends s =
-    settled_words v.forward (none_forwarded (maps v) (state disk v) ends s.holds.formed)
 
 searches_untold : (told : Bool) (m : Maps) (s : State) (place : Place) (home tried : ℕ)
     → Searches told m s place home tried → Searches false m s place home tried

@@ -225,7 +225,8 @@ won_counts disk {v} {names} {t} {o} {a} {number} won s =
     let keeps : Keeps true v.log v.log (maps v) (maps w) (state disk v) (state disk w) (region a.address a.shape) 0 =
     event_keeps true t v.log (maps v) (maps w) (state disk v) (state disk w) (region a.address a.shape) 0 None s.legal
     s.holds (won_event disk true won s) in
-    Counts_committed disk v w t a.address number a.shape (Some (record { op = o; stage = reached a.search a.address })) s
+    Counts_committed disk v w t a.address number a.shape (Some (record { op = o; stage = reached a.search a.address }))
+    s
     won.is.asks.thread (record {
       tells = keeps.holds.tells refl;
       header = won_header disk won;

@@ -56,7 +56,8 @@ abbrev pub gone_on : View → SpaceWords → List (List ℕ) → ℕ → Op → 
 gone_on v space records t o stage =
     with_call (record v { space = space; records = records }) t (Some (record { op = o; stage = stage }))
 
-pub goes_on : (tells : Type 0) (disk : OnDisk) (v : View) (space : SpaceWords) (records : List (List ℕ)) (t : ℕ) (o : Op)
+pub goes_on : (tells : Type 0) (disk : OnDisk) (v : View) (space : SpaceWords) (records : List (List ℕ)) (t : ℕ)
+    (o : Op)
     (stage : Stage) → Asks disk v t o → GoesOn tells disk v (gone_on v space records t o stage) t o stage
     → AdvancesWhere tells disk v (gone_on v space records t o stage) t o Going
 goes_on tells disk v space records t o stage asks is =
@@ -87,7 +88,8 @@ goes_on tells disk v space records t o stage asks is =
     (goes disk v w t o stage asks is.next refl (record { history = refl; registers = refl; values = refl }) refl) tt
 
 -- no word that threads share changes
-pub read_advances : (tells : Type 0) (disk : OnDisk) (v : View) (records : List (List ℕ)) (t : ℕ) (o : Op) (stage : Stage)
+pub read_advances : (tells : Type 0) (disk : OnDisk) (v : View) (records : List (List ℕ)) (t : ℕ) (o : Op)
+    (stage : Stage)
     → Asks disk v t o
     → change_of (state disk v) (register_in v.held t) (rest_of v t) (stage_of v t) ≡ Nothing
     → KeepsRests v (record v { records = records }) t

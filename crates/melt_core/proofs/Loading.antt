@@ -382,7 +382,8 @@ tag_advances disk v t o place dst next asks looks finds known unclaimed =
     let goes = look_next v t o place dst next looks finds in
     go_advances disk v t o next asks goes.0 goes.1 known unclaimed
   where
-    look_next : (v : View) (t : ℕ) (o : Op) (place : Place) (dst : ℕ) (next : Stage) → LooksFrom (stage_of v t) place dst
+    look_next : (v : View) (t : ℕ) (o : Op) (place : Place) (dst : ℕ) (next : Stage)
+        → LooksFrom (stage_of v t) place dst
         → FindsTag (word_in (state disk v) place) place dst next
         → (change_of (state disk v) (register_in v.held t) (rest_of v t) (stage_of v t) ≡ Nothing)
         × Next (maps v) (state disk v) (register_in v.held t) v.stop o (stage_of v t) next
@@ -418,9 +419,11 @@ pub home_advances : (disk : OnDisk) (v : View) (t : ℕ) (o : Op) (place : Place
       stage = Searching (record { place = place; home = home; tried = 0; dst = dst });
     }))) t o Going
 home_advances disk v t o place home dst asks looks holds =
-    tag_advances disk v t o place dst (Searching (record { place = place; home = home; tried = 0; dst = dst })) asks looks
+    tag_advances disk v t o place dst (Searching (record { place = place; home = home; tried = 0; dst = dst })) asks
+    looks
     (inr (home, holds.is, refl))
-    (λ told s. search_begins disk told v place home asks.stands s (looks_at disk v t o place dst asks looks).1 holds) refl
+    (λ told s. search_begins disk told v place home asks.stands s (looks_at disk v t o place dst asks looks).1 holds)
+    refl
 
 -- the stage at which a load looks
 pub looks_stage : (stage : Option Stage) (place : Place) (dst : ℕ) → LooksFrom stage place dst

@@ -197,7 +197,8 @@ claim_next : (disk : OnDisk) {v : View} {t need : ℕ} {o : Op} {shape : Shape} 
     → Claiming disk v t need o shape before room none stage
     → Next (maps v) (state disk v) (register_in v.held t) v.stop o (stage_of v t) stage
 claim_next disk {v} {t} {need} {o} {shape} {before} {room} {none} {stage} is =
-    subst (λ (g : Option Stage). Next (maps v) (state disk v) (register_in v.held t) v.stop o g stage) (sym is.around.at)
+    subst (λ (g : Option Stage). Next (maps v) (state disk v) (register_in v.held t) v.stop o g stage)
+    (sym is.around.at)
     (is.around.next stage (λ below. is.fits (omega (arith, is.needed))) (λ above. is.lacks (omega (arith, is.needed))))
 
 claim_moves : (disk : OnDisk) {v : View} {t need : ℕ} {o : Op} {shape : Shape} {before room none stage : Stage}
@@ -312,7 +313,10 @@ claim_advances disk {v} {t} {need} {o} {shape} {before} {room} {none} {stage} cl
     advances disk v w t o Going around.asks made refl
     (subst (λ (g : Option Stage). Applies (maps v) (maps w) (state disk v) (state disk w)
     (change_of (state disk v) (register_in v.held t) (rest_of v t) g)) (sym around.at)
-    (subst (Applies (maps v) (maps w) (state disk v) (state disk w)) (sym around.change) (refl, claim_moves disk claim)))
+    (subst (Applies (maps v) (maps w) (state disk v) (state disk w)) (sym around.change) (
+      refl,
+      claim_moves disk claim,
+    )))
     (goes disk v w t o stage around.asks (claim_next disk claim) refl
     (record { history = refl; registers = refl; values = refl }) refl)
     tt
@@ -452,7 +456,8 @@ publish_advances disk {v} {space} {names} {t} {word} {o} {address} {stored} {dst
         first = stands.first;
         bounded = bounded_is w (length v.space.list) v.free v.stop (set v.calls t None) made_it.sets.size refl refl refl
             (bounded_call (length v.space.list) v.free v.stop v.calls t None within
-            (claims_ends v.stop (stage_of v t) (λ need lacks. subst (λ (g : Option Stage). Lacks g need) at lacks)) stands.bounded);
+            (claims_ends v.stop (stage_of v t) (λ need lacks. subst (λ (g : Option Stage). Lacks g need) at lacks))
+            stands.bounded);
         may_hold = register_keeps (MayHold (maps w) (state disk w)) v t dst address asks.thread
             (inr ((makes v.log, named.here), fresh))
             (λ k. hold_stays (maps v) (maps w) (state disk v) (state disk w) 0 s.holds.formed evolves

@@ -1,5 +1,5 @@
 -- Objects and places, as the events of a call find them.
-use Rattle.std.proofs.Common.{◌≡◌, ◌≢◌, ◌⊎◌, ℕ, ◌+◌, ◌*◌, ◌<◌, ◌≤◌, inl, inr, refl, sym, ◌∙◌, ap, subst, arith}
+use Rattle.std.proofs.Common.{◌≡◌, ◌≢◌, ◌⊎◌, ℕ, ◌+◌, ◌*◌, ◌<◌, inl, inr, refl, sym, ◌∙◌, ap, subst, arith}
 use Rattle.std.specs.Prelude.{true, false, Some}
 use Rattle.melt_model.specs.History.{shape as shape_in, last}
 use Rattle.melt_model.specs.Thread.{value_in}
@@ -82,18 +82,6 @@ place_word disk v (Field object i) s there =
     let below : i < there.0.refs = there.2 in
     s.holds.formed.slots object there.1.number i there.1.header there.1.named there.1.starts (omega arith)
 place_word disk v (Global g) s there = s.holds.formed.globals g there
-
--- over a disk whose first word is past all homes, none stands anywhere
-pub place_no_home : (disk : OnDisk) (v : View) (place : Place) (home : ℕ) → disk.end ≡ 1 → Standing false disk v
-    → IsPlace (maps v) (state disk v) place → HoldsRef (word_in (state disk v) place) (Disk home) → ⊥
-place_no_home disk v place home ends s there holds =
-    let word = place_word disk v place s there in
-    let same : word.reference ≡ Disk home =
-    same_ref word.reference (Disk home) word.in_range holds.in_range (sym word.is ∙ holds.is) in
-    let stands : (1 ≤ home) × (home < disk.end) = subst (MayStand (maps v) (state disk v)) same word.stands in
-    let first : 1 ≤ home = stands.0 in
-    let last : home < disk.end = stands.1 in
-    omega (arith, first, last, ends)
 
 -- what a reference that was decoded may be
 pub may_stand_there : (disk : OnDisk) (v : View) (place : Place) (r : Ref) → Standing false disk v

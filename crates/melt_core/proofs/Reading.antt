@@ -172,7 +172,8 @@ pub head_advances : (disk : OnDisk) (v : View) (t : ℕ) (o : Op) (r address : �
     → AdvancesOver disk v (with_call v t (Some (record { op = o; stage = Headed address shape access }))) t o Going
 head_advances disk v t o r address access shape asks at is object part =
     go_advances disk v t o (Headed address shape access) asks
-    (subst (λ (g : Option Stage). change_of (state disk v) (register_in v.held t) (rest_of v t) g ≡ Nothing) (sym at) refl)
+    (subst (λ (g : Option Stage). change_of (state disk v) (register_in v.held t) (rest_of v t) g ≡ Nothing) (sym at)
+    refl)
     (subst (λ (g : Option Stage). Next (maps v) (state disk v) (register_in v.held t) v.stop o g
     (Headed address shape access)) (sym at) (
       shape,

@@ -46,7 +46,8 @@ reads_most (Some (Copied a)) = omega arith
 reads_most (Some (Retrying a)) = omega arith
 reads_most (Some (LackingCopy search shape)) = omega arith
 
-reads_as : (left : ℕ) (next stage : Stage) → next ≡ stage → reads_left (Some stage) ≤ left → reads_left (Some next) ≤ left
+reads_as : (left : ℕ) (next stage : Stage) → next ≡ stage → reads_left (Some stage) ≤ left
+    → reads_left (Some next) ≤ left
 reads_as left next stage is few = subst (λ (x : Stage). reads_left (Some x) ≤ left) (sym is) few
 
 reads_probes : (s : State) (search : Search) (empty another next : Stage) → reads_left (Some empty) ≤ 0

@@ -1,5 +1,7 @@
--- What a read of a record tells: how its load goes on, and that no record is found damaged where the disk tells its words.
-use Rattle.std.proofs.Common.{◌≡◌, ℕ, ◌+◌, ◌<◌, ◌≤◌, ◌≢◌, zero, suc, inl, inr, List, [], ◌++◌, length, take, drop, replicate, get_or, length-append}
+-- What a read of a record tells: how its load goes on, and that no record is found
+-- damaged where the disk tells its words.
+use Rattle.std.proofs.Common.{◌≡◌, ℕ, ◌+◌, ◌<◌, ◌≤◌, ◌≢◌, zero, suc, inl, inr, List, [], ◌++◌, length, take, drop}
+use Rattle.std.proofs.Common.{replicate, get_or, length-append}
 use Rattle.std.proofs.Common.{Result, Ok, Err, OnOk, IfOk, IfErr}
 use Rattle.std.proofs.Common.{refl, sym, ◌∙◌, ap, subst, arith}
 use Rattle.std.proofs.Math.ListN.{set, length-set}
@@ -91,7 +93,8 @@ words_told (Some told) disk at n words read tells i below =
     ap (λ (ws : List ℕ). slice_index ws i) read ∙ (get_or-words_at told at n i below ∙ sym (tells.1 (at + i)))
 
 -- what an event asks over one disk, it asks over each that ends at the same word
-asks_on : (end : ℕ) (v : View) (t : ℕ) (o : Op) → MayAdvance end v t o → (disk : OnDisk) → disk.end ≡ end → Asks disk v t o
+asks_on : (end : ℕ) (v : View) (t : ℕ) (o : Op) → MayAdvance end v t o → (disk : OnDisk) → disk.end ≡ end
+    → Asks disk v t o
 asks_on end v t o may disk ends =
     asks_over v t o (record { disk = may.disk; asks = may.asks }) disk
     (stands_over may.disk disk v (ends ∙ sym may.ends) may.asks.stands)
@@ -230,7 +233,8 @@ module _ (end : ℕ) (image : Option (List ℕ)) (v : View) (t : ℕ) (o : Op) (
                 body = record {
                   head = head;
                   slots = λ i below. absurd (let nothing : shape.refs + shape.nums ≡ 0 = none.1 in omega arith);
-                  on_disk = λ is_told i below. absurd (let nothing : shape.refs + shape.nums ≡ 0 = none.1 in omega arith);
+                  on_disk = λ is_told i below. absurd (let nothing : shape.refs + shape.nums ≡ 0 = none.1 in
+                      omega arith);
                 };
               })
           | inr some ↦
@@ -277,7 +281,8 @@ module _ (end : ℕ) (image : Option (List ℕ)) (v : View) (t : ℕ) (o : Op) (
         none.dead live.0 live.1
 
   body_unclaimed : (shape : Shape) (whole : Bool)
-      → claimed_in (Some (record { op = o; stage = if whole then BodyRead search shape else HeadRead search shape })) ≡ 0
+      → claimed_in (Some (record { op = o; stage = if whole then BodyRead search shape else HeadRead search shape }))
+      ≡ 0
   body_unclaimed shape true = refl
   body_unclaimed shape false = refl
 
@@ -315,7 +320,8 @@ module _ (end : ℕ) (image : Option (List ℕ)) (v : View) (t : ℕ) (o : Op) (
     over = λ disk ends.
         let from : FromDisk disk v t damaged.home =
         subst (FromDisk disk v t) (sym (damage_home damaged breaks)) (from_missed disk v t search is.at) in
-        lose_advances (TellsDisk image disk) disk v t damaged.home o (refusal.Damaged damaged) (asks_here disk ends) from
+        lose_advances (TellsDisk image disk) disk v t damaged.home o (refusal.Damaged damaged) (asks_here disk ends)
+        from
         (record {
           lost = lost disk v t damaged.home o (asks_here disk ends) from;
           untold = λ tells stands. head_sound disk ends damaged breaks tells stands;
@@ -351,7 +357,8 @@ head_uses disk v w t o search stage head asks at moves goes count one =
     }
 
 -- a read that fails ends the call
-pub missed_fault : (end : ℕ) (image : Option (List ℕ)) (v : View) (t : ℕ) (o : Op) (search : Search) → MayAdvance end v t o
+pub missed_fault : (end : ℕ) (image : Option (List ℕ)) (v : View) (t : ℕ) (o : Op) (search : Search)
+    → MayAdvance end v t o
     → stage_of v t ≡ Some (Missed search) → Advances end image v (with_call v t None) t o (Refused refusal.DiskFault)
 missed_fault end image v t o search may at = record {
   over = λ disk ends.

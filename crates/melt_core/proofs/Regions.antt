@@ -159,14 +159,17 @@ Next_nearer maps s rest register stop globals o (Some (Polled (Use r access))) n
     left_is most (135 + 2 * most) next (Headed (register r) is.0 access) is.3 (omega arith)
 Next_nearer maps s rest register stop globals o (Some (Polled (LoadGlobal dst g))) next most few bounds at is =
     finds_nearer most (135 + 2 * most) (s.global g) (Global g) dst next (omega arith) is
-Next_nearer maps s rest register stop globals o (Some (Polled (StoreGlobal g src))) next most few bounds at is = absurd is
+Next_nearer maps s rest register stop globals o (Some (Polled (StoreGlobal g src))) next most few bounds at is =
+    absurd is
 Next_nearer maps s rest register stop globals o (Some (Headed address shape (Load dst i))) next most few bounds at is =
     finds_nearer most (134 + 2 * most) (s.word (address + 2 + i)) (Field address i) dst next
     (omega arith) is
-Next_nearer maps s rest register stop globals o (Some (Headed address shape access)) next most few bounds at is = absurd is
+Next_nearer maps s rest register stop globals o (Some (Headed address shape access)) next most few bounds at is =
+    absurd is
 Next_nearer maps s rest register stop globals o (Some (Looked place found target dst)) next most few bounds at is =
     left_is most 3 next (Cleared place found target dst) is (omega arith)
-Next_nearer maps s rest register stop globals o (Some (Cleared place found target dst)) next most few bounds at is = absurd is
+Next_nearer maps s rest register stop globals o (Some (Cleared place found target dst)) next most few bounds at is =
+    absurd is
 Next_nearer maps s rest register stop globals o (Some (Claimed address shape stored dst)) next most few bounds at is =
     let below : stored + 1 < cost_of shape = is.0 in
     left_is most (cost_of shape - stored) next (Claimed address shape (stored + 1) dst) is.1 (omega arith)

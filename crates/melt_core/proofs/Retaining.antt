@@ -27,7 +27,8 @@ use Rattle.melt_core.proofs.Staying.{hold_stays}
 use Rattle.melt_core.proofs.Words.{same_words}
 
 -- the words of others are apart from those of the call
-pub others_apart : (disk : OnDisk) (v : View) (t : ℕ) (o : Op) (stage : Stage) → Asks disk v t o → stage_of v t ≡ Some stage
+pub others_apart : (disk : OnDisk) (v : View) (t : ℕ) (o : Op) (stage : Stage) → Asks disk v t o
+    → stage_of v t ≡ Some stage
     → (u : ℕ) (d : Call) → u ≢ t → call_of v u ≡ Some d → Apart (region_of stage) (region_of d.stage)
 others_apart disk v t o stage asks at u d differ is =
     asks.stands.apart t u (record { op = o; stage = stage }) d (λ same. differ (sym same))
@@ -92,7 +93,8 @@ retains disk v space t o before after mine asks is =
             (next_fits (maps v) (state disk v) (register_in v.held t) v.stop o (call_of v t) after asks.continued
             (λ d there. s.fits t d there) next);
         mine_is = λ u d differ other. elim is.mine_is [
-          | inl none ↦ subst (λ (r : Region). Apart r (region_of d.stage)) (sym none) (no_region_apart (region_of d.stage))
+          | inl none ↦ subst (λ (r : Region). Apart r (region_of d.stage)) (sym none)
+              (no_region_apart (region_of d.stage))
           | inr same ↦ subst (λ (r : Region). Apart r (region_of d.stage)) (sym same) (apart u d differ other)
         ];
         apart = λ c same u d differ other. subst (λ (x : Call). Apart (region_of x.stage) (region_of d.stage))

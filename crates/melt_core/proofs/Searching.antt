@@ -23,7 +23,8 @@ use Rattle.melt_core.specs.declared.call.Stage.TheVariants.{Searching, Missed, C
 use Rattle.melt_core.specs.declared.probing.Probe.{Probe}
 use Rattle.melt_core.specs.declared.probing.Probe.TheVariants.{At, Empty, Another}
 use Rattle.melt_core.specs.Known.{Known, Searches, HoldsCopy}
-use Rattle.melt_core.specs.Stages.{Next, Nothing, Probes, SearchesOn, change_of, further, retried, reached, next_forward}
+use Rattle.melt_core.specs.Stages.{Next, Nothing, Probes, SearchesOn, change_of, further, retried, reached}
+use Rattle.melt_core.specs.Stages.{next_forward}
 use Rattle.melt_core.specs.Changed.{TellsOf, probed_place, probed_word, stopped, with_call}
 use Rattle.melt_core.specs.Advances.{Asks, AdvancesOver}
 use Rattle.melt_core.specs.Views.{View, Standing, maps, state, rest_of, stage_of, claimed_in}

@@ -64,7 +64,8 @@ module _ (h : List Entry) (rs : List Value) (n : ℕ) where
   no_act : (o : Op) (x : Value) (d : Deed) → d.act ≡ None → Puts o x d
   no_act o x d none act is gives_it = absurd (cc)
 
-  no_gift : (o : Op) (x : Value) (d : Deed) (act : Act) → d.act ≡ Some act → (given h act ≡ Some (Ref n) → ⊥) → Puts o x d
+  no_gift : (o : Op) (x : Value) (d : Deed) (act : Act) → d.act ≡ Some act → (given h act ≡ Some (Ref n) → ⊥)
+      → Puts o x d
   no_gift o x d act does_it never other is gives_it =
       absurd (never (ap (given h) (same_Some act other (sym does_it ∙ is)) ∙ gives_it))
 

@@ -49,8 +49,9 @@ use Rattle.melt_core.proofs.StaleBitsStages.{refused_appears, refused_clears, re
 use Rattle.melt_core.proofs.StaleBitsWatching.{watch_begins}
 use Rattle.melt_core.proofs.StaleBitsAnswers.{Holding, given_held, load_passes}
 
--- What is left to say of an event, by its outcome: its entry, and what becomes of the look of its call, of an object that
--- it brings into use or whose bit it clears, of one whose slot it was about to read, and of one that its entry gives.
+-- What is left to say of an event, by its outcome: its entry, and what becomes of the look of its call, of an object
+-- that it brings into use or whose bit it clears, of one whose slot it was about to
+-- read, and of one that its entry gives.
 record Outcomes (disk : OnDisk) (q t : ℕ) (act : Option Act) (v w : View) : Type 0 where
   log : w.log ≡ with_entry t v.log act
   watched : IfSome (look_of (stage_of w t)) (Watched q (sight w) t)
@@ -204,7 +205,8 @@ module _ (disk : OnDisk) (u v w : View) (t : ℕ) (o : Op) (result : StepResult)
 
     holds : (n : ℕ) (x : Act) → (does v.log (values_of v t) o answers.value).act ≡ Some x
         → given v.log x ≡ Some (value.Ref n) → Holding w n
-    holds n x has gives = given_held disk v w t (length v.globals) n o reply x later asks.bounds sixteen answers has gives
+    holds n x has gives = given_held disk v w t (length v.globals) n o reply x later asks.bounds sixteen answers has
+        gives
 
     -- the object that was published is the one that the entry made
     publishes : (address stored dst a n : ℕ) (shape : Shape)

@@ -35,7 +35,8 @@ module _ (s : State) (register : ℕ → ℕ) where
       → ((rest : List ℕ) → change_of s register rest before ≡ Nothing) → FindsTag (word_in s place) place dst next
       → LookGoes s register before next
   finds_look before place dst next still (inl stale) =
-      looks (record { place = place; found = Stale stale.0 }) (ap (λ (g : Stage). look_of (Some g)) stale.2) stale.1 still
+      looks (record { place = place; found = Stale stale.0 }) (ap (λ (g : Stage). look_of (Some g)) stale.2) stale.1
+      still
   finds_look before place dst next still (inr home) =
       looks (record { place = place; found = Disk home.0 }) (ap (λ (g : Stage). look_of (Some g)) home.2) home.1 still
 

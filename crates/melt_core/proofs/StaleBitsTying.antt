@@ -134,7 +134,8 @@ pub look_stays : (q t x : ℕ) (act : Option Act) (s w : Sight) (look : Option L
     → ((home : ℕ) → w.maps.home home ≡ s.maps.home home) → (x ≢ t) ⊎ (act ≡ None) → IfSome look (Watched q s x)
     → IfSome look (Watched q w x)
 look_stays q t x act s w None log names homes other is = tt
-look_stays q t x act s w (Some look) log names homes other is = watched_stays q t x act s w look log names homes other is
+look_stays q t x act s w (Some look) log names homes other is =
+    watched_stays q t x act s w look log names homes other is
 
 module _ (t : ℕ) (act : Option Act) (u s w : Sight) (touches : Touches (length u.log) t act s w) (tied : Tied u s) where
   grown : (n : ℕ) → Passed s.log (length u.log) n → Passed w.log (length u.log) n
@@ -155,7 +156,8 @@ module _ (t : ℕ) (act : Option Act) (u s w : Sight) (touches : Touches (length
   -- a call that was about to pass the object passed it, or is still about to
   pending_later : (n : ℕ) → Pending s n → Passed w.log (length u.log) n ⊎ Pending w n
   pending_later n is = elim (eqb_tells is.thread t) [
-    | inl same ↦ inl (touches.exchanges is.address n (ap (λ (x : ℕ). pending (s.stage x)) (sym same.1) ∙ is.is) is.named)
+    | inl same ↦ inl (touches.exchanges is.address n (ap (λ (x : ℕ). pending (s.stage x)) (sym same.1)
+        ∙ is.is) is.named)
     | inr other ↦ inr (record {
       thread = is.thread;
       address = is.address;
@@ -175,7 +177,8 @@ module _ (t : ℕ) (act : Option Act) (u s w : Sight) (touches : Touches (length
 
   used_later : (n : ℕ) → InUse w.maps n → Used w.log (length u.log) n → HasNoBit w n
   used_later n in_use used =
-      elim (used_before t s.log act (length u.log) n (subst (λ (h : List Entry). Used h (length u.log) n) touches.log used)) [
+      elim (used_before t s.log act (length u.log) n (subst (λ (h : List Entry). Used h (length u.log) n) touches.log
+      used)) [
         | inr now ↦ touches.gives n now.0 now.1 now.2
         | inl before ↦ elim (touches.in_use n in_use) [
           | inr appeared ↦ appeared

@@ -1,5 +1,6 @@
 -- What an event of one thread has to show, so that all stands behind it as before.
-use Rattle.std.proofs.Common.{◌≡◌, ◌≢◌, ℕ, ◌<◌, ◌≤◌, ◌⊎◌, inl, inr, List, length, get_or, refl, sym, ◌∙◌, ap, subst, arith}
+use Rattle.std.proofs.Common.{◌≡◌, ◌≢◌, ℕ, ◌<◌, ◌≤◌, ◌⊎◌, inl, inr, List, length, get_or, refl, sym, ◌∙◌, ap, subst}
+use Rattle.std.proofs.Common.{arith}
 use Rattle.std.proofs.Math.ListN.{set, length-set}
 use Rattle.std.proofs.lemmas.Bool.{cases_eq, cases_lt}
 use Rattle.std.proofs.lemmas.List.{get_or-set_same, get_or-set_other, get_or_past}
@@ -159,7 +160,8 @@ stands_behind disk told v w t mine cleared act after s e =
             (e.known c here.1)
         | inr there ↦ subst (λ (rest : List ℕ). Known told (maps w) (state disk w) rest c.stage)
             (sym (e.kept.rests.others u there.0))
-            (known_stays (maps v) (maps w) (state disk v) (state disk w) cleared s.holds.formed evolves told (rest_of v u)
+            (known_stays (maps v) (maps w) (state disk v) (state disk w) cleared s.holds.formed evolves told
+            (rest_of v u)
             c.stage
             (λ owns. keeps.regions (region_of c.stage) owns (e.mine_is u c there.0 there.1)) (s.known u c there.1))
       ];
@@ -213,7 +215,8 @@ values_stay disk v w u cleared s evolves same =
 
 -- One event was made.
 pub advances_where : (tells : Type 0) (disk : OnDisk) (v w : View) (t : ℕ) (o : Op) (result : StepResult)
-    → (asks : Asks disk v t o) → (made : MadeWhere tells disk v w t (cleared_by (stage_of v t))) → w.capacity ≡ v.capacity
+    → (asks : Asks disk v t o) → (made : MadeWhere tells disk v w t (cleared_by (stage_of v t)))
+    → w.capacity ≡ v.capacity
     → Applies (maps v) (maps w) (state disk v) (state disk w) (change_of (state disk v) (register_in v.held t)
     (rest_of v t) (stage_of v t))
     → Outcome tells disk v w t o result → LeavesClean disk v w t o result → AdvancesWhere tells disk v w t o result

@@ -63,7 +63,8 @@ none_stored m s address shape holds owns = record {
 }
 
 -- and now one more is
-pub stored_more : (m : Maps) (s t : State) (r : Region) (holds : ℕ → ℕ) (stored at word : ℕ) → HasStored m s r holds stored
+pub stored_more : (m : Maps) (s t : State) (r : Region) (holds : ℕ → ℕ) (stored at word : ℕ)
+    → HasStored m s r holds stored
     → Owns m t r → at ≡ r.at + (stored + 1) → word ≡ holds (stored + 1) → stored + 1 < r.words
     → WordChanges s t at word → HasStored m t r holds (stored + 1)
 stored_more m s t r holds stored at word has owns place is few changes = record {
@@ -75,7 +76,8 @@ stored_more m s t r holds stored at word has owns place is few changes = record 
   ];
 }
 
--- What a private store shows: the stages around it, and the word that it sets, in the region that the call owns at both.
+-- What a private store shows: the stages around it, and the word that it sets, in the
+-- region that the call owns at both.
 pub record Storing (disk : OnDisk) (v : View) (space : SpaceWords) (t place word : ℕ) (o : Op) (before after : Stage)
     : Type 0 where
   pub asks : Asks disk v t o
@@ -100,7 +102,8 @@ store_advances disk {v} {space} {t} {place} {word} {o} {before} {after} is =
     let s : Standing false disk v = is.asks.stands in
     let w : View = retained v space t o after in
     let mine : Region = region_of before in
-    let changes : WordChanges (state disk v) (state disk w) place word = word_set disk v space v.held place word is.sets in
+    let changes : WordChanges (state disk v) (state disk w) place word =
+    word_set disk v space v.held place word is.sets in
     let owns : Owns (maps w) (state disk w) mine =
     owns_stored (maps v) (state disk v) (state disk w) mine place word s.holds.formed is.owns is.from is.to changes in
     let event : (told : Bool) → Event told v.log (maps v) (maps w) (state disk v) (state disk w) mine 0 None =

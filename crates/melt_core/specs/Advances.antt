@@ -31,7 +31,8 @@ use Rattle.melt_core.specs.Stages.{LoadsAt, Applies, change_of, cleared_by, Next
 use Rattle.melt_core.specs.Stages.{Lacks, SearchesOn, ReadsAt}
 use Rattle.melt_core.specs.Changed.{HasRoomForEntry}
 use Rattle.melt_core.specs.Made.{KeepsMade}
-use Rattle.melt_core.specs.Views.{View, maps, state, values_of, value, registers_in, call_of, stage_of, rest_of, Standing}
+use Rattle.melt_core.specs.Views.{View, maps, state, values_of, value, registers_in, call_of, stage_of, rest_of}
+use Rattle.melt_core.specs.Views.{Standing}
 
 -- registers and globals that the operation names are there, and the object that it makes is small enough
 abbrev pub InBounds : ℕ → Op → Type 0
@@ -149,8 +150,8 @@ pub record IsRefused (v w : View) (t : ℕ) (o : Op) (need : ℕ) : Type 0 where
   pub own : KeepsOwn v w t
   pub stop : w.stop ≡ true
 
--- The call of the thread is refused, as each forwarding word sends another home than that for which it searches; the stop
--- word is set.
+-- The call of the thread is refused, as each forwarding word sends another home than that for which it searches; the
+-- stop word is set.
 pub record IsFull (v w : View) (t : ℕ) (o : Op) : Type 0 where
   pub search : Search
   pub searches : SearchesOn (stage_of v t) search
@@ -194,9 +195,9 @@ LeavesClean disk v w t o (Answered reply) = (place : Place) (dst : ℕ) → Load
 LeavesClean disk v w t o Going = Unit {0}
 LeavesClean disk v w t o (Refused refusal) = Unit {0}
 
--- One event of a thread was made, over a disk: what stood before, told or not, stands after, told only where the words of
--- the disk are told in the event; the shared words changed as that event changes them, and in no other way. What it made
--- is in use.
+-- One event of a thread was made, over a disk: what stood before, told or not, stands after, told only where the words
+-- of the disk are told in the event; the shared words changed as that event changes them, and in no other way. What it
+-- made is in use.
 pub record AdvancesWhere (tells : Type 0) (disk : OnDisk) (v w : View) (t : ℕ) (o : Op) (result : StepResult)
     : Type 0 where
   pub keeps : (told : Bool) → (told ≡ true → tells) → Standing told disk v → Standing told disk w

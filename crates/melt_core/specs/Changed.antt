@@ -1,5 +1,6 @@
 -- The small changes of which events are made, as changes of a view.
-use Rattle.std.specs.Prelude.{◌≡◌, ℕ, ◌<◌, true, false, [], ◌∷◌, ◌++◌, length, slice_index, slice_set, Option, None, Some, IsSome}
+use Rattle.std.specs.Prelude.{◌≡◌, ℕ, ◌<◌, true, false, [], ◌∷◌, ◌++◌, length, slice_index, slice_set, Option, None}
+use Rattle.std.specs.Prelude.{Some, IsSome}
 use Rattle.melt_model.specs.Thread.{found}
 use Rattle.melt_model.specs.declared.history.Entry.{Entry}
 use Rattle.melt_model.specs.declared.history.Act.TheVariants.{Read}

@@ -88,9 +88,10 @@ pub record Misses (told : Bool) (maps : Maps) (s : State) (search : Search) : Ty
   pub within : search.tried < s.base.forwards
 
 -- And the Body at the home was read, of this shape and with these words behind its head.
-pub record Fetches (told : Bool) (maps : Maps) (s : State) (rest : List ℕ) (search : Search) (shape : Shape) : Type 0 where
-  pub misses : Misses told maps s search
-  pub body : HasBody told s.base search.home shape rest
+pub record Fetches (told : Bool) (maps : Maps) (s : State) (rest : List ℕ) (search : Search) (shape : Shape) : Type 0
+  where
+    pub misses : Misses told maps s search
+    pub body : HasBody told s.base search.home shape rest
 
 -- The whole copy was stored. Its search goes on.
 pub record HoldsCopy (told : Bool) (maps : Maps) (s : State) (rest : List ℕ) (a : Activation) : Type 0 where
@@ -98,8 +99,8 @@ pub record HoldsCopy (told : Bool) (maps : Maps) (s : State) (rest : List ℕ) (
   pub body : HasBody told s.base a.search.home a.shape rest
   pub copy : HasCopy maps s a.address a.search.home a.shape rest
 
--- By the stage of the call, with the words that it read behind the head of a record; what it says of values is told where
--- the disk tells its words.
+-- By the stage of the call, with the words that it read behind the head of a record; what it says of values is told
+-- where the disk tells its words.
 abbrev pub Known : Bool → Maps → State → List ℕ → Stage → Type 0
 Known told maps s rest (Polled task) = Unit {0}
 Known told maps s rest (Headed address shape access) = IsObjectAt maps s address shape

@@ -91,7 +91,8 @@ pub record SharedLaws (told : Bool) (thread : ℕ) (h : List Entry) (maps : Maps
       Replaces old new (2 + (object + 2 + i)) (ref_word (Clean target)) →
       After told thread h maps maps base old new no_region (Some (Read at value))
   -- an empty forwarding word sends the home of a Body to its copy, which is an object from then on
-  pub commits : (later : Maps) (home tried p n address : ℕ) (shape : Shape) (rest : List ℕ) → Before told h maps base old →
+  pub commits : (later : Maps) (home tried p n address : ℕ) (shape : Shape) (rest : List ℕ)
+      → Before told h maps base old →
       MayCommit told maps (shown base old) home tried p n address shape rest →
       ReplacesForward old new p (forward_word home address) → NameAppears maps later address n →
       After told thread h maps later base old new (region address shape) None

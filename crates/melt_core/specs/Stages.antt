@@ -85,8 +85,8 @@ Fits register o (Copied a) = LoadsAt register o a.search.place a.search.dst
 Fits register o (Retrying a) = LoadsAt register o a.search.place a.search.dst
 Fits register o (LackingCopy search shape) = LoadsAt register o search.place search.dst
 
--- What the next event changes of the words that threads share. An exchange changes nothing where another word stands there
--- by then.
+-- What the next event changes of the words that threads share. An exchange changes nothing where another word stands
+-- there by then.
 pub data Change : Type 0 where
   Nothing : Change
   Word : (at word : ℕ) → Change

@@ -137,8 +137,8 @@ pub record Watched (q : ℕ) (s : Sight) (thread : ℕ) (look : Look) : Type 0 w
   pub behind : (k : ℕ) (e : Entry) → slice_get s.log k ≡ Some e → e.thread ≡ thread → k < moment
   pub held : last (take moment s.log) slot ≡ value.Ref number
 
--- What is kept from a first sight on. An object without the bit had none at first, or was passed since, or a call is about
--- to pass it. One with the bit had it at first. One that was used and is in use has none.
+-- What is kept from a first sight on. An object without the bit had none at first, or was passed since, or a call is
+-- about to pass it. One with the bit had it at first. One that was used and is in use has none.
 pub record Tied (u s : Sight) : Type 0 where
   pub since : length u.log ≤ length s.log
   pub watched : (t : ℕ) → IfSome (look_of (s.stage t)) (Watched (length u.log) s t)
@@ -146,9 +146,9 @@ pub record Tied (u s : Sight) : Type 0 where
   pub stale : (n : ℕ) → HasBit s n → HasBit u n
   pub used : (n : ℕ) → InUse s.maps n → Used s.log (length u.log) n → HasNoBit s n
 
--- What that says where no call is in flight. An object without the bit had none at first, or was passed since: so it was
--- passed if it had the bit at first, or was not in use. One that has the bit had it at first. One that was used since and
--- is in use has none.
+-- What that says where no call is in flight. An object without the bit had none at first, or was passed since: so it
+-- was passed if it had the bit at first, or was not in use. One that has the bit had it at first. One that was used
+-- since and is in use has none.
 pub record BitsTold (u s : Sight) : Type 0 where
   pub since : (n : ℕ) → HasNoBit s n → HasNoBit u n ⊎ Passed s.log (length u.log) n
   pub passed : (n : ℕ) → HasNoBit s n → HasBit u n ⊎ (InUse u.maps n → ⊥) → Passed s.log (length u.log) n

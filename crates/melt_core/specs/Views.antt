@@ -27,9 +27,9 @@ use Rattle.melt_core.specs.declared.machine.Core.{Core}
 use Rattle.melt_core.specs.Known.{Known, region_of}
 use Rattle.melt_core.specs.Stages.{Fits}
 
--- The words of the space, the scions, the globals, the forwarding words, the names of objects, the registers and the call
--- in flight of each thread, the words that each read behind the head of a record, the history, how many entries it has
--- room for and how many objects were made in it, the first free place, and whether the stop word is set.
+-- The words of the space, the scions, the globals, the forwarding words, the names of objects, the registers and the
+-- call in flight of each thread, the words that each read behind the head of a record, the history, how many entries it
+-- has room for and how many objects were made in it, the first free place, and whether the stop word is set.
 pub record View : Type 0 where
   pub space : SpaceWords
   pub scions : Scions

@@ -137,8 +137,8 @@ impl Core {
     /// is to be of the same operation. An answer changes the registers and the history as the operation does; a refused
     /// call changes neither. It takes no memory.
     ///
-    /// The disk ends at word `end`, past all homes. The reader is used only where the record of a home is to be read: at
-    /// most twice in a call, and once where the object left a Stub there or has no slots and numbers.
+    /// The disk ends at word `end`, past all homes. The reader is used only where the record of a home is to be read:
+    /// at most twice in a call, and once where the object left a Stub there or has no slots and numbers.
     pub fn advance<R: RecordReader>(
         &mut self,
         thread: u32,

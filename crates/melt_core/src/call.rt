@@ -58,8 +58,8 @@ pub enum Task {
     StoreGlobal { g: u8, src: u8 },
 }
 
-/// The search for the object of a home, by the forwarding words: so many of them were read, and each names another home.
-/// The home was found at the place, in a load into register `dst`.
+/// The search for the object of a home, by the forwarding words: so many of them were read, and each names another
+/// home. The home was found at the place, in a load into register `dst`.
 #[derive(Clone, Copy, Debug, PartialEq, Eq)]
 pub struct Search {
     pub place: Place,
@@ -93,8 +93,8 @@ impl Search {
     }
 }
 
-/// How an object comes back: the words from the address on are for a copy of the Body, of this shape, at the home that is
-/// searched for.
+/// How an object comes back: the words from the address on are for a copy of the Body, of this shape, at the home that
+/// is searched for.
 #[derive(Clone, Copy, Debug, PartialEq, Eq)]
 pub struct Activation {
     pub search: Search,
@@ -128,8 +128,8 @@ pub enum Stage {
         shape: Shape,
         access: Access,
     },
-    /// The word at the place, which is loaded into register `dst`, was that of a reference with a tag: a stale address, or
-    /// a home with a Stub. Its object is at the address `target`.
+    /// The word at the place, which is loaded into register `dst`, was that of a reference with a tag: a stale address,
+    /// or a home with a Stub. Its object is at the address `target`.
     Looked {
         place: Place,
         found: Ref,

@@ -1,8 +1,8 @@
 //! The words of the objects that registers hold.
 //!
 //! They are counted anew and not kept from the last collection, which counted them too: a thread that ends at its
-//! safepoint lets its registers hold nothing afterwards. Each register is compared with those before it, at most 8 times
-//! 16 of them, so that no memory is taken.
+//! safepoint lets its registers hold nothing afterwards. Each register is compared with those before it, at most 8
+//! times 16 of them, so that no memory is taken.
 ghost use Rattle.std.specs.Prelude.{◌≡◌, ◌*◌, ◌/◌, ◌<◌, ◌↔◌, true, length, IsTrue};
 ghost use Rattle.melt_model.specs.Alive.{CostsSum, Held, words_of};
 ghost use Rattle.melt_scion.specs.Heaps.{OnDisk};

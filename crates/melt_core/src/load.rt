@@ -4,8 +4,8 @@
 //! slow path, one event after the other: the stale bit of the object is cleared first, and then the word is exchanged
 //! for the clean one, if it is still what was found. So no clean address is ever that of an object with the stale bit,
 //! and the word that the exchange finds is always one that may be answered: a word with a tag can only have become one
-//! without. Where the word was a home, its object is searched for first, and made if it must be: `probing`, `record` and
-//! `body` have those events.
+//! without. Where the word was a home, its object is searched for first, and made if it must be: `probing`, `record`
+//! and `body` have those events.
 ghost use Rattle.std.specs.Prelude.{◌≡◌, ◌<◌, length, Some, None};
 ghost use Rattle.melt_scion.specs.Heaps.{OnDisk};
 ghost use Rattle.melt_core.specs.Advances.{Moves, MayMove};
@@ -21,8 +21,8 @@ use crate::parts::{Cell, found, reference, value_at};
 use melt_model::{Act, Op, Reply, Slot, Value};
 use melt_word::{Header, Ref, encode_header, encode_ref};
 
-/// What a load found that takes the slow path: a reference with a tag at the place, for register `dst`. Its object is at
-/// the address `target`.
+/// What a load found that takes the slow path: a reference with a tag at the place, for register `dst`. Its object is
+/// at the address `target`.
 #[derive(Clone, Copy)]
 pub(crate) struct Looked {
     pub(crate) place: Place,
@@ -134,7 +134,8 @@ impl Core {
     /// Clears the stale bit of the object that a load found.
     pub(crate) fn clear(&mut self, thread: u32, op: Op, looked: Looked) -> StepResult
         requires asks { MayMove (view self.old) thread op }
-        requires stage { stage_of (view self.old) thread ≡ Some (Stage.Looked looked.place looked.found looked.target looked.dst) }
+        requires stage { stage_of (view self.old) thread ≡ Some
+            (Stage.Looked looked.place looked.found looked.target looked.dst) }
         ensures { Moves (view self.old) (view self.new) thread op result }
     {
         let Looked {
@@ -164,7 +165,8 @@ impl Core {
     /// answered with the reference that stands there then.
     pub(crate) fn untag(&mut self, thread: u32, op: Op, looked: Looked) -> StepResult
         requires asks { MayMove (view self.old) thread op }
-        requires stage { stage_of (view self.old) thread ≡ Some (Stage.Cleared looked.place looked.found looked.target looked.dst) }
+        requires stage { stage_of (view self.old) thread ≡ Some
+            (Stage.Cleared looked.place looked.found looked.target looked.dst) }
         ensures { Moves (view self.old) (view self.new) thread op result }
     {
         let Looked {

@@ -11,8 +11,8 @@ use melt_model::{Entries, Entry, NoMemory};
 use melt_scion::{Heap, Registers};
 use std::alloc::Global;
 
-/// What a core has beside its heap: the registers of all threads, their calls in flight with a buffer each for what they
-/// read of a record behind its head, and the history with the number of objects that were made in it.
+/// What a core has beside its heap: the registers of all threads, their calls in flight with a buffer each for what
+/// they read of a record behind its head, and the history with the number of objects that were made in it.
 #[derive(Debug, Drop)]
 pub struct Rest {
     pub(crate) held: Vec<Registers>,

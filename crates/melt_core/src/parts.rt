@@ -1,5 +1,6 @@
 //! Steps on the parts of a core, each of which changes one of them and says nothing of the others' meaning.
-ghost use Rattle.std.specs.Prelude.{◌≡◌, ℕ, ◌+◌, ◌*◌, ◌^◌, ◌<◌, ◌≤◌, length, slice_set, Some, None, IsSome, MatchOption};
+ghost use Rattle.std.specs.Prelude.{◌≡◌, ℕ, ◌+◌, ◌*◌, ◌^◌, ◌<◌, ◌≤◌, length, slice_set, Some, None, IsSome};
+ghost use Rattle.std.specs.Prelude.{MatchOption};
 ghost use Rattle.melt_model.specs.Thread.{found as found_in};
 ghost use Rattle.melt_word.specs.declared.reference.Ref.{Ref};
 ghost use Rattle.melt_scion.specs.Changes.{NameAppears};

@@ -1,9 +1,9 @@
 //! The search for the object of a home, and the commit of a copy of it.
 //!
-//! A load that finds a home reads the forwarding words in the order of the home's search, one in each event. A word that
-//! is filled never changes, so that what was read stays true; and no word behind an empty one names the home. So all
-//! threads that look for one home come to the same empty word, and of those that exchange it with a copy of the object at
-//! hand, one wins. The others find its address there, and drop their copies.
+//! A load that finds a home reads the forwarding words in the order of the home's search, one in each event. A word
+//! that is filled never changes, so that what was read stays true; and no word behind an empty one names the home. So
+//! all threads that look for one home come to the same empty word, and of those that exchange it with a copy of the
+//! object at hand, one wins. The others find its address there, and drop their copies.
 ghost use Rattle.std.specs.Prelude.{◌≡◌, ◌↔◌, ◌<◌, ◌≤◌, ◌^◌, length, IsSome, IsTrue, Some};
 ghost use Rattle.melt_word.specs.Words.{IsDiskHome};
 ghost use Rattle.melt_core.specs.Advances.{Moves, MayMove};
@@ -102,8 +102,9 @@ impl Core {
         StepResult::Going
     }
 
-    /// Makes the copy the object of the home: the forwarding word that its search came to sends the home there. The object
-    /// keeps its number; one that has none, which a disk that returns what was written never gives, has the number 0.
+    /// Makes the copy the object of the home: the forwarding word that its search came to sends the home there. The
+    /// object keeps its number; one that has none, which a disk that returns what was written never gives, has the
+    /// number 0.
     fn enter(&mut self, activation: Activation)
         requires probed { CanProbe (view self.old) activation.search }
         requires address { 1 ≤ activation.address }

@@ -1,7 +1,7 @@
 //! Reads of a record, in a load that no forwarding word helped.
 //!
-//! Nothing that is read is trusted: what a record cannot say is found, and ends the call. Where the disk returns what was
-//! written, it is never found.
+//! Nothing that is read is trusted: what a record cannot say is found, and ends the call. Where the disk returns what
+//! was written, it is never found.
 ghost use Rattle.std.specs.Prelude.{◌≡◌, ℕ, ◌<◌, length, slice_index, IfErr, IfOk, None, Some};
 ghost use Rattle.melt_record.specs.declared.damage.Damaged.{Damaged as DamagedRecord};
 ghost use Rattle.melt_record.specs.declared.head.Head.{Head as RecordHead};

@@ -85,8 +85,8 @@ fn same(a: u8, b: u8) -> Op {
     Op::Same { a, b }
 }
 
-/// A core over a new heap of so many words, one global and three forwarding words, under two threads. The history has room
-/// for 32 entries.
+/// A core over a new heap of so many words, one global and three forwarding words, under two threads. The history has
+/// room for 32 entries.
 fn new_core(alloc: Global, words: u32) -> Result<Core, NoMemory>
     requires { words < 2 ^ 30 }
     ensures stands { IfOk result (λ core. Standing false no_homes_on (view core)) }

@@ -69,7 +69,8 @@ module _ (old new : Heap) (is : IsAsBefore old new) where
 
   pub formed_on : (held : List Registers) (end : ℕ) → IsFormedOn old held end → IsFormedOn new held end
   formed_on held end formed =
-      let size : length new.space.list ≡ length old.space.list = ap (λ (space : SpaceWords). length space.list) is.space in
+      let size : length new.space.list ≡ length old.space.list =
+      ap (λ (space : SpaceWords). length space.list) is.space in
       record {
         maps = formed.maps;
         disk = formed.disk;
@@ -119,7 +120,8 @@ module _ (old new : Heap) (is : IsAsBefore old new) where
         shows = has.shows;
         names = has.names;
         collected =
-            subst (λ (s : State). Collected Move maps has.after s (state_of last after has.later) has.to has.home has.scion)
+            subst (λ (s : State). Collected Move maps has.after s (state_of last after has.later) has.to has.home
+            has.scion)
             same has.collected;
         live = has.live;
         held_words = subst (λ (s : State). CountsWords s (HeldAt s) journal.held) same has.held_words;

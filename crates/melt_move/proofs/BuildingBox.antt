@@ -1,6 +1,7 @@
 -- Heaps that are built by hand, for tests: a leaf in a register, and a stale box that refers to it, to which a global
 -- refers. In one of them the leaf came back from a disk.
-use Rattle.std.proofs.Common.{◌≡◌, ◌≢◌, ◌⊎◌, inl, inr, ℕ, ◌+◌, ◌<◌, ◌≤◌, zero, suc, List, [], ◌∷◌, length, replicate, refl}
+use Rattle.std.proofs.Common.{◌≡◌, ◌≢◌, ◌⊎◌, inl, inr, ℕ, ◌+◌, ◌<◌, ◌≤◌, zero, suc, List, [], ◌∷◌, length, replicate}
+use Rattle.std.proofs.Common.{refl}
 use Rattle.std.proofs.Common.{ap, sym, subst, ◌∙◌, arith, lit≤}
 use Rattle.std.specs.Prelude.{◌^◌, Option, None, Some, slice_index}
 use Rattle.std.specs.FinMap.{FinMap, empty, get, get-empty}
@@ -17,7 +18,8 @@ use Rattle.melt_scion.specs.Placed.{Maps, HasHome, ForwardMayStand, FormedWords,
 use Rattle.melt_scion.specs.Names.{name_at, SetsName}
 use Rattle.melt_scion.specs.HomeNames.{NamedHomes}
 use Rattle.melt_scion.specs.Scions.{Scions, empty_table}
-use Rattle.melt_scion.specs.Heaps.{OnDisk, no_homes_on, scion_in, register_in, state_of, AreScionsFor, HasNames, NamesMade}
+use Rattle.melt_scion.specs.Heaps.{OnDisk, no_homes_on, scion_in, register_in, state_of, AreScionsFor, HasNames}
+use Rattle.melt_scion.specs.Heaps.{NamesMade}
 use Rattle.melt_scion.specs.declared.registers.Registers.{Registers}
 use Rattle.melt_scion.specs.declared.heap.Names as heap
 use Rattle.melt_scion.specs.declared.heap.Heap.{Heap}
@@ -163,7 +165,8 @@ module _ (maps : Maps) (s : State) (has : HasWords maps s) (names : NamesMatch m
     ];
     apart = λ a b n m h is other starts less. elim (has.named_at a n is) [
       | inl one ↦
-          let cost = ap (λ (x : Header). cost_of x.shape) (is_header maps s has a 1 h leaf_header one (leaf_starts maps s has) starts) in
+          let cost = ap (λ (x : Header). cost_of x.shape) (is_header maps s has a 1 h leaf_header one
+          (leaf_starts maps s has) starts) in
           elim (has.named_at b m other) [
             | inl b_one ↦ absurd (omega (arith, one, b_one, less))
             | inr b_three ↦ omega (arith, one, b_three, cost)
@@ -175,10 +178,12 @@ module _ (maps : Maps) (s : State) (has : HasWords maps s) (names : NamesMatch m
     ];
     slots = λ a n i h is starts below. elim (has.named_at a n is) [
       | inl one ↦ absurd (
-          let refs = ap (λ (x : Header). x.shape.refs) (is_header maps s has a 1 h leaf_header one (leaf_starts maps s has) starts) in
+          let refs = ap (λ (x : Header). x.shape.refs) (is_header maps s has a 1 h leaf_header one
+          (leaf_starts maps s has) starts) in
           omega (arith, refs, below))
       | inr three ↦
-          let refs = ap (λ (x : Header). x.shape.refs) (is_header maps s has a 3 h box_header three (box_starts maps s has) starts) in
+          let refs = ap (λ (x : Header). x.shape.refs) (is_header maps s has a 3 h box_header three
+          (box_starts maps s has) starts) in
           let at : a + 2 + i ≡ 5 = omega (arith, refs, below, three) in
           record {
             reference = Clean 1;
@@ -330,5 +335,6 @@ back_formed h held names is =
     words h held names is.numbered is.space two size_five used_five is.homed.others one_home_on (omega arith)
     (omega arith) in
     formed_with h held names is.numbered is.space two size_five used_five is.homed.others one_home_on (omega arith)
-    (omega arith) 3 refl (back_match (maps_of names) (state_of h held one_home_on) has is.homed.here (ap length is.forward)
+    (omega arith) 3 refl (back_match (maps_of names) (state_of h held one_home_on) has is.homed.here
+    (ap length is.forward)
     (ap (λ (xs : List ℕ). slice_index xs 0) is.forward) refl)

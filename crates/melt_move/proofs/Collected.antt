@@ -39,96 +39,98 @@ same_count s Is Other total to from counts = record {
 
 module _ (maps : Maps) (disk : OnDisk) (old new : Heap) (held after : List Registers) (decision : Decision) (end : ℕ)
     (told : Option (List ℕ)) (decided : IsDecision old.space (state_of old held disk) decision)
-    (formed : Formed maps (state_of old held disk)) (out : CarriesOut maps disk old new held after decision end told) where
-  abbrev s : State
-  s = state_of old held disk
+    (formed : Formed maps (state_of old held disk)) (out : CarriesOut maps disk old new held after decision end told)
+  where
+    abbrev s : State
+    s = state_of old held disk
 
-  abbrev t : State
-  t = state_of new after (disk_after disk decision end out.image)
+    abbrev t : State
+    t = state_of new after (disk_after disk decision end out.image)
 
-  abbrev home : ℕ → ℕ
-  home = home_by s.word decision
+    abbrev home : ℕ → ℕ
+    home = home_by s.word decision
 
-  named_there : (a : ℕ) → IsNamed (maps_after maps decision.choice.stay.moves.items) a → IsNamed out.after a
-  named_there a named = (named.0, out.addresses a ∙ named.1)
+    named_there : (a : ℕ) → IsNamed (maps_after maps decision.choice.stay.moves.items) a → IsNamed out.after a
+    named_there a named = (named.0, out.addresses a ∙ named.1)
 
-  named_before : (a : ℕ) → IsNamed out.after a → IsNamed (maps_after maps decision.choice.stay.moves.items) a
-  named_before a named = (named.0, sym (out.addresses a) ∙ named.1)
+    named_before : (a : ℕ) → IsNamed out.after a → IsNamed (maps_after maps decision.choice.stay.moves.items) a
+    named_before a named = (named.0, sym (out.addresses a) ∙ named.1)
 
-  names : MovesNames maps out.after (to_by decision)
-  names =
-      let carried = carried_names Move maps s t (to_by decision) decision.choice.stay.moves.items decision.front
-      (move_carries maps s t out.live decision formed out.is) in
-      record {
-        names = λ a some. out.addresses (to_by decision a) ∙ carried.names a some;
-        only = λ b n named. carried.only b n (sym (out.addresses b) ∙ named);
-      }
+    names : MovesNames maps out.after (to_by decision)
+    names =
+        let carried = carried_names Move maps s t (to_by decision) decision.choice.stay.moves.items decision.front
+        (move_carries maps s t out.live decision formed out.is) in
+        record {
+          names = λ a some. out.addresses (to_by decision a) ∙ carried.names a some;
+          only = λ b n named. carried.only b n (sym (out.addresses b) ∙ named);
+        }
 
-  taken : (at : ℕ) → 1 ≤ at → at < t.free → Taken out.after t at
-  taken at first below =
-      let is = word_taken Move maps s t (to_by decision) decision.choice.stay.moves.items decision.front
-      (move_carries maps s t out.live decision formed out.is) formed at first below in
-      record {
-        address = is.address;
-        header = is.header;
-        named = named_there is.address is.named;
-        starts = is.starts;
-        from = is.from;
-        to = is.to;
-      }
+    taken : (at : ℕ) → 1 ≤ at → at < t.free → Taken out.after t at
+    taken at first below =
+        let is = word_taken Move maps s t (to_by decision) decision.choice.stay.moves.items decision.front
+        (move_carries maps s t out.live decision formed out.is) formed at first below in
+        record {
+          address = is.address;
+          header = is.header;
+          named = named_there is.address is.named;
+          starts = is.starts;
+          from = is.from;
+          to = is.to;
+        }
 
-  collected : Collected Move maps out.after s t (to_by decision) home (scion_by t decision)
-  collected =
-      let words = move_words maps s t out.live decision formed out.is in
-      record {
-        formed = moves_formed Move maps out.after s t (to_by decision) home (scion_by t decision) formed words names;
-        placed = λ h value placed.
-            moves_placed Move maps out.after s t (to_by decision) home (scion_by t decision) words names
-            (names_given maps s t out.live decision formed out.is out.after out.homes h placed.tells)
-            (move_disk maps s t out.live decision formed out.is h placed.tells) h value placed;
-        words = words;
-        names = names;
-        homes = λ h tells. names_given maps s t out.live decision formed out.is out.after out.homes h tells;
-        disk = λ h tells. move_disk maps s t out.live decision formed out.is h tells;
-        no_gaps = taken;
-      }
+    collected : Collected Move maps out.after s t (to_by decision) home (scion_by t decision)
+    collected =
+        let words = move_words maps s t out.live decision formed out.is in
+        record {
+          formed = moves_formed Move maps out.after s t (to_by decision) home (scion_by t decision) formed words names;
+          placed = λ h value placed.
+              moves_placed Move maps out.after s t (to_by decision) home (scion_by t decision) words names
+              (names_given maps s t out.live decision formed out.is out.after out.homes h placed.tells)
+              (move_disk maps s t out.live decision formed out.is h placed.tells) h value placed;
+          words = words;
+          names = names;
+          homes = λ h tells. names_given maps s t out.live decision formed out.is out.after out.homes h tells;
+          disk = λ h tells. move_disk maps s t out.live decision formed out.is h tells;
+          no_gaps = taken;
+        }
 
-  some_first : 1 ≤ decision.homes.first
-  some_first = let first = decided.first in let some = decided.first_end in omega (arith, first, some)
+    some_first : 1 ≤ decision.homes.first
+    some_first = let first = decided.first in let some = decided.first_end in omega (arith, first, some)
 
-  pub has_moved : (journal : Journal) → journal.live ≡ new.space.used → journal.held ≡ decision.held_words
-      → journal.bodies ≡ length decision.choice.leaving.items
-      → journal.stubs ≡ given_count decision.homes decision.choice.stay.moves.items
-      → end ≡ disk.end + need_for decision.homes.given.items → HasMoved maps disk old new held after end told journal
-  has_moved journal live held_is bodies stubs grows =
-      let moves = decision.choice.stay.moves.items in
-      let carries = move_carries maps s t out.live decision formed out.is in
-      let words : journal.live ≡ words_in moves =
-      (let free = out.is.free in let behind = decided.choice.stay.behind in omega (arith, live, free, behind)) in
-      record {
-        after = out.after;
-        later = disk_after disk decision end out.image;
-        to = to_by decision;
-        home = home;
-        scion = scion_by t decision;
-        end_is = refl;
-        shows = out.shows;
-        names = out.names;
-        collected = collected;
-        live =
-            subst (CountsWords t (IsNamed out.after)) (sym words)
-            (same_count t (IsNamed (maps_after maps moves)) (IsNamed out.after) (words_in moves) named_there named_before
-            (live_words Move maps s t (to_by decision) moves decision.front carries formed));
-        held_words =
-            subst (CountsWords s (HeldAt s)) (sym (held_is ∙ decided.held_words))
-            (held_words Move maps s t (to_by decision) moves decision.front carries);
-        bodies =
-            subst (Counts (Leaves Move s)) (sym bodies)
-            (bodies_counted s decision.choice.leaving.items decided.choice.leave);
-        stubs =
-            subst (Counts (λ a. WantsHome s a × (to_by decision a ≢ 0))) (sym stubs)
-            (stubs_counted s decision decided.homes some_first decided.live decided.choice);
-        need = need_for decision.homes.given.items;
-        needs = needs_counted s decision decided.homes some_first;
-        grows = grows;
-      }
+    pub has_moved : (journal : Journal) → journal.live ≡ new.space.used → journal.held ≡ decision.held_words
+        → journal.bodies ≡ length decision.choice.leaving.items
+        → journal.stubs ≡ given_count decision.homes decision.choice.stay.moves.items
+        → end ≡ disk.end + need_for decision.homes.given.items → HasMoved maps disk old new held after end told journal
+    has_moved journal live held_is bodies stubs grows =
+        let moves = decision.choice.stay.moves.items in
+        let carries = move_carries maps s t out.live decision formed out.is in
+        let words : journal.live ≡ words_in moves =
+        (let free = out.is.free in let behind = decided.choice.stay.behind in omega (arith, live, free, behind)) in
+        record {
+          after = out.after;
+          later = disk_after disk decision end out.image;
+          to = to_by decision;
+          home = home;
+          scion = scion_by t decision;
+          end_is = refl;
+          shows = out.shows;
+          names = out.names;
+          collected = collected;
+          live =
+              subst (CountsWords t (IsNamed out.after)) (sym words)
+              (same_count t (IsNamed (maps_after maps moves)) (IsNamed out.after) (words_in moves) named_there
+              named_before
+              (live_words Move maps s t (to_by decision) moves decision.front carries formed));
+          held_words =
+              subst (CountsWords s (HeldAt s)) (sym (held_is ∙ decided.held_words))
+              (held_words Move maps s t (to_by decision) moves decision.front carries);
+          bodies =
+              subst (Counts (Leaves Move s)) (sym bodies)
+              (bodies_counted s decision.choice.leaving.items decided.choice.leave);
+          stubs =
+              subst (Counts (λ a. WantsHome s a × (to_by decision a ≢ 0))) (sym stubs)
+              (stubs_counted s decision decided.homes some_first decided.live decided.choice);
+          need = need_for decision.homes.given.items;
+          needs = needs_counted s decision decided.homes some_first;
+          grows = grows;
+        }

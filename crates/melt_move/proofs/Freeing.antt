@@ -28,17 +28,6 @@ one_name word at home scion other_home other first second =
     let b = parts_of_word (word (at + 1)) other_home other second.in_range.scion second.is in
     (sym a.0 ∙ b.0, sym a.1 ∙ b.1)
 
--- The home word has a home, which it names with its scion.
-pub has_scion : (word : ℕ → ℕ) (at : ℕ) (old : HomeWord) → MayNameScion word at → IsHome (Some old)
-    → word (at + 1) ≡ home_word (Some old) → NamesScion word at old.home old.scion
-has_scion word at old names in_range is = elim names [
-  | inl none ↦ absurd (omega (arith, is, none, in_range.home.not_null))
-  | inr some ↦
-      let a = parts_of_word (word (at + 1)) some.0 some.1 some.2.in_range.scion some.2.is in
-      let b = parts_of_word (word (at + 1)) old.home old.scion in_range.scion is in
-      record { in_range = in_range; some = omega (arith, some.2.some, a.1, b.1); is = is }
-]
-
 -- a home word is that of a home, or of none
 pub home_word_is : (word : ℕ → ℕ) (at : ℕ) → MayNameScion word at
     → (h : Option HomeWord) × IsHome h × (word (at + 1) ≡ home_word h)
@@ -62,15 +51,6 @@ pub record FreesFirst (word : ℕ → ℕ) (leaving : List Departure) (count : �
   pub others : (scion : ℕ) → (IsOfFirst word leaving count scion → ⊥) → scion_at new scion ≡ scion_at old scion
   pub is_table : IsTable new
   pub size : length new.pairs ≡ length old.pairs
-
-pub frees_start : (word : ℕ → ℕ) (leaving : List Departure) (table : Scions) → IsTable table
-    → FreesFirst word leaving 0 table table
-frees_start word leaving table is = record {
-  gone = λ scion of. absurd (omega (arith, of.below));
-  others = λ scion free. refl;
-  is_table = is;
-  size = refl;
-}
 
 -- one of the first objects is one of one more
 one_more : (word : ℕ → ℕ) (leaving : List Departure) (count scion : ℕ) → IsOfFirst word leaving count scion

@@ -185,16 +185,6 @@ gives_one word old new from offset within is first =
       first = first;
     }
 
--- one that has a home gets none
-pub gives_nothing : (word : ℕ → ℕ) (homes : NewHomes) (from : ℕ) → word (from + 1) ≢ 0
-    → GivesTo word (λ x. x ≡ from) homes homes
-gives_nothing word homes from some = record {
-  all = λ x same none. absurd (some (ap (λ (y : ℕ). word (y + 1)) (sym same) ∙ none));
-  only = λ x known. inl known;
-  keeps = λ x known. known;
-  first = refl;
-}
-
 -- nobody is offered one
 pub gives_nobody : (word : ℕ → ℕ) (P : ℕ → Type 0) (homes : NewHomes) → ((x : ℕ) → P x → ⊥) → GivesTo word P homes homes
 gives_nobody word P homes nobody = record {
@@ -292,11 +282,6 @@ leaving_more word leaving k d a b c at before gives =
     ])
     (λ x among. let below = among.2 in (among.0, among.1, omega (arith, below), among.3, among.4))
     (λ x same. (k, d, omega arith, at, sym same))
-
-pub leaving_start : (word : ℕ → ℕ) (leaving : List Departure) (homes : NewHomes)
-    → GivesTo word (IsAmong leaving 0) homes homes
-leaving_start word leaving homes =
-    gives_nobody word (IsAmong leaving 0) homes (λ x among. let below = among.2 in omega (arith, below))
 
 -- the objects that stay and have a mark
 module _ (s : State) (choice : Choice) (chosen : WasChosen s choice) (marks : List Bool) (has_marks : HasMarks s marks)

@@ -1,13 +1,12 @@
 -- The words of references in what stays.
 use Rattle.std.proofs.Common.{◌≡◌, ◌≢◌, ℕ, ◌+◌, ◌<◌, List, [], ◌∷◌, ◌++◌, length, sym, subst, ap, ◌∙◌}
 use Rattle.std.proofs.Common.{arith, inl, inr, below_more}
-use Rattle.std.specs.Prelude.{slice_index, Some}
+use Rattle.std.specs.Prelude.{slice_index}
 use Rattle.std.proofs.lemmas.List.{get_or_append_left, get_or_push}
 use Rattle.melt_model.specs.declared.reports.Phase.TheVariants.{Move}
-use Rattle.melt_word.specs.Words.{IsAddress, IsDiskHome, IsRef, ref_word, home_part}
-use Rattle.melt_word.specs.declared.reference.Ref.{Ref}
+use Rattle.melt_word.specs.Words.{IsAddress, IsDiskHome, home_part}
 use Rattle.melt_space.specs.Space.{SpaceWords, word_at}
-use Rattle.melt_scion.specs.State.{State, address_in}
+use Rattle.melt_scion.specs.State.{State}
 use Rattle.melt_scion.specs.Moves.{Leaves}
 use Rattle.melt_copy.specs.Tracking.{Extends, goes}
 use Rattle.melt_copy.proofs.Places.{place_below}
@@ -60,16 +59,6 @@ place_there space s decision address follows some =
       not_null = omega (arith, to, below.0);
       small = omega (arith, to, below.1, fits, whole.small, whole.inside);
     }
-
--- an object to which a reference refers
-pub follows_ref : (space : SpaceWords) (s : State) (decision : Decision) (word address : ℕ) (r : Ref)
-    → IsSource space s decision word → IsRef r → word ≡ ref_word r → address_in r ≡ Some address
-    → Follows space s decision address
-follows_ref space s decision word address r source in_range is at = record {
-  decided = source.decided;
-  room = source.room;
-  reached = source.reached address (record { reference = r; in_range = in_range; is = is; at = at });
-}
 
 -- one of the words
 pub source_at : (space : SpaceWords) (s : State) (decision : Decision) (words : List ℕ) (i : ℕ)

@@ -1,6 +1,6 @@
 -- The marks of the objects to which those that leave refer.
 use Rattle.std.proofs.Common.{◌≡◌, ◌↔◌, ◌⊎◌, inl, inr, ℕ, ◌+◌, ◌<◌, ◌≤◌, List, length, get_or, set, take, drop}
-use Rattle.std.proofs.Common.{◌++◌, replicate, refl, sym, ap, subst, ◌∙◌, arith, true}
+use Rattle.std.proofs.Common.{◌++◌, replicate, sym, ap, subst, ◌∙◌, arith, true}
 use Rattle.std.proofs.Common.{false, get_or-set_same, get_or-set_other}
 use Rattle.std.specs.Prelude.{Bool, None, Some, slice_get, slice_index}
 use Rattle.std.proofs.lemmas.Bool.{cases_eq, cases_lt}
@@ -81,18 +81,6 @@ next_slot slots n x = (
     | inr new ↦ (n, omega arith, new)
   ],
 )
-
-pub marks_start : (slots : List ℕ) (marks : List Bool) → MarksSlots slots 0 marks marks
-marks_start slots marks = record {
-  size = refl;
-  marked = λ x. (
-    inl,
-    λ why. elim why [
-      | inl old ↦ old
-      | inr none ↦ let below = none.1 in absurd (omega (arith, below))
-    ],
-  );
-}
 
 -- the next slot refers to an object
 pub marks_some : (slots : List ℕ) (n address : ℕ) (old a b : List Bool) → MarksSlots slots n old a

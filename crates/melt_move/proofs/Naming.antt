@@ -49,10 +49,6 @@ pub record NamesFirst (homes : NewHomes) (count : ℕ) (number old new : ℕ →
       → ((k : ℕ) (g : Given) → k < count → slice_get homes.given.items k ≡ Some g → home ≢ home_at homes k)
       → new home ≡ old home
 
-pub names_start : (homes : NewHomes) (number old : ℕ → Option ℕ) → NamesFirst homes 0 number old old
-names_start homes number old =
-    record { each = λ k n g below. absurd (omega (arith, below)); others = λ home free. refl }
-
 -- one home more, where its object has a number
 pub names_more : (homes : NewHomes) (count m : ℕ) (g : Given) (found : Option ℕ)
     (number old before after : ℕ → Option ℕ) → slice_get homes.given.items count ≡ Some g

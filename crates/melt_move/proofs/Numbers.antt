@@ -29,7 +29,8 @@ use Rattle.melt_move.proofs.Needs.{as_move, move_words, move_at, needs_fit}
 use Rattle.melt_move.proofs.Prepared.{count_need}
 use Rattle.melt_move.proofs.Counts.{counts_those, kept_in, found_in, differ_kept}
 
-as_there : (gs : List Given) (k : ℕ) (g : Given) → slice_get gs k ≡ Some g → slice_get (map as_move gs) k ≡ Some (as_move g)
+as_there : (gs : List Given) (k : ℕ) (g : Given) → slice_get gs k ≡ Some g
+    → slice_get (map as_move gs) k ≡ Some (as_move g)
 as_there [] k g at = absurd (cc)
 as_there (x ∷ gs) zero g at = ap (λ (y : Given). Some (as_move y)) (same_Some x g at)
 as_there (x ∷ gs) (suc k) g at = as_there gs k g at

@@ -186,7 +186,8 @@ module _ (word : ℕ) (words : List ℕ) (none : word ≡ 0) (rest : Picks words
     pick = λ i. suc (rest.pick i);
     within = λ i below. (let more = rest.within i (omega (arith, below, count_past)) in omega (arith, more));
     is_filled = λ i below. rest.is_filled i (omega (arith, below, count_past));
-    order = λ i j less below. (let more = rest.order i j less (omega (arith, below, count_past)) in omega (arith, more));
+    order = λ i j less below. (let more = rest.order i j less (omega (arith, below, count_past)) in
+        omega (arith, more));
   }
 
 picks : (words : List ℕ) → Picks words

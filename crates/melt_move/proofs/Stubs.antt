@@ -3,7 +3,7 @@ use Rattle.std.proofs.Common.{◌≡◌, ◌≢◌, ◌⊎◌, ℕ, zero, suc, �
 use Rattle.std.proofs.Common.{refl, sym, ◌∙◌, ap, subst, arith, inl, inr, length-append}
 use Rattle.std.specs.Prelude.{Bool, true, false, nat_lt, if◌then◌else◌, filter, slice_get, Option, Some}
 use Rattle.std.proofs.lemmas.Bool.{cases_eq}
-use Rattle.std.proofs.lemmas.List.{length-take, take_all, take_more}
+use Rattle.std.proofs.lemmas.List.{length-take, take_more}
 use Rattle.std.proofs.lemmas.List.Elements.{filter-append}
 use Rattle.std.proofs.lemmas.Option.{same_Some, get_or_from_slice_get, slice_get_within}
 use Rattle.melt_word.specs.Words.{IsShape, cost_of}
@@ -149,14 +149,6 @@ module _ (homes : NewHomes) (moves : List Relocation) (count : ℕ) (m : Relocat
         let is = slice_get-take moves count k x first in
         outside k x (slice_get_in_front moves (count + 1) k x (omega (arith, is.0)) is.1) some);
   }
-
--- all of them
-pub stubs_all : (homes : NewHomes) (moves : List Relocation) (count : ℕ) (heap : Heap) (end : ℕ) (image after : ℕ → ℕ)
-    → length moves ≡ count → WritesStubs homes (take count moves) heap end image after
-    → WritesStubs homes moves heap end image after
-stubs_all homes moves count heap end image after whole writes =
-    subst (λ (ms : List Relocation). WritesStubs homes ms heap end image after)
-    (take_all count moves (omega (arith, whole))) writes
 
 -- how many new homes there are, with one object more
 pub count_more : (homes : NewHomes) (moves : List Relocation) (count : ℕ) (m : Relocation)

@@ -177,8 +177,8 @@ abbrev pub HasRoomFor : ℕ → Option Names → Type 0
 HasRoomFor more None = Unit {0}
 HasRoomFor more (Some names) = more ≤ names.homes.spare
 
--- What stands behind a refusal. Only a fault of the disk gives the heap up, and then no register holds anything; it is a
--- fault in writing what had room.
+-- What stands behind a refusal. Only a fault of the disk gives the heap up, and then no register holds anything; it is
+-- a fault in writing what had room.
 abbrev pub IsRefused : {Disk : Type 0} → Heap → List Registers → List Registers → Stale Disk → Stale Disk → MoveRefusal
     → Type 0
 IsRefused heap held held_after disk disk_after (NoMemory back) = IsAsBefore heap back × (held_after ≡ held)

@@ -2,7 +2,6 @@
 use Rattle.std.proofs.Common.{◌≡◌, ◌≢◌, ℕ, zero, suc, ◌-◌, ◌^◌, ◌<◌, ◌≤◌, Bool, true, false, List, length}
 use Rattle.std.proofs.Common.{refl, sym, subst, arith, inl, inr}
 use Rattle.std.proofs.lemmas.Bool.{cases_lt}
-use Rattle.std.specs.Prelude.{Result, Ok, Err, IfOk}
 use Rattle.melt_io.specs.Outside.{Rose}
 use Rattle.melt_model.specs.declared.config.Config.{Config}
 use Rattle.melt_trace.specs.Script.{Script}
@@ -22,12 +21,6 @@ use Rattle.melt_safepoint.specs.Makes.{if_none_was}
 use Rattle.melt_safepoint.proofs.Collected.{just_collected, planned_one, stands_collected}
 use Rattle.melt_safepoint.proofs.MakingAgain.{owe_behind}
 use Rattle.melt_safepoint.proofs.Safepoints.{none_own}
-
--- what holds of a result by two things that hold of it
-pub ok_both : {X Y : Type 0} (r : Result X Y) (P Q R : X → Type 0) → ((x : X) → P x → Q x → R x) → IfOk r P → IfOk r Q
-    → IfOk r R
-ok_both (Ok x) P Q R both p q = both x p q
-ok_both (Err e) P Q R both p q = tt
 
 -- a count that has risen since then, has risen since before
 pub rose_since : (a b c : ℕ) → a ≤ b → b ≤ c → Rose b c → Rose a c

@@ -62,7 +62,8 @@ dropped_quiet v w t drops quiet u = ap (λ (x : View). call_of x u) drops.only �
 
 -- why the thread ends
 gone_lacks : (told : Bool) (script : Script) (config : Config) (shown : Shown) (forced : ℕ) (old : Row)
-    (t held need : ℕ) (s : ThreadState) → IsLacking old.states t s → LacksWords told script config shown forced old t need
+    (t held need : ℕ) (s : ThreadState) → IsLacking old.states t s
+    → LacksWords told script config shown forced old t need
     → (told ≡ true → NoRoom config old.view need)
     → ((disk : OnDisk) → Standing true disk old.view
     → CostsSum (words_of old.view.log) (Held (value old.view)) held)

@@ -1,12 +1,8 @@
 -- All threads that have not ended are halted.
-use Rattle.std.specs.Vec.{with_items}
 use Rattle.std.specs.Prelude.{map, None, Some, slice_get}
 use Rattle.std.specs.Option.{option_map}
-use Rattle.std.proofs.Common.{◌≡◌, ℕ, ◌+◌, ◌<◌, ◌≤◌, suc, List, [], ◌∷◌, length, refl, sym, ◌∙◌, ap, subst, arith, inl}
-use Rattle.std.proofs.Common.{inr, Vec, Global}
-use Rattle.std.proofs.Math.ListN.{set, length-set, length-map}
-use Rattle.std.proofs.lemmas.Bool.{cases_eq}
-use Rattle.std.proofs.lemmas.List.{with_items_is}
+use Rattle.std.proofs.Common.{◌≡◌, ℕ, ◌<◌, ◌≤◌, suc, List, [], ◌∷◌, length, refl, sym, ◌∙◌, ap, subst, arith, inl}
+use Rattle.std.proofs.Common.{inr}
 use Rattle.std.proofs.lemmas.List.Sums.{sum-map, sum_by-cons}
 use Rattle.std.proofs.lemmas.Option.{slice_get_cases, slice_get_within, slice_get-map, same_Some}
 use Rattle.melt_safepoint.specs.declared.thread.Mode.{Mode}
@@ -16,35 +12,12 @@ use Rattle.melt_safepoint.specs.declared.thread.ThreadState.{ThreadState}
 use Rattle.melt_safepoint.specs.Threads.{AllEnded, AreHalted, halted}
 use Rattle.melt_safepoint.specs.Modes.{halted_mode, IsEnded, lost}
 use Rattle.melt_safepoint.specs.Losses.{CountsLosses, losses}
-use Rattle.melt_safepoint.proofs.Threads.{get_set_same, get_set_other}
 
 -- So many threads are halted, and the others are as they were.
 pub record HaltedBelow (states after : List ThreadState) (n : ℕ) : Type 0 where
   pub count : length after ≡ length states
   pub done : (t : ℕ) (s : ThreadState) → t < n → slice_get states t ≡ Some s → slice_get after t ≡ Some (halted s)
   pub rest : (t : ℕ) → n ≤ t → slice_get after t ≡ slice_get states t
-
--- none is yet
-pub halted_none : (states : List ThreadState) → HaltedBelow states states 0
-halted_none states = record { count = refl; done = λ t s below at. absurd (omega arith); rest = λ t above. refl }
-
--- and one more
-pub halted_more : (states after : List ThreadState) (n : ℕ) (s : ThreadState) → HaltedBelow states after n
-    → slice_get after n ≡ Some s → HaltedBelow states (set after n (halted s)) (n + 1)
-halted_more states after n s so_far at = record {
-  count = length-set after n (halted s) ∙ so_far.count;
-  done = λ t x below there. elim (cases_eq t n) [
-    | inl same ↦
-        let here : slice_get states t ≡ Some s =
-        ap (slice_get states) same ∙ (sym (so_far.rest n (omega arith)) ∙ at) in
-        ap (slice_get (set after n (halted s))) same ∙ (get_set_same after n s (halted s) at
-        ∙ ap (λ (y : ThreadState). Some (halted y)) (same_Some s x (sym here ∙ there)))
-    | inr other ↦ get_set_other after n t (halted s) other
-        ∙ so_far.done t x (omega (arith, other, below)) there
-  ];
-  rest = λ t above. get_set_other after n t (halted s) (λ same. omega (arith, same, above))
-      ∙ so_far.rest t (omega (arith, above));
-}
 
 -- a list is another whose threads are halted, where each of its threads is one of those
 halted_each : (states after : List ThreadState) → length after ≡ length states
@@ -129,10 +102,3 @@ halted_ended states after halts = λ t s at.
           subst (λ (x : ThreadState). IsEnded x.mode) same (halted_over w.0.mode)
       | inr w ↦ absurd (let wrong : None ≡ Some s = ap (option_map halted) (sym w.1) ∙ there in cc)
     ]
-
--- in a vector that was written
-pub halted_written : (states : Vec ThreadState Global) (before after : List ThreadState) → before ≡ states.items
-    → AreHalted before after → AreHalted states.items (with_items states after).items
-halted_written states before after same halts =
-    let here : after ≡ map halted states.items = halts ∙ ap (map halted) same in
-    with_items_is states after (ap length here ∙ (length-map states.items halted ∙ sym states.ok.0)) ∙ here

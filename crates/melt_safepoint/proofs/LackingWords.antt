@@ -47,8 +47,8 @@ left_by config (suc (suc k)) v w need by marked history values above = λ held h
     let one : held ≡ only.words = CostsSum-one (words_of v.log) (Held (value v)) held only.words there only.holds in
     omega (arith, one, above, only.free)
 
--- What such a call leaves of a run: so many words end past the last one, and nothing else came of it. The operation is the
--- next one of its thread, and wants these words.
+-- What such a call leaves of a run: so many words end past the last one, and nothing else came of it. The operation is
+-- the next one of its thread, and wants these words.
 pub record LeavesLacking (told : Bool) (config : Config) (old new : Row) (t need : ℕ) : Type 0 where
   pub states : new.states ≡ old.states
   pub collector : new.collector ≡ old.collector

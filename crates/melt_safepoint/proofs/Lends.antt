@@ -65,7 +65,8 @@ lends_none k a b js later is grows = record {
 }
 
 -- where no more than so many were begun, no more than more
-pub lends_more : (k m n a b : ℕ) (js later : List Journal) → m ≤ n → LendsFew k m a b js later → LendsFew k n a b js later
+pub lends_more : (k m n a b : ℕ) (js later : List Journal) → m ≤ n → LendsFew k m a b js later
+    → LendsFew k n a b js later
 lends_more k m n a b js later less lends = record {
   epochs = lends.epochs;
   lent = lends.lent;

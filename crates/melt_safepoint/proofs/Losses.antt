@@ -1,5 +1,5 @@
 -- How many threads are lost, as faults are counted.
-use Rattle.std.specs.Prelude.{Some, slice_get, if◌then◌else◌, Bool, map, ◌⊎◌, Option, None}
+use Rattle.std.specs.Prelude.{Some, slice_get, if◌then◌else◌, Bool, map, ◌⊎◌}
 use Rattle.std.proofs.Common.{[], ◌≡◌, ℕ, ◌+◌, ◌-◌, ◌^◌, ◌<◌, ◌≤◌, suc, false, List, ◌∷◌, refl, sym, ap, subst, arith}
 use Rattle.std.proofs.Common.{inl, inr}
 use Rattle.std.proofs.Math.ListN.{set}
@@ -19,8 +19,8 @@ use Rattle.melt_safepoint.specs.declared.thread.Mode.TheVariants.{Running, Due, 
 use Rattle.melt_safepoint.specs.declared.thread.Mode.TheVariants.{Ended}
 use Rattle.melt_safepoint.specs.Run.{HasRisen}
 use Rattle.melt_safepoint.specs.Threads.{halted, TakesReply}
-use Rattle.melt_safepoint.specs.Modes.{halted_mode, IsEnded, mode_for, lost, lost_mode}
-use Rattle.melt_safepoint.specs.Losses.{losses, CountsLoss, CountsLosses, CountsOpen, open_faults}
+use Rattle.melt_safepoint.specs.Modes.{halted_mode, mode_for, lost, lost_mode}
+use Rattle.melt_safepoint.specs.Losses.{losses, CountsLoss, CountsLosses}
 use Rattle.melt_safepoint.proofs.Threads.{sum_set}
 
 -- how many threads are lost, where a state was set
@@ -32,16 +32,6 @@ losses_set states t s after at = sum_set (λ (x : ThreadState). lost x.mode) sta
 pub losses_same : (states : List ThreadState) (t : ℕ) (s after : ThreadState) → slice_get states t ≡ Some s
     → lost after.mode ≡ lost s.mode → losses (set states t after) ≡ losses states
 losses_same states t s after at same = omega (arith, same, losses_set states t s after at)
-
--- a thread that has not ended is not lost
-pub open_lost : (mode : Mode) → (IsEnded mode → ⊥) → lost mode ≡ 0
-open_lost Running goes = refl
-open_lost Due goes = refl
-open_lost Silent goes = refl
-open_lost Collecting goes = refl
-open_lost Asked goes = refl
-open_lost Lacking goes = refl
-open_lost (Ended e) goes = absurd (goes tt)
 
 -- nor one that got a reply
 pub told_lost : (s after : ThreadState) (reply : Reply) → TakesReply s after reply → lost after.mode ≡ 0
@@ -218,13 +208,6 @@ fresh_counts states mid after a b f g same reads none counts =
     counts_open states mid after a b f g
     (counts_same states mid a (b + f) (ap losses same) (omega (arith, reads))) counts
 
--- a count that was added to, has risen
-pub risen_back : (a b c f : ℕ) → c ≡ counted b f → b ≡ a → HasRisen a c
-risen_back a b c f is same = elim (counted_cases b f) [
-  | inl more ↦ inl (omega (arith, is, more, same))
-  | inr full ↦ inr (omega (arith, is, full))
-]
-
 -- where no thread is lost, the count of them that has risen is enough
 pub counts_risen : (states after : List ThreadState) (a b : ℕ) → losses after ≡ losses states → HasRisen a b
     → CountsLosses states after a b
@@ -246,21 +229,3 @@ counts_made states mid after a b c x y z same first second lost reads = record {
   lost = subst (CountsLosses states after x) (sym reads)
       (subst (λ (xs : List ThreadState). CountsLosses states xs x y) (sym same) lost);
 }
-
--- no reader is lent, so none more was lost than reads failed on those that were given back
-pub counts_closed : {Reader : Type 0} (faults : Reader → ℕ) (lent : Option Reader) (states after : List ThreadState)
-    (a b : ℕ) → lent ≡ None → CountsOpen states after a b (open_faults faults lent) → CountsLosses states after a b
-counts_closed faults lent states after a b none counts =
-    let no_more : open_faults faults lent ≡ 0 = ap (open_faults faults) none in
-    subst (CountsLosses states after a) (omega (arith, no_more)) counts
-
--- what was counted where the reader of an epoch is given back
-pub epoch_counts : (states mid begun after : List ThreadState) (a b c d e f g : ℕ) → begun ≡ mid → c ≡ b → f ≡ e
-    → CountsLosses states mid a (b + e) → CountsLosses begun after f g → d ≡ counted c g
-    → CountsLosses states after a d
-epoch_counts states mid begun after a b c d e f g same reads faults first second back =
-    let before : CountsLosses states mid a (c + f) =
-    subst (CountsLosses states mid a) (omega (arith, reads, faults)) first in
-    let epoch : CountsLosses mid after f g = subst (λ (xs : List ThreadState). CountsLosses xs after f g) same second in
-    subst (CountsLosses states after a) (sym back)
-    (counts_back states after a c g (counts_open states mid after a c f g before epoch))

@@ -107,7 +107,8 @@ pub may_end : (told : Bool) (script : Script) (config : Config) (report : Report
     → EndsSo told script report.history states config t (mode.Ended e) → MayEnd told script config report t e
 may_end told script config report states t end.Done same ends = ap length (sym (same t)) ∙ ends
 may_end told script config report states t (end.OutOfHeap held_words need) same ends = λ is.
-    LacksRoom_same script report.history (replies_of states) (replies_in report) config t held_words need same (ends is).0
+    LacksRoom_same script report.history (replies_of states) (replies_in report) config t held_words need same
+    (ends is).0
 may_end told script config report states t end.DiskFault same ends =
     subst (LoadsNext script t) (ap length (same t)) ends
 may_end told script config report states t (end.Damaged home at word) same ends =

@@ -127,7 +127,8 @@ held_left script v t r s stands goes =
 
 -- what a register holds, by how its thread ended and how many replies it got
 abbrev left_by : Script → List Entry → ℕ → ℕ → Bool → ℕ → Value
-left_by script log t r halts count = if halts then value_in (registers_after log t (operations script t) count) r else Nil
+left_by script log t r halts count =
+    if halts then value_in (registers_after log t (operations script t) count) r else Nil
 
 -- what a thread of the run holds is what is left of it
 thread_left : (script : Script) (config : Config) (disk : OnDisk) (v : View) (states : List ThreadState)
@@ -161,7 +162,8 @@ registers_left script config disk v states ended report t r table reports histor
           (reports.ends t state.0 w.0 state.1 w.2)
           ∙ (ap (λ (h : List Entry). left_by script h t r (is_halted w.0.end) (length state.0.replies.items)) history
           ∙ (ap (left_by script report.history t r (is_halted w.0.end)) count
-          ∙ sym (ap (λ (o : Option ThreadReport). left_by script report.history t r (halts o) (answered report t)) w.2)))
+          ∙ sym (ap (λ (o : Option ThreadReport). left_by script report.history t r (halts o) (answered report t))
+          w.2)))
       | inr w ↦
           let past : length v.held ≤ t = omega (arith, w.0, reports.count, table.count, table.threads) in
           ap (λ (regs : List ℕ). value_in (held_values v.names regs) r)
@@ -181,7 +183,8 @@ placed_values h disk v a stands history same =
 
 -- the heap for which a full disk was refused
 left_full : (script : Script) (config : Config) (seen : Shown) (disk : OnDisk) (v : View) (states : List ThreadState)
-    (ended : Ended) (report : Report) (heap : Heap) (finish need limit : ℕ) → TableStands true script config disk v states
+    (ended : Ended) (report : Report) (heap : Heap) (finish need limit : ℕ)
+    → TableStands true script config disk v states
     → ShowsHeap heap v → Reports states ended report → v.log ≡ report.history
     → Underlies true seen.end seen.image disk → EndsFull true config seen disk v ended finish need limit
     → IsFull script seen report heap finish need
@@ -290,7 +293,8 @@ pub all_over : (told : Bool) (script : Script) (config : Config) (shown : Shown)
 all_over told script config shown ended stands =
     over_by told config shown stands.disk stands.v stands.states ended ended.halt ended.left.heap stands.cause
 
--- what a run leaves of the counts of a disk, of which so many writes and lends failed and so many reads, before and after
+-- what a run leaves of the counts of a disk, of which so many writes and lends failed
+-- and so many reads, before and after
 pub counts_faults : (states : List ThreadState) (ended : Ended) (report : Report) (faults after lost lost_after : ℕ)
     → losses states ≡ 0 → faults ≤ after → StopCounts (Halted ended) states faults after lost lost_after
     → lost_in report ≡ losses ended.states.items → report.halt ≡ ended.halt

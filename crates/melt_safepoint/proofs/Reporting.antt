@@ -74,10 +74,6 @@ pub record Reported (states : List ThreadState) (threads : List ThreadReport) : 
   pub each : (t : ℕ) (s : ThreadState) (r : ThreadReport) → slice_get states t ≡ Some s → slice_get threads t ≡ Some r
       → (r.replies ≡ s.replies.items) × (s.mode ≡ Ended r.end)
 
--- none is reported yet
-pub reported_none : Reported [] []
-reported_none = record { count = refl; each = λ t s r at is. absurd (let none : slice_get [] t ≡ Some s = at in cc) }
-
 -- and one more
 pub reported_more : (states : List ThreadState) (threads : List ThreadReport) (s : ThreadState) (r : ThreadReport)
     → Reported states threads → r.replies ≡ s.replies.items → s.mode ≡ Ended r.end

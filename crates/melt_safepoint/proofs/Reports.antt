@@ -107,7 +107,8 @@ replies_same states ended report reports t =
 -- so of each thread of the report
 reported_end : (told : Bool) (script : Script) (config : Config) (ended : Ended) (report : Report)
     (states : List ThreadState) (t : ℕ) (s : ThreadState) (r : ThreadReport) → Reports states ended report
-    → EndsSo told script report.history states config t s.mode → EndsAs report s r → MayEnd told script config report t r.end
+    → EndsSo told script report.history states config t s.mode → EndsAs report s r
+    → MayEnd told script config report t r.end
 reported_end told script config ended report states t s r reports so (inl ends) =
     may_end told script config report states t r.end (replies_same states ended report reports)
     (subst (λ (m : Mode). EndsSo told script report.history states config t m) ends so)

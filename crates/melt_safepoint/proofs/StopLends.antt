@@ -5,7 +5,7 @@ use Rattle.melt_safepoint.specs.Lends.{LendsAtMost, LendsFew, LendsTwice}
 use Rattle.melt_safepoint.specs.Rows.{StopKeeps, StopLends, StopTwice}
 use Rattle.melt_safepoint.specs.declared.ending.Stop.{Stop}
 use Rattle.melt_safepoint.specs.declared.ending.Stop.TheVariants.{NoMemory, Halted}
-use Rattle.melt_safepoint.proofs.Lends.{lends_after, lends_more, lends_none, lends_one, lends_since, lends_then}
+use Rattle.melt_safepoint.proofs.Lends.{lends_after, lends_more, lends_one, lends_since, lends_then}
 use Rattle.melt_safepoint.proofs.Lends.{lends_twice, twice_first, twice_none, twice_then}
 
 -- in an epoch, which makes no collection
@@ -26,13 +26,6 @@ pub stop_since : (k m a b c : ℕ) (js mid : List Journal) (stop : Stop) → b �
 stop_since k m a b c js mid NoMemory same grows lends = tt
 stop_since k m a b c js mid (Halted ended) same grows lends =
     lends_since k m a b c js mid ended.journal.items same grows lends
-
--- where none was begun
-pub stop_none : (k a b : ℕ) (js mid : List Journal) (stop : Stop) → b ≡ a → length js ≤ length mid
-    → StopKeeps mid stop → StopLends k 0 a b js stop
-stop_none k a b js mid NoMemory same grows keeps = tt
-stop_none k a b js mid (Halted ended) same grows keeps =
-    lends_none k a b js ended.journal.items same (omega (arith, grows, ap length keeps))
 
 -- one after the other
 pub stop_then : (k m n a b c : ℕ) (js mid : List Journal) (stop : Stop) → LendsFew k m a b js mid

@@ -38,7 +38,8 @@ use Rattle.melt_safepoint.specs.Tables.{DropsIfEnded, TableStands, ThreadStep, T
 use Rattle.melt_safepoint.proofs.TableCounts.{adds_told}
 use Rattle.melt_safepoint.proofs.Collected.{collected_over, collected_table, just_behind, spare_collected, planned_one}
 use Rattle.melt_safepoint.proofs.Collected.{stands_collected}
-use Rattle.melt_safepoint.proofs.TableModes.{Table_gone, Table_runs, dropped_keeps, ends_done, nothing_keeps, drop_cases}
+use Rattle.melt_safepoint.proofs.TableModes.{Table_gone, Table_runs, dropped_keeps, ends_done, nothing_keeps}
+use Rattle.melt_safepoint.proofs.TableModes.{drop_cases}
 use Rattle.melt_safepoint.proofs.Tables.{Table_step, Table_untold, table_ready}
 use Rattle.melt_safepoint.proofs.WordsMade.{made_same}
 

@@ -9,7 +9,8 @@ use Rattle.melt_safepoint.specs.Modes.{ForCollection, IsEnded, IsPaused, jobs}
 use Rattle.melt_safepoint.specs.Passing.{CalledAt, CollectedAll, CollectedFor, Resumed}
 use Rattle.melt_safepoint.specs.Threads.{AllEnded, jobs_of, left}
 use Rattle.melt_safepoint.specs.declared.thread.Mode.{Mode}
-use Rattle.melt_safepoint.specs.declared.thread.Mode.TheVariants.{Asked, Collecting, Due, Ended, Lacking, Running, Silent}
+use Rattle.melt_safepoint.specs.declared.thread.Mode.TheVariants.{Asked, Collecting, Due, Ended, Lacking, Running}
+use Rattle.melt_safepoint.specs.declared.thread.Mode.TheVariants.{Silent}
 use Rattle.melt_safepoint.specs.declared.thread.ThreadState.{ThreadState}
 use Rattle.melt_safepoint.proofs.Passing.{collected_jobs}
 use Rattle.melt_safepoint.proofs.Threads.{sum_set}

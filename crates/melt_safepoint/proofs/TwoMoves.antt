@@ -13,26 +13,23 @@ use Rattle.melt_trace.specs.Script.{Script}
 use Rattle.melt_scion.specs.Heaps.{OnDisk}
 use Rattle.melt_core.specs.Views.{View, value, Standing}
 use Rattle.melt_safepoint.specs.declared.thread.ThreadState.{ThreadState}
-use Rattle.melt_safepoint.specs.Run.{HasRisen}
 use Rattle.melt_safepoint.specs.Passing.{WaitsForRoom, NoneOwn}
 use Rattle.melt_safepoint.specs.Shown.{Shown}
-use Rattle.melt_safepoint.specs.Losses.{losses}
 use Rattle.melt_safepoint.specs.Threads.{OweBehindCollects}
 use Rattle.melt_safepoint.proofs.Cuts.{held_words_same}
-use Rattle.melt_safepoint.proofs.Losses.{counts_risen}
 use Rattle.melt_safepoint.proofs.Lacking.{room_owes}
 use Rattle.melt_safepoint.specs.Collections.{CollectedOver, Gathers}
 use Rattle.melt_safepoint.specs.Rows.{AwaitsCall, LacksBy, LacksWords, LeftBy, Row}
 use Rattle.melt_safepoint.specs.Makes.{MovesBehind, MovesOnce}
 use Rattle.std.specs.Prelude.{Some}
-use Rattle.melt_safepoint.specs.Rows.{MakesCollection, NoRoom, StandsBut, StopCounts}
+use Rattle.melt_safepoint.specs.Rows.{MakesCollection, NoRoom, StandsBut}
 use Rattle.melt_safepoint.specs.Rows.{StopsBut, StopsForced, StopsFrom}
 use Rattle.melt_safepoint.specs.declared.ending.Stop.{Stop}
-use Rattle.melt_safepoint.proofs.Composing.{stop_counts_then}
 use Rattle.melt_safepoint.proofs.Collected.{just_collected, stands_collected}
 
 -- what one more forced Move leaves, by what its collection did
-left_again : {spare : List ℕ} (told : Bool) (config : Config) (forced : ℕ) (later : Shown) (v w : View) (entry : Journal) (need : ℕ)
+left_again : {spare : List ℕ} (told : Bool) (config : Config) (forced : ℕ) (later : Shown) (v w : View)
+    (entry : Journal) (need : ℕ)
     → told ≡ true → forced < 2 → LacksBy config forced v need → w.free ≡ entry.live + 1
     → CollectedOver told Move later spare v w entry → LeftBy (suc forced) w
 left_again {spare} told config zero later v w entry need tells few left free over = over.marked tells refl
@@ -67,15 +64,6 @@ awaits_again {told} {script} {config} {shown} {later} {forced} {old} {new} {t} {
       left = λ tells. left_again told config forced later old.view new.view made.collects.entry need tells
           few (lacks.left tells) made.collects.live over;
     }
-
--- what was counted where a run was stopped behind a part that lost no thread
-pub stop_counts_since : {A : Type 0} (result : Result A Stop) (states mid : List ThreadState) (a b c x y z : ℕ) → a ≤ b
-    → b ≤ c → mid ≡ states → HasRisen x y → IfErr result (λ stop. StopCounts stop mid b c y z)
-    → IfErr result (λ stop. StopCounts stop states a c x z)
-stop_counts_since {A} (Ok done) states mid a b c x y z first second same risen counts = tt
-stop_counts_since {A} (Err stop) states mid a b c x y z first second same risen counts =
-    stop_counts_then stop states mid a b c x y z first second (counts_risen states mid x y (ap losses same) risen)
-    counts
 
 -- what holds of a value, where more did
 pub if_ok_from : {A E : Type 0} (r : Result A E) (P Q : A → Type 0) → ((x : A) → P x → Q x) → IfOk r P → IfOk r Q

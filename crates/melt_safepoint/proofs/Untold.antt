@@ -83,7 +83,8 @@ run_as_told (Some words) false script config shown report heap some has = run_un
 -- the disk under a run
 under_untold : {told : Bool} {finish : ℕ} {image : Option (List ℕ)} {disk : OnDisk} → Underlies told finish image disk
     → Underlies false finish image disk
-under_untold {told} {finish} {image} {disk} under = record { ends = under.ends; tells = λ (is : false ≡ true). absurd (cc) }
+under_untold {told} {finish} {image} {disk} under =
+    record { ends = under.ends; tells = λ (is : false ≡ true). absurd (cc) }
 
 -- why a run has ended
 by_untold : (told : Bool) (config : Config) (shown : Shown) (disk : OnDisk) (v : View) (states : List ThreadState)

@@ -113,19 +113,20 @@ pub record FullOver (told : Bool) (later : Shown) (v w : View) (heap : Heap) (ne
   pub needs : CountsWords (state disk w) (WantsHome (state disk w)) need
 
 -- The disk had no room for the new homes of a Move. The heap is left, and what it shows.
-pub record IsFullCore (phase : Phase) (shown later : Shown) (v : View) (left : Left) (full : disk.DiskFull) : Type 0 where
-  pub of_phase : phase ≡ Move
-  pub end_is : full.end ≡ shown.end
-  pub limit_is : full.limit ≡ shown.limit
-  pub above : shown.limit < shown.end + full.need
-  pub end_stays : later.end ≡ shown.end
-  pub limit_stays : later.limit ≡ shown.limit
-  pub heap : Heap
-  pub there : left.heap ≡ Some heap
-  pub w : View
-  pub log : left.history ≡ w.log
-  pub each : (told : Bool) (disk : OnDisk) → Underlies told shown.end shown.image disk → Standing told disk v
-      → FullOver told later v w heap full.need
+pub record IsFullCore (phase : Phase) (shown later : Shown) (v : View) (left : Left) (full : disk.DiskFull) : Type 0
+  where
+    pub of_phase : phase ≡ Move
+    pub end_is : full.end ≡ shown.end
+    pub limit_is : full.limit ≡ shown.limit
+    pub above : shown.limit < shown.end + full.need
+    pub end_stays : later.end ≡ shown.end
+    pub limit_stays : later.limit ≡ shown.limit
+    pub heap : Heap
+    pub there : left.heap ≡ Some heap
+    pub w : View
+    pub log : left.history ≡ w.log
+    pub each : (told : Bool) (disk : OnDisk) → Underlies told shown.end shown.image disk → Standing told disk v
+        → FullOver told later v w heap full.need
 
 -- Why a collection was not made. Where a write failed, the history is left.
 abbrev pub IsRefusedCore : Phase → (shown later : Shown) → View → CollectRefusal → Type 0

@@ -32,9 +32,10 @@ pub record EndsFull (told : Bool) (config : Config) (shown : Shown) (disk : OnDi
   pub may_move : MayMove config (before ended.journal.items (length ended.journal.items))
   pub needs : told ≡ true → CountsWords (state disk v) (WantsHome (state disk v)) need
 
--- Why a run has ended, and what is left of it then: all threads have ended; or the disk was full, and they are halted; or
--- the disk failed, and they are halted and no heap is left.
-abbrev pub EndsBy : Bool → Config → Shown → OnDisk → View → List ThreadState → Ended → Option Halt → Option Heap → Type 0
+-- Why a run has ended, and what is left of it then: all threads have ended; or the disk was full, and they are halted;
+-- or the disk failed, and they are halted and no heap is left.
+abbrev pub EndsBy : Bool → Config → Shown → OnDisk → View → List ThreadState → Ended → Option Halt → Option Heap
+    → Type 0
 EndsBy told config shown disk v states ended None (Some heap) =
     AllEnded states × (ended.states.items ≡ states) × ShowsHeap heap v × Underlies told shown.end shown.image disk
 EndsBy told config shown disk v states ended (Some (halt.DiskFull finish need limit)) (Some heap) =
@@ -45,8 +46,8 @@ EndsBy told config shown disk v states ended None None = ⊥
 EndsBy told config shown disk v states ended (Some (halt.DiskFull finish need limit)) None = ⊥
 EndsBy told config shown disk v states ended (Some halt.DiskFault) (Some heap) = ⊥
 
--- A run that has ended, for the script, told or not: when it ended its threads stood so, over a disk. It is seen so, but
--- where it failed.
+-- A run that has ended, for the script, told or not: when it ended its threads stood so, over a disk. It is seen so,
+-- but where it failed.
 pub record EndedStands (told : Bool) (script : Script) (config : Config) (shown : Shown) (ended : Ended) : Type 0 where
   pub disk : OnDisk
   pub v : View

@@ -23,21 +23,22 @@ use Rattle.melt_safepoint.specs.declared.run.Run.{Run}
 
 -- A collection between two epochs: the one that was planned, or a Move where that was forced. It lends no reader.
 pub record CollectsSo {E S : Type 0} (view : E → View) (stored : List Entry → List Entry) (sees : Sees S)
-    (machine : E) (old new : Collector) (space later : S) (force : Bool) (result : Result E CollectRefusal) : Type 0 where
-  pub collected : IfOk result (λ (after : E). CollectsCore (phase_done force old.plan.next) (sees.shown space)
-      (sees.shown later) (view machine) (view after) old new)
-  pub refused : IfErr result (IsRefusedCore (phase_done force old.plan.next) (sees.shown space) (sees.shown later)
-      (view machine))
-  pub stores : IfErr result (RefusalStores stored)
-  pub journal_stays : OnErr result (new.journal.items ≡ old.journal.items)
-  pub failed : (left : Left) → result ≡ Err (DiskFault left) → Rose (sees.faults space) (sees.faults later)
-  pub same_disk : sees.name later ≡ sees.name space
-  pub count : sees.faults space ≤ sees.faults later
-  pub read_faults : sees.read_faults later ≡ sees.read_faults space
-  pub lends : sees.lends later ≡ sees.lends space
+    (machine : E) (old new : Collector) (space later : S) (force : Bool) (result : Result E CollectRefusal) : Type 0
+  where
+    pub collected : IfOk result (λ (after : E). CollectsCore (phase_done force old.plan.next) (sees.shown space)
+        (sees.shown later) (view machine) (view after) old new)
+    pub refused : IfErr result (IsRefusedCore (phase_done force old.plan.next) (sees.shown space) (sees.shown later)
+        (view machine))
+    pub stores : IfErr result (RefusalStores stored)
+    pub journal_stays : OnErr result (new.journal.items ≡ old.journal.items)
+    pub failed : (left : Left) → result ≡ Err (DiskFault left) → Rose (sees.faults space) (sees.faults later)
+    pub same_disk : sees.name later ≡ sees.name space
+    pub count : sees.faults space ≤ sees.faults later
+    pub read_faults : sees.read_faults later ≡ sees.read_faults space
+    pub lends : sees.lends later ≡ sees.lends space
 
--- An epoch: the threads go on, each as far as it can. Where one is to be the first, it makes its call before all others,
--- and where that lacks words, no other goes on: these words are answered.
+-- An epoch: the threads go on, each as far as it can. Where one is to be the first, it makes its call before all
+-- others, and where that lacks words, no other goes on: these words are answered.
 pub record RunsSo {E S : Type 0} (view : E → View) (stored : List Entry → List Entry) (sees : Sees S) (run : Run E)
     (space later : S) (first : Option ℕ) (result : Result (Run E × Option ℕ) Stop) : Type 0 where
   pub ends : IfOk result (λ (done : Run E × Option ℕ). EndsEpoch (sees.shown space) first (row_of view run)

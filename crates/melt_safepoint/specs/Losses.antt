@@ -22,7 +22,3 @@ pub record CountsLosses (states after : List ThreadState) (faults faults_after :
 abbrev pub open_faults : {Reader : Type 0} → (Reader → ℕ) → Option Reader → ℕ
 open_faults faults None = 0
 open_faults faults (Some reader) = faults reader
-
--- no more threads were lost than reads failed, on readers that were given back and on one that is lent still
-abbrev pub CountsOpen : List ThreadState → List ThreadState → (lost lost_after more : ℕ) → Type 0
-CountsOpen states after lost lost_after more = CountsLosses states after lost (lost_after + more)

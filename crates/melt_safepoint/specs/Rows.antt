@@ -33,8 +33,8 @@ use Rattle.melt_safepoint.specs.declared.ending.Stop.{Stop}
 use Rattle.melt_safepoint.specs.declared.ending.Stop.TheVariants.{NoMemory, Halted}
 use Rattle.melt_safepoint.specs.declared.run.Run.{Run}
 
--- What is seen of a run between two epochs: what its machine shows, its threads, its collections, how many words its heap
--- has, how often a silent collection is due, and whether it is told.
+-- What is seen of a run between two epochs: what its machine shows, its threads, its collections, how many words its
+-- heap has, how often a silent collection is due, and whether it is told.
 pub record Row : Type 0 where
   pub view : View
   pub states : List ThreadState
@@ -69,8 +69,8 @@ pub record CollectorStands (config : Config) (shown : Shown) (c : Collector) : T
   pub within : shown.end ≤ config.disk
   pub limit : shown.limit ≡ config.disk
 
--- A run between two epochs, for a script, told or not, as the run is, over a disk that is seen so and has no free homes,
--- where so many collections are unpaid.
+-- A run between two epochs, for a script, told or not, as the run is, over a disk that is seen so and has no free
+-- homes, where so many collections are unpaid.
 pub record StandsBut (unpaid : ℕ) (told : Bool) (script : Script) (config : Config) (shown : Shown) (run : Row)
     : Type 0 where
   pub disk : OnDisk
@@ -134,8 +134,8 @@ StopTwice readers more lends lends_after js NoMemory = Unit {0}
 StopTwice readers more lends lends_after js (Halted ended) =
     LendsTwice readers more lends lends_after js ended.journal.items
 
--- where a run was halted by a fault of the disk, so many writes and lends had failed before and after; and no thread more
--- was lost than reads failed
+-- where a run was halted by a fault of the disk, so many writes and lends had failed before and after; and no thread
+-- more was lost than reads failed
 abbrev pub StopCounts : Stop → List ThreadState → (faults faults_after lost lost_after : ℕ) → Type 0
 StopCounts NoMemory states faults faults_after lost lost_after = Unit {0}
 StopCounts (Halted ended) states faults faults_after lost lost_after =
@@ -173,8 +173,8 @@ LeftBy zero v = Unit {0}
 LeftBy (suc zero) v = IsMarked v
 LeftBy (suc (suc k)) v = OnlyHeld v
 
--- A run at a safepoint, behind a collection, and behind so many that were forced in a row: a thread that lacked room is to
--- make its call first, which pays for these collections. No thread waits for one of its own.
+-- A run at a safepoint, behind a collection, and behind so many that were forced in a row: a thread that lacked room is
+-- to make its call first, which pays for these collections. No thread waits for one of its own.
 pub record AwaitsCall (told : Bool) (script : Script) (config : Config) (shown : Shown) (forced : ℕ) (run : Row)
     (t : ℕ) : Type 0 where
   pub stands : StandsBut (suc forced) told script config shown run

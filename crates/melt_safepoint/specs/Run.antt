@@ -134,7 +134,8 @@ lost_in report = count_by (λ (r : ThreadReport). is_lost r.end) report.threads
 -- Each collection was made at some moment.
 abbrev pub HasCuts : Script → Config → Report → Type 0
 HasCuts script config report = (k : ℕ) (entry : Journal) → slice_get report.journal k ≡ Some entry
-    → (cut : Cut) × IsCut script report.history (replies_in report) config cut × IsCollectedAt script report.history entry cut
+    → (cut : Cut) × IsCut script report.history (replies_in report) config cut
+    × IsCollectedAt script report.history entry cut
 
 -- why a run may have been halted: by a disk that was full for a Move, which was planned or forced, or by one that
 -- failed
@@ -227,8 +228,8 @@ pub record CountsFaults (report : Report) (faults faults_after read_faults read_
 abbrev pub HasNoOperations : Script → Type 0
 HasNoOperations script = (t : ℕ) → operations script t ≡ []
 
--- What a run leaves of the count of lends, which lends so many readers at most in an epoch: it begins two epochs at most
--- for each collection, and one more; and it lends none where no thread has an operation.
+-- What a run leaves of the count of lends, which lends so many readers at most in an epoch: it begins two epochs at
+-- most for each collection, and one more; and it lends none where no thread has an operation.
 pub record CountsLends (readers : ℕ) (script : Script) (report : Report) (lends lends_after : ℕ) : Type 0 where
   pub epochs : ℕ
   pub lent : lends_after ≤ lends + readers * epochs

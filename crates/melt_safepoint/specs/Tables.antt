@@ -100,7 +100,8 @@ pub record ThreadRefused (v w : View) (t : ℕ) (s after : ThreadState) : Type 0
   pub pauses : Pauses v w t op cause
   pub only : after ≡ record s { mode = mode_for (refusal.Pause cause) }
 
--- The thread has ended, as its call, a load, read a record that could not be read, or is none. Its registers hold nothing.
+-- The thread has ended, as its call, a load, read a record that could not be read, or
+-- is none. Its registers hold nothing.
 pub record ThreadLost (told : Bool) (finish : ℕ) (v w : View) (t : ℕ) (s after : ThreadState) : Type 0 where
   pub op : Op
   pub next : s.op ≡ Some op
@@ -199,4 +200,5 @@ turn_left mode call = 0
 abbrev pub potential : List ThreadState → List (Option Call) → ℕ
 potential [] calls = 0
 potential (s ∷ states) [] = 2000000 * jobs s.mode (length (left s)) + turn_left s.mode None + potential states []
-potential (s ∷ states) (c ∷ calls) = 2000000 * jobs s.mode (length (left s)) + turn_left s.mode c + potential states calls
+potential (s ∷ states) (c ∷ calls) =
+    2000000 * jobs s.mode (length (left s)) + turn_left s.mode c + potential states calls

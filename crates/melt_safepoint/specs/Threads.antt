@@ -8,7 +8,7 @@ use Rattle.melt_model.specs.declared.reports.ThreadEnd.TheVariants as end
 use Rattle.melt_trace.specs.Grammar.{InRange}
 use Rattle.melt_trace.specs.Script.{Script, operations}
 use Rattle.melt_safepoint.specs.declared.thread.Mode.{Mode}
-use Rattle.melt_safepoint.specs.declared.thread.Mode.TheVariants.{Running, Due, Lacking, Ended}
+use Rattle.melt_safepoint.specs.declared.thread.Mode.TheVariants.{Running, Due, Ended}
 use Rattle.melt_safepoint.specs.declared.thread.ThreadState.{ThreadState}
 use Rattle.melt_safepoint.specs.Modes.{IsEnded, owes_silent, owes, collections_for, MayGo, IsPaused, jobs, halted_mode}
 
@@ -101,10 +101,6 @@ collections_due states = sum (map (λ (s : ThreadState). collections_for s.mode)
 -- some thread has not ended
 abbrev pub SomeGoesOn : List ThreadState → Type 0
 SomeGoesOn states = (t : ℕ) × ((s : ThreadState) × (slice_get states t ≡ Some s) × (IsEnded s.mode → ⊥))
-
--- some thread waits for room
-abbrev pub SomeLacks : List ThreadState → Type 0
-SomeLacks states = (t : ℕ) × ((s : ThreadState) × (slice_get states t ≡ Some s) × (s.mode ≡ Lacking))
 
 -- no thread can go on
 abbrev pub AllWait : List ThreadState → Type 0

@@ -1,7 +1,8 @@
 //! How a run ends: when all threads have ended, or when the disk stops it.
 //!
-//! A collection that finds the disk full or failing, and a reader that cannot be lent, halt the whole run: no thread can
-//! go on without its heap. What each thread was told until then stays true, and so a report is made in the same way.
+//! A collection that finds the disk full or failing, and a reader that cannot be lent, halt the whole run: no thread
+//! can go on without its heap. What each thread was told until then stays true, and so
+//! a report is made in the same way.
 ghost use Rattle.std.specs.Prelude.{◌≡◌, ℕ, Bool, IfOk, Some, slice_get};
 ghost use Rattle.melt_model.specs.declared.config.Config.{Config};
 ghost use Rattle.melt_trace.specs.Script.{Script};

@@ -1,8 +1,8 @@
 //! What runs the epochs of a run.
 //!
 //! Between two epochs no call is in flight, so heap, registers and history are all that a run has: its machine. What a
-//! row of epochs does with it is written once; how the threads take turns inside an epoch is told by a function, as a run
-//! by the written order and one of running threads differ there.
+//! row of epochs does with it is written once; how the threads take turns inside an epoch is told by a function, as a
+//! run by the written order and one of running threads differ there.
 ghost use Rattle.std.specs.Prelude.{◌≡◌, ℕ, ◌<◌, ◌≤◌, true, List, length, IfOk, IfErr, OnErr, Err};
 ghost use Rattle.melt_io.specs.Outside.{Rose};
 ghost use Rattle.melt_model.specs.Alive.{CostsSum, Held, words_of};
@@ -100,8 +100,8 @@ impl<C, F> Engine<C, F> {
         (self.collect)(machine, alloc, collector, space, force)
     }
 
-    /// Lets the threads go through an epoch, each as far as it can. Where a thread is to be the first, it makes its call
-    /// before all others, and where that lacks words, no other goes on: these words are answered.
+    /// Lets the threads go through an epoch, each as far as it can. Where a thread is to be the first, it makes its
+    /// call before all others, and where that lacks words, no other goes on: these words are answered.
     pub(crate) fn run_epoch<'a, E: Machine, S: Space>(
         &self,
         run: Run<'a, E>,

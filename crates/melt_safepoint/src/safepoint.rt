@@ -22,7 +22,8 @@ ghost use Rattle.melt_safepoint.specs.Modes.{ForCollection};
 ghost use Rattle.melt_safepoint.specs.Passing.{CollectedAll, CollectedAt, NoneOwn};
 ghost use Rattle.melt_safepoint.specs.Rows.{AwaitsCall, KeepsRun, LacksWords, MakesCollection, MakesFor, MakesForAll};
 ghost use Rattle.melt_safepoint.specs.Rows.{NoRoom, RunStands, SomeAwaits, SomeLacksWords, SomeStands, StopCounts};
-ghost use Rattle.melt_safepoint.specs.Rows.{StopKeeps, StopLends, StopStores, StopTwice, StopsForced, StopsFrom, StopsRun};
+ghost use Rattle.melt_safepoint.specs.Rows.{StopKeeps, StopLends, StopStores, StopTwice, StopsForced, StopsFrom};
+ghost use Rattle.melt_safepoint.specs.Rows.{StopsRun};
 ghost use Rattle.melt_safepoint.specs.Rows.{journal_of, row_of};
 ghost use Rattle.melt_safepoint.specs.Shown.{Shown};
 ghost use Rattle.melt_safepoint.specs.Tables.{DropsIfEnded};
@@ -187,7 +188,8 @@ impl<'a, E: Machine> Run<'a, E> {
             (S.sees.read_faults space.new)) }
         ensures stores { IfErr result (StopStores E.stored) }
         ensures lends { S.sees.lends space.new ≡ S.sees.lends space.old }
-        ensures stop_lends { IfErr result (λ stop. (n : ℕ) → LendsEach C.Fn F.Fn E.view E.stored S.sees engine.now n → StopTwice n 0 (S.sees.lends space.old)
+        ensures stop_lends { IfErr result (λ stop. (n : ℕ) → LendsEach C.Fn F.Fn E.view E.stored S.sees engine.now n
+            → StopTwice n 0 (S.sees.lends space.old)
             (S.sees.lends space.new) (journal_of (row_of E.view self.entry)) stop) }
     {
         let mut run = self;
@@ -212,7 +214,8 @@ impl<'a, E: Machine> Run<'a, E> {
         requires { IsSound (E.view self.now.machine) }
         ensures some { result ≡ true → forced < 2 }
         ensures none { result ≡ false → (2 ≤ forced) ⊎ ((disk : OnDisk) → Standing true disk (E.view self.now.machine)
-            → (held : ℕ) → CostsSum (words_of (E.view self.now.machine).log) (Held (value (E.view self.now.machine))) held
+            → (held : ℕ) → CostsSum (words_of (E.view self.now.machine).log) (Held (value (E.view self.now.machine)))
+            held
             → self.now.words < held + need) }
     {
         forced < 2 && self.may_fit(need)
@@ -220,7 +223,8 @@ impl<'a, E: Machine> Run<'a, E> {
 
     /// Ends a thread for which the heap has no room, even without what may leave it.
     fn out_of_heap(mut self, thread: u32, need: u32) -> Run<'a, E>
-        requires lacks { (shown : Shown) × ((forced : ℕ) × SomeLacksWords shown forced (row_of E.view self) thread need) }
+        requires lacks { (shown : Shown)
+            × ((forced : ℕ) × SomeLacksWords shown forced (row_of E.view self) thread need) }
         ensures keeps { (shown : Shown) (told : Bool) (script : Script) (config : Config) (forced : ℕ)
             → LacksWords told script config shown forced (row_of E.view self.entry) thread need
             → (told ≡ true → NoRoom config (E.view self.entry.machine) need)
@@ -265,7 +269,8 @@ impl<'a, E: Machine> Run<'a, E> {
         ensures rests { IfOk result (λ run. RestsWell run.states.items) }
         ensures lost { IfOk result (λ run. CountsLosses self.entry.states.items run.states.items
             (S.sees.read_faults space.old) (S.sees.read_faults space.new)) }
-        ensures lends { IfOk result (λ run. (n : ℕ) → LendsEach C.Fn F.Fn E.view E.stored S.sees engine.now n → LendsFew n 1 (S.sees.lends space.old)
+        ensures lends { IfOk result (λ run. (n : ℕ) → LendsEach C.Fn F.Fn E.view E.stored S.sees engine.now n
+            → LendsFew n 1 (S.sees.lends space.old)
             (S.sees.lends space.new) (journal_of (row_of E.view self.entry)) (journal_of (row_of E.view run))) }
         ensures same_disk { S.sees.name space.new ≡ S.sees.name space.old }
         ensures count { S.sees.faults space.old ≤ S.sees.faults space.new }
@@ -276,7 +281,8 @@ impl<'a, E: Machine> Run<'a, E> {
             (S.sees.faults space.old) (S.sees.faults space.new) (S.sees.read_faults space.old)
             (S.sees.read_faults space.new)) }
         ensures stores { IfErr result (StopStores E.stored) }
-        ensures stop_lends { IfErr result (λ stop. (n : ℕ) → LendsEach C.Fn F.Fn E.view E.stored S.sees engine.now n → StopLends n 1 (S.sees.lends space.old)
+        ensures stop_lends { IfErr result (λ stop. (n : ℕ) → LendsEach C.Fn F.Fn E.view E.stored S.sees engine.now n
+            → StopLends n 1 (S.sees.lends space.old)
             (S.sees.lends space.new) (journal_of (row_of E.view self.entry)) stop) }
     {
         let (mut run, mut need, mut forced) = (self, need, 0);
@@ -294,8 +300,8 @@ impl<'a, E: Machine> Run<'a, E> {
     }
 
     /// Lets the first thread that lacked room make its call, behind a collection, and then all others go on. Where it
-    /// lacks room still, what no register holds is moved to the disk, in two Moves at most: one leaves it stale, and the
-    /// next writes it.
+    /// lacks room still, what no register holds is moved to the disk, in two Moves at most: one leaves it stale, and
+    /// the next writes it.
     fn make_room<S: Space, C, F>(
         self,
         alloc: Global,
@@ -324,7 +330,8 @@ impl<'a, E: Machine> Run<'a, E> {
         ensures rests { IfOk result (λ run. RestsWell run.states.items) }
         ensures lost { IfOk result (λ run. CountsLosses self.entry.states.items run.states.items
             (S.sees.read_faults space.old) (S.sees.read_faults space.new)) }
-        ensures lends { IfOk result (λ run. (n : ℕ) → LendsEach C.Fn F.Fn E.view E.stored S.sees engine.now n → LendsFew n 2 (S.sees.lends space.old)
+        ensures lends { IfOk result (λ run. (n : ℕ) → LendsEach C.Fn F.Fn E.view E.stored S.sees engine.now n
+            → LendsFew n 2 (S.sees.lends space.old)
             (S.sees.lends space.new) (journal_of (row_of E.view self.entry)) (journal_of (row_of E.view run))) }
         ensures same_disk { S.sees.name space.new ≡ S.sees.name space.old }
         ensures count { S.sees.faults space.old ≤ S.sees.faults space.new }
@@ -335,7 +342,8 @@ impl<'a, E: Machine> Run<'a, E> {
             (S.sees.faults space.old) (S.sees.faults space.new) (S.sees.read_faults space.old)
             (S.sees.read_faults space.new)) }
         ensures stores { IfErr result (StopStores E.stored) }
-        ensures stop_lends { IfErr result (λ stop. (n : ℕ) → LendsEach C.Fn F.Fn E.view E.stored S.sees engine.now n → StopLends n 2 (S.sees.lends space.old)
+        ensures stop_lends { IfErr result (λ stop. (n : ℕ) → LendsEach C.Fn F.Fn E.view E.stored S.sees engine.now n
+            → StopLends n 2 (S.sees.lends space.old)
             (S.sees.lends space.new) (journal_of (row_of E.view self.entry)) stop) }
     {
         let (run, lacks) = engine.run_epoch(self, alloc, space, Some(thread))?;
@@ -374,7 +382,8 @@ impl<'a, E: Machine> Run<'a, E> {
         ensures rests { IfOk result (λ run. RestsWell run.states.items) }
         ensures lost { IfOk result (λ run. CountsLosses self.entry.states.items run.states.items
             (S.sees.read_faults space.old) (S.sees.read_faults space.new)) }
-        ensures lends { IfOk result (λ run. (n : ℕ) → LendsEach C.Fn F.Fn E.view E.stored S.sees engine.now n → LendsTwice n 0 (S.sees.lends space.old)
+        ensures lends { IfOk result (λ run. (n : ℕ) → LendsEach C.Fn F.Fn E.view E.stored S.sees engine.now n
+            → LendsTwice n 0 (S.sees.lends space.old)
             (S.sees.lends space.new) (journal_of (row_of E.view self.entry)) (journal_of (row_of E.view run))) }
         ensures same_disk { S.sees.name space.new ≡ S.sees.name space.old }
         ensures count { S.sees.faults space.old ≤ S.sees.faults space.new }
@@ -384,7 +393,8 @@ impl<'a, E: Machine> Run<'a, E> {
             (S.sees.faults space.old) (S.sees.faults space.new) (S.sees.read_faults space.old)
             (S.sees.read_faults space.new)) }
         ensures stores { IfErr result (StopStores E.stored) }
-        ensures stop_lends { IfErr result (λ stop. (n : ℕ) → LendsEach C.Fn F.Fn E.view E.stored S.sees engine.now n → StopTwice n 0 (S.sees.lends space.old)
+        ensures stop_lends { IfErr result (λ stop. (n : ℕ) → LendsEach C.Fn F.Fn E.view E.stored S.sees engine.now n
+            → StopTwice n 0 (S.sees.lends space.old)
             (S.sees.lends space.new) (journal_of (row_of E.view self.entry)) stop) }
     {
         let made = self.collector.journal.len();

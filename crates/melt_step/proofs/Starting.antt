@@ -49,7 +49,8 @@ no_name words (suc k) = get_or_replicate words k None
 
 -- a new heap tells the empty history over each disk without homes
 tells_new : (image : Option (List ℕ)) (words globals forward : ℕ) (heap : Heap) (rest : Rest) → words < 2 ^ 30
-    → IsNewHeap words globals forward true heap → Tells [] (maps_of heap.names) (state_of heap rest.held.items (bare image))
+    → IsNewHeap words globals forward true heap
+    → Tells [] (maps_of heap.names) (state_of heap rest.held.items (bare image))
 tells_new image words globals forward heap rest small new_heap =
     let clear : IsEmpty (state_of heap rest.held.items no_homes_on) =
     new_heap_empty heap rest.held.items words globals forward true small new_heap in
@@ -231,7 +232,8 @@ pub begins_new : (told : Bool) (script : Script) (config : Config) (entries glob
     → globals ≡ script.globals → threads ≡ length script.programs → threads ≤ 8
     → IsNewHeap config.heap globals config.forward true heap → IsNewRest threads entries rest
     → AreNewThreads script states entries → Begins told script config image (view (core_of heap rest)) states
-begins_new told script config entries globals threads image heap rest states ranges all_globals all_threads eight is_heap
+begins_new told script config entries globals threads image heap rest states ranges all_globals all_threads eight
+    is_heap
     is_rest new_states =
     let new_heap : IsNewHeap config.heap script.globals config.forward true heap =
     subst (λ (n : ℕ). IsNewHeap config.heap n config.forward true heap) all_globals is_heap in

@@ -63,11 +63,13 @@ pub fn begin_epoch<'a>(mut run: Run<'a, Ordered<'a>>) -> Run<'a, Ordered<'a>>
     run
 }
 
-/// What is left of a run when no reader can be lent: each thread that has not ended is halted, and the heap is given up.
+/// What is left of a run when no reader can be lent: each thread that has not ended is
+/// halted, and the heap is given up.
 pub fn give_up<'a>(run: Run<'a, Ordered<'a>>) -> Ended<'a>
     requires quiet { IsQuiet (view run.machine.core) }
     ensures stands { (told : Bool) (script : Script) (config : Config) (unpaid : ℕ) (shown : Shown)
-        → StandsBut unpaid told script config shown (row_of core_view run.entry) → EndedStands told script config shown result }
+        → StandsBut unpaid told script config shown (row_of core_view run.entry)
+        → EndedStands told script config shown result }
     ensures lost { (faults : ℕ) → CountsLosses run.entry.states.items result.states.items faults faults }
     ensures halt { result.halt ≡ Some Halt.DiskFault }
     ensures journal { result.journal ≡ run.entry.collector.journal }
@@ -192,8 +194,8 @@ fn go_on<R: RecordReader>(run: &mut Run<'_, Ordered<'_>>, end: u32, reader: &mut
     give_events(run, end, reader);
 }
 
-/// Lets all threads go on until none can, in an epoch that has just begun. Where one is to be the first, it makes its call
-/// before; and where that lacks words, these are answered, and no other goes on.
+/// Lets all threads go on until none can, in an epoch that has just begun. Where one is to be the first, it makes its
+/// call before; and where that lacks words, these are answered, and no other goes on.
 pub fn go_through<R: RecordReader>(
     run: &mut Run<'_, Ordered<'_>>,
     first: Option<u32>,

@@ -64,9 +64,9 @@ pub fn new_run<'a>(
 /// Runs a trace over a disk without homes, of which the space is to have the limit of the configuration. Objects that
 /// are not used for some collections move to the disk, and come back when they are used.
 ///
-/// A thread ends out of heap where its next operation needs more words than the heap has beside those of the objects that
-/// registers hold; and it ends where the record that it needs cannot be read, or is none. A full disk, and one whose
-/// writes or lends fail, halt the run.
+/// A thread ends out of heap where its next operation needs more words than the heap has beside those of the objects
+/// that registers hold; and it ends where the record that it needs cannot be read, or is none. A full disk, and one
+/// whose writes or lends fail, halt the run.
 pub fn run_schedule<D: StaleDisk>(
     alloc: Global,
     trace: &Trace,

@@ -1,5 +1,6 @@
 //! The order in which threads take their events.
-ghost use Rattle.std.specs.Prelude.{◌≡◌, ◌↔◌, ℕ, ◌+◌, ◌<◌, ◌≤◌, ◌⊎◌, length, slice_get, true, Some, None, IfSome, IfNone};
+ghost use Rattle.std.specs.Prelude.{◌≡◌, ◌↔◌, ℕ, ◌+◌, ◌<◌, ◌≤◌, ◌⊎◌, length, slice_get, true, Some, None, IfSome};
+ghost use Rattle.std.specs.Prelude.{IfNone};
 ghost use Rattle.melt_safepoint.specs.declared.thread.ThreadState.{ThreadState};
 ghost use Rattle.melt_safepoint.specs.Modes.{MayGo};
 ghost use Rattle.melt_step.specs.Turns.{GoesAt, InTurn, NoLine, NoTurn, NoneGoes, OfLine};

@@ -37,7 +37,8 @@ loop-events-preserved g c =
     let n = 2 * c.loop-events.events-counter in
     let o = c.new-op.result in
     let first : Onward no_homes_on u (view c.advance-first.new.core) o (n + 1) =
-    onward_event (Unit {0}) no_homes_on u (view c.loop-events.core) (view c.advance-first.new.core) 0 o n c.advance-first.result
+    onward_event (Unit {0}) no_homes_on u (view c.loop-events.core) (view c.advance-first.new.core) 0 o n
+    c.advance-first.result
     c.advance-first.ensures c.loop-events.invariant in
     let both : Onward no_homes_on u (view c.advance-second.new.core) o (n + 1 + 1) =
     onward_event (Unit {0}) no_homes_on u (view c.advance-first.new.core) (view c.advance-second.new.core) 1 o (n + 1)

@@ -15,7 +15,8 @@ returns-in_default c =
     let t = c.args.thread in
     let kept = c.loop-events.invariant in
     let over : IsOver v w t =
-    event_over (Unit {0}) no_homes_on v w t c.args.op c.advance.result c.in_default.not-Going c.advance.ensures.outcome in
+    event_over (Unit {0}) no_homes_on v w t c.args.op c.advance.result c.in_default.not-Going
+    c.advance.ensures.outcome in
     record {
       stands = c.advance.ensures.keeps false (λ told. tt) kept.0;
       others = KeepsOthers_both u v w t kept.1 c.advance.ensures.others;

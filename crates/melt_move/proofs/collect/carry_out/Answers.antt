@@ -135,5 +135,6 @@ returns-clause-writes g c =
     let bodies : RisesBy leaving before now =
     subst (λ d. RisesBy leaving (writes d) now) c.reserve_homes.ensures.disk
     c.in_ok-write_bodies.ensures.one_write_each in
-    IfOk-weaker c.give_scions.result (λ count. RisesBy count now after) (λ count. RisesBy (leaving + count) before after)
+    IfOk-weaker c.give_scions.result (λ count. RisesBy count now after)
+    (λ count. RisesBy (leaving + count) before after)
     (λ count stubs. rises_both leaving count before now after bodies stubs) c.give_scions.ensures.one_write_each

@@ -50,10 +50,12 @@ need_counted g c maps disk end formed =
 
 pub lacks_room-requires-clause-small : goal.lacks_room-requires-clause-small
 lacks_room-requires-clause-small g c = λ κs within.
-    let formed = formed_on c.args.heap c.prepare.new.heap c.in-Ok.ensures.as_before c.args.held.now _ c.requires.formed in
+    let formed = formed_on c.args.heap c.prepare.new.heap c.in-Ok.ensures.as_before c.args.held.now _
+    c.requires.formed in
     let first = c.in-Ok.ensures.first in
     let end = c.end.ensures in
-    let decided = c.in-Ok.ensures.decides formed.maps formed.disk (formed.end_is ∙ (sym end ∙ sym first)) formed.formed in
+    let decided = c.in-Ok.ensures.decides formed.maps formed.disk (formed.end_is
+    ∙ (sym end ∙ sym first)) formed.formed in
     let counts = decided.homes.counts in
     let small = decided.homes.small in
     omega (arith, counts, small)
@@ -143,7 +145,8 @@ returns-clause-moves g c =
           let out = c.in-Ok-carry_out.ensures.carries maps disk end shows
           (maps_same c.args.heap c.prepare.new.heap before maps names) there in
           moved_same c.args.heap c.prepare.new.heap before maps disk _ c.args.held.now c.carry_out.new.held _ _ _
-          (has_moved maps disk c.prepare.new.heap _ c.args.held.now c.carry_out.new.held c.in-Ok.prepared.0 _ _ decided there
+          (has_moved maps disk c.prepare.new.heap _ c.args.held.now c.carry_out.new.held c.in-Ok.prepared.0 _ _ decided
+          there
           out _ c.used.ensures.value refl (let len = c.len.ensures in let ok = c.in-Ok.prepared.0.choice.leaving.ok.0 in
           omega (arith, len, ok)) c.in-Ok-carry_out.ensures.stubs
           (let grows = c.carry_out.ensures.grows in omega (arith, grows, end)));

@@ -14,9 +14,11 @@ use Rattle.melt_step.proofs.epoch.go_through.Goals as goal
 use Rattle.melt_step.proofs.epoch.go_through.Goals.{In-None-call}
 
 -- the thread that is to be the first may make its call
-awaited : (g : Over) (c : In-None-call g) → SomeMayRun c.requires.may.0 (Some c.in-Some.thread) (row_of core_view c.args.run.now)
+awaited : (g : Over) (c : In-None-call g)
+    → SomeMayRun c.requires.may.0 (Some c.in-Some.thread) (row_of core_view c.args.run.now)
 awaited g c =
-    subst (λ (f : Option ℕ). SomeMayRun c.requires.may.0 f (row_of core_view c.args.run.now)) c.in-Some.is c.requires.may.3
+    subst (λ (f : Option ℕ). SomeMayRun c.requires.may.0 f (row_of core_view c.args.run.now)) c.in-Some.is
+    c.requires.may.3
 
 -- it made it
 made : (g : Over) (c : In-None-call g) (shown : Shown) → shown.end ≡ c.args.end

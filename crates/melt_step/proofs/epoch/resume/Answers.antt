@@ -32,7 +32,8 @@ returns c =
           c.requires.quiet refl refl refl refl refl;
       core = refl;
       collector = refl;
-      stop = again_knows c.args.run.now.states.items _ c.loop-state.state-index (view c.args.run.now.machine.core) looped
+      stop = again_knows c.args.run.now.states.items _ c.loop-state.state-index (view c.args.run.now.machine.core)
+          looped
           over c.requires.own c.requires.stop;
       resumed = again_resumed c.args.run.now.states.items _ c.loop-state.state-index looped over c.requires.own;
       lost = looped.lost;

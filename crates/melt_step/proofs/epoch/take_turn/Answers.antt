@@ -74,7 +74,8 @@ returns g c =
       there =
           let within : c.in-Some.thread < length states = slice_get_within states c.in-Some.thread s borrowed.0 in
           omega (arith, within, length-set states c.in-Some.thread after);
-      nearer = λ some. step_less stands.3.0 stands.3.1 stands.3.2 stands.0 c.args.end _ (row_of core_view c.args.run.now)
+      nearer = λ some. step_less stands.3.0 stands.3.1 stands.3.2 stands.0 c.args.end _
+          (row_of core_view c.args.run.now)
           (view c.make_event.new.core) c.in-Some.thread s after stands.3.3 stands.1 borrowed.0 borrowed.1
           c.make_event.ensures.step;
       less = step_to_do stands.3.0 stands.3.1 stands.3.2 stands.0 c.args.end _ (row_of core_view c.args.run.now)

@@ -13,7 +13,8 @@ use Rattle.melt_step.proofs.run.new_run.Goals as goal
 use Rattle.melt_step.proofs.run.new_run.Goals.{After-new-4}
 
 -- what its threads stand for, and what is at rest
-begun : (c : After-new-4) (shown : Shown) → Begins c.args.told c.args.trace.now c.args.config shown.image (view c.begin.result)
+begun : (c : After-new-4) (shown : Shown)
+    → Begins c.args.told c.args.trace.now c.args.config shown.image (view c.begin.result)
     c.in_ok-states.states.items
 begun c shown =
     subst (λ (core : Core). Begins c.args.told c.args.trace.now c.args.config shown.image (view core)

@@ -15,7 +15,8 @@ returns-in_default-stage g c =
     let v : View = view c.args.self.now in
     let w : View = view c.after_stage.new.self in
     let none : NeedsNoRead (stage_of v c.args.thread) =
-    in_flight c.requires.disk v c.args.thread c.args.op c.index.result.now c.in-Some.call c.requires.asks c.index.ensures
+    in_flight c.requires.disk v c.args.thread c.args.op c.index.result.now c.in-Some.call c.requires.asks
+    c.index.ensures
     c.in-Some.is c.in_default-stage.not-Missed c.in_default-stage.not-HeadRead in
     record {
       advances = moves_advance c.args.end (g.R.RecordReader.image c.args.reader.now) v w c.args.thread c.args.op

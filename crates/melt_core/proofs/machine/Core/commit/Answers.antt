@@ -11,7 +11,8 @@ use Rattle.melt_core.specs.declared.call.Stage.{Stage}
 use Rattle.melt_core.specs.declared.call.Stage.TheVariants.{Copied, Retrying}
 use Rattle.melt_core.specs.declared.machine.Core.{Core}
 use Rattle.melt_core.proofs.Asked.{asks_over, call_at}
-use Rattle.melt_core.proofs.Entered.{IsCopied, commit_advances, copied_few, copied_probes, lost_advances, taken_advances}
+use Rattle.melt_core.proofs.Entered.{IsCopied, commit_advances, copied_few, copied_probes, lost_advances}
+use Rattle.melt_core.proofs.Entered.{taken_advances}
 use Rattle.melt_core.proofs.machine.Core.commit.Goals.{in-Empty, in-At, in-Another}
 use Rattle.melt_core.proofs.machine.Core.commit.Goals as goal
 
@@ -59,7 +60,8 @@ returns c = record {
       let behind : advances (view c.match-probe.self) c.match-probe.stage = elim c.match-probe.branch [
         | in-Empty w ↦
             advances_as advances c.match-probe.self w.enter.new.self c.match-probe.stage (reached a.search a.address)
-            w.self-is (w.stage-is ∙ w.reached-stage.ensures) (commit_advances disk is w.in-Empty.ensures w.enter.ensures)
+            w.self-is (w.stage-is ∙ w.reached-stage.ensures)
+            (commit_advances disk is w.in-Empty.ensures w.enter.ensures)
         | in-At w ↦
             advances_as advances c.match-probe.self c.args.self.now c.match-probe.stage
             (reached a.search w.in-At.winner) w.self-is (w.stage-is ∙ w.reached-stage-in-At.ensures)

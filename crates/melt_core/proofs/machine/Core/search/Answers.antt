@@ -20,7 +20,8 @@ further-requires c =
     let asks = c.requires.asks.asks in
     few_more c.requires.asks.disk v c.args.search asks.stands
     (known_at c.requires.asks.disk v c.args.thread c.args.op (Searching c.args.search) asks c.requires.stage).probed
-    (not_over c.args.search.tried (length v.forward) (λ all. let e = c.if-is_over.ensures.1 all in cc)) c.in-Another.ensures
+    (not_over c.args.search.tried (length v.forward) (λ all. let e = c.if-is_over.ensures.1 all in cc))
+    c.in-Another.ensures
 
 pub returns : goal.returns
 returns c = record {
@@ -38,5 +39,6 @@ returns c = record {
       (subst (λ (g : Stage). AdvancesOver disk v (with_call v c.args.thread
       (Some (record { op = c.args.op; stage = g }))) c.args.thread c.args.op Going) (sym stage)
       (search_advances disk v c.args.thread c.args.op c.args.search c.probe.result asks c.requires.stage
-      (not_over c.args.search.tried (length v.forward) (λ all. let e = c.if-is_over.ensures.1 all in cc)) c.probe.ensures));
+      (not_over c.args.search.tried (length v.forward) (λ all. let e = c.if-is_over.ensures.1 all in cc))
+      c.probe.ensures));
 }

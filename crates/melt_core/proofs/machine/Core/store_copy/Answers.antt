@@ -17,7 +17,8 @@ pub set_stage-requires-clause-call : goal.set_stage-requires-clause-call
 set_stage-requires-clause-call c =
     let disk = c.requires.asks.disk in
     let stage : Stage = Copying c.args.activation c.args.stored in
-    let call = call_at disk (view c.args.self.now) c.args.thread c.args.op stage c.requires.asks.asks c.requires.stage in (
+    let call = call_at disk (view c.args.self.now) c.args.thread c.args.op stage c.requires.asks.asks
+    c.requires.stage in (
       stage,
       elim c.if-next-cost.branch [
         | then-next-cost w ↦

@@ -85,7 +85,8 @@ take_collection-requires g c =
 
 pub drop_if_ended-requires-clause-thread : goal.drop_if_ended-requires-clause-thread
 drop_if_ended-requires-clause-thread g c =
-    collected_thread c.requires.stands.0 c.requires.stands.1 c.requires.stands.2 _ _ (row_of g.E.Machine.view c.args.self)
+    collected_thread c.requires.stands.0 c.requires.stands.1 c.requires.stands.2 _ _
+    (row_of g.E.Machine.view c.args.self)
     (row_of g.E.Machine.view c.in_ok-run.run') c.args.thread c.requires.stands.3 c.in_ok-run.ensures.made
     c.requires.thread
 
@@ -131,7 +132,8 @@ returns-clause-only g c =
           (ap (λ (xs : List ThreadState). set xs c.args.thread after) c.in_ok-run.ensures.made.states),
       subst (λ (y : ThreadState). CollectedFor y after) (same_Some s x (sym by.at ∙ there))
           (taken_fewer c.in_ok-run.run'.every s after by.waits by.takes
-          (collecting_op c.requires.stands.0 c.requires.stands.1 c.requires.stands.2 _ (row_of g.E.Machine.view c.args.self)
+          (collecting_op c.requires.stands.0 c.requires.stands.1 c.requires.stands.2 _
+          (row_of g.E.Machine.view c.args.self)
           c.args.thread s c.requires.stands.3 by.at)),
     )
 

@@ -97,7 +97,8 @@ returns-in_err-run-clause-stop_lends g c =
     planned_longer c.requires.stands.2 _ (journal_of was) (journal_of now)
     (c.loop-t.invariant.made.planned c.requires.stands.0 c.requires.stands.1 c.requires.stands.2 c.requires.stands.3) in
     rw (exit.1, exit.2)
-    (λ n by. twice_stop_none _ _ _ (journal_of was) (journal_of now) _ (c.in_err-run.ensures.lends ∙ c.loop-t.invariant.lends)
+    (λ n by. twice_stop_none _ _ _ (journal_of was) (journal_of now) _ (c.in_err-run.ensures.lends
+    ∙ c.loop-t.invariant.lends)
     (omega (arith, longer)) c.in_err-run.ensures.stop_keeps)
 
 pub returns-clause-all : goal.returns-clause-all
@@ -107,5 +108,6 @@ returns-clause-all g c =
 
 pub returns-clause-made : goal.returns-clause-made
 returns-clause-made g c =
-    below_all _ (row_of g.E.Machine.view c.args.self) (row_of g.E.Machine.view c.loop-t.run) c.loop-t.t c.loop-t.invariant.made
+    below_all _ (row_of g.E.Machine.view c.args.self) (row_of g.E.Machine.view c.loop-t.run) c.loop-t.t
+    c.loop-t.invariant.made
     (omega (arith, c.loop-t-test.false, c.len-t-end.ensures, c.args.self.states.ok.0))

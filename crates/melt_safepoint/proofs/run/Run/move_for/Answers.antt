@@ -43,12 +43,14 @@ loop-forced-init g c = record {
 
 pub may_move-requires : goal.may_move-requires
 may_move-requires g c =
-    let lacks = c.loop-forced.invariant.lacks c.requires.lacks.0 c.requires.lacks.1 c.requires.lacks.2 c.requires.lacks.3 in
+    let lacks = c.loop-forced.invariant.lacks c.requires.lacks.0 c.requires.lacks.1 c.requires.lacks.2
+    c.requires.lacks.3 in
     (lacks.stands.disk, stands_untold c.requires.lacks.0 lacks.stands.disk _ lacks.stands.table.stands)
 
 pub collect-requires : goal.collect-requires
 collect-requires g c κs =
-    let lacks = c.loop-forced.invariant.lacks c.requires.lacks.0 c.requires.lacks.1 c.requires.lacks.2 c.requires.lacks.3 in (
+    let lacks = c.loop-forced.invariant.lacks c.requires.lacks.0 c.requires.lacks.1 c.requires.lacks.2
+    c.requires.lacks.3 in (
       (refl, tt),
       (
         c.requires.engine,
@@ -61,7 +63,8 @@ pub returns-in_err-moved-clause-stopped : goal.returns-in_err-moved-clause-stopp
 returns-in_err-moved-clause-stopped g c =
     let exit = err_from_is_err_and c.from_residual.result c.from_residual.ensures.1 in
     rw (exit.1, exit.2) (λ told script config lacks.
-    unforced_stops _ _ (row_of g.E.Machine.view c.loop-forced.run) c.args.thread c.loop-forced.need c.loop-forced.forced _
+    unforced_stops _ _ (row_of g.E.Machine.view c.loop-forced.run) c.args.thread c.loop-forced.need c.loop-forced.forced
+    _
     c.in_err-moved.ensures.stopped told script config (c.loop-forced.invariant.lacks told script config lacks))
 
 -- behind one Move more the thread awaits its call
@@ -149,7 +152,8 @@ once_lends g c same n by =
     lends_then _ 0 0 _ _ _ _ (journal_of (row_of g.E.Machine.view c.loop-forced.run)) js
     (c.loop-forced.invariant.lends n by)
     (lends_after _ 0 _ _ _ _ (journal_of (row_of g.E.Machine.view c.in_ok-moved.moved)) js c.collect.ensures.lends
-    (omega (arith, journal_more c.in_ok-moved.ensures.made)) (lends_one _ _ _ _ _ (c.run_epoch.ensures.lends n by) same))
+    (omega (arith, journal_more c.in_ok-moved.ensures.made))
+    (lends_one _ _ _ _ _ (c.run_epoch.ensures.lends n by) same))
 
 -- the call was made behind the Move
 made : (g : Over) (c : In-None g) → RunsEpoch (g.S.Space.sees.shown c.collect.new.space) (Some c.args.thread)
@@ -213,7 +217,15 @@ out_of_heap-requires g c =
     record {
       lacks = (
         g.S.Space.sees.shown c.loop-forced.space,
-        (c.loop-forced.forced, (lacks.0, lacks.1, lacks.2, c.loop-forced.invariant.lacks lacks.0 lacks.1 lacks.2 lacks.3)),
+        (
+          c.loop-forced.forced,
+          (
+            lacks.0,
+            lacks.1,
+            lacks.2,
+            c.loop-forced.invariant.lacks lacks.0 lacks.1 lacks.2 lacks.3,
+          ),
+        ),
       );
     }
 

@@ -18,7 +18,8 @@ invariant-loop-alloc g l = record {
   rests : RestsWell l.run.states.items;
   lost : CountsLosses l.fn.self.states.items l.run.states.items (g.S.Space.sees.read_faults l.fn.space)
       (g.S.Space.sees.read_faults l.space);
-  lends : (n : ℕ) → LendsEach g.C.Fn g.F.Fn g.E.Machine.view g.E.Machine.stored g.S.Space.sees l.fn.engine n → LendsTwice n 1 (g.S.Space.sees.lends l.fn.space) (g.S.Space.sees.lends l.space)
+  lends : (n : ℕ) → LendsEach g.C.Fn g.F.Fn g.E.Machine.view g.E.Machine.stored g.S.Space.sees l.fn.engine n
+      → LendsTwice n 1 (g.S.Space.sees.lends l.fn.space) (g.S.Space.sees.lends l.space)
       (journal_of (row_of g.E.Machine.view l.fn.self)) (journal_of (row_of g.E.Machine.view l.run));
   idle : AllEnded l.fn.self.states.items → AllEnded l.run.states.items
       × (g.S.Space.sees.lends l.space ≡ g.S.Space.sees.lends l.fn.space);
