@@ -43,8 +43,8 @@ pub record IsFull (v w : View) (words most : ℕ) (refusal : Refusal) : Type 0 w
 abbrev pub ReadsAll : View → View → ℕ → Type 0
 ReadsAll v w words = v.steps + words + 1 ≤ w.steps
 
--- What a search comes to: the address to which a word sends its home, or an empty word, or that there is none. Each word is
--- read once.
+-- What a search comes to: the address to which a word sends its home, or an empty word, or that there is none. Each
+-- word is read once.
 abbrev pub Seeks : View → View → Search → ℕ → Result Sought Refusal → Type 0
 Seeks v w search forwards (Ok (sought.At address)) = Goes v w 0 0 (forwards - search.tried) (reached search address)
 Seeks v w search forwards (Ok (sought.Missed missed)) =
@@ -112,8 +112,8 @@ Copies v w search z forwards (Err refusal) =
     FullBehind v w search z forwards (cost_of z + 2 + 2 * (forwards - search.tried)) refusal
     ⊎ LacksRoom v w search 2 refusal
 
--- What bringing an object back comes to, behind a home that was found. It claims words for one copy at most, of the object
--- of that home.
+-- What bringing an object back comes to, behind a home that was found. It claims words for one copy at most, of the
+-- object of that home.
 pub record Brought (v w : View) (search : Search) (most address : ℕ) : Type 0 where
   pub words : ℕ
   pub wins : ℕ

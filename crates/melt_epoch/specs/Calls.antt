@@ -26,8 +26,8 @@ use Rattle.melt_rule.specs.declared.view.View.{View}
 use Rattle.melt_epoch.specs.Mutators.{with_held}
 use Rattle.melt_epoch.specs.declared.mutator.Mutator.{Mutator}
 
--- A call was answered. Behind all that was seen before and what others added since, history, registers and reply are those
--- that the operation has by its meaning, where the epoch is told. Told or not, it has one entry at most.
+-- A call was answered. Behind all that was seen before and what others added since, history, registers and reply are
+-- those that the operation has by its meaning, where the epoch is told. Told or not, it has one entry at most.
 pub record Replies (v w : View) (old new : List Value) (o : Op) (reply : Reply) : Type 0 where
   pub between : List Entry
   pub answers : v.began.told ≡ true → Answers v.thread (v.seen ++ between) old o reply w.seen new
@@ -41,8 +41,8 @@ abbrev pub Comes : View → View → List Value → List Value → Op → Result
 Comes v w old new o (Ok reply) = Replies v w old new o reply
 Comes v w old new o (Err refusal) = Sees v w.seen × (new ≡ old)
 
--- What a call leaves of the causes and counts of its seat: it claimed so many words, and won so many commits, in at most so
--- many steps, all of which are counted. It may know more.
+-- What a call leaves of the causes and counts of its seat: it claimed so many words, and won so many commits, in at
+-- most so many steps, all of which are counted. It may know more.
 pub record Counts (v w : View) (words wins most : ℕ) : Type 0 where
   pub thread : w.thread ≡ v.thread
   pub parts : w.parts ≡ v.parts

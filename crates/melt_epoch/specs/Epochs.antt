@@ -5,8 +5,8 @@ use Rattle.melt_scion.specs.declared.heap.Heap.{Heap}
 use Rattle.melt_scion.specs.declared.heap.Names.{Names}
 use Rattle.melt_rule.specs.Seats.{EpochWords}
 
--- The heap that was handed in has as many words, globals and forwarding words as the epoch, and its scions, each of which
--- names an address of the space. It keeps no names. The end is that of the disk.
+-- The heap that was handed in has as many words, globals and forwarding words as the epoch, and its scions, each of
+-- which names an address of the space. It keeps no names. The end is that of the disk.
 pub record Fits (words : EpochWords) (heap : Heap) (end : ℕ) : Type 0 where
   pub size : length heap.space.list ≡ words.start.began.size
   pub globals : length heap.globals ≡ words.start.began.globals

@@ -54,8 +54,8 @@ abbrev pub IsBefore : ℕ → word.Ref → Type 0
 IsBefore end (Disk home) = home < end
 IsBefore end found = Unit {0}
 
--- Where the epoch is told, the slot held an object of this shape at some time in the call, and at the home of the object
--- its Body stands on disk.
+-- Where the epoch is told, the slot held an object of this shape at some time in the call, and at the home of the
+-- object its Body stands on disk.
 pub record Held (v w : View) (s : Slot) (z : Shape) : Type 0 where
   pub then_ : List Entry
   pub object : ℕ
@@ -157,8 +157,8 @@ LoadsSlot told image scions end before after v w value i most (Err refusal) =
     (n : ℕ) × (value ≡ Ref n) × (LoadAsked v w most refusal
     ⊎ LoadRefused told image scions end before after v w (slot.Field n i) most refusal)
 
--- A load was answered, and its register holds what it read. It claimed words for one copy at most, of an object that the
--- slot held.
+-- A load was answered, and its register holds what it read. It claimed words for one copy at most, of an object that
+-- the slot held.
 pub record HasLoaded (v w : View) (old new : List Value) (o : Op) (s : Slot) (most : ℕ) (reply : Reply) : Type 0 where
   pub replies : Replies v w old new o reply
   pub words : ℕ
@@ -167,7 +167,8 @@ pub record HasLoaded (v w : View) (old new : List Value) (o : Op) (s : Slot) (mo
   pub claims : ((words ≡ 0) × (wins ≡ 0)) ⊎ ((z : Shape) × (words ≡ cost_of z) × (wins ≤ 1) × HeldHas v w s z)
 
 -- what a load of a global comes to, by the registers
-abbrev pub GlobalLoaded : Bool → Option (List ℕ) → Scions → ℕ → ℕ → ℕ → View → View → List Value → List Value → ℕ → ℕ → ℕ
+abbrev pub GlobalLoaded : Bool → Option (List ℕ) → Scions → ℕ → ℕ → ℕ → View → View → List Value → List Value → ℕ → ℕ
+    → ℕ
     → Result Reply Refusal → Type 0
 GlobalLoaded told image scions end before after v w old new dst g most (Ok reply) =
     HasLoaded v w old new (GLoad dst g) (slot.Global g) most reply
@@ -176,11 +177,13 @@ GlobalLoaded told image scions end before after v w old new dst g most (Err refu
     ⊎ LoadRefused told image scions end before after v w (slot.Global g) most refusal)
 
 -- the same of a mutator before and after, by its seats and its readers
-abbrev pub IsGlobalLoaded : {R : Type 0} → (R → Option (List ℕ)) → (R → ℕ) → Bool → Scions → ℕ → Mutator R → Mutator R → ℕ
+abbrev pub IsGlobalLoaded : {R : Type 0} → (R → Option (List ℕ)) → (R → ℕ) → Bool → Scions → ℕ → Mutator R → Mutator R
+    → ℕ
     → ℕ → ℕ → Result Reply Refusal → Type 0
 IsGlobalLoaded {R} image faults told scions end m n dst g most result = (s t : Seat ℕ View) (p q : R) → m.seat ≡ Some s
     → n.seat ≡ Some t → m.reader ≡ Some p → n.reader ≡ Some q
-    → GlobalLoaded told (image p) scions end (faults p) (faults q) (knows_of s) (knows_of t) m.values n.values dst g most
+    → GlobalLoaded told (image p) scions end (faults p) (faults q) (knows_of s) (knows_of t) m.values n.values dst g
+    most
     result
 
 -- A load of a slot was answered, and its register holds what it read, if there is such a slot. It claimed words for one
@@ -194,19 +197,23 @@ pub record HasRead (v w : View) (old new : List Value) (dst src i most : ℕ) (r
       × (wins ≤ 1) × HeldHas v w (slot.Field n i) z)
 
 -- what a load of a slot comes to, by the registers
-abbrev pub SlotLoaded : Bool → Option (List ℕ) → Scions → ℕ → ℕ → ℕ → View → View → List Value → List Value → ℕ → ℕ → ℕ → ℕ
+abbrev pub SlotLoaded : Bool → Option (List ℕ) → Scions → ℕ → ℕ → ℕ → View → View → List Value → List Value → ℕ → ℕ → ℕ
+    → ℕ
     → Result Reply Refusal → Type 0
-SlotLoaded told image scions end before after v w old new dst src i most (Ok reply) = HasRead v w old new dst src i most reply
+SlotLoaded told image scions end before after v w old new dst src i most (Ok reply) =
+    HasRead v w old new dst src i most reply
 SlotLoaded told image scions end before after v w old new dst src i most (Err refusal) =
     (new ≡ old) × (n : ℕ) × (value_in old src ≡ Ref n) × (LoadAsked v w most refusal
     ⊎ LoadRefused told image scions end before after v w (slot.Field n i) most refusal)
 
 -- the same of a mutator before and after, by its seats and its readers
-abbrev pub IsSlotLoaded : {R : Type 0} → (R → Option (List ℕ)) → (R → ℕ) → Bool → Scions → ℕ → Mutator R → Mutator R → ℕ → ℕ
+abbrev pub IsSlotLoaded : {R : Type 0} → (R → Option (List ℕ)) → (R → ℕ) → Bool → Scions → ℕ → Mutator R → Mutator R → ℕ
+    → ℕ
     → ℕ → ℕ → Result Reply Refusal → Type 0
 IsSlotLoaded {R} image faults told scions end m n dst src i most result = (s t : Seat ℕ View) (p q : R)
     → m.seat ≡ Some s → n.seat ≡ Some t → m.reader ≡ Some p → n.reader ≡ Some q
-    → SlotLoaded told (image p) scions end (faults p) (faults q) (knows_of s) (knows_of t) m.values n.values dst src i most
+    → SlotLoaded told (image p) scions end (faults p) (faults q) (knows_of s) (knows_of t) m.values n.values dst src i
+    most
     result
 
 -- its reader reads two runs of words at most

@@ -1,5 +1,6 @@
 -- What a thread holds within an epoch, and what its registers stand for.
-use Rattle.std.specs.Prelude.{◌≡◌, ℕ, ◌-◌, true, List, [], length, replicate, slice_index, slice_set, Option, None, Some, unwrap_or}
+use Rattle.std.specs.Prelude.{◌≡◌, ℕ, ◌-◌, true, List, [], length, replicate, slice_index, slice_set, Option, None}
+use Rattle.std.specs.Prelude.{Some, unwrap_or}
 use Rattle.atomic_table.specs.declared.shared.Seat.{Seat}
 use Rattle.melt_model.specs.Thread.{given_at, value_in}
 use Rattle.melt_model.specs.declared.history.Entry.{Entry}
@@ -11,8 +12,8 @@ use Rattle.melt_rule.specs.declared.began.Pair.{Pair}
 use Rattle.melt_rule.specs.declared.view.View.{View}
 use Rattle.melt_epoch.specs.declared.mutator.Mutator.{Mutator}
 
--- A seat between two calls: it has claimed no words past the last one, or has set the stop word; and what it has seen is
--- sound, and what its own thread has seen.
+-- A seat between two calls: it has claimed no words past the last one, or has set the stop word; and what it has seen
+-- is sound, and what its own thread has seen.
 pub record IsIdle (words : EpochWords) (seat : Seat ℕ View) : Type 0 where
   pub is_seat : IsSeat words seat
   pub goes_on : MayGoOn (knows_of seat)
@@ -23,8 +24,8 @@ pub record IsIdle (words : EpochWords) (seat : Seat ℕ View) : Type 0 where
 abbrev pub StandFor : List Pair → List ℕ → List Value → Type 0
 StandFor known regs values = (r : ℕ) → Names known (slice_index regs r) (value_in values r)
 
--- The mutator has a seat at the words, which speaks for its own thread alone. Each register stands for its value, by what
--- the seat knows.
+-- The mutator has a seat at the words, which speaks for its own thread alone. Each register stands for its value, by
+-- what the seat knows.
 pub record IsSeated {R : Type 0} (words : EpochWords) (m : Mutator R) : Type 0 where
   pub seat : Seat ℕ View
   pub there : m.seat ≡ Some seat

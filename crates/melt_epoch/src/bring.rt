@@ -1,8 +1,8 @@
 //! How a load brings the object of a home into use.
 //!
-//! Whatever the call knows by the way stays true, however many steps other threads make: a forwarding word that is filled
-//! stays, and a record on disk does not change within an epoch. So the record is read without a step, and of all copies of
-//! one object the first that is committed is the object.
+//! Whatever the call knows by the way stays true, however many steps other threads make: a forwarding word that is
+//! filled stays, and a record on disk does not change within an epoch. So the record is read without a step, and of all
+//! copies of one object the first that is committed is the object.
 ghost use Rattle.std.specs.Prelude.{◌≡◌, ◌+◌, ◌*◌, ◌-◌, ◌<◌, ◌≤◌, true, false, Some};
 ghost use Rattle.melt_rule.specs.Rule.{has_cause};
 ghost use Rattle.melt_core.specs.declared.call.Activation.{Activation as ActivationIs};
@@ -28,8 +28,8 @@ pub enum Sought {
     Missed(Search),
 }
 
-/// Reads forwarding words in the search for a home, until one sends it, or is empty. Where each sends another home, it sets
-/// the stop word.
+/// Reads forwarding words in the search for a home, until one sends it, or is empty. Where each sends another home, it
+/// sets the stop word.
 pub(crate) fn seek(
     words: &Words,
     seat: &mut Seated,
@@ -55,8 +55,8 @@ pub(crate) fn seek(
     Err(Refusal::Pause(Pause::Forward))
 }
 
-/// Asks the next forwarding word with a copy at hand: where that word was found empty, it exchanges it with the copy's, and
-/// else reads it.
+/// Asks the next forwarding word with a copy at hand: where that word was found empty, it exchanges it with the copy's,
+/// and else reads it.
 fn ask_next(
     words: &Words,
     seat: &mut Seated,
@@ -76,8 +76,8 @@ fn ask_next(
     }
 }
 
-/// Exchanges the empty forwarding word with that of the copy at hand. Where another home took it first, the search goes on
-/// with the copy; where another copy of the object did, that one is the object.
+/// Exchanges the empty forwarding word with that of the copy at hand. Where another home took it first, the search goes
+/// on with the copy; where another copy of the object did, that one is the object.
 pub(crate) fn settle(
     words: &Words,
     seat: &mut Seated,
@@ -108,8 +108,8 @@ pub(crate) fn settle(
     Err(Refusal::Pause(Pause::Forward))
 }
 
-/// Brings the object of a home into use whose search ended at an empty word, and answers its address: that of a Stub's live
-/// scion, or a copy's.
+/// Brings the object of a home into use whose search ended at an empty word, and answers its address: that of a Stub's
+/// live scion, or a copy's.
 fn bring_missed<R: RecordReader>(
     words: &Words,
     seat: &mut Seated,
@@ -130,7 +130,8 @@ fn bring_missed<R: RecordReader>(
     ensures seat { IsSeat words.now seat.new }
     ensures own { (knows_of seat.new).mine ≡ (knows_of seat.new).seen }
     ensures misses { Misses words.now.start.began.told (R.image reader.old) heap.now.scions end (R.faults reader.old)
-        (R.faults reader.new) (knows_of seat.old) (knows_of seat.new) search (128 + 2 * (forwards - search.tried)) result }
+        (R.faults reader.new) (knows_of seat.old) (knows_of seat.new) search (128 + 2 * (forwards - search.tried))
+        result }
     ensures image { R.image reader.new ≡ R.image reader.old }
     ensures count { R.faults reader.old ≤ R.faults reader.new }
     ensures reads_rise { R.reads reader.old ≤ R.reads reader.new }

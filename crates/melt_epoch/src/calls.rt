@@ -74,7 +74,8 @@ impl Epoch {
         write_global(&self.words, seat, g, held)
     }
 
-    /// Makes an object with so many reference slots and number words, at most 62 of each, and lets register `dst` hold it.
+    /// Makes an object with so many reference slots and number words, at most 62 of
+    /// each, and lets register `dst` hold it.
     pub fn make<R>(&self, m: &mut Mutator<R>, dst: u8, refs: u8, nums: u8) -> Result<Reply, Refusal>
         requires seated { IsSeated self.now.words m.old }
         requires register { dst < 16 }
@@ -105,7 +106,8 @@ impl Epoch {
         requires global { g < self.now.words.start.began.globals }
         ensures seated { IsSeated self.now.words m.new }
         ensures reader { HasReader R.image self.now.words m.new }
-        ensures loaded { IsGlobalLoaded R.image R.faults self.now.words.start.began.told self.now.heap.scions self.now.end
+        ensures loaded { IsGlobalLoaded R.image R.faults self.now.words.start.began.told self.now.heap.scions
+            self.now.end
             m.old m.new dst g (2 * self.now.words.start.began.forwards + 133) result }
         ensures two_reads { ReadsTwice R.reads m.old m.new }
         ensures count { KeepsCount R.faults m.old m.new }

@@ -44,8 +44,9 @@ fn fill_copy(words: &Words, seat: &mut Seated, activation: Activation, rest: &[u
     }
 }
 
-/// Makes a copy of a Body, of this shape and with these words behind its head, which was read at the home that is searched
-/// for; and answers the address of the object of that home. Where there is no room for the copy, it sets the stop word.
+/// Makes a copy of a Body, of this shape and with these words behind its head, which was read at the home that is
+/// searched for; and answers the address of the object of that home. Where there is no room for the copy, it sets the
+/// stop word.
 pub(crate) fn copy_in(
     words: &Words,
     seat: &mut Seated,

@@ -1,7 +1,7 @@
 //! How the record of a home is read, behind a search that no forwarding word helped.
 //!
-//! Nothing that is read is trusted: what a record cannot say is found, and ends the call. Where the disk returns what was
-//! written, it is never found.
+//! Nothing that is read is trusted: what a record cannot say is found, and ends the call. Where the disk returns what
+//! was written, it is never found.
 ghost use Rattle.std.specs.Prelude.{◌≡◌, ℕ, ◌+◌, ◌<◌, ◌≤◌, IfErr, IfOk, Some};
 ghost use Rattle.melt_word.specs.Words.{IsDiskHome, IsShape, cost_of};
 ghost use Rattle.melt_scion.specs.Heaps.{scion_in};
@@ -98,7 +98,8 @@ pub(crate) fn read_record<R: RecordReader>(
 ) -> Result<Fetched, Refusal>
     requires home { IsDiskHome home }
     requires within { home < end }
-    ensures fetches { Fetches (R.image reader.old) scions.now end home (R.faults reader.old) (R.faults reader.new) result }
+    ensures fetches { Fetches (R.image reader.old) scions.now end home (R.faults reader.old) (R.faults reader.new)
+        result }
     ensures image { R.image reader.new ≡ R.image reader.old }
     ensures count { R.faults reader.old ≤ R.faults reader.new }
     ensures reads_rise { R.reads reader.old ≤ R.reads reader.new }

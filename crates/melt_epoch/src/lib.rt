@@ -1,8 +1,8 @@
 //! A heap that running threads share: its epoch, from one safepoint to the next, and the calls of its threads.
 //!
-//! A call is a few steps on the words of the epoch, and other threads may make any steps between them. What a step tells
-//! its thread stays true, so a call may go on from it; and the step that answers it adds its one entry to the history of
-//! all. No call waits, and none takes memory.
+//! A call is a few steps on the words of the epoch, and other threads may make any steps between them. What a step
+//! tells its thread stays true, so a call may go on from it; and the step that answers it adds its one entry to the
+//! history of all. No call waits, and none takes memory.
 #![tactic(auto)]
 
 pub mod bring;

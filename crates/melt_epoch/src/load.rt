@@ -34,8 +34,8 @@ fn untag(words: &Words, seat: &mut Seated, place: Place, found: Ref, target: u32
     }
 }
 
-/// Goes on with a load that found a stale reference: it clears the stale bit of the object at the target, takes the tag, and
-/// answers the address of what it read.
+/// Goes on with a load that found a stale reference: it clears the stale bit of the object at the target, takes the
+/// tag, and answers the address of what it read.
 #[cold]
 #[inline(never)]
 fn load_stale(words: &Words, seat: &mut Seated, place: Place, target: u32) -> u32
@@ -50,8 +50,8 @@ fn load_stale(words: &Words, seat: &mut Seated, place: Place, target: u32) -> u3
     untag(words, seat, place, Ref::Stale(target), target)
 }
 
-/// Goes on with a load that found a home: it brings the object of the home into use, takes the tag, and answers the address
-/// of what it read.
+/// Goes on with a load that found a home: it brings the object of the home into use, takes the tag, and answers the
+/// address of what it read.
 #[cold]
 #[inline(never)]
 fn load_home<R: RecordReader>(
@@ -90,8 +90,8 @@ fn load_home<R: RecordReader>(
     Ok(untag(words, seat, place, Ref::Disk(home), target))
 }
 
-/// Goes on with a load that looked at a place, and answers the address of what it read, or 0 for nothing. Most words have
-/// no tag, so that is answered where the load stands; what takes a tag is called.
+/// Goes on with a load that looked at a place, and answers the address of what it read, or 0 for nothing. Most words
+/// have no tag, so that is answered where the load stands; what takes a tag is called.
 #[inline(always)]
 pub(crate) fn resolve<R: RecordReader>(
     words: &Words,
@@ -152,8 +152,10 @@ pub(crate) fn load_global<R: RecordReader>(
     requires fits { Fits words.now heap.now end }
     requires reader { words.now.start.began.told ≡ true → R.image reader.old ≡ Some words.now.start.began.image }
     ensures seat { IsIdle words.now seat.new }
-    ensures loads { LoadsGlobal words.now.start.began.told (R.image reader.old) heap.now.scions end (R.faults reader.old)
-        (R.faults reader.new) (knows_of seat.old) (knows_of seat.new) g (2 * words.now.start.began.forwards + 133) result }
+    ensures loads { LoadsGlobal words.now.start.began.told (R.image reader.old) heap.now.scions end
+        (R.faults reader.old)
+        (R.faults reader.new) (knows_of seat.old) (knows_of seat.new) g (2 * words.now.start.began.forwards + 133)
+        result }
     ensures image { R.image reader.new ≡ R.image reader.old }
     ensures count { R.faults reader.old ≤ R.faults reader.new }
     ensures reads_rise { R.reads reader.old ≤ R.reads reader.new }

@@ -14,8 +14,8 @@ use melt_rule::Seated;
 use melt_scion::Registers;
 use std::collections::LinkedList;
 
-/// The registers of a thread, with the values that they stand for, which contracts alone see; its seat while it takes part
-/// in an epoch; and its reader of the disk.
+/// The registers of a thread, with the values that they stand for, which contracts alone see; its seat while it takes
+/// part in an epoch; and its reader of the disk.
 #[derive(Drop)]
 pub struct Mutator<R> {
     pub(crate) thread: u32,
@@ -61,8 +61,8 @@ impl<R> Mutator<R> {
         self.registers.regs[r as usize] = address;
     }
 
-    /// Lets a register hold the object at an address, or nothing at 0. It stands for what the last entry that the seat has
-    /// seen gave.
+    /// Lets a register hold the object at an address, or nothing at 0. It stands for what the last entry that the seat
+    /// has seen gave.
     pub(crate) fn hold(&mut self, r: u8, address: u32)
         requires { r < 16 }
         ensures holds { self.new ≡ with_held self.old r address (given_to self.old.seat) }

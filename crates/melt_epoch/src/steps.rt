@@ -1,5 +1,5 @@
-//! Calls on the words of an epoch that no record is read for, by addresses: each reads the stop word first, and is refused
-//! where that is set.
+//! Calls on the words of an epoch that no record is read for, by addresses: each reads the stop word first, and is
+//! refused where that is set.
 ghost use Rattle.std.specs.Prelude.{◌≡◌, ◌<◌, ℕ, List};
 ghost use Rattle.melt_model.specs.Thread.{value_in};
 ghost use Rattle.melt_model.specs.declared.history.Value.{Value};

@@ -84,7 +84,8 @@ module _ {A : Type 0} (P : ℕ → A → A → Type 0) where
           (sym (get_set_other news k t n other) ∙ is)
     ];
     left = λ t below.
-        get_set_other news k t n (λ (same : t ≡ k). omega (arith, same, below)) ∙ so.left t (omega (arith, below, is_next));
+        get_set_other news k t n (λ (same : t ≡ k). omega (arith, same, below))
+        ∙ so.left t (omega (arith, below, is_next));
   }
 
   -- the next one is as it was

@@ -1,5 +1,6 @@
 -- A run at rest may begin an epoch.
-use Rattle.std.proofs.Common.{◌≡◌, ℕ, zero, suc, ◌≤◌, List, [], ◌∷◌, length, map, refl, sym, ◌∙◌, ap, subst, arith, inl, inr}
+use Rattle.std.proofs.Common.{◌≡◌, ℕ, zero, suc, ◌≤◌, List, [], ◌∷◌, length, map, refl, sym, ◌∙◌, ap, subst, arith, inl}
+use Rattle.std.proofs.Common.{inr}
 use Rattle.std.proofs.Common.{true, false}
 use Rattle.std.specs.Prelude.{All, Bool, IsSome, Option, None, Some, slice_get, slice_index}
 use Rattle.std.specs.Option.{option_map, option_and_then}

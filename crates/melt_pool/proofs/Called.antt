@@ -96,7 +96,8 @@ module _ {R : Type 0} (image : R → Option (List ℕ)) (faults : R → ℕ) (to
             let why : Why (Pause Asked) = (same_by v w 0 0 1 asks.counts, ap (λ (x : View). x.stopped) asks.was.1.1) in
             (asks.sees, made.0, subst Why (sym asks.was.0) why)
         | inr lacks ↦
-            let why : Why (Pause (Space (cost_of z))) = (spaced_by v w (cost_of z) 3 (few_words z small) lacks.lacked, refl) in
+            let why : Why (Pause (Space (cost_of z))) =
+            (spaced_by v w (cost_of z) 3 (few_words z small) lacks.lacked, refl) in
             (lacks.sees, made.0, subst Why (sym lacks.is) why)
       ]
 

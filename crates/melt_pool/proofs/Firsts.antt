@@ -20,7 +20,8 @@ use Rattle.melt_safepoint.specs.Threads.{jobs_of, left}
 use Rattle.melt_safepoint.specs.declared.thread.Mode.TheVariants.{Running, Lacking}
 use Rattle.melt_safepoint.specs.declared.thread.ThreadState.{ThreadState}
 use Rattle.melt_pool.specs.Calling.{IsCalled, NeedsIn, RefusedKeeps}
-use Rattle.melt_pool.specs.Firsts.{CameFirst, CameTo, HasGone, HasLackedIn, LackedFirst, WasStopped, WentFirst, first_for}
+use Rattle.melt_pool.specs.Firsts.{CameFirst, CameTo, HasGone, HasLackedIn, LackedFirst, WasStopped, WentFirst}
+use Rattle.melt_pool.specs.Firsts.{first_for}
 use Rattle.melt_pool.specs.Programs.{DueOnly, EndsWell, OwesSilent, Took, Works, dropped_for, made_again, mode_again}
 use Rattle.melt_pool.specs.Workers.{faults_of}
 use Rattle.melt_pool.specs.declared.first.First.{First}
@@ -90,7 +91,8 @@ module _ {R : Type 0} (image : R → Option (List ℕ)) (faults : R → ℕ) (sc
         ends = called_ends image faults script words scions finish m n again p q after op result works runs next other
             seated mp nq called count took;
         goes = goes_then every script m m (dropped_for after.mode n) s again after before
-            (called_goes image faults script words scions finish m n again every p q after op result works runs next other
+            (called_goes image faults script words scions finish m n again every p q after op result works runs next
+            other
             seated mp nq called took owing due);
         less =
             let less : jobs_of after < jobs_of again = went_less again after op result went runs next took in

@@ -184,7 +184,8 @@ module _ {R : Type 0} (image : R → Option (List ℕ)) (faults : R → ℕ) (sc
       mode_goes every script m (dropped_for after.mode n) s after (mode_for why) took
       (dropped_thread after.mode n
       ∙ thread_stays words m n works.seated seated
-      (refused_thread told (image p) scions finish (faults p) (faults q) (view_of m) (view_of n) m.values op why call.2))
+      (refused_thread told (image p) scions finish (faults p) (faults q) (view_of m) (view_of n) m.values op why
+      call.2))
       (subst (λ (w : View). own w.seen m.thread ≡ own (view_of m).seen m.thread) (sym (dropped_view after.mode n))
       (seen_same script words m n s works seated call.0)) (refused_owes why ∙ sym (ap owes runs))
       (refused_few s why runs)

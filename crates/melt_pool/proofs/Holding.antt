@@ -73,7 +73,12 @@ module _ (names : List (ℕ × ℕ)) where
     | inl here ↦ inl (record { register = 0; holds = here.0; first = here.1; is_named = here.2 })
     | inr there ↦ elim (regs_have regs pairs a n there) [
       | inl held ↦
-          inl (record { register = suc held.register; holds = held.holds; first = held.first; is_named = held.is_named })
+          inl (record {
+            register = suc held.register;
+            holds = held.holds;
+            first = held.first;
+            is_named = held.is_named;
+          })
       | inr before ↦ inr before
     ]
   ]

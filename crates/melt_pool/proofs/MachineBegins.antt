@@ -76,7 +76,8 @@ module _ {R : Type 0} (image : R → Option (List ℕ)) (faults : R → ℕ) (sh
     (heap : Heap) (h : List Entry) (registers : List Registers) (states : List ThreadState) (collector : Collector)
     (room every : ℕ) (ms : List (Mutator (Worker R))) (nameless : IsNameless heap)
     (armed : AreArmed image faults shown.image (parts_view heap h registers) states registers ms)
-    (some : 1 ≤ length ms) (may : SomeMayRun shown first (machine_row heap h registers states collector room every told))
+    (some : 1 ≤ length ms) (may : SomeMayRun shown first
+    (machine_row heap h registers states collector room every told))
   where
     abbrev row : Row
     row = machine_row heap h registers states collector room every told

@@ -224,7 +224,8 @@ module _ {R : Type 0} (image : R → Option (List ℕ)) (faults : R → ℕ) (sh
         pub leaves_ends : EndsEpoch shown first (machine_row heap h registers states collector room every told)
             (machine_row new k registers_after after collector room every told) lacks
         leaves_ends =
-            machine_ends image faults shown.image shown told heap h registers states ms nameless armed some shown.end every
+            machine_ends image faults shown.image shown told heap h registers states ms nameless armed some shown.end
+            every
             refl refl new k ns sized leaves_sized after registers_after ms_after disarmed collector room first lacks may
             ended
 
@@ -247,7 +248,8 @@ module _ {R : Type 0} (image : R → Option (List ℕ)) (faults : R → ℕ) (sh
       passed_losses may.0 may.1 may.2 begin.stands.disk row.view states image faults shown.image registers ms b
       begin.stands.told_is refl begin.stands.table armed begin.stands.table.globals shown.end every first ns new k ended
       after registers_after ms_after disarmed before behind counted
-  leaves_lost after registers_after ms_after disarmed collector room None (Some need) may ended ends before behind counts =
+  leaves_lost after registers_after ms_after disarmed collector room None (Some need) may ended ends before behind
+      counts =
       absurd ended
   leaves_lost after registers_after ms_after disarmed collector room (Some t) (Some need) may ended ends before behind
       counts =

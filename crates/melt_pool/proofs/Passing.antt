@@ -1,5 +1,6 @@
 -- A thread goes into an epoch, and comes out of it.
-use Rattle.std.proofs.Common.{◌≡◌, ℕ, ◌+◌, ◌<◌, ◌≤◌, List, length, map, take, refl, sym, ◌∙◌, ap, subst, arith, inl, inr}
+use Rattle.std.proofs.Common.{◌≡◌, ℕ, ◌+◌, ◌<◌, ◌≤◌, List, length, map, take, refl, sym, ◌∙◌, ap, subst, arith, inl}
+use Rattle.std.proofs.Common.{inr}
 use Rattle.std.proofs.Common.{true, false, get_or}
 use Rattle.std.specs.Prelude.{All, Option, Some, slice_get}
 use Rattle.std.specs.Option.{option_map}
@@ -290,6 +291,7 @@ module _ {R : Type 0} where
         all_at (λ (x : Mutator (Worker R)). Saw h x.thread (view_of x).seen) rs k it.ran ended.history.saw it.ran_at in
         let has = (run.each k it.began it.ran it.began_at it.ran_at).has_run script s may.brings may.works in
         subst (λ (x : Mutator (Worker R)). PassesFrom faults finish every first k words.start.began script h s x q) ran
-        (subst (λ (x : Mutator (Worker R)). PassesFrom faults finish every first k words.start.began script h s it.ran x)
+        (subst (λ (x : Mutator (Worker R)). PassesFrom faults finish every first k words.start.began script h s it.ran
+        x)
         it.is (run_passes faults finish every first k script words h s it.began it.ran has.0 has.1 joins.seen saw));
   }

@@ -55,6 +55,7 @@ abbrev pub faults_in : {R : Type 0} → (R → ℕ) → List (Mutator (Worker R)
 faults_in {R} faults ms = sum (map (λ (m : Mutator (Worker R)). open_faults (faults_of faults) m.reader) ms)
 
 -- They are counted, or the count stands at its end.
-pub record CountsReaders {R : Type 0} (faults : R → ℕ) (ms : List (Mutator (Worker R))) (before after : ℕ) : Type 0 where
-  pub counted : (faults_in faults ms + before ≤ after) ⊎ (2 ^ 64 - 1 ≤ after)
-  pub rises : HasRisen before after
+pub record CountsReaders {R : Type 0} (faults : R → ℕ) (ms : List (Mutator (Worker R))) (before after : ℕ) : Type 0
+  where
+    pub counted : (faults_in faults ms + before ≤ after) ⊎ (2 ^ 64 - 1 ≤ after)
+    pub rises : HasRisen before after

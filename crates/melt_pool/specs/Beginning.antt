@@ -1,5 +1,5 @@
--- A run at rest between two epochs, and with what the next one begins. That is told by what the run has at hand, so a run
--- carries nothing else from one epoch into the next.
+-- A run at rest between two epochs, and with what the next one begins. That is told by what the run has at hand, so a
+-- run carries nothing else from one epoch into the next.
 use Rattle.std.specs.Prelude.{◌≡◌, ℕ, zero, suc, ◌+◌, ◌^◌, ◌≤◌, Bool, true, List, [], ◌∷◌, length, map, All}
 use Rattle.std.specs.Prelude.{Option, None, Some}
 use Rattle.std.specs.Option.{option_map, option_map_or, option_and_then}
@@ -81,8 +81,8 @@ start_of {R} image told heap h end ms = record {
   held = pairs_held heap.maps.addresses ms;
 }
 
--- A mutator at rest has no seat, but a reader of the disk, which tells these words or none. Its registers stand for their
--- values.
+-- A mutator at rest has no seat, but a reader of the disk, which tells these words or none. Its registers stand for
+-- their values.
 pub record RestsOn {R : Type 0} (image : R → Option (List ℕ)) (words : Option (List ℕ)) (maps : Maps) (heap : Heap)
     (disk : OnDisk) (m : Mutator R) : Type 0 where
   pub unseated_yet : m.seat ≡ None

@@ -115,9 +115,9 @@ pub record Passes {R : Type 0} (faults : R → ℕ) (finish every : ℕ) (b : Be
   pub stops : has_cause (view_of seated) ≡ true → Waits after.mode
   pub asked : after.mode ≡ Asked → (view_of seated).stopped ≡ true
 
--- The epoch has ended with these seats, and the heap stands for the history. Each mutator is that of its thread still. What
--- a thread was told since the epoch began stands in that history, with what it was told before. The one whose call was
--- made first has less to do.
+-- The epoch has ended with these seats, and the heap stands for the history. Each mutator is that of its thread still.
+-- What a thread was told since the epoch began stands in that history, with what it was told before. The one whose call
+-- was made first has less to do.
 pub record HasPassed {R : Type 0} (faults : R → ℕ) (finish every : ℕ) (first : Option ℕ) (b : Began)
     (ms ns : List (Mutator (Worker R))) (heap : Heap) (h : List Entry) : Type 0 where
   pub seats : List (Mutator (Worker R))

@@ -1,5 +1,6 @@
 -- A thread of a run by real threads, in an epoch: its operations and replies, and what its seat knows.
-use Rattle.std.specs.Prelude.{◌≡◌, ◌≢◌, ◌⊎◌, ℕ, ◌+◌, ◌*◌, ◌%◌, ◌≤◌, Bool, true, List, [], ◌++◌, length, take, drop, replicate}
+use Rattle.std.specs.Prelude.{◌≡◌, ◌≢◌, ◌⊎◌, ℕ, ◌+◌, ◌*◌, ◌%◌, ◌≤◌, Bool, true, List, [], ◌++◌, length, take, drop}
+use Rattle.std.specs.Prelude.{replicate}
 use Rattle.std.specs.Prelude.{None, Some, IfSome, Result, Ok, Err, vec_capacity}
 use Rattle.std.specs.List.{count_by}
 use Rattle.melt_model.specs.Standing.{Stands}

@@ -1,7 +1,7 @@
 //! What the mutators of a run take into an epoch, and what is taken from them behind it.
 //!
-//! Between two epochs a run keeps readers, operations and registers apart from its mutators. An epoch is run over one slice
-//! of mutators, so each of them has all that its thread needs for that time.
+//! Between two epochs a run keeps readers, operations and registers apart from its mutators. An epoch is run over one
+//! slice of mutators, so each of them has all that its thread needs for that time.
 ghost use Rattle.std.specs.Prelude.{◌≡◌, ◌≤◌, [], length, vec_capacity, IsErrOf, OnOk, None, Some};
 ghost use Rattle.melt_io.specs.Outside.{Rose};
 ghost use Rattle.melt_safepoint.specs.Lends.{LendsAtMost};

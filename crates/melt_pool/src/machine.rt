@@ -1,7 +1,7 @@
 //! What a run of real threads has between two epochs.
 //!
-//! Registers lie apart from the mutators then, so that a collection changes them in one piece; what they stand for stays
-//! with the mutators. The heap keeps no names: what its addresses stand for is told by maps that take no bytes.
+//! Registers lie apart from the mutators then, so that a collection changes them in one piece; what they stand for
+//! stays with the mutators. The heap keeps no names: what its addresses stand for is told by maps that take no bytes.
 ghost use Rattle.std.specs.Prelude.{◌≡◌, [], length, replicate, false, IfOk};
 ghost use Rattle.melt_model.specs.Config.{InRanges};
 ghost use Rattle.melt_scion.specs.Heaps.{IsNewHeap};

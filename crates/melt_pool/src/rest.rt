@@ -1,8 +1,8 @@
 //! A run between two epochs, and how it goes on.
 //!
 //! With what an epoch begins is told by the heap, its history and the mutators: the homes on disk by the names that the
-//! heap has for contracts, each with the shape that its object has in the history; what registers hold by their addresses.
-//! So a run keeps no account of the disk beside its heap.
+//! heap has for contracts, each with the shape that its object has in the history; what registers hold by their
+//! addresses. So a run keeps no account of the disk beside its heap.
 ghost use Rattle.std.specs.Prelude.{◌≡◌, IfOk, IfSome, OnErr};
 ghost use Rattle.melt_trace.specs.Script.{Script};
 ghost use Rattle.melt_epoch.specs.Ends.{HeapBegins, HistoryBegins, MutatorsBegin};

@@ -1,7 +1,7 @@
 //! Runs a trace by real threads.
 //!
-//! What a safepoint does is the same for all runs. Here is what is a run's own: its threads go through an epoch at once,
-//! each with a reader of its own, lent for that epoch. Between two epochs the readers are given back, so that a
+//! What a safepoint does is the same for all runs. Here is what is a run's own: its threads go through an epoch at
+//! once, each with a reader of its own, lent for that epoch. Between two epochs the readers are given back, so that a
 //! collection may write.
 ghost use Rattle.std.specs.Prelude.{◌≡◌, ◌≤◌, ℕ, [], length, Bool, true, IfOk, IsSome};
 ghost use Rattle.melt_model.specs.Config.{InRanges};
@@ -38,8 +38,8 @@ use melt_trace::Trace;
 use std::alloc::Global;
 use std::thread::Threads;
 
-/// Lets threads go through an epoch whose mutators have their readers and registers. They get their operations for it, and
-/// behind it operations, registers and readers are taken from them again.
+/// Lets threads go through an epoch whose mutators have their readers and registers. They get their operations for it,
+/// and behind it operations, registers and readers are taken from them again.
 fn go_through<'a, X: Threads + Sync, D: StaleDisk, G: Gate + Sync>(
     rt: &X,
     gate: &G,
@@ -79,9 +79,9 @@ fn go_through<'a, X: Threads + Sync, D: StaleDisk, G: Gate + Sync>(
     Ok((paused, lacks))
 }
 
-/// Lets the threads of a run go through an epoch, each as far as it can, each with a reader that is lent for it. Where one
-/// is to be the first, it makes its call before all others, and where that lacks words, no other goes on: these words
-/// are answered.
+/// Lets the threads of a run go through an epoch, each as far as it can, each with a reader that is lent for it. Where
+/// one is to be the first, it makes its call before all others, and where that lacks words, no other goes on: these
+/// words are answered.
 fn run_parallel<'a, X: Threads + Sync, D: StaleDisk, G: Gate + Sync>(
     rt: &X,
     gate: &G,
@@ -238,12 +238,12 @@ fn run_epochs<'a, X: Threads + Sync, D: StaleDisk, G: Gate + Sync>(
     run_by_engine(run, alloc, space, &engine)
 }
 
-/// Runs a trace by real threads, one for each of its threads, over a disk without homes, of which the space is to have the
-/// limit of the configuration. The order of the trace is not used. The gate is told of each operation before it is begun,
-/// but not of one that is made again.
+/// Runs a trace by real threads, one for each of its threads, over a disk without homes, of which the space is to have
+/// the limit of the configuration. The order of the trace is not used. The gate is told of each operation before it is
+/// begun, but not of one that is made again.
 ///
-/// Threads wait for each other at safepoints alone. What ends a thread, and what halts the run, is as in a run by written
-/// order. No entries are stored: the history of the report is for contracts alone.
+/// Threads wait for each other at safepoints alone. What ends a thread, and what halts the run, is as in a run by
+/// written order. No entries are stored: the history of the report is for contracts alone.
 pub fn run_threads<X: Threads + Sync, D: StaleDisk, G: Gate + Sync>(
     rt: &X,
     alloc: Global,

@@ -157,7 +157,8 @@ module _ (start : Start) (words : List ℕ) (may : MayBegin start words) where
     few = may.few;
     bodies = bodies;
     maps_stand = record { homes = λ home. refl; begun = λ a n is. is; only = λ a n is. inl is };
-    seats = λ i u e alive. each (SeatStands start.began (maps_of start.began) now start.began.history) first_stands i u e;
+    seats = λ i u e alive. each (SeatStands start.began (maps_of start.began) now start.began.history) first_stands i u
+        e;
     away = λ i p u a e alive has. away_saw start.began.history (others_of start.began.threads) p a
         (ap (λ (z : View). get_elem? z.away p) (only i u e).1 ∙ has);
     spent = each (λ (u : View). u.parts ≡ 0 → u ≡ spent_view)

@@ -1,5 +1,6 @@
 -- The stale bit of an object is cleared by one fetch-and-and on its header, and the rule stays.
-use Rattle.std.proofs.Common.{◌≡◌, ℕ, ◌+◌, ◌*◌, ◌^◌, ◌<◌, ◌≤◌, Bool, true, false, List, length, get_or, refl, sym, ◌∙◌, ap}
+use Rattle.std.proofs.Common.{◌≡◌, ℕ, ◌+◌, ◌*◌, ◌^◌, ◌<◌, ◌≤◌, Bool, true, false, List, length, get_or, refl, sym, ◌∙◌}
+use Rattle.std.proofs.Common.{ap}
 use Rattle.std.proofs.Common.{subst, arith, inl, inr}
 use Rattle.std.proofs.Math.ListN.{set}
 use Rattle.std.proofs.lemmas.Nat.{and-not, and_block, and_comm}
@@ -123,8 +124,13 @@ module _ (start : Start) (words after : List ℕ) (views : List View) (kept : Ke
         clears = λ some_. refl;
         brings = λ a n is. inl is;
         gives = λ n gives. absurd (let e : None ≡ Some gives.0 = gives.1 in cc);
-      }) in
-      (is_step.0, record { sees = sees start words after views kept id v at live cleared is_step.0 is_step.1; is = refl })
+      }) in (
+        is_step.0,
+        record {
+          sees = sees start words after views kept id v at live cleared is_step.0 is_step.1;
+          is = refl;
+        },
+      )
 
 -- A seat that knows of the object at the target clears its bit, and is told this.
 clears_known : (start : Start) (slots id i target : ℕ) (place : Place) (found : Ref) (me : Me ℕ View)

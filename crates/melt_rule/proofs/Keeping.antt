@@ -182,7 +182,8 @@ module _ (start : Start) (words after : List ℕ) (views : List View) (kept : Ke
     later = with_entry v.thread kept.history s.act
 
     keeps : Keeps start.began.told kept.history later kept.maps s.maps old new s.mine s.cleared
-    keeps = event_keeps start.began.told v.thread kept.history kept.maps s.maps old new s.mine s.cleared s.act kept.legal
+    keeps = event_keeps start.began.told v.thread kept.history kept.maps s.maps old new s.mine s.cleared s.act
+        kept.legal
         kept.holds s.event
 
     alive_still : 0 < w.parts
@@ -377,7 +378,8 @@ module _ (start : Start) (words after : List ℕ) (views : List View) (kept : Ke
       stopped = each (λ (u : View). u.stopped ≡ true → get_or after 0 0 ≡ 1) s.stops.stopped
           (λ i u e is. set_still (kept.stop.stopped i u e is));
       spaced = each (λ (u : View). u.spaced ≡ true → start.began.size + 1 < new.free) s.stops.spaced
-          (λ i u e is. let a = kept.stop.spaced i u e is in let b : old.free ≤ new.free = keeps.evolves.free in omega arith);
+          (λ i u e is. let a = kept.stop.spaced i u e is in let b : old.free ≤ new.free = keeps.evolves.free in
+          omega arith);
       lacks = each (λ (u : View). u.over ≢ 0 → u.spaced ≡ true) s.stops.lacks kept.stop.lacks;
       sets = each (λ (u : View). has_cause u ≡ true → is_lacking u.doing ≡ false → get_or after 0 0 ≡ 1) s.stops.sets
           (λ i u e cause goes. set_still (kept.stop.sets i u e cause goes));
@@ -539,7 +541,8 @@ module _ (start : Start) (words after : List ℕ) (views : List View) (kept : Ke
           let x = spoke i p t u e alive has in
           kept.members i p t x.view x.is x.alive x.has;
       since = begins_on v.thread start.began.history kept.history s.act kept.since;
-      stay = λ told. made_stay start.began.told kept.history kept.maps s.maps old new v.thread s.mine s.cleared s.act s.event
+      stay = λ told. made_stay start.began.told kept.history kept.maps s.maps old new v.thread s.mine s.cleared s.act
+          s.event
           keeps.evolves (made start.began.history) (kept.stay told);
       strangers = λ t none.
           own_other v.thread t kept.history s.act (λ same. none id 0 w (here w) alive_still (ap some (s.thread ∙ same)))
@@ -563,7 +566,8 @@ module _ (start : Start) (words after : List ℕ) (views : List View) (kept : Ke
     unfolding keep
     since_seen =
         let began : v.began ≡ start.began = (kept.seats id v at live).began in
-        subst (λ (h : List Entry). Since v.began h) (sym s.seen) (subst (λ (b : Began). Since b later) (sym began) (record {
+        subst (λ (h : List Entry). Since v.began h) (sym s.seen)
+        (subst (λ (b : Began). Since b later) (sym began) (record {
           begins = keep.since;
           strangers = λ t none. keep.strangers t (λ i p u e alive has. none (keep.members i p t u e alive has));
         }))

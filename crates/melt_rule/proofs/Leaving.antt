@@ -1,5 +1,5 @@
--- A step that changes words of objects, globals and regions alone keeps the rule where it is an event of the core: what it
--- has to show of the view behind it.
+-- A step that changes words of objects, globals and regions alone keeps the rule where it is an event of the core: what
+-- it has to show of the view behind it.
 use Rattle.std.proofs.Common.{◌≡◌, ◌≢◌, ◌⊎◌, ℕ, ◌+◌, ◌<◌, ◌≤◌, false, List, length, get_or}
 use Rattle.std.proofs.Common.{refl, sym, ◌∙◌, ap, subst, arith, inl, inr}
 use Rattle.std.proofs.Math.ListN.{set, length-set}
@@ -38,7 +38,8 @@ pub only_same : (start : Start) (words : List ℕ) → OnlyObjects start words w
 only_same start words = record { size = refl; stop = refl; free = refl; forward = λ p. refl }
 
 pub only_space : (start : Start) (words : List ℕ) (address x : ℕ) → 1 ≤ address
-    → word_place start.began address < length words → OnlyObjects start words (set words (word_place start.began address) x)
+    → word_place start.began address < length words
+    → OnlyObjects start words (set words (word_place start.began address) x)
 only_space start words address x first within =
     let place : ℕ = word_place start.began address in
     let changes = word_changes start.began words address x first within in
@@ -147,7 +148,8 @@ module _ (start : Start) (words after : List ℕ) (views : List View) (kept : Ke
       → StepTo (behind v (with_entry v.thread kept.history act) v.known doing) act
   leaves_same mine cleared act doing event apart owns knows bits =
       let evolves : Evolves kept.maps kept.maps old new cleared =
-      evolves_event start.began.told kept.history kept.maps kept.maps old new mine cleared act kept.holds.formed event in
+      evolves_event start.began.told kept.history kept.maps kept.maps old new mine cleared act kept.holds.formed
+      event in
       leaves kept.maps mine cleared act v.known doing (record {
         event = event;
         apart = apart;

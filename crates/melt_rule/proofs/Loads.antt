@@ -199,7 +199,8 @@ module _ (start : Start) (words : List ℕ) (views : List View) (kept : Kept sta
   pub numbers : (object n j : ℕ) (shape : Shape) → IsNumberWord kept.maps now object shape n j
       → is_reading v.doing ≡ false
       → let value : Value = Num (now.word (number_place object shape j)) in
-      Step (read (slot.Cell n j) value v.known) × Ends v (read (slot.Cell n j) value v.known) (Read (slot.Cell n j) value)
+      Step (read (slot.Cell n j) value v.known)
+      × Ends v (read (slot.Cell n j) value v.known) (Read (slot.Cell n j) value)
   unfolding loads
   numbers object n j shape is left =
       let value : Value = Num (now.word (number_place object shape j)) in
@@ -214,11 +215,15 @@ module _ (start : Start) (words : List ℕ) (views : List View) (kept : Kept sta
       let e : value ≡ Ref m = same_Some value (Ref m) (ap (given kept.history) same ∙ gives.2) in
       cc))) in (
         step,
-        record { adds = adds start words words views kept id v at live w step (Read (slot.Cell n j) value) refl; is = refl },
+        record {
+          adds = adds start words words views kept id v at live w step (Read (slot.Cell n j) value) refl;
+          is = refl;
+        },
       )
 
   -- the word of a place, which is that of a reference, stands for the last value of its slot
-  pub stands_at : (place : Place) (slot : Slot) (r : word.Ref) → IsPlace kept.maps now place → SlotAt kept.maps place slot
+  pub stands_at : (place : Place) (slot : Slot) (r : word.Ref) → IsPlace kept.maps now place
+      → SlotAt kept.maps place slot
       → IsRef r → word_in now place ≡ ref_word r → start.began.told ≡ true
       → value_of kept.maps r ≡ Some (last kept.history slot)
   stands_at place slot r there is_slot range is told =
@@ -255,7 +260,8 @@ module _ (start : Start) (words : List ℕ) (views : List View) (kept : Kept sta
       let r = reads place slot Nil v.known there (no_tag Null (word_in now place) range is (λ tag. tag))
       (λ told. record {
         slot = is_slot;
-        last = let e : Some Nil ≡ Some (last kept.history slot) = stands_at place slot Null there is_slot range is told in cc;
+        last = let e : Some Nil ≡ Some (last kept.history slot) =
+            stands_at place slot Null there is_slot range is told in cc;
       })
       (learns_same None tt refl) answers (λ n e. absurd (cc)) in (
         read slot Nil v.known,

@@ -1,6 +1,7 @@
 -- A claim, a store into the own region and the store of its header keep the rule.
 use Rattle.std.proofs.Common.{◌≡◌, ◌≢◌, ◌⊎◌, ℕ, suc, ◌+◌, ◌-◌, ◌*◌, ◌^◌, ◌<◌, ◌≤◌, Bool, true, false}
-use Rattle.std.proofs.Common.{List, [], ◌∷◌, ◌++◌, length, get_or, refl, sym, ◌∙◌, ap, subst, arith, inl, inr, eq-eqb, ne_eqb}
+use Rattle.std.proofs.Common.{List, [], ◌∷◌, ◌++◌, length, get_or, refl, sym, ◌∙◌, ap, subst, arith, inl, inr, eq-eqb}
+use Rattle.std.proofs.Common.{ne_eqb}
 use Rattle.std.proofs.Math.ListN.{set, length-set}
 use Rattle.std.proofs.lemmas.Bool.{cases_lt, cases_eq}
 use Rattle.std.proofs.lemmas.List.{get_or-set_other, append_cancel_right}
@@ -86,7 +87,8 @@ pub free_apart : (told : Bool) (maps : Maps) (s : State) (rest : List ℕ) (word
 free_apart told maps s rest words None knows = apart_none (record { at = s.free; words = words })
 free_apart told maps s rest words (Some (Claimed address shape stored)) knows =
     free_apart_from maps s words (region address shape) knows.1.owns
-free_apart told maps s rest words (Some (Copying a stored)) knows = free_apart_from maps s words (region a.address a.shape)
+free_apart told maps s rest words (Some (Copying a stored)) knows =
+    free_apart_from maps s words (region a.address a.shape)
     knows.1.owns
 free_apart told maps s rest words (Some (Copied a)) knows = free_apart_from maps s words (region a.address a.shape)
     knows.0.copy.owns
@@ -241,7 +243,8 @@ module _ (start : Start) (words : List ℕ) (views : List View) (kept : Kept sta
                   ∙ (ap (λ (b : Bool). v.asked || (b || v.forwarded)) (sym same) ∙ cause) in
                   absurd (cc)
             ];
-            forwarded = λ found p below empty. kept.stop.forwarded id v at found p below (sym (moves.forward p) ∙ empty);
+            forwarded = λ found p below empty. kept.stop.forwarded id v at found p below (sym (moves.forward p)
+                ∙ empty);
           };
           bits = still_bits start words (claimed_words cost) views kept id v at live v.known (Some doing) counts.look
               counts.left;

@@ -72,7 +72,8 @@ module _ (start : Start) (words : List ℕ) (views : List View) (kept : Kept sta
     pub another_owns : (owned (Some another) ≡ owned v.doing) ⊎ (owned (Some another) ≡ no_region)
 
   -- the object of a home that a word sends
-  pub reached : (search : Search) (a : ℕ) → Searches start.began.told kept.maps now search.place search.home search.tried
+  pub reached : (search : Search) (a : ℕ)
+      → Searches start.began.told kept.maps now search.place search.home search.tried
       → Forwards now search.home a
       → Knows start.began.told kept.maps now v.rest (Some (Cleared search.place (Disk search.home) a))
   reached search a searches sent =
@@ -147,7 +148,8 @@ module _ (start : Start) (words : List ℕ) (views : List View) (kept : Kept sta
           λ told. missed_record kept.maps now kept.holds.formed kept.history (kept.holds.tells told) search.home
               search.tried kept.holds.no_gaps known.probed more empty (known.object told),
         );
-        passes = λ another. searches_more start.began.told kept.maps now search.place search.home search.tried known more
+        passes = λ another. searches_more start.began.told kept.maps now search.place search.home search.tried known
+            more
             another;
         look = ap (λ (doing : Option Doing). look_of (staged doing)) is;
         empty_look = refl;
@@ -180,7 +182,8 @@ module _ (start : Start) (words : List ℕ) (views : List View) (kept : Kept sta
       }
 
 -- the word at the place of a probe
-pub probed_word : (start : Start) (words : List ℕ) (views : List View) (kept : Kept start words views) (id i : ℕ) (v : View)
+pub probed_word : (start : Start) (words : List ℕ) (views : List View) (kept : Kept start words views) (id i : ℕ)
+    (v : View)
     (at : get_elem? views id ≡ some v) (live : 0 < v.parts) (search : Search) → search.tried < start.began.forwards
     → i ≡ probe_place v.began search
     → get_or words i 0

@@ -1,5 +1,6 @@
 -- What a seat at the words of an epoch gives a step, and what a step gives back.
-use Rattle.std.proofs.Common.{◌≡◌, ◌≢◌, ℕ, ◌+◌, ◌*◌, ◌<◌, ◌≤◌, Bool, true, false, List, inl, inr, refl, sym, ◌∙◌, ap, subst, arith}
+use Rattle.std.proofs.Common.{◌≡◌, ◌≢◌, ℕ, ◌+◌, ◌*◌, ◌<◌, ◌≤◌, Bool, true, false, List, inl, inr, refl, sym, ◌∙◌, ap}
+use Rattle.std.proofs.Common.{subst, arith}
 use Rattle.std.proofs.lemmas.Bool.Decides.{eqb_tells}
 use Rattle.std.specs.Prelude.{Option, None, Some, if◌then◌else◌}
 use Rattle.atomic_table.specs.Seated.{TableId}
@@ -69,14 +70,16 @@ seated_looked words old new at place (Disk home) seat table stays looks =
 
 -- where the word of an address stands, for a seat at a table
 pub placed_at : (id : TableId) (start : Start) (before forwards_at : ℕ) (seat : Seat ℕ View) (a : ℕ)
-    → IsTable id start before forwards_at → IsSeat (record { id = id; start = start }) seat → before + a ≡ word_place (knows_of seat).began a
+    → IsTable id start before forwards_at → IsSeat (record { id = id; start = start }) seat
+    → before + a ≡ word_place (knows_of seat).began a
 placed_at id start before forwards_at seat a table is_seat =
     let b = table.before_is in
     subst (λ (x : Began). before + a ≡ word_place x a) (sym is_seat.began) (omega arith)
 
 -- the table has it
 pub has_word : (id : TableId) (start : Start) (before forwards_at : ℕ) (seat : Seat ℕ View) (a : ℕ)
-    → IsTable id start before forwards_at → IsSeat (record { id = id; start = start }) seat → a ≤ (knows_of seat).began.size → before + a < id.words
+    → IsTable id start before forwards_at → IsSeat (record { id = id; start = start }) seat
+    → a ≤ (knows_of seat).began.size → before + a < id.words
 has_word id start before forwards_at seat a table is_seat within =
     let b = table.before_is in
     let w = table.words in
@@ -84,7 +87,8 @@ has_word id start before forwards_at seat a table is_seat within =
     omega arith
 
 -- the seat at the table within the words
-pub inside_seat : (words inside : EpochWords) (seat : Seat ℕ View) → inside ≡ words → IsSeat words seat → IsSeat inside seat
+pub inside_seat : (words inside : EpochWords) (seat : Seat ℕ View) → inside ≡ words → IsSeat words seat
+    → IsSeat inside seat
 inside_seat words inside seat is is_seat = subst (λ (w : EpochWords). IsSeat w seat) (sym is) is_seat
 
 -- what lies within the object of which the call speaks lies within the space
@@ -113,7 +117,8 @@ seated_asked words old new seat table stays asks =
         let e : caused v ≡ v = ap (λ (b : Bool). if b then v else record v { asked = true }) is in
         (ap (λ (u : View). u.parts) e, ap (λ (u : View). u.began) e)
     caused_keeps v false is =
-        let e : caused v ≡ record v { asked = true } = ap (λ (b : Bool). if b then v else record v { asked = true }) is in
+        let e : caused v ≡ record v { asked = true } =
+        ap (λ (b : Bool). if b then v else record v { asked = true }) is in
         (ap (λ (u : View). u.parts) e, ap (λ (u : View). u.began) e)
 
 -- behind a load that was answered

@@ -161,7 +161,8 @@ fills_at start slots id search me live on all =
     subst (λ (b : Began). b.forwards ≤ search.tried) (kept.seats id me.0 at alive).began all in
     let r = stops_by start words views kept id me.0 at alive me.0.asked true
     (forwarded_cause me.0.asked me.0.spaced)
-    (λ is. all_filled start.began.told kept.maps (shows start.began words) search.place search.home search.tried searches
+    (λ is. all_filled start.began.told kept.maps (shows start.began words) search.place search.home search.tried
+    searches
     read)
     (searches_left me.0 search on) in (
       record (behind me.0 kept.history me.0.known None) { forwarded = true },

@@ -1,4 +1,5 @@
--- What the steps of the read barrier tell their thread, by the word on which they were made and the word that they found.
+-- What the steps of the read barrier tell their thread, by the word on which they were
+-- made and the word that they found.
 use Rattle.std.specs.Prelude.{◌≡◌, ℕ, ◌+◌, Some}
 use Rattle.atomic_table.specs.Table.{Me, Step}
 use Rattle.melt_model.specs.declared.history.Slot.{Slot}

@@ -1,5 +1,5 @@
--- What the steps of a load tell their thread that brings an object back from disk: the search through the forwarding words,
--- the claim and the stores of a copy, and its commit.
+-- What the steps of a load tell their thread that brings an object back from disk: the search through the forwarding
+-- words, the claim and the stores of a copy, and its commit.
 use Rattle.std.specs.Prelude.{◌≡◌, ◌≢◌, ◌⊎◌, ℕ, ◌+◌, ◌^◌, ◌<◌, ◌≤◌, true, List, [], ◌∷◌, ◌++◌, Option, None, Some}
 use Rattle.atomic_table.specs.Table.{Me, Step}
 use Rattle.melt_model.specs.History.{shape}
@@ -21,11 +21,12 @@ use Rattle.melt_rule.specs.Shown.{base_of, forward_place, word_place}
 use Rattle.melt_rule.specs.Tells.{Sees, behind, Reaches}
 use Rattle.melt_rule.specs.declared.began.Began.{Began}
 use Rattle.melt_rule.specs.declared.view.Doing.{Doing}
-use Rattle.melt_rule.specs.declared.view.Doing.TheVariants.{Cleared, Copied, Copying, LackingCopy, Missed, Retrying, Searching}
+use Rattle.melt_rule.specs.declared.view.Doing.TheVariants.{Cleared, Copied, Copying, LackingCopy, Missed, Retrying}
+use Rattle.melt_rule.specs.declared.view.Doing.TheVariants.{Searching}
 use Rattle.melt_rule.specs.declared.view.View.{View}
 
--- A forwarding word was found: none, one that sends the home to an address, or one that sends another home. The object of
--- a home that is sent has no stale bit.
+-- A forwarding word was found: none, one that sends the home to an address, or one that sends another home. The object
+-- of a home that is sent has no stale bit.
 abbrev pub Probes : View → View → Search → Doing → Doing → Option (ℕ × ℕ) → Type 0
 Probes v w search empty another None = Reaches v w (Some empty)
 Probes v w search empty another (Some sent) =
@@ -93,7 +94,8 @@ pub record Wins (v w : View) (a : Activation) : Type 0 where
   pub is : w ≡ record (behind v w.seen (v.known ++ record { address = a.address; object = object } ∷ [])
       (Some (Cleared a.search.place (Disk a.search.home) a.address))) { won = v.won + 1 }
 
--- A commit found what its forwarding word sent by then: none, so that the copy is sent there now; this home; or another.
+-- A commit found what its forwarding word sent by then: none, so that the copy is sent
+-- there now; this home; or another.
 abbrev pub Commits : View → View → Activation → Option (ℕ × ℕ) → Type 0
 Commits v w a None = Wins v w a
 Commits v w a (Some sent) = Probes v w a.search (Copied a) (Retrying (retried a)) (Some sent)

@@ -11,8 +11,8 @@ use Rattle.melt_rule.specs.Tells.{Sees, Adds, behind, Reaches}
 use Rattle.melt_rule.specs.declared.view.Doing.TheVariants.{Claimed, Lacking}
 use Rattle.melt_rule.specs.declared.view.View.{View}
 
--- A claim found the first free place there. It lies behind all words that the seat has claimed; and where the seat speaks
--- for all threads, no others were claimed.
+-- A claim found the first free place there. It lies behind all words that the seat has claimed; and where the seat
+-- speaks for all threads, no others were claimed.
 pub record FirstFree (v : View) (found : ℕ) : Type 0 where
   pub from : v.began.free + v.claimed ≤ found
   pub alone : v.parts ≡ length v.began.threads → found ≡ v.began.free + v.claimed

@@ -99,8 +99,8 @@ abbrev pub filled : (ℕ → ℕ) → ℕ → ℕ
 filled word zero = 0
 filled word (suc n) = filled word n + filled_one (word n)
 
--- What the numbers in views add up to. Each claim that ends past the last word is of a seat that lacks words since; with
--- as many such claims as there are threads at most, the first free place stays small.
+-- What the numbers in views add up to. Each claim that ends past the last word is of a seat that lacks words since;
+-- with as many such claims as there are threads at most, the first free place stays small.
 pub record SumsStand (b : Began) (threads : ℕ) (s : State) (views : List View) : Type 0 where
   pub parts : sum_by (λ (v : View). v.parts) views ≡ threads
   pub free : s.free ≡ b.free + sum_by (λ (v : View). v.claimed) views
@@ -127,8 +127,8 @@ is_reading doing = false
 abbrev pub is_bound : Option Doing → Bool
 is_bound doing = is_lacking doing || is_reading doing
 
--- The stop word is set where a seat has a cause, once the call that found it has set it, and only where some seat has one.
--- What a cause and a word that was found set say is so.
+-- The stop word is set where a seat has a cause, once the call that found it has set it, and only where some seat has
+-- one. What a cause and a word that was found set say is so.
 pub record StopStands (b : Began) (stop : ℕ) (s : State) (views : List View) : Type 0 where
   pub bit : (stop ≡ 0) ⊎ (stop ≡ 1)
   pub caused : stop ≡ 1 → (id : ℕ) × (v : View) × (get_elem? views id ≡ some v) × (has_cause v ≡ true)

@@ -38,8 +38,8 @@ pub record Since (b : Began) (h : List Entry) : Type 0 where
   pub begins : Begins b.history h
   pub strangers : (t : ℕ) → (TakesPart b t → ⊥) → own h t ≡ own b.history t
 
--- The history was seen anew. It begins with what was seen before, and is legal where it is told; what came to it since is
--- of other threads.
+-- The history was seen anew. It begins with what was seen before, and is legal where it is told; what came to it since
+-- is of other threads.
 pub record Sees (v : View) (h : List Entry) : Type 0 where
   pub begins : Begins v.seen h
   pub since : Since v.began h
@@ -124,8 +124,8 @@ abbrev pub PlaceFits : Began → Place → Type 0
 PlaceFits b (Field object i) = object + 2 + i ≤ b.size
 PlaceFits b (Global g) = g < b.globals
 
--- The search is for a home before the end of the disk that was found at such a place, by the forwarding words that there
--- are.
+-- The search is for a home before the end of the disk that was found at such a place, by the forwarding words that
+-- there are.
 pub record SearchFits (b : Began) (search : Search) : Type 0 where
   pub home : IsDiskHome search.home
   pub before : search.home < b.end
@@ -139,8 +139,8 @@ pub record CopyFits (b : Began) (a : Activation) : Type 0 where
   pub first : 1 ≤ a.address
   pub within : a.address + cost_of a.shape ≤ b.size + 1
 
--- What the call speaks of lies within the space: an object, a region, the place of a reference and the object to which that
--- refers. A home that no forwarding word sends has a record, where it is told.
+-- What the call speaks of lies within the space: an object, a region, the place of a reference and the object to which
+-- that refers. A home that no forwarding word sends has a record, where it is told.
 abbrev pub FitsIn : Began → Option Doing → Type 0
 FitsIn b (Some (Headed address shape)) = address + cost_of shape ≤ b.size + 1
 FitsIn b (Some (Claimed address shape stored)) = (1 ≤ address) × (address + cost_of shape ≤ b.size + 1)
@@ -154,7 +154,8 @@ FitsIn b (Some (Copied a)) = CopyFits b a × (a.search.tried < b.forwards)
 FitsIn b (Some (Retrying a)) = CopyFits b a
 FitsIn b doing = Unit {0}
 
--- What a seat knows of lies within the space. An address is that of one object, and where it is told, an object has one.
+-- What a seat knows of lies within the space. An address is that of one object, and
+-- where it is told, an object has one.
 pub record IsWithin (v : View) : Type 0 where
   pub known : (address n : ℕ) → Has v.known address n → (1 ≤ address) × (address ≤ v.began.size)
   pub one_object : (address n m : ℕ) → Has v.known address n → Has v.known address m → n ≡ m

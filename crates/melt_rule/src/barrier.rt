@@ -1,6 +1,6 @@
-//! The read barrier: a load that found a reference with a tag first clears the stale bit of its object, and then takes the
-//! tag from the word that it found. Both are atomic, and the second takes effect only where the word is still the same: a
-//! load that loses answers the word that it finds, which has no tag any more.
+//! The read barrier: a load that found a reference with a tag first clears the stale bit of its object, and then takes
+//! the tag from the word that it found. Both are atomic, and the second takes effect only where the word is still the
+//! same: a load that loses answers the word that it finds, which has no tag any more.
 ghost use Rattle.std.specs.Prelude.{◌≡◌, ◌≢◌, ℕ, ◌+◌, ◌*◌, ◌^◌, ◌<◌, ◌≤◌, Some};
 ghost use Rattle.melt_model.specs.declared.history.Slot.TheVariants as slot;
 ghost use Rattle.melt_core.specs.declared.call.Place.{Place};
@@ -44,7 +44,8 @@ impl Words {
     /// Clears the stale bit of the object at the target, which a look found.
     pub fn clear(&self, seat: &mut Seated, target: u32)
         requires seat { IsSeat self.now seat.old }
-        requires looked { (place : Place) × ((found : Ref) × ((knows_of seat.old).doing ≡ Some (Looked place found target))) }
+        requires looked { (place : Place) × ((found : Ref)
+            × ((knows_of seat.old).doing ≡ Some (Looked place found target))) }
         ensures seat { IsSeat self.now seat.new }
         ensures clears { (place : Place) (found : Ref) → (knows_of seat.old).doing ≡ Some (Looked place found target)
             → Reaches (knows_of seat.old) (knows_of seat.new) (Some (Cleared place found target)) }
@@ -56,8 +57,8 @@ impl Words {
     }
 
     /// Takes the tag from the reference in slot `i` of an object, whose own object is at the target, and answers the
-    /// load: with the target where the reference was still there, and else with what stands there by then. An answer of 0
-    /// is no object.
+    /// load: with the target where the reference was still there, and else with what stands there by then. An answer of
+    /// 0 is no object.
     pub fn untag_slot(&self, seat: &mut Seated, object: u32, i: u8, found: Ref, target: u32) -> u32
         requires seat { IsSeat self.now seat.old }
         requires known { HasName (knows_of seat.old) object }
@@ -93,8 +94,8 @@ impl Words {
     }
 }
 
-/// What an exchange answers that found this word: the target where it is the word that was to be found, and else the address
-/// in it.
+/// What an exchange answers that found this word: the target where it is the word that was to be found, and else the
+/// address in it.
 fn answer(seen: u64, old: u64, target: u32) -> u32
     requires { seen ≢ old → (address : ℕ) × ((address < 2 ^ 30) × (seen ≡ 4 * address)) }
     ensures won { seen ≡ old → result ≡ target }

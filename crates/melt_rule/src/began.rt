@@ -13,8 +13,8 @@ pub struct Pair {
     pub object: u64,
 }
 
-/// What every seat of an epoch knows from its beginning: the history so far, the threads that take part, the state of the
-/// heap, and the disk under it. No value of it is made.
+/// What every seat of an epoch knows from its beginning: the history so far, the threads that take part, the state of
+/// the heap, and the disk under it. No value of it is made.
 pub struct Began {
     pub history: LinkedList<Entry>,
     pub threads: LinkedList<u64>,

@@ -1,10 +1,10 @@
 //! How a load brings an object back from disk while other threads run.
 //!
-//! It reads the forwarding words in the order of the home's search. A word that is filled never changes, so that what was
-//! read stays true, and no word behind an empty one names the home. Where none names it, the call reads the record, claims
-//! words, and fills them with a copy that no other thread sees. One exchange of the empty word makes the copy the object of
-//! the home. Of all threads that bring back one home, one wins; the others find its address in the word, and their copies
-//! stay nobody's until the next collection.
+//! It reads the forwarding words in the order of the home's search. A word that is filled never changes, so that what
+//! was read stays true, and no word behind an empty one names the home. Where none names it, the call reads the record,
+//! claims words, and fills them with a copy that no other thread sees. One exchange of the empty word makes the copy
+//! the object of the home. Of all threads that bring back one home, one wins; the others find its address in the word,
+//! and their copies stay nobody's until the next collection.
 ghost use Rattle.std.specs.Prelude.{◌≡◌, ℕ, ◌+◌, ◌*◌, ◌^◌, ◌<◌, ◌≤◌, false, List, [], Some};
 ghost use Rattle.melt_word.specs.Words.{IsAddress, IsDiskHome, IsShape, cost_of};
 ghost use Rattle.melt_word.specs.declared.header.Shape.{Shape};
@@ -19,7 +19,8 @@ ghost use Rattle.melt_rule.specs.Rule.{has_cause};
 ghost use Rattle.melt_rule.specs.Seats.{IsSeat, knows_of};
 ghost use Rattle.melt_rule.specs.Shown.{base_of};
 ghost use Rattle.melt_rule.specs.Tells.{Reaches};
-ghost use Rattle.melt_rule.specs.declared.view.Doing.TheVariants.{Cleared, Copied, Copying, Missed, Retrying, Searching};
+ghost use Rattle.melt_rule.specs.declared.view.Doing.TheVariants.{Cleared, Copied, Copying, Missed, Retrying};
+ghost use Rattle.melt_rule.specs.declared.view.Doing.TheVariants.{Searching};
 
 use crate::barrier::ALL_BUT_STALE;
 use crate::view::View;
@@ -156,8 +157,8 @@ impl Words {
             .fetch_and::<ClearStub>(seat, at, ALL_BUT_STALE);
     }
 
-    /// Claims the words for a copy of a Body, and answers the address of the first. Where they end past the last word it
-    /// answers none, and the thread has a cause to stop.
+    /// Claims the words for a copy of a Body, and answers the address of the first. Where they end past the last word
+    /// it answers none, and the thread has a cause to stop.
     pub fn claim_copy(
         &self,
         seat: &mut Seated,
@@ -232,8 +233,8 @@ impl Words {
         self.table.shared.store::<HeadCopy>(seat, at, header);
     }
 
-    /// Exchanges the forwarding word that was empty with that of the copy, where it still is. Answers what the word sent
-    /// before: none where the copy is the object of its home now.
+    /// Exchanges the forwarding word that was empty with that of the copy, where it still is. Answers what the word
+    /// sent before: none where the copy is the object of its home now.
     pub fn commit(&self, seat: &mut Seated, activation: Activation) -> Option<(u32, u32)>
         requires seat { IsSeat self.now seat.old }
         requires copied { (knows_of seat.old).doing ≡ Some (Copied activation) }

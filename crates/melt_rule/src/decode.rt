@@ -1,5 +1,5 @@
-//! What words of an epoch hold. The rule says of each that it is the word of a reference or of a header, so none is asked
-//! whether it is.
+//! What words of an epoch hold. The rule says of each that it is the word of a reference or of a header, so none is
+//! asked whether it is.
 ghost use Rattle.std.specs.Prelude.{◌≡◌};
 ghost use Rattle.melt_word.specs.Words.{IsHeader, IsRef, header_word, ref_word};
 ghost use Rattle.melt_word.specs.declared.header.Header.{Header as HeaderIs};

@@ -5,8 +5,8 @@ use melt_model::Entry;
 use melt_word::{Ref, Shape};
 use std::collections::LinkedList;
 
-/// How far a call has come, and what it knows of the words. What it is to do with them stays in the code of the call: so
-/// each search is for register 0.
+/// How far a call has come, and what it knows of the words. What it is to do with them stays in the code of the call:
+/// so each search is for register 0.
 pub enum Doing {
     /// The stop word was not set.
     Polled,

@@ -1,7 +1,7 @@
 //! The words of an epoch, and each kind of step on them.
 //!
-//! A step is one load, store, fetch-and-add or compare-exchange of one word. What it asks is what its thread has to know
-//! by then; what it tells is the history behind it and what the thread knows from then on.
+//! A step is one load, store, fetch-and-add or compare-exchange of one word. What it asks is what its thread has to
+//! know by then; what it tells is the history behind it and what the thread knows from then on.
 ghost use Rattle.std.specs.Prelude.{true, false, ◌≡◌, ℕ, ◌+◌, ◌<◌, Some};
 ghost use Rattle.melt_model.specs.declared.history.Act.TheVariants.{Read, Write};
 ghost use Rattle.melt_model.specs.declared.history.Slot.TheVariants as slot;

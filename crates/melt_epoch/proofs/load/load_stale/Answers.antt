@@ -16,4 +16,5 @@ returns-clause-loads c = λ v s at looks.
     stale_loads v w u (knows_of c.untag.new.seat) s (Looked place (Stale target) target)
     (Cleared place (Stale target) target) 3 c.untag.result (omega arith) looks clears
     (c.untag.ensures.reads s
-    (stale_slot v w u place s (Looked place (Stale target) target) (Cleared place (Stale target) target) looks clears at))
+    (stale_slot v w u place s (Looked place (Stale target) target) (Cleared place (Stale target) target) looks clears
+    at))

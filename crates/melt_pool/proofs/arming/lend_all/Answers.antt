@@ -56,5 +56,6 @@ returns-clause-lent g c =
     record {
       count = i.done.count;
       each = λ t r m n at_r at_m at_n.
-          all_below _ c.loop-k.k c.args.mutators.now c.loop-k.mutators i.done c.loop-k-test.false t m n at_m at_n r at_r;
+          all_below _ c.loop-k.k c.args.mutators.now c.loop-k.mutators i.done c.loop-k-test.false t m n at_m at_n r
+          at_r;
     }

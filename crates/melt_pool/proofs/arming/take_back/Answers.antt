@@ -1,5 +1,6 @@
 -- From the next mutator its operations and its registers are taken, and its reader is given back.
-use Rattle.std.proofs.Common.{◌≡◌, ℕ, ◌+◌, ◌<◌, List, [], ◌∷◌, get_or, length, length-append, refl, sym, ◌∙◌, ap, subst, arith}
+use Rattle.std.proofs.Common.{◌≡◌, ℕ, ◌+◌, ◌<◌, List, [], ◌∷◌, get_or, length, length-append, refl, sym, ◌∙◌, ap, subst}
+use Rattle.std.proofs.Common.{arith}
 use Rattle.std.proofs.lemmas.Option.{same_Some}
 use Rattle.std.specs.Prelude.{Some, slice_get}
 use Rattle.melt_scion.specs.declared.registers.Registers.{Registers}
@@ -44,7 +45,8 @@ loop-k-preserved g c =
     let before : length c.loop-k.states.items ≡ k = i.many in
     record {
       taken = one_below TakenAt k olds ms m c.disarm-reader.new.m i.taken at c.disarm-reader.ensures.left;
-      held = one_below (HeldAt olds) k c.args.registers.now c.loop-k.registers r c.disarm-reader.result.2 i.held at_r here;
+      held = one_below (HeldAt olds) k c.args.registers.now c.loop-k.registers r c.disarm-reader.result.2 i.held at_r
+          here;
       many = (let more : length c.push_reserved.new.self.items ≡ length c.loop-k.states.items + 1 =
           ap length c.push_reserved.ensures.items ∙ length-append c.loop-k.states.items (state ∷ []) in
           omega (arith, more, before));

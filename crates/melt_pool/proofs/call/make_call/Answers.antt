@@ -144,7 +144,8 @@ returns-in-GLoad-clause-keeps g c =
 
 pub returns-in-Store-clause-keeps : goal.returns-in-Store-clause-keeps
 returns-in-Store-clause-keeps g c =
-    plain_keeps c.args.m.now c.store.new.m (Store c.in-Store.obj c.in-Store.i c.in-Store.src) 3 c.store.result c.store.ensures.plain
+    plain_keeps c.args.m.now c.store.new.m (Store c.in-Store.obj c.in-Store.i c.in-Store.src) 3 c.store.result
+    c.store.ensures.plain
 
 pub returns-in-Get-clause-keeps : goal.returns-in-Get-clause-keeps
 returns-in-Get-clause-keeps g c =
@@ -156,4 +157,5 @@ returns-in-Put-clause-keeps g c =
 
 pub returns-in-GStore-clause-keeps : goal.returns-in-GStore-clause-keeps
 returns-in-GStore-clause-keeps g c =
-    plain_keeps c.args.m.now c.gstore.new.m (GStore c.in-GStore.g c.in-GStore.src) 2 c.gstore.result c.gstore.ensures.plain
+    plain_keeps c.args.m.now c.gstore.new.m (GStore c.in-GStore.g c.in-GStore.src) 2 c.gstore.result
+    c.gstore.ensures.plain

@@ -41,7 +41,10 @@ run_all-requires-clause-runs g c κs within =
     let at : slice_get ms t ≡ Some m = slice_get-get_or ms t c.index-mutators-t.result c.requires.place in
     let came : CameFirst faults finish every words m n Went =
     subst (CameFirst faults finish every words m n) c.in-Went.is c.call_first-came.ensures.came in
-    let changed = set_changes t ms m n (Went_at faults finish every words) at (c.call_first-came.ensures.thread, came) in
+    let changed = set_changes t ms m n (Went_at faults finish every words) at (
+      c.call_first-came.ensures.thread,
+      came,
+    ) in
     let runs = c.requires.runs in
     (runs.0, changed_may_run faults finish every words runs.0 t ms (set ms t n) changed runs.1)
 
@@ -70,7 +73,10 @@ returns-in-Went g c =
     let at : slice_get ms t ≡ Some m = slice_get-get_or ms t c.index-mutators-t.result c.requires.place in
     let came : CameFirst faults finish every words m n Went =
     subst (CameFirst faults finish every words m n) c.in-Went.is c.call_first-came.ensures.came in
-    let changed = set_changes t ms m n (Went_at faults finish every words) at (c.call_first-came.ensures.thread, came) in
+    let changed = set_changes t ms m n (Went_at faults finish every words) at (
+      c.call_first-came.ensures.thread,
+      came,
+    ) in
     record {
       came = subst (AllCame faults finish every (Some t) words ms rs) (sym c.in-Went.is)
           (all_run_behind faults finish every words t ms (set ms t n) rs changed c.run_all.ensures.runs);

@@ -48,7 +48,8 @@ go_on-requires-clause-rest g c κs within =
     subst (λ (n : ℕ). IsAtRest (image_of g.D.Reader.RecordReader.image) c.args.paused.told c.args.paused.heap
     c.args.paused.pass n c.hand_out.new.mutators) (sym c.requires.end)
     (begins_at_rest g.D.Reader.RecordReader.image g.D.Reader.RecordReader.faults
-    (shown_by g.D.StaleDisk.image c.args.space.now) c.args.first c.args.paused.told c.args.paused.heap c.args.paused.pass
+    (shown_by g.D.StaleDisk.image c.args.space.now) c.args.first c.args.paused.told c.args.paused.heap
+    c.args.paused.pass
     c.args.registers.now c.args.states.now.items may.0 may.1 c.args.every c.hand_out.new.mutators c.requires.nameless
     (are_armed g at) (some g at) may.2)
 
@@ -59,7 +60,8 @@ rest : (g : Over) (c : After-hand_out g) → (script : Script)
 rest g c =
     let may = c.requires.may in
     begins_threads g.D.Reader.RecordReader.image g.D.Reader.RecordReader.faults
-    (shown_by g.D.StaleDisk.image c.args.space.now) c.args.first c.args.paused.told c.args.paused.heap c.args.paused.pass
+    (shown_by g.D.StaleDisk.image c.args.space.now) c.args.first c.args.paused.told c.args.paused.heap
+    c.args.paused.pass
     c.args.registers.now c.args.states.now.items may.0 may.1 c.args.every c.hand_out.new.mutators c.requires.nameless
     (are_armed g c) (some g c) may.2
 
@@ -74,7 +76,8 @@ go_on-requires-clause-first g c κs within =
     let at = (goal.at.go_on-requires-clause-first g c).After-hand_out in
     let may = c.requires.may in
     begins_first g.D.Reader.RecordReader.image g.D.Reader.RecordReader.faults
-    (shown_by g.D.StaleDisk.image c.args.space.now) c.args.first c.args.paused.told c.args.paused.heap c.args.paused.pass
+    (shown_by g.D.StaleDisk.image c.args.space.now) c.args.first c.args.paused.told c.args.paused.heap
+    c.args.paused.pass
     c.args.registers.now c.args.states.now.items may.0 may.1 c.args.every c.hand_out.new.mutators c.requires.nameless
     (are_armed g at) (some g at) may.2
 
@@ -94,7 +97,8 @@ pub take_back-requires-clause-room : goal.take_back-requires-clause-room
 take_back-requires-clause-room g c =
     let at = goal.at.take_back-requires-clause-room g c in
     let count : length c.go_on.new.mutators ≡ length c.hand_out.new.mutators =
-    leaves_count g.D.Reader.RecordReader.image g.D.Reader.RecordReader.faults (shown_by g.D.StaleDisk.image c.args.space.now)
+    leaves_count g.D.Reader.RecordReader.image g.D.Reader.RecordReader.faults
+    (shown_by g.D.StaleDisk.image c.args.space.now)
     c.args.paused.told c.args.paused.heap c.args.paused.pass c.args.registers.now c.args.states.now.items
     c.hand_out.new.mutators c.requires.nameless (are_armed g at.After-hand_out) (some g at.After-hand_out) c.args.every
     c.in_ok-paused.paused.heap c.in_ok-paused.paused.pass c.go_on.new.mutators (rest g at.After-hand_out) c.args.first
@@ -114,7 +118,8 @@ take_back-requires-clause-as_many g c =
     let at = goal.at.take_back-requires-clause-as_many g c in
     let r = c.requires.ready in
     let count : length c.go_on.new.mutators ≡ length c.hand_out.new.mutators =
-    leaves_count g.D.Reader.RecordReader.image g.D.Reader.RecordReader.faults (shown_by g.D.StaleDisk.image c.args.space.now)
+    leaves_count g.D.Reader.RecordReader.image g.D.Reader.RecordReader.faults
+    (shown_by g.D.StaleDisk.image c.args.space.now)
     c.args.paused.told c.args.paused.heap c.args.paused.pass c.args.registers.now c.args.states.now.items
     c.hand_out.new.mutators c.requires.nameless (are_armed g at.After-hand_out) (some g at.After-hand_out) c.args.every
     c.in_ok-paused.paused.heap c.in_ok-paused.paused.pass c.go_on.new.mutators (rest g at.After-hand_out) c.args.first
@@ -124,7 +129,8 @@ take_back-requires-clause-as_many g c =
 pub take_back-requires-clause-bring : goal.take_back-requires-clause-bring
 take_back-requires-clause-bring g c κs within =
     let at = goal.at.take_back-requires-clause-bring g c in
-    leaves_bring g.D.Reader.RecordReader.image g.D.Reader.RecordReader.faults (shown_by g.D.StaleDisk.image c.args.space.now)
+    leaves_bring g.D.Reader.RecordReader.image g.D.Reader.RecordReader.faults
+    (shown_by g.D.StaleDisk.image c.args.space.now)
     c.args.paused.told c.args.paused.heap c.args.paused.pass c.args.registers.now c.args.states.now.items
     c.hand_out.new.mutators c.requires.nameless (are_armed g at.After-hand_out) (some g at.After-hand_out) c.args.every
     c.in_ok-paused.paused.heap c.in_ok-paused.paused.pass c.go_on.new.mutators (rest g at.After-hand_out) c.args.first
@@ -133,7 +139,8 @@ take_back-requires-clause-bring g c κs within =
 pub returns-clause-nameless : goal.returns-clause-nameless
 returns-clause-nameless g c =
     let at = goal.at.returns-clause-nameless g c in
-    leaves_nameless g.D.Reader.RecordReader.image g.D.Reader.RecordReader.faults (shown_by g.D.StaleDisk.image c.args.space.now)
+    leaves_nameless g.D.Reader.RecordReader.image g.D.Reader.RecordReader.faults
+    (shown_by g.D.StaleDisk.image c.args.space.now)
     c.args.paused.told c.args.paused.heap c.args.paused.pass c.args.registers.now c.args.states.now.items
     c.hand_out.new.mutators c.requires.nameless (are_armed g at.After-hand_out) (some g at.After-hand_out) c.args.every
     c.in_ok-paused.paused.heap c.in_ok-paused.paused.pass c.go_on.new.mutators (rest g at.After-hand_out) c.args.first
@@ -151,7 +158,8 @@ pub returns-clause-away : goal.returns-clause-away
 returns-clause-away g c =
     let at = goal.at.returns-clause-away g c in
     let r = c.requires.ready in
-    leaves_away g.D.Reader.RecordReader.image g.D.Reader.RecordReader.faults (shown_by g.D.StaleDisk.image c.args.space.now)
+    leaves_away g.D.Reader.RecordReader.image g.D.Reader.RecordReader.faults
+    (shown_by g.D.StaleDisk.image c.args.space.now)
     c.args.paused.told c.args.paused.heap c.args.paused.pass c.args.registers.now c.args.states.now.items
     c.hand_out.new.mutators c.requires.nameless (are_armed g at.After-hand_out) (some g at.After-hand_out) c.args.every
     c.in_ok-paused.paused.heap c.in_ok-paused.paused.pass c.go_on.new.mutators (rest g at.After-hand_out) c.args.first
@@ -167,7 +175,8 @@ returns-clause-ends g c = λ collector room may.
     c.args.every c.args.paused.told) (machine_row c.in_ok-paused.paused.heap c.in_ok-paused.paused.pass
     c.take_back.new.registers c.take_back.new.states.items collector room c.args.every told) c.in_ok-paused.lacks)
     (sym c.in_ok-paused.ensures.told)
-    (leaves_ends g.D.Reader.RecordReader.image g.D.Reader.RecordReader.faults (shown_by g.D.StaleDisk.image c.args.space.now)
+    (leaves_ends g.D.Reader.RecordReader.image g.D.Reader.RecordReader.faults
+    (shown_by g.D.StaleDisk.image c.args.space.now)
     c.args.paused.told c.args.paused.heap c.args.paused.pass c.args.registers.now c.args.states.now.items
     c.hand_out.new.mutators c.requires.nameless (are_armed g at.After-hand_out) (some g at.After-hand_out) c.args.every
     c.in_ok-paused.paused.heap c.in_ok-paused.paused.pass c.go_on.new.mutators (rest g at.After-hand_out) c.args.first
@@ -179,16 +188,20 @@ pub returns-clause-lost : goal.returns-clause-lost
 returns-clause-lost g c =
     let at = goal.at.returns-clause-lost g c in
     let may = c.requires.may in
-    leaves_lost g.D.Reader.RecordReader.image g.D.Reader.RecordReader.faults (shown_by g.D.StaleDisk.image c.args.space.now)
+    leaves_lost g.D.Reader.RecordReader.image g.D.Reader.RecordReader.faults
+    (shown_by g.D.StaleDisk.image c.args.space.now)
     c.args.paused.told c.args.paused.heap c.args.paused.pass c.args.registers.now c.args.states.now.items
     c.hand_out.new.mutators c.requires.nameless (are_armed g at.After-hand_out) (some g at.After-hand_out) c.args.every
     c.in_ok-paused.paused.heap c.in_ok-paused.paused.pass c.go_on.new.mutators (rest g at.After-hand_out)
     c.take_back.new.states.items c.take_back.new.registers c.take_back.new.mutators c.take_back.ensures.disarmed may.0
-    may.1 c.args.first c.in_ok-paused.lacks may.2 (ended g at.In_ok-paused) (leaves_ends g.D.Reader.RecordReader.image g.D.Reader.RecordReader.faults (shown_by g.D.StaleDisk.image c.args.space.now)
+    may.1 c.args.first c.in_ok-paused.lacks may.2 (ended g at.In_ok-paused)
+    (leaves_ends g.D.Reader.RecordReader.image g.D.Reader.RecordReader.faults
+    (shown_by g.D.StaleDisk.image c.args.space.now)
     c.args.paused.told c.args.paused.heap c.args.paused.pass c.args.registers.now c.args.states.now.items
     c.hand_out.new.mutators c.requires.nameless (are_armed g at.After-hand_out) (some g at.After-hand_out) c.args.every
     c.in_ok-paused.paused.heap c.in_ok-paused.paused.pass c.go_on.new.mutators (rest g at.After-hand_out) c.args.first
-    c.in_ok-paused.lacks (ended g at.In_ok-paused) c.take_back.new.states.items c.take_back.new.registers c.take_back.new.mutators
+    c.in_ok-paused.lacks (ended g at.In_ok-paused) c.take_back.new.states.items c.take_back.new.registers
+    c.take_back.new.mutators
     c.take_back.ensures.disarmed (sized g at.After-hand_out) may.0 may.1 may.2)
     (g.D.StaleDisk.read_faults c.args.space.now.disk.now) (g.D.StaleDisk.read_faults c.take_back.new.space.disk.now)
     c.take_back.ensures.read_faults

@@ -6,5 +6,6 @@ use Rattle.melt_pool.proofs.run.run_epochs.Goals as goal
 pub returns-clause-lends : goal.returns-clause-lends
 returns-clause-lends g c =
     IfOk-weaker c.run_by_engine.result _ _
-    (λ done lends script ends. lends 8 (record { each = λ run alloc space later first result made. search rules }) script
+    (λ done lends script ends. lends 8 (record { each = λ run alloc space later first result made. search rules })
+    script
     ends) c.run_by_engine.ensures.lends

@@ -125,7 +125,8 @@ may_still g c =
     subst (λ (shown : Shown). SomeMayRun shown c.args.first (row_of parallel_view c.args.run)) (sym (lent_shown g c))
     c.requires.may
 
-may_then : (g : Over) (c : After-lend_all g) → SomeMayRun (shown_by g.D.StaleDisk.image c.lend_all.new.space) c.args.first
+may_then : (g : Over) (c : After-lend_all g)
+    → SomeMayRun (shown_by g.D.StaleDisk.image c.lend_all.new.space) c.args.first
     (machine_row c.args.run.machine.heap c.args.run.machine.pass c.as_mut_slice-held.result.now c.args.run.states.items
     c.args.run.collector c.args.run.words c.args.run.every c.args.run.told)
 may_then g c =
@@ -162,7 +163,8 @@ invariant_of-machine g c =
           AreAway (parts_view c.in-Ok-go_through.paused.heap c.in-Ok-go_through.paused.pass
           (with_items c.args.run.machine.registers c.go_through.new.registers).items)
           (with_items c.args.run.machine.registers c.go_through.new.registers).items ms) (sym (mutators_are g at))
-          (subst (λ (rs : List Registers). AreAway (parts_view c.in-Ok-go_through.paused.heap c.in-Ok-go_through.paused.pass rs)
+          (subst (λ (rs : List Registers). AreAway (parts_view c.in-Ok-go_through.paused.heap
+          c.in-Ok-go_through.paused.pass rs)
           rs c.go_through.new.mutators) (sym (registers_are g at)) c.in-Ok-go_through.ensures.away);
       none_stored = c.args.run.machine.none_stored;
     }

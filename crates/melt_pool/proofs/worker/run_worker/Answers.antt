@@ -62,7 +62,8 @@ returns-clause-runs g c =
           (λ over. (c.run_program.ensures.ended (subst (λ (y : ThreadState). IsEnded y.mode) same over)).0 ∙ sym same)
           (λ over.
           let as_was = c.run_program.ensures.ended (subst (λ (y : ThreadState). IsEnded y.mode) same over) in
-          back_as_was m r c.set_reader-2.new.self worker back state c.run_program.new.state there had (as_was.1 ∙ is) now
+          back_as_was m r c.set_reader-2.new.self worker back state c.run_program.new.state there had (as_was.1
+          ∙ is) now
           n_is as_was.0)
           (λ goes. c.run_program.ensures.ends script began
           (λ over. goes (subst (λ (y : ThreadState). IsEnded y.mode) (sym same) over)))

@@ -5,7 +5,8 @@ use Rattle.melt_word.specs.declared.reference.Ref.TheVariants.{Null, Clean}
 use Rattle.melt_rule.proofs.barrier.clean_address.Goals as goal
 
 -- four times an address is the word of a clean reference, or of none
-clean_word : (word address : ℕ) → address < 2 ^ 30 → word ≡ 4 * address → ((r : Ref) → IsRef r → word ≡ ref_word r → ⊥) → ⊥
+clean_word : (word address : ℕ) → address < 2 ^ 30 → word ≡ 4 * address → ((r : Ref) → IsRef r → word ≡ ref_word r → ⊥)
+    → ⊥
 clean_word word zero small is none = none Null tt (omega arith)
 clean_word word (suc a) small is none = none (Clean (suc a)) (record { not_null = omega arith; small = small }) is
 

@@ -23,7 +23,8 @@ begin-requires-clause-begins g c =
     subst (λ (h : Heap). h.space.used ≤ length h.space.list) c.heap.view_is c.words.ensures.within.used in
     subst (MayBegin start) words
     (subst (λ (s : Start). MayBegin s (words_of heap)) is
-    (words_begin c.args.start.now heap c.args.end c.args.pass c.requires.heap c.requires.history (g.R.RecordReader.image)
+    (words_begin c.args.start.now heap c.args.end c.args.pass c.requires.heap c.requires.history
+    (g.R.RecordReader.image)
     c.args.mutators.now c.requires.mutators within))
 
 pub returns-in_err-words-clause-kept : goal.returns-in_err-words-clause-kept
@@ -32,7 +33,8 @@ returns-in_err-words-clause-kept g c =
 
 pub invariant_of-result : goal.invariant_of-result
 invariant_of-result g c = record {
-  fits = epoch_fits c.args.start.now c.args.heap c.args.end c.args.pass c.requires.heap c.requires.history c.in_ok-words.words
+  fits = epoch_fits c.args.start.now c.args.heap c.args.end c.args.pass c.requires.heap c.requires.history
+      c.in_ok-words.words
       c.in_ok-words.ensures.words;
 }
 

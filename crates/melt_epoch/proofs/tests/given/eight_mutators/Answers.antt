@@ -21,7 +21,13 @@ returns c =
           (d.thread, d.may_start),
           (
             (e.thread, e.may_start),
-            ((f.thread, f.may_start), ((h.thread, h.may_start), ((i.thread, i.may_start), ((j.thread, j.may_start), tt)))),
+            (
+              (f.thread, f.may_start),
+              (
+                (h.thread, h.may_start),
+                ((i.thread, i.may_start), ((j.thread, j.may_start), tt)),
+              ),
+            ),
           ),
         ),
       ),

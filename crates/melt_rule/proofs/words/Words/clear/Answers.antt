@@ -20,12 +20,14 @@ fetch_and-requires c =
     let looked = c.requires.looked.1.1 in
     let fits = subst (FitsIn (knows_of c.args.seat.now).began) looked seat.within.doing in (
       seat.same,
-      has_word id start c.self.inside.before c.self.inside.forwards_at c.args.seat.now c.args.target c.self.invariant seat fits.1,
+      has_word id start c.self.inside.before c.self.inside.forwards_at c.args.seat.now c.args.target c.self.invariant
+          seat fits.1,
       clears_at start id.slots c.args.seat.now.id (c.self.inside.before + c.args.target) c.args.target place found
           c.args.seat.now.me
           seat.live
           looked
-          (placed_at id start c.self.inside.before c.self.inside.forwards_at c.args.seat.now c.args.target c.self.invariant seat),
+          (placed_at id start c.self.inside.before c.self.inside.forwards_at c.args.seat.now c.args.target
+          c.self.invariant seat),
     )
 
 pub returns-clause-seat : goal.returns-clause-seat

@@ -39,7 +39,8 @@ returns-clause-clears c =
     c.fetch_and.ensures.2.1 c.args.search c.args.scion c.args.target c.requires.missed
     (subst (λ (b : Began). scion_in b.scions c.args.scion
     ≡ Some (record { home = c.args.search.home; address = c.args.target })) (sym c.requires.seat.began) c.requires.live)
-    (placed_at id start c.self.inside.before c.self.inside.forwards_at c.args.seat.now c.args.target c.self.invariant seat)
+    (placed_at id start c.self.inside.before c.self.inside.forwards_at c.args.seat.now c.args.target c.self.invariant
+    seat)
 
 pub returns-clause-seat : goal.returns-clause-seat
 returns-clause-seat c =

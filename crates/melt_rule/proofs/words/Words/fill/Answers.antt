@@ -24,9 +24,11 @@ store-requires c =
     let inside : c.args.address + cost_of z ≤ v.began.size + 1 =
     region_within v c.args.address stored z seat.within is in
     let place : ℕ = c.args.address + 1 + c.args.k in
-    let placed = placed_at id start c.self.inside.before c.self.inside.forwards_at c.args.seat.now place c.self.invariant seat in (
+    let placed = placed_at id start c.self.inside.before c.self.inside.forwards_at c.args.seat.now place
+    c.self.invariant seat in (
       seat.same,
-      (let has = has_word id start c.self.inside.before c.self.inside.forwards_at c.args.seat.now place c.self.invariant seat (omega arith) in
+      (let has = has_word id start c.self.inside.before c.self.inside.forwards_at c.args.seat.now place c.self.invariant
+          seat (omega arith) in
           omega arith),
       fills start id.slots c.args.seat.now.id (c.self.inside.before + c.args.address + 1 + c.args.k) c.args.address
           c.args.k

@@ -49,7 +49,8 @@ returns-clause-seat c =
     let below = subst (λ (b : Began). c.args.g < b.globals) (sym seat.began)
     (subst (λ (e : EpochWords). c.args.g < e.start.began.globals) (sym c.self.view_is) c.requires.global) in
     let f = c.load-word.ensures.2.1 c.args.g below refl in
-    seated_looked c.args.self.now c.args.seat.now c.load-word.new.seat (slot.Global c.args.g) (Global c.args.g) f.reference
+    seated_looked c.args.self.now c.args.seat.now c.load-word.new.seat (slot.Global c.args.g) (Global c.args.g)
+    f.reference
     c.requires.seat
     c.load-word.ensures.0
     c.load-word.ensures.2.0
@@ -65,7 +66,8 @@ returns-clause-looks c =
     (subst (λ (e : EpochWords). c.args.g < e.start.began.globals) (sym c.self.view_is) c.requires.global) in
     let f = c.load-word.ensures.2.1 c.args.g below refl in
     let is = c.ref_of.ensures in
-    let one : f.reference ≡ c.ref_of.result = same_ref f.reference c.ref_of.result f.in_range is.in_range (sym f.is ∙ is.is) in
+    let one : f.reference ≡ c.ref_of.result =
+    same_ref f.reference c.ref_of.result f.in_range is.in_range (sym f.is ∙ is.is) in
     subst (λ (r : Ref). Looks (knows_of c.args.seat.now) (knows_of c.load-word.new.seat) (slot.Global c.args.g)
     (Global c.args.g) r) one
     f.looks

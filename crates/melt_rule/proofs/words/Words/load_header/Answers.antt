@@ -17,7 +17,8 @@ load-word-requires c =
     c.requires.seat in
     let has = c.requires.known.1 in (
       seat.same,
-      has_word id start c.self.inside.before c.self.inside.forwards_at c.args.seat.now c.args.address c.self.invariant seat
+      has_word id start c.self.inside.before c.self.inside.forwards_at c.args.seat.now c.args.address c.self.invariant
+          seat
           (seat.within.known c.args.address c.requires.known.0 has).1,
       heads start id.slots c.args.seat.now.id (c.self.inside.before + c.args.address) c.args.address c.requires.known.0
           c.args.seat.now.me
@@ -25,7 +26,8 @@ load-word-requires c =
           (ap is_lacking c.requires.polled)
           (ap is_reading c.requires.polled)
           has
-          (placed_at id start c.self.inside.before c.self.inside.forwards_at c.args.seat.now c.args.address c.self.invariant seat),
+          (placed_at id start c.self.inside.before c.self.inside.forwards_at c.args.seat.now c.args.address
+          c.self.invariant seat),
     )
 
 pub shape_of-requires : goal.shape_of-requires
@@ -35,7 +37,8 @@ shape_of-requires c =
     let seat = inside_seat c.args.self.now (record { id = id; start = start }) c.args.seat.now c.self.view_is
     c.requires.seat in
     let f = c.load-word.ensures.2.1 c.args.address c.requires.known.0 c.requires.known.1
-    (placed_at id start c.self.inside.before c.self.inside.forwards_at c.args.seat.now c.args.address c.self.invariant seat) in
+    (placed_at id start c.self.inside.before c.self.inside.forwards_at c.args.seat.now c.args.address c.self.invariant
+    seat) in
     (f.header, f.in_range, f.is)
 
 pub returns-clause-seat : goal.returns-clause-seat
@@ -45,7 +48,8 @@ returns-clause-seat c =
     let seat = inside_seat c.args.self.now (record { id = id; start = start }) c.args.seat.now c.self.view_is
     c.requires.seat in
     let f = c.load-word.ensures.2.1 c.args.address c.requires.known.0 c.requires.known.1
-    (placed_at id start c.self.inside.before c.self.inside.forwards_at c.args.seat.now c.args.address c.self.invariant seat) in
+    (placed_at id start c.self.inside.before c.self.inside.forwards_at c.args.seat.now c.args.address c.self.invariant
+    seat) in
     seated_behind c.args.self.now c.args.seat.now c.load-word.new.seat (knows_of c.load-word.new.seat).seen
     (knows_of c.args.seat.now).known
     (Some (Headed c.args.address f.header.shape))
@@ -61,7 +65,8 @@ returns-clause-heads c n has =
     let seat = inside_seat c.args.self.now (record { id = id; start = start }) c.args.seat.now c.self.view_is
     c.requires.seat in
     let f = c.load-word.ensures.2.1 c.args.address n has
-    (placed_at id start c.self.inside.before c.self.inside.forwards_at c.args.seat.now c.args.address c.self.invariant seat) in
+    (placed_at id start c.self.inside.before c.self.inside.forwards_at c.args.seat.now c.args.address c.self.invariant
+    seat) in
     subst (λ (z : Shape). Heads (knows_of c.args.seat.now) (knows_of c.load-word.new.seat) c.args.address n z)
     (sym (c.shape_of.ensures f.header f.in_range f.is))
     f.heads

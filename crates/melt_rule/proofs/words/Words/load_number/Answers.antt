@@ -24,15 +24,18 @@ load-requires c =
     let refs : z.refs ≡ c.args.shape.refs = ap (λ (s : Shape). s.refs) is_z in
     let place : c.self.inside.before + c.args.address + 2 + c.args.shape.refs + c.args.j
     ≡ word_place (knows_of c.args.seat.now).began (number_place c.args.address z c.args.j) =
-    let p = placed_at id start c.self.inside.before c.self.inside.forwards_at c.args.seat.now (number_place c.args.address z c.args.j)
+    let p = placed_at id start c.self.inside.before c.self.inside.forwards_at c.args.seat.now
+    (number_place c.args.address z c.args.j)
     c.self.invariant seat in
     omega arith in
-    let below = has_word id start c.self.inside.before c.self.inside.forwards_at c.args.seat.now (number_place c.args.address z c.args.j)
+    let below = has_word id start c.self.inside.before c.self.inside.forwards_at c.args.seat.now
+    (number_place c.args.address z c.args.j)
     c.self.invariant seat
     (let under = holds.1 in omega arith) in (
       seat.same,
       omega arith,
-      numbers_at start id.slots c.args.seat.now.id (c.self.inside.before + c.args.address + 2 + c.args.shape.refs + c.args.j) c.args.address n c.args.j z c.args.seat.now.me seat.live
+      numbers_at start id.slots c.args.seat.now.id (c.self.inside.before + c.args.address + 2 + c.args.shape.refs
+          + c.args.j) c.args.address n c.args.j z c.args.seat.now.me seat.live
           has
           headed
           holds.1
@@ -55,7 +58,8 @@ returns-clause-seat c =
     let refs : z.refs ≡ c.args.shape.refs = ap (λ (s : Shape). s.refs) is_z in
     let place : c.self.inside.before + c.args.address + 2 + c.args.shape.refs + c.args.j
     ≡ word_place (knows_of c.args.seat.now).began (number_place c.args.address z c.args.j) =
-    let p = placed_at id start c.self.inside.before c.self.inside.forwards_at c.args.seat.now (number_place c.args.address z c.args.j)
+    let p = placed_at id start c.self.inside.before c.self.inside.forwards_at c.args.seat.now
+    (number_place c.args.address z c.args.j)
     c.self.invariant seat in
     omega arith in
     let f = c.load.ensures.2.1 c.args.address n c.args.j z headed has holds.1 place in
@@ -83,7 +87,8 @@ returns-clause-reads c m other =
     let refs : z.refs ≡ c.args.shape.refs = ap (λ (s : Shape). s.refs) is_z in
     let place : c.self.inside.before + c.args.address + 2 + c.args.shape.refs + c.args.j
     ≡ word_place (knows_of c.args.seat.now).began (number_place c.args.address z c.args.j) =
-    let p = placed_at id start c.self.inside.before c.self.inside.forwards_at c.args.seat.now (number_place c.args.address z c.args.j)
+    let p = placed_at id start c.self.inside.before c.self.inside.forwards_at c.args.seat.now
+    (number_place c.args.address z c.args.j)
     c.self.invariant seat in
     omega arith in
     c.load.ensures.2.1 c.args.address m c.args.j z headed other holds.1 place

@@ -25,9 +25,11 @@ load-word-requires c =
     let fits = speaks_fits (record { id = id; start = start }) c.args.seat.now c.args.address z seat headed in
     let place : c.self.inside.before + c.args.address + 2 + c.args.i
     ≡ word_place (knows_of c.args.seat.now).began (c.args.address + 2 + c.args.i) =
-    let p = placed_at id start c.self.inside.before c.self.inside.forwards_at c.args.seat.now (c.args.address + 2 + c.args.i) c.self.invariant seat in
+    let p = placed_at id start c.self.inside.before c.self.inside.forwards_at c.args.seat.now
+    (c.args.address + 2 + c.args.i) c.self.invariant seat in
     omega arith in
-    let below = has_word id start c.self.inside.before c.self.inside.forwards_at c.args.seat.now (c.args.address + 2 + c.args.i) c.self.invariant seat
+    let below = has_word id start c.self.inside.before c.self.inside.forwards_at c.args.seat.now
+    (c.args.address + 2 + c.args.i) c.self.invariant seat
     (omega arith) in (
       seat.same,
       omega arith,
@@ -56,7 +58,8 @@ ref_of-requires c =
     let fits = speaks_fits (record { id = id; start = start }) c.args.seat.now c.args.address z seat headed in
     let place : c.self.inside.before + c.args.address + 2 + c.args.i
     ≡ word_place (knows_of c.args.seat.now).began (c.args.address + 2 + c.args.i) =
-    let p = placed_at id start c.self.inside.before c.self.inside.forwards_at c.args.seat.now (c.args.address + 2 + c.args.i) c.self.invariant seat in
+    let p = placed_at id start c.self.inside.before c.self.inside.forwards_at c.args.seat.now
+    (c.args.address + 2 + c.args.i) c.self.invariant seat in
     omega arith in
     let f = c.load-word.ensures.2.1 c.args.address n c.args.i z headed has holds place in
     (f.reference, f.in_range, f.is)
@@ -75,10 +78,12 @@ returns-clause-seat c =
     let fits = speaks_fits (record { id = id; start = start }) c.args.seat.now c.args.address z seat headed in
     let place : c.self.inside.before + c.args.address + 2 + c.args.i
     ≡ word_place (knows_of c.args.seat.now).began (c.args.address + 2 + c.args.i) =
-    let p = placed_at id start c.self.inside.before c.self.inside.forwards_at c.args.seat.now (c.args.address + 2 + c.args.i) c.self.invariant seat in
+    let p = placed_at id start c.self.inside.before c.self.inside.forwards_at c.args.seat.now
+    (c.args.address + 2 + c.args.i) c.self.invariant seat in
     omega arith in
     let f = c.load-word.ensures.2.1 c.args.address n c.args.i z headed has holds place in
-    seated_looked c.args.self.now c.args.seat.now c.load-word.new.seat (slot.Field n c.args.i) (Field c.args.address c.args.i)
+    seated_looked c.args.self.now c.args.seat.now c.load-word.new.seat (slot.Field n c.args.i)
+    (Field c.args.address c.args.i)
     f.reference
     c.requires.seat
     c.load-word.ensures.0
@@ -99,11 +104,13 @@ returns-clause-looks c m other =
     let fits = speaks_fits (record { id = id; start = start }) c.args.seat.now c.args.address z seat headed in
     let place : c.self.inside.before + c.args.address + 2 + c.args.i
     ≡ word_place (knows_of c.args.seat.now).began (c.args.address + 2 + c.args.i) =
-    let p = placed_at id start c.self.inside.before c.self.inside.forwards_at c.args.seat.now (c.args.address + 2 + c.args.i) c.self.invariant seat in
+    let p = placed_at id start c.self.inside.before c.self.inside.forwards_at c.args.seat.now
+    (c.args.address + 2 + c.args.i) c.self.invariant seat in
     omega arith in
     let f = c.load-word.ensures.2.1 c.args.address m c.args.i z headed other holds place in
     let is = c.ref_of.ensures in
-    let one : f.reference ≡ c.ref_of.result = same_ref f.reference c.ref_of.result f.in_range is.in_range (sym f.is ∙ is.is) in
+    let one : f.reference ≡ c.ref_of.result =
+    same_ref f.reference c.ref_of.result f.in_range is.in_range (sym f.is ∙ is.is) in
     subst (λ (r : Ref). Looks (knows_of c.args.seat.now) (knows_of c.load-word.new.seat) (slot.Field m c.args.i)
     (Field c.args.address c.args.i) r) one
     f.looks

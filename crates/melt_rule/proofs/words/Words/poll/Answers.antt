@@ -12,7 +12,8 @@ load-requires c =
     let seat = subst (λ (w : EpochWords). IsSeat w c.args.seat.now) (sym c.self.view_is) c.requires.seat in (
       seat.same,
       (let size = c.self.invariant.words in omega arith),
-      polls c.self.inside.table.shared.key c.self.inside.table.shared.table_id.slots c.args.seat.now.id c.args.seat.now.me
+      polls c.self.inside.table.shared.key c.self.inside.table.shared.table_id.slots c.args.seat.now.id
+          c.args.seat.now.me
           seat.live
           (not_lacking (knows_of c.args.seat.now).doing c.requires.goes_on)
           (not_reading (knows_of c.args.seat.now).doing c.requires.goes_on),
@@ -31,7 +32,8 @@ returns-clause-seat c =
 pub returns-clause-polls : goal.returns-clause-polls
 returns-clause-polls c =
     elim c.load.ensures.2.1 [
-      | inl off ↦ subst (λ (n : ℕ). Polls (knows_of c.args.seat.now) (knows_of c.load.new.seat) (nat_eq n 1)) (sym off.0)
+      | inl off ↦ subst (λ (n : ℕ). Polls (knows_of c.args.seat.now) (knows_of c.load.new.seat) (nat_eq n 1))
+          (sym off.0)
           off.1
       | inr on ↦ subst (λ (n : ℕ). Polls (knows_of c.args.seat.now) (knows_of c.load.new.seat) (nat_eq n 1)) (sym on.0)
           on.1

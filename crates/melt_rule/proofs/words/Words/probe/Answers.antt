@@ -33,7 +33,8 @@ unpack-requires c =
     let seat = inside_seat c.args.self.now (record { id = id; start = start }) c.args.seat.now c.self.view_is
     c.requires.seat in
     let f = c.load.ensures.2.1 c.args.search c.requires.searching
-    (probe_at id start c.self.inside.before c.self.inside.forwards_at c.args.seat.now c.args.search c.self.invariant seat) in
+    (probe_at id start c.self.inside.before c.self.inside.forwards_at c.args.seat.now c.args.search c.self.invariant
+    seat) in
     may_unpack c.load.result f.sent f.is
 
 pub returns-clause-seat : goal.returns-clause-seat
@@ -43,7 +44,8 @@ returns-clause-seat c =
     let seat = inside_seat c.args.self.now (record { id = id; start = start }) c.args.seat.now c.self.view_is
     c.requires.seat in
     let f = c.load.ensures.2.1 c.args.search c.requires.searching
-    (probe_at id start c.self.inside.before c.self.inside.forwards_at c.args.seat.now c.args.search c.self.invariant seat) in
+    (probe_at id start c.self.inside.before c.self.inside.forwards_at c.args.seat.now c.args.search c.self.invariant
+    seat) in
     seated_probed c.args.self.now c.args.seat.now c.load.new.seat c.args.search (Missed c.args.search)
     (Searching (further c.args.search))
     f.sent
@@ -59,7 +61,8 @@ returns-clause-probes c =
     let seat = inside_seat c.args.self.now (record { id = id; start = start }) c.args.seat.now c.self.view_is
     c.requires.seat in
     let f = c.load.ensures.2.1 c.args.search c.requires.searching
-    (probe_at id start c.self.inside.before c.self.inside.forwards_at c.args.seat.now c.args.search c.self.invariant seat) in
+    (probe_at id start c.self.inside.before c.self.inside.forwards_at c.args.seat.now c.args.search c.self.invariant
+    seat) in
     subst (λ (s : Option (ℕ × ℕ)). Probes (knows_of c.args.seat.now) (knows_of c.load.new.seat) c.args.search
     (Missed c.args.search) (Searching (further c.args.search)) s)
     (same_sent c.load.result f.sent c.unpack.result f.is c.unpack.ensures)

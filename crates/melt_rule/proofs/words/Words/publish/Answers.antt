@@ -26,10 +26,12 @@ store-requires c =
     let inside : c.args.address + cost_of y ≤ v.began.size + 1 =
     region_within v c.args.address k y seat.within is in (
       seat.same,
-      has_word id start c.self.inside.before c.self.inside.forwards_at c.args.seat.now c.args.address c.self.invariant seat (omega arith),
+      has_word id start c.self.inside.before c.self.inside.forwards_at c.args.seat.now c.args.address c.self.invariant
+          seat (omega arith),
       subst (λ (word : ℕ). Allows (Rule start) id.slots c.args.seat.now.id c.args.seat.now.me
           (c.self.inside.before + c.args.address) (λ n. word)
-          (λ n. PublishPlay (step id.slots (c.self.inside.before + c.args.address) word 0 none) c.args.seat.now.me word))
+          (λ n. PublishPlay (step id.slots (c.self.inside.before + c.args.address) word 0 none) c.args.seat.now.me
+          word))
           (sym c.encode_header-header.ensures)
           (publishes start id.slots c.args.seat.now.id (c.self.inside.before + c.args.address) c.args.address k y
           c.args.shape
@@ -39,7 +41,8 @@ store-requires c =
           c.requires.region.3.0
           c.requires.region.3.1
           c.requires.shape
-          (placed_at id start c.self.inside.before c.self.inside.forwards_at c.args.seat.now c.args.address c.self.invariant seat)),
+          (placed_at id start c.self.inside.before c.self.inside.forwards_at c.args.seat.now c.args.address
+          c.self.invariant seat)),
     )
 
 pub returns-clause-seat : goal.returns-clause-seat

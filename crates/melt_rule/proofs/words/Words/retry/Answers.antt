@@ -17,10 +17,12 @@ load-requires c =
     c.requires.seat in
     let before = c.self.inside.before in
     let at = c.self.inside.forwards_at in
-    let more = forwards_known c.args.self.now c.args.seat.now c.args.activation.search.tried c.requires.seat c.requires.more in (
+    let more = forwards_known c.args.self.now c.args.seat.now c.args.activation.search.tried c.requires.seat
+    c.requires.more in (
       seat.same,
       has_forward id start before at c.args.seat.now c.args.activation.search c.self.invariant seat more,
-      retries_at start id.slots c.args.seat.now.id (at + c.args.activation.search.tried) c.args.activation c.args.seat.now.me seat.live
+      retries_at start id.slots c.args.seat.now.id (at + c.args.activation.search.tried) c.args.activation
+          c.args.seat.now.me seat.live
           c.requires.retrying
           more
           (probe_at id start before at c.args.seat.now c.args.activation.search c.self.invariant seat),
@@ -33,7 +35,8 @@ unpack-requires c =
     let seat = inside_seat c.args.self.now (record { id = id; start = start }) c.args.seat.now c.self.view_is
     c.requires.seat in
     let f = c.load.ensures.2.1 c.args.activation c.requires.retrying
-    (probe_at id start c.self.inside.before c.self.inside.forwards_at c.args.seat.now c.args.activation.search c.self.invariant seat) in
+    (probe_at id start c.self.inside.before c.self.inside.forwards_at c.args.seat.now c.args.activation.search
+    c.self.invariant seat) in
     may_unpack c.load.result f.sent f.is
 
 pub returns-clause-seat : goal.returns-clause-seat
@@ -43,7 +46,8 @@ returns-clause-seat c =
     let seat = inside_seat c.args.self.now (record { id = id; start = start }) c.args.seat.now c.self.view_is
     c.requires.seat in
     let f = c.load.ensures.2.1 c.args.activation c.requires.retrying
-    (probe_at id start c.self.inside.before c.self.inside.forwards_at c.args.seat.now c.args.activation.search c.self.invariant seat) in
+    (probe_at id start c.self.inside.before c.self.inside.forwards_at c.args.seat.now c.args.activation.search
+    c.self.invariant seat) in
     seated_probed c.args.self.now c.args.seat.now c.load.new.seat c.args.activation.search (Copied c.args.activation)
     (Retrying (retried c.args.activation))
     f.sent
@@ -59,7 +63,8 @@ returns-clause-probes c =
     let seat = inside_seat c.args.self.now (record { id = id; start = start }) c.args.seat.now c.self.view_is
     c.requires.seat in
     let f = c.load.ensures.2.1 c.args.activation c.requires.retrying
-    (probe_at id start c.self.inside.before c.self.inside.forwards_at c.args.seat.now c.args.activation.search c.self.invariant seat) in
+    (probe_at id start c.self.inside.before c.self.inside.forwards_at c.args.seat.now c.args.activation.search
+    c.self.invariant seat) in
     subst (λ (s : Option (ℕ × ℕ)). Probes (knows_of c.args.seat.now) (knows_of c.load.new.seat) c.args.activation.search
     (Copied c.args.activation) (Retrying (retried c.args.activation)) s)
     (same_sent c.load.result f.sent c.unpack.result f.is c.unpack.ensures)

@@ -22,13 +22,16 @@ store-requires c =
     let fits = speaks_fits (record { id = id; start = start }) c.args.seat.now c.args.address z seat headed in
     let place : c.self.inside.before + c.args.address + 2 + c.args.i
     ≡ word_place (knows_of c.args.seat.now).began (c.args.address + 2 + c.args.i) =
-    let p = placed_at id start c.self.inside.before c.self.inside.forwards_at c.args.seat.now (c.args.address + 2 + c.args.i) c.self.invariant seat in
+    let p = placed_at id start c.self.inside.before c.self.inside.forwards_at c.args.seat.now
+    (c.args.address + 2 + c.args.i) c.self.invariant seat in
     omega arith in
-    let below = has_word id start c.self.inside.before c.self.inside.forwards_at c.args.seat.now (c.args.address + 2 + c.args.i) c.self.invariant seat
+    let below = has_word id start c.self.inside.before c.self.inside.forwards_at c.args.seat.now
+    (c.args.address + 2 + c.args.i) c.self.invariant seat
     (omega arith) in (
       seat.same,
       omega arith,
-      stores_at start id.slots c.args.seat.now.id (c.self.inside.before + c.args.address + 2 + c.args.i) c.args.address n
+      stores_at start id.slots c.args.seat.now.id (c.self.inside.before + c.args.address + 2 + c.args.i) c.args.address
+          n
           c.args.i
           c.args.held
           c.held_word.result
@@ -58,7 +61,8 @@ returns-clause-seat c =
     let fits = speaks_fits (record { id = id; start = start }) c.args.seat.now c.args.address z seat headed in
     let place : c.self.inside.before + c.args.address + 2 + c.args.i
     ≡ word_place (knows_of c.args.seat.now).began (c.args.address + 2 + c.args.i) =
-    let p = placed_at id start c.self.inside.before c.self.inside.forwards_at c.args.seat.now (c.args.address + 2 + c.args.i) c.self.invariant seat in
+    let p = placed_at id start c.self.inside.before c.self.inside.forwards_at c.args.seat.now
+    (c.args.address + 2 + c.args.i) c.self.invariant seat in
     omega arith in
     let f = c.store.ensures.2.1 c.args.address n c.args.i c.args.held z c.requires.held.0 headed has holds place
     c.held_word.ensures
@@ -85,7 +89,8 @@ returns-clause-writes c m value other names =
     let fits = speaks_fits (record { id = id; start = start }) c.args.seat.now c.args.address z seat headed in
     let place : c.self.inside.before + c.args.address + 2 + c.args.i
     ≡ word_place (knows_of c.args.seat.now).began (c.args.address + 2 + c.args.i) =
-    let p = placed_at id start c.self.inside.before c.self.inside.forwards_at c.args.seat.now (c.args.address + 2 + c.args.i) c.self.invariant seat in
+    let p = placed_at id start c.self.inside.before c.self.inside.forwards_at c.args.seat.now
+    (c.args.address + 2 + c.args.i) c.self.invariant seat in
     omega arith in
     c.store.ensures.2.1 c.args.address m c.args.i c.args.held z value headed other holds place
     c.held_word.ensures names

@@ -23,7 +23,8 @@ compare_exchange-seen-requires c =
     let words = c.self.invariant.words in (
       seat.same,
       omega arith,
-      global_untags start id.slots c.args.seat.now.id c.args.g c.args.target c.encode_ref-old.result c.encode_ref-new.result
+      global_untags start id.slots c.args.seat.now.id c.args.g c.args.target c.encode_ref-old.result
+          c.encode_ref-new.result
           c.args.found
           c.args.seat.now.me
           seat.live
@@ -39,7 +40,8 @@ answer-requires c differ =
     let seat = inside_seat c.args.self.now (record { id = id; start = start }) c.args.seat.now c.self.view_is
     c.requires.seat in
     let told = c.compare_exchange-seen.ensures.2.1 c.args.g c.args.target c.args.found c.requires.cleared refl in
-    let new = seated_read c.args.self.now c.args.seat.now c.compare_exchange-seen.new.seat (slot.Global c.args.g) told.answer
+    let new = seated_read c.args.self.now c.args.seat.now c.compare_exchange-seen.new.seat (slot.Global c.args.g)
+    told.answer
     c.requires.seat
     c.compare_exchange-seen.ensures.0
     c.compare_exchange-seen.ensures.2.0
@@ -70,6 +72,7 @@ returns-clause-reads c =
     told.exchanged.lost
     c.answer.ensures.won
     c.answer.ensures.lost in
-    subst (λ (a : ℕ). Reads (knows_of c.args.seat.now) (knows_of c.compare_exchange-seen.new.seat) (slot.Global c.args.g) a)
+    subst (λ (a : ℕ). Reads (knows_of c.args.seat.now) (knows_of c.compare_exchange-seen.new.seat)
+    (slot.Global c.args.g) a)
     is
     told.exchanged.reads

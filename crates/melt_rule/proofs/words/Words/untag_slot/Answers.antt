@@ -18,9 +18,11 @@ compare_exchange-seen-requires c =
     let fits = subst (FitsIn (knows_of c.args.seat.now).began) c.requires.cleared seat.within.doing in
     let far : ℕ = c.args.object + 2 + c.args.i in
     let place : c.self.inside.before + c.args.object + 2 + c.args.i ≡ word_place (knows_of c.args.seat.now).began far =
-    let p = placed_at id start c.self.inside.before c.self.inside.forwards_at c.args.seat.now far c.self.invariant seat in
+    let p = placed_at id start c.self.inside.before c.self.inside.forwards_at c.args.seat.now far c.self.invariant
+    seat in
     omega arith in
-    let below = has_word id start c.self.inside.before c.self.inside.forwards_at c.args.seat.now far c.self.invariant seat fits.3 in (
+    let below = has_word id start c.self.inside.before c.self.inside.forwards_at c.args.seat.now far c.self.invariant
+    seat fits.3 in (
       seat.same,
       omega arith,
       untags_at start id.slots c.args.seat.now.id (c.self.inside.before + c.args.object + 2 + c.args.i) c.args.object
@@ -47,11 +49,13 @@ answer-requires c differ =
     c.requires.seat in
     let far : ℕ = c.args.object + 2 + c.args.i in
     let place : c.self.inside.before + c.args.object + 2 + c.args.i ≡ word_place (knows_of c.args.seat.now).began far =
-    let p = placed_at id start c.self.inside.before c.self.inside.forwards_at c.args.seat.now far c.self.invariant seat in
+    let p = placed_at id start c.self.inside.before c.self.inside.forwards_at c.args.seat.now far c.self.invariant
+    seat in
     omega arith in
     let told = c.compare_exchange-seen.ensures.2.1 c.args.object c.requires.known.0 c.args.i c.args.target c.args.found
     c.requires.cleared c.requires.known.1 place in
-    let new = seated_read c.args.self.now c.args.seat.now c.compare_exchange-seen.new.seat (slot.Field c.requires.known.0 c.args.i) told.answer
+    let new = seated_read c.args.self.now c.args.seat.now c.compare_exchange-seen.new.seat
+    (slot.Field c.requires.known.0 c.args.i) told.answer
     c.requires.seat
     c.compare_exchange-seen.ensures.0
     c.compare_exchange-seen.ensures.2.0
@@ -73,11 +77,13 @@ returns-clause-seat c =
     c.requires.seat in
     let far : ℕ = c.args.object + 2 + c.args.i in
     let place : c.self.inside.before + c.args.object + 2 + c.args.i ≡ word_place (knows_of c.args.seat.now).began far =
-    let p = placed_at id start c.self.inside.before c.self.inside.forwards_at c.args.seat.now far c.self.invariant seat in
+    let p = placed_at id start c.self.inside.before c.self.inside.forwards_at c.args.seat.now far c.self.invariant
+    seat in
     omega arith in
     let told = c.compare_exchange-seen.ensures.2.1 c.args.object c.requires.known.0 c.args.i c.args.target c.args.found
     c.requires.cleared c.requires.known.1 place in
-    seated_read c.args.self.now c.args.seat.now c.compare_exchange-seen.new.seat (slot.Field c.requires.known.0 c.args.i) told.answer
+    seated_read c.args.self.now c.args.seat.now c.compare_exchange-seen.new.seat
+    (slot.Field c.requires.known.0 c.args.i) told.answer
     c.requires.seat
     c.compare_exchange-seen.ensures.0
     c.compare_exchange-seen.ensures.2.0
@@ -91,7 +97,8 @@ returns-clause-reads c n has =
     c.requires.seat in
     let far : ℕ = c.args.object + 2 + c.args.i in
     let place : c.self.inside.before + c.args.object + 2 + c.args.i ≡ word_place (knows_of c.args.seat.now).began far =
-    let p = placed_at id start c.self.inside.before c.self.inside.forwards_at c.args.seat.now far c.self.invariant seat in
+    let p = placed_at id start c.self.inside.before c.self.inside.forwards_at c.args.seat.now far c.self.invariant
+    seat in
     omega arith in
     let told = c.compare_exchange-seen.ensures.2.1 c.args.object n c.args.i c.args.target c.args.found
     c.requires.cleared has place in
@@ -100,6 +107,7 @@ returns-clause-reads c n has =
     told.exchanged.lost
     c.answer.ensures.won
     c.answer.ensures.lost in
-    subst (λ (a : ℕ). Reads (knows_of c.args.seat.now) (knows_of c.compare_exchange-seen.new.seat) (slot.Field n c.args.i) a)
+    subst (λ (a : ℕ). Reads (knows_of c.args.seat.now) (knows_of c.compare_exchange-seen.new.seat)
+    (slot.Field n c.args.i) a)
     is
     told.exchanged.reads
