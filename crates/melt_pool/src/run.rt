@@ -98,21 +98,16 @@ fn run_parallel<'a, X: Threads + Sync, D: StaleDisk, G: Gate + Sync>(
     if run.states.is_empty() {
         return Ok((run, None));
     }
-    let Run {
-        machine,
-        mut states,
-        collector,
-        words,
-        every,
-        told,
-    } = run;
+    let mut run = run;
+    let every = run.every;
+    let told = run.told;
     let Parallel {
         heap,
         pass,
         mut registers,
         mut mutators,
         log,
-    } = machine;
+    } = run.machine;
     let ms = mutators.as_mut_slice();
     let held = registers.as_mut_slice();
     match lend_all(alloc, space, ms, held) {
@@ -120,7 +115,7 @@ fn run_parallel<'a, X: Threads + Sync, D: StaleDisk, G: Gate + Sync>(
         Err(LendRefusal::NoMemory) => return Err(Stop::NoMemory),
         Err(LendRefusal::Failed) => {
             let left = left_of(None, log, &pass);
-            let ended = halt_run(left, states, collector.journal, Halt::DiskFault);
+            let ended = halt_run(left, run.states, run.collector.journal, Halt::DiskFault);
             return Err(Stop::Halted(ended));
         }
     }
@@ -130,17 +125,9 @@ fn run_parallel<'a, X: Threads + Sync, D: StaleDisk, G: Gate + Sync>(
         end: space.end(),
         told,
     };
+    let states = &mut run.states;
     let Ok((paused, lacks)) = go_through(
-        rt,
-        gate,
-        alloc,
-        paused,
-        space,
-        &mut states,
-        ms,
-        held,
-        every,
-        first,
+        rt, gate, alloc, paused, space, states, ms, held, every, first,
     ) else {
         return Err(Stop::NoMemory);
     };
@@ -157,15 +144,14 @@ fn run_parallel<'a, X: Threads + Sync, D: StaleDisk, G: Gate + Sync>(
         mutators,
         log,
     };
-    let run = Run {
-        machine,
-        states,
-        collector,
-        words,
-        every,
-        told,
-    };
-    Ok((run, lacks))
+    Ok((
+        Run {
+            machine,
+            told,
+            ..run
+        },
+        lacks,
+    ))
 }
 
 /// A run of a trace before its first epoch, over a disk without homes. It is told only where the disk tells its words.
