@@ -3,6 +3,7 @@
 Objects are words in a dictionary, by their addresses. An object has a header, a word for its home, its slots, and its
 number words. On the disk it has a record, and its home is the number of the first word there.
 """
+import itertools
 from typing import NamedTuple, Optional
 
 
@@ -149,7 +150,8 @@ class Heap:
 
     def settle(self, disk):
         """Gives each object that came back since the last collection a scion, and its home a Stub; how many there were."""
-        settled = [place for place, word in enumerate(self.forward) if word is not None]
+        count = len(self.forward) - self.forward.count(None)    # so that all the others need not be looked at
+        settled = list(itertools.islice((place for place, word in enumerate(self.forward) if word is not None), count))
         for place in settled:
             home, address = self.forward[place]
             scion = self.scions.add(home, address)
