@@ -140,6 +140,8 @@ def script_in(data):
 
 def is_small(data):
     """Whether the model can run this, or refuses it, in a short time."""
+    if b"repeat" not in data and data.count(b"\n") - data.count(b"\norder ") < MOST_OPERATIONS:
+        return True            # each operation has a line of its own
     script = script_in(data)
     return script is None or sum(map(operations_in, script.programs)) <= MOST_OPERATIONS
 
