@@ -86,12 +86,19 @@ class Reader:
         self.heading = 0      # how many of the first three lines have been read
         self.open = None      # the blocks that are open in the program, the program itself first; None outside
         self.operations = 0   # of the programs that are done
+        self.said = {}        # what the lines say that were read behind the first three: a word and its numbers
 
     def is_over(self):
         return self.heading == 3 and self.open is None and len(self.script.programs) == self.script.threads
 
     def line(self, raw):
-        """Takes one line."""
+        """Takes one line. What it says is not found out again if it was read before; where it may stand is."""
+        if raw in self.said:
+            word, numbers = self.said[raw]
+            if not self.may_stand(word):
+                raise Wrong(6)
+            self.take(word, numbers)
+            return
         if raw.translate(None, VISIBLE):
             raise Wrong(2)
         fields = [part for part in raw.decode("ascii").split(" ") if part]
@@ -106,6 +113,11 @@ class Reader:
         if len(fields) - 1 != len(FIELDS[word]):
             raise Wrong(7)
         numbers = tuple(self.number(kind, text) for kind, text in zip(FIELDS[word], fields[1:]))
+        self.said[raw] = word, numbers
+        self.take(word, numbers)
+
+    def take(self, word, numbers):
+        """Takes what a line says."""
         if word in OPERATIONS:
             self.open[-1].lines.append(Operation(word, numbers))
         else:
