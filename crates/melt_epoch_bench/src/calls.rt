@@ -152,7 +152,7 @@ fn repeat<R: RecordReader>(
 }
 
 /// The first number in the object that register 0 holds, or 0 where there is none.
-fn number_of<R: RecordReader>(epoch: &Epoch, m: &mut Mutator<R>) -> u64
+pub fn number_of<R: RecordReader>(epoch: &Epoch, m: &mut Mutator<R>) -> u64
     requires may { MayCall R.image epoch.now.words m.old }
     ensures may { MayCall R.image epoch.now.words m.new }
 {
