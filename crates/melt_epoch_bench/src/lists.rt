@@ -2,7 +2,7 @@
 //! its first number says at which place of the list it stands, from 1.
 ghost use Rattle.std.specs.Prelude.{◌≡◌, ◌≢◌, ◌+◌, ◌*◌, ◌<◌, ◌≤◌, ◌^◌, ◌↔◌, [], All, IsSome};
 ghost use Rattle.melt_epoch.specs.Tests.{HasBegun, MayCall};
-ghost use Rattle.melt_epoch_tests.specs.Stages.{Goes};
+ghost use Rattle.melt_epoch_tests.specs.Stages.{GoesOnStage};
 
 use crate::calls::number_of;
 use melt_core::Refusal;
@@ -112,8 +112,8 @@ pub fn make_on<T: Threads + Sync, D: StaleDisk, R: RecordReader + Send>(
     lists: Lists,
     thread: usize,
 ) -> bool
-    requires { Goes R.image stage.old.epoch stage.old.mutators stage.old.globals stage.old.disk.end }
-    ensures { Goes R.image stage.new.epoch stage.new.mutators stage.new.globals stage.new.disk.end }
+    requires { GoesOnStage R.image stage.old.epoch stage.old.mutators stage.old.globals stage.old.disk.end }
+    ensures { GoesOnStage R.image stage.new.epoch stage.new.mutators stage.new.globals stage.new.disk.end }
 {
     make_list_of(
         rt,
@@ -253,8 +253,8 @@ pub fn walk_on<T: Threads + Wait + Sync + Clock, D: StaleDisk, R: RecordReader +
     stage: &mut Stage<'_, D, R>,
     lists: Lists,
 ) -> Option<Walked>
-    requires { Goes R.image stage.old.epoch stage.old.mutators stage.old.globals stage.old.disk.end }
-    ensures { Goes R.image stage.new.epoch stage.new.mutators stage.new.globals stage.new.disk.end }
+    requires { GoesOnStage R.image stage.old.epoch stage.old.mutators stage.old.globals stage.old.disk.end }
+    ensures { GoesOnStage R.image stage.new.epoch stage.new.mutators stage.new.globals stage.new.disk.end }
 {
     let walks = walk_all(rt, &stage.epoch, stage.globals, &mut stage.mutators, lists);
     all_of(walks.get(..lists.threads as usize)?)

@@ -1,7 +1,7 @@
 //! How long loads take that find a tag: each thread walks its list once in an epoch, and before that collections let
 //! each object have its stale bit, or move it to the disk.
 ghost use Rattle.std.specs.Prelude.{◌≡◌, ◌<◌, ◌^◌, [], length, IfOk};
-ghost use Rattle.melt_epoch_tests.specs.Stages.{Goes};
+ghost use Rattle.melt_epoch_tests.specs.Stages.{GoesOnStage};
 ghost use Rattle.melt_move.specs.Collecting.{IsFormedOn};
 
 use crate::MANY;
@@ -41,7 +41,7 @@ pub struct Times {
 fn open<'d, D: StaleDisk>(alloc: Global, world: World<'d, D>) -> Result<Stage<'d, D, D::Reader>>
     requires { IsFormedOn world.heap [] world.disk.end }
     ensures { IfOk result
-        (λ stage. Goes D.Reader.image stage.epoch stage.mutators stage.globals stage.disk.end) }
+        (λ stage. GoesOnStage D.Reader.image stage.epoch stage.mutators stage.globals stage.disk.end) }
 {
     let mut world = world;
     let readers = world
