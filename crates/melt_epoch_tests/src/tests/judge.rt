@@ -1,5 +1,5 @@
 //! Whether what threads were told stands in one order, in which each load finds what was stored last.
-ghost use Rattle.std.specs.Prelude.{◌≡◌, ◌+◌, ◌*◌, ◌^◌, ◌<◌, slice_get, slice_set, unwrap_or};
+ghost use Rattle.std.specs.Prelude.{◌≡◌, ◌+◌, ◌*◌, ◌^◌, ◌<◌};
 
 use crate::told::{Log, Told};
 use melt_model::{Op, Reply};
@@ -73,15 +73,11 @@ enum Meaning {
 }
 
 impl Held {
-    fn at(&self, r: u8) -> u64
-        ensures { result ≡ unwrap_or (slice_get self.now.objects r) 0 }
-    {
+    fn at(&self, r: u8) -> u64 {
         self.objects.get(usize::from(r)).copied().unwrap_or(0)
     }
 
-    fn set(&mut self, r: u8, object: u64)
-        ensures { self.new.objects ≡ slice_set self.old.objects r object }
-    {
+    fn set(&mut self, r: u8, object: u64) {
         if let Some(held) = self.objects.get_mut(usize::from(r)) {
             *held = object;
         }
