@@ -23,7 +23,7 @@ use Rattle.melt_copy.specs.declared.forwarding.Relocation.{Relocation}
 use Rattle.melt_copy.specs.declared.collect.Copied.{Copied}
 use Rattle.melt_copy.specs.Moving.{Relocates, IsCopy, ObjectMoves, WordMoves, moved_scion, words_in, name_after}
 use Rattle.melt_copy.specs.Moving.{maps_after}
-use Rattle.melt_copy.specs.Tracking.{goes, moved_pair, word_in}
+use Rattle.melt_copy.specs.Tracking.{goes, moved_pair, word_numbered}
 use Rattle.melt_copy.proofs.Pairs.{pairs_after}
 use Rattle.melt_copy.specs.Copied.{NumbersAre, IsCopied, CopiesHeap, PlacesApart, MayRename, AreRenamed, IsPutBack}
 use Rattle.melt_copy.specs.Copying.{IsCopying, Journals, Collects}
@@ -149,7 +149,7 @@ other_words {phase} f s v w m same object = record {
 }
 
 replaced_word : (old new : SpaceWords) (words : List ℕ) (k : ℕ) → Replaces old new words → 1 ≤ k → k ≤ length words
-    → word_at new k ≡ word_in words k
+    → word_at new k ≡ word_numbered words k
 replaced_word old new words zero replaces first last = absurd (omega (arith, first))
 replaced_word old new words (suc k) replaces first last = replaces.front k (omega (arith, last))
 
@@ -176,7 +176,7 @@ put_copy phase old new held after disk copied settled is put =
       found = subst (Relocates s f moves) free is.holds;
       objects = λ k m at.
           let place = place_below s f moves copied.forwarding.next k m is.holds at in
-          other_words f s (word_in copied.words.items) (word_at new.space) m
+          other_words f s (word_numbered copied.words.items) (word_at new.space) m
           (λ a from to. replaced_word old.space new.space copied.words.items a put.space
           (let first = place.0 in omega (arith, first, from))
           (let below = place.1 in let behind = is.holds.behind in omega (arith, below, to, behind, is.size)))

@@ -11,7 +11,7 @@ use Rattle.melt_scion.specs.State.{State}
 use Rattle.melt_copy.specs.declared.forwarding.Relocation.{Relocation}
 use Rattle.melt_copy.specs.declared.forwarding.Forwarding.{Forwarding}
 use Rattle.melt_copy.specs.Moving.{WordMoves, ObjectMoves, header_after}
-use Rattle.melt_copy.specs.Tracking.{word_in, Extends, TracksIn, TracksOf}
+use Rattle.melt_copy.specs.Tracking.{word_numbered, Extends, TracksIn, TracksOf}
 use Rattle.melt_copy.proofs.Sources.{source_shape}
 use Rattle.melt_copy.proofs.Following.{slot_word, slots_tracked}
 
@@ -53,7 +53,7 @@ object_slots space s forwarding m object are of =
     slots_tracked space s forwarding m (take (2 + m.shape.refs - 2) (drop 2 object))
     (slots_are space m.from m.shape.refs m.shape.nums object are) of
 
-pub word_in_at : (words : List ℕ) (n j at : ℕ) → at ≡ n + 1 + j → word_in words at ≡ slice_index words (n + j)
+pub word_in_at : (words : List ℕ) (n j at : ℕ) → at ≡ n + 1 + j → word_numbered words at ≡ slice_index words (n + j)
 word_in_at words n j zero is = absurd (omega (arith, is))
 word_in_at words n j (suc k) is = ap (slice_index words) (omega (arith, is))
 
@@ -68,7 +68,7 @@ pub object_copied : (phase : Phase) (held : Bool) (space : SpaceWords) (s : Stat
     → ((i : ℕ) → i < length (take (2 + m.shape.refs - 2) (drop 2 object))
     → WordMoves phase f (slice_index (take (2 + m.shape.refs - 2) (drop 2 object)) i)
     (slice_index then_ (length first + i))) → last ≡ then_ ++ drop (2 + m.shape.refs) object
-    → ObjectMoves phase held f s (word_in last) m
+    → ObjectMoves phase held f s (word_numbered last) m
 object_copied phase held space s forwarding f m object out first then_ last before header home are of to before_is
     header_is home_is first_is extends moves last_is =
     let refs : ℕ = m.shape.refs in
@@ -97,7 +97,7 @@ object_copied phase held space s forwarding f m object out first then_ last befo
       home = word_in_at last (length out) 1 (m.to + 1) (omega (arith, to))
           ∙ (front 1 (omega arith) ∙ (home_is ∙ as_was 1 (omega arith)));
       slots = λ i below.
-          let place : word_in last (m.to + 2 + i) ≡ slice_index then_ (length first + i) =
+          let place : word_numbered last (m.to + 2 + i) ≡ slice_index then_ (length first + i) =
           word_in_at last (length out) (2 + i) (m.to + 2 + i) (omega (arith, to))
           ∙ (in_then (length out + (2 + i)) (omega (arith, below, then_size))
           ∙ ap (slice_index then_) (let sum : length out + (2 + i) ≡ length first + i = omega (arith, first_size) in

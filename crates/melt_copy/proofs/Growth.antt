@@ -15,7 +15,7 @@ use Rattle.melt_scion.specs.Moves.{kept_tag}
 use Rattle.melt_copy.specs.declared.forwarding.Relocation.{Relocation}
 use Rattle.melt_copy.specs.declared.forwarding.Forwarding.{Forwarding}
 use Rattle.melt_copy.specs.Moving.{WordMoves, ObjectMoves, moved, IsFound}
-use Rattle.melt_copy.specs.Tracking.{goes, Grows, word_in, Extends, Tracks, TracksIn, TracksFor}
+use Rattle.melt_copy.specs.Tracking.{goes, Grows, word_numbered, Extends, Tracks, TracksIn, TracksFor}
 
 pub Grows-start : (forwarding : Forwarding) → Grows forwarding forwarding
 Grows-start forwarding = record { rest = []; moves = sym (append-nil forwarding.moves.items); goes = λ a known. refl }
@@ -61,14 +61,15 @@ WordMoves-more {phase} a b old new grows moves = record {
   is = moves.is ∙ ap ref_word (sym (same_reference phase a b moves.reference grows moves.found));
 }
 
-pub word_in_before : (a b : List ℕ) (n at : ℕ) → Extends a b n → at ≤ length a → word_in b at ≡ word_in a at
+pub word_in_before : (a b : List ℕ) (n at : ℕ) → Extends a b n → at ≤ length a → word_numbered b at ≡ word_numbered a at
 word_in_before a b n zero extends below = refl
 word_in_before a b n (suc k) extends below = extends.before k (omega (arith, below))
 
 -- an object that was copied stays so
 pub ObjectMoves-more : {phase : Phase} {held : Bool} (a b : Forwarding) (s : State) (words more : List ℕ) (n : ℕ)
     (m : Relocation) → Grows a b → Extends words more n → m.to + cost_of m.shape ≤ length words + 1
-    → ObjectMoves phase held (goes a) s (word_in words) m → ObjectMoves phase held (goes b) s (word_in more) m
+    → ObjectMoves phase held (goes a) s (word_numbered words) m
+    → ObjectMoves phase held (goes b) s (word_numbered more) m
 ObjectMoves-more {phase} a b s words more n m grows extends within object = record {
   header = λ header starts. word_in_before words more n m.to extends (omega (arith, within))
       ∙ object.header header starts;

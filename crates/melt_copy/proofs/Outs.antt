@@ -14,7 +14,7 @@ use Rattle.melt_copy.specs.declared.forwarding.Forwarding.{Forwarding}
 use Rattle.melt_copy.specs.declared.live.LiveSet.{LiveSet}
 use Rattle.melt_copy.specs.declared.collect.Copied.{Copied}
 use Rattle.melt_copy.specs.Moving.{Relocates, AreHeld, ObjectMoves, WordMoves, words_in}
-use Rattle.melt_copy.specs.Tracking.{goes, word_in, Tracks, TracksIn, TracksScions}
+use Rattle.melt_copy.specs.Tracking.{goes, word_numbered, Tracks, TracksIn, TracksScions}
 use Rattle.melt_copy.specs.Tracking.{FindsScions, Grows, HasCopied, Extends}
 use Rattle.melt_copy.specs.Reaching.{FindsFront}
 use Rattle.melt_copy.specs.Copied.{NumbersAre, IsCopied, CopiesHeap}
@@ -48,7 +48,7 @@ is_copied phase heap held disk live second third last none globals copied forwar
           let there : slice_get last.moves.items k ≡ Some m =
           ap (λ (p : Forwarding). slice_get p.moves.items k) (sym forwarding_is) ∙ at in
           subst (λ (p : Forwarding). ObjectMoves phase (nat_lt k live.front) (goes p) s
-          (word_in copied.words.items) m) (sym forwarding_is)
+          (word_numbered copied.words.items) m) (sym forwarding_is)
           (has.objects k m (slice_get_within last.moves.items k m there) there);
       globals_count = ap length globals_is ∙ (let size = extends.size in omega (arith, size, n_zero));
       globals = λ g below.

@@ -15,7 +15,7 @@ use Rattle.melt_scion.specs.State.{State}
 use Rattle.melt_copy.specs.declared.forwarding.Relocation.{Relocation}
 use Rattle.melt_copy.specs.declared.forwarding.Forwarding.{Forwarding}
 use Rattle.melt_copy.specs.Moving.{words_in, ObjectMoves}
-use Rattle.melt_copy.specs.Tracking.{goes, Tracks, TracksOf, Grows, word_in, HasCopied, Extends}
+use Rattle.melt_copy.specs.Tracking.{goes, Tracks, TracksOf, Grows, word_numbered, HasCopied, Extends}
 use Rattle.melt_copy.proofs.Places.{words_in-cons, words_in-before}
 use Rattle.melt_copy.proofs.Sources.{found_words}
 use Rattle.melt_copy.proofs.Growth.{ObjectMoves-more}
@@ -71,7 +71,7 @@ next_object space s forwarding done m tracks below is = record {
 pub copied_more : (phase : Phase) (front : ℕ) (space : SpaceWords) (s : State) (a b : Forwarding) (words more : List ℕ)
     (done : ℕ) (m : Relocation) → HasCopied phase front space s a words done → done < length a.moves.items
     → m ≡ get_or a.moves.items done m → Grows a b → Tracks space s b → Extends words more (cost_of m.shape)
-    → (m.to ≡ length words + 1 → ObjectMoves phase (nat_lt done front) (goes b) s (word_in more) m)
+    → (m.to ≡ length words + 1 → ObjectMoves phase (nat_lt done front) (goes b) s (word_numbered more) m)
     → HasCopied phase front space s b more (done + 1)
 copied_more phase front space s a b words more done m copied below is grows tracks extends object =
     let at : slice_get a.moves.items done ≡ Some m =
@@ -88,8 +88,8 @@ copied_more phase front space s a b words more done m copied below is grows trac
           elim (eqb_tells k done) [
             | inl same ↦
                 let one : x ≡ m = same_Some x m (sym before ∙ (ap (slice_get a.moves.items) same.1 ∙ at)) in
-                subst (λ (i : ℕ). ObjectMoves phase (nat_lt i front) (goes b) s (word_in more) x) (sym same.1)
-                (subst (ObjectMoves phase (nat_lt done front) (goes b) s (word_in more)) (sym one)
+                subst (λ (i : ℕ). ObjectMoves phase (nat_lt i front) (goes b) s (word_numbered more) x) (sym same.1)
+                (subst (ObjectMoves phase (nat_lt done front) (goes b) s (word_numbered more)) (sym one)
                 (object (let place = copied.tracks.holds.places done m at in omega (arith, place, copied.size))))
             | inr other ↦
                 let lower : k < done = omega (arith, under, other.1) in

@@ -15,7 +15,7 @@ use Rattle.melt_scion.specs.declared.heap.Heap.{Heap}
 use Rattle.melt_copy.specs.declared.forwarding.Relocation.{Relocation}
 use Rattle.melt_copy.specs.declared.collect.Copied.{Copied}
 use Rattle.melt_copy.specs.Moving.{IsWhole, Relocates, AreHeld, ObjectMoves, WordMoves, words_in, name_after}
-use Rattle.melt_copy.specs.Tracking.{MovesScions, goes, word_in}
+use Rattle.melt_copy.specs.Tracking.{MovesScions, goes, word_numbered}
 
 -- where a heap keeps names, the numbers are those of the objects that move
 abbrev pub NumbersAre : Option Names → List Relocation → List (Option ℕ) → Type 0
@@ -29,7 +29,7 @@ pub record IsCopied (phase : Phase) (s : State) (names : Option Names) (copied :
   pub holds : Relocates s (goes copied.forwarding) copied.forwarding.moves.items copied.forwarding.next
   pub size : length copied.words.items ≡ words_in copied.forwarding.moves.items
   pub objects : (k : ℕ) (m : Relocation) → slice_get copied.forwarding.moves.items k ≡ Some m
-      → ObjectMoves phase (nat_lt k front) (goes copied.forwarding) s (word_in copied.words.items) m
+      → ObjectMoves phase (nat_lt k front) (goes copied.forwarding) s (word_numbered copied.words.items) m
   pub globals_count : length copied.globals.items ≡ s.base.globals
   pub globals : (g : ℕ) → g < s.base.globals
       → WordMoves phase (goes copied.forwarding) (s.global g) (slice_index copied.globals.items g)

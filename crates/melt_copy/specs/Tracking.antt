@@ -43,9 +43,9 @@ pub record TracksFor (space : SpaceWords) (s : State) (forwarding : Forwarding) 
   pub reached : (address : ℕ) → RefersTo word address → Reached s address
 
 -- words numbered from 1
-abbrev pub word_in : List ℕ → ℕ → ℕ
-word_in words zero = 0
-word_in words (suc k) = slice_index words k
+abbrev pub word_numbered : List ℕ → ℕ → ℕ
+word_numbered words zero = 0
+word_numbered words (suc k) = slice_index words k
 
 -- The first objects of the forwarding, so many of them, were copied in this phase. Registers hold those before the
 -- front.
@@ -54,7 +54,7 @@ pub record HasCopied (phase : Phase) (front : ℕ) (space : SpaceWords) (s : Sta
   pub tracks : Tracks space s forwarding
   pub size : length words ≡ words_in (take count forwarding.moves.items)
   pub objects : (k : ℕ) (m : Relocation) → k < count → slice_get forwarding.moves.items k ≡ Some m
-      → ObjectMoves phase (nat_lt k front) (goes forwarding) s (word_in words) m
+      → ObjectMoves phase (nat_lt k front) (goes forwarding) s (word_numbered words) m
 
 -- words are put behind those that are there
 pub record Extends (old new : List ℕ) (count : ℕ) : Type 0 where

@@ -13,7 +13,7 @@ ghost use Rattle.melt_word.specs.Words.{IsHeader, IsShape, cost_of, header_word}
 ghost use Rattle.melt_word.specs.declared.header.Header.{Header};
 ghost use Rattle.melt_scion.specs.State.{State};
 ghost use Rattle.melt_copy.specs.Moving.{WordMoves, ObjectMoves, header_after, words_in};
-ghost use Rattle.melt_copy.specs.Tracking.{Extends, Grows, HasCopied, Tracks, TracksIn, TracksOf, goes, word_in};
+ghost use Rattle.melt_copy.specs.Tracking.{Extends, Grows, HasCopied, Tracks, TracksIn, TracksOf, goes, word_numbered};
 
 use crate::forwarding::{Forwarding, Relocation};
 use melt_model::{NoMemory, Phase, Steps};
@@ -82,7 +82,7 @@ fn copy_object<L: Ledger>(
     requires { (s : State) × TracksOf space.now s forwarding.old m }
     ensures extends { OnOk result (Extends out.old.items out.new.items (cost_of m.shape)) }
     ensures object { OnOk result ((s : State) → TracksOf space.now s forwarding.old m → m.to ≡ length out.old.items + 1
-        → ObjectMoves phase held (goes forwarding.new) s (word_in out.new.items) m) }
+        → ObjectMoves phase held (goes forwarding.new) s (word_numbered out.new.items) m) }
     ensures grows { Grows forwarding.old forwarding.new }
     ensures tracks { (s : State) → TracksOf space.now s forwarding.old m → Tracks space.now s forwarding.new }
     ensures visits { steps.new ≤ steps.old + cost_of m.shape }

@@ -24,7 +24,7 @@ use Rattle.melt_core.specs.declared.call.Stage.TheVariants.{Searching, Missed, H
 use Rattle.melt_core.specs.declared.call.Stage.TheVariants.{Retrying, LackingCopy}
 use Rattle.melt_core.specs.Answering.{Answers}
 use Rattle.melt_core.specs.Events.{Event, quiet}
-use Rattle.melt_core.specs.Stages.{Next, MustPause, Applies, Shares, change_of, cleared_by, task_of, HasObject, Lacks}
+use Rattle.melt_core.specs.Stages.{Next, MustPause, Applies, Shares, change_of, cleared_by, task_of, HasTarget, Lacks}
 use Rattle.melt_core.specs.Changed.{with_register}
 use Rattle.melt_core.specs.Advances.{Asks, AdvancesOver, LeavesClean, HasRoomFor, Sets}
 use Rattle.melt_core.specs.Views.{View, Standing, maps, state, call_of, stage_in, stage_of, claimed_in, rest_of}
@@ -326,8 +326,8 @@ nil_advances disk v t o r access asks first task none =
     let s : Standing false disk v = asks.stands in
     let has : (x : Task) → Shares (register_in v.held t) o x → ⊥ = λ x shares.
     let same : x ≡ Use r access = cc in
-    let some : HasObject (register_in v.held t) (Use r access) =
-    subst (HasObject (register_in v.held t)) same shares.1 in
+    let some : HasTarget (register_in v.held t) (Use r access) =
+    subst (HasTarget (register_in v.held t)) same shares.1 in
     some none in
     first_answered disk v v.held t o reply.Nil asks first (local_still disk v t s) (record {
       last = λ next is.

@@ -28,7 +28,7 @@ use Rattle.melt_core.specs.Known.{IsObjectAt, IsPlace, HasLooked, Known, region,
 use Rattle.melt_core.specs.Known.{Searches, Misses, Fetches, HoldsCopy}
 use Rattle.melt_core.specs.declared.answer.Refusal.TheVariants as refusal
 use Rattle.melt_core.specs.declared.answer.StepResult.TheVariants.{Going, Answered, Refused}
-use Rattle.melt_core.specs.Advances.{MayAdvance, Moves, Advances, AdvancesWhere, AdvancesOver, Outcome, TellsDisk}
+use Rattle.melt_core.specs.Advances.{MayAdvance, Moves, Advances, AdvancesWhere, AdvancesOver, StepOutcome, TellsDisk}
 use Rattle.melt_core.specs.Views.{View, Standing, maps, state, rest_of}
 
 -- the state over another disk
@@ -284,7 +284,7 @@ weaker tells disk v w t o result is = record {
 }
   where
     weaker_outcome : (tells : Type 0) (disk : OnDisk) (v w : View) (t : ℕ) (o : Op) (result : StepResult)
-        → Outcome (Unit {0}) disk v w t o result → Outcome tells disk v w t o result
+        → StepOutcome (Unit {0}) disk v w t o result → StepOutcome tells disk v w t o result
     weaker_outcome tells disk v w t o Going is = is
     weaker_outcome tells disk v w t o (Answered reply) is = is
     weaker_outcome tells disk v w t o (Refused (refusal.Pause pause)) is = is

@@ -12,7 +12,7 @@ use Rattle.melt_core.specs.declared.call.Stage.{Stage}
 use Rattle.melt_core.specs.declared.call.Stage.TheVariants.{Searching, Missed, HeadRead, BodyRead, Copying, Copied}
 use Rattle.melt_core.specs.declared.call.Stage.TheVariants.{Retrying, LackingCopy}
 use Rattle.melt_core.specs.Known.{Searches, Known}
-use Rattle.melt_core.specs.Advances.{AdvancesWhere, AdvancesOver, Outcome}
+use Rattle.melt_core.specs.Advances.{AdvancesWhere, AdvancesOver, StepOutcome}
 use Rattle.melt_core.specs.Views.{View, Standing, maps, state, rest_of, call_of, stage_in}
 
 -- an event that needs the disk's words told, where they are
@@ -29,7 +29,7 @@ as_told_by tells disk v w t o result tell is = record {
 }
   where
     outcome_told : (tells : Type 0) (disk : OnDisk) (v w : View) (t : ℕ) (o : Op) (result : StepResult) → tells
-        → Outcome tells disk v w t o result → Outcome (Unit {0}) disk v w t o result
+        → StepOutcome tells disk v w t o result → StepOutcome (Unit {0}) disk v w t o result
     outcome_told tells disk v w t o Going tell is = is
     outcome_told tells disk v w t o (Answered reply) tell is = is
     outcome_told tells disk v w t o (Refused (refusal.Pause pause)) tell is = is

@@ -14,7 +14,7 @@ use Rattle.melt_core.specs.declared.answer.StepResult.{StepResult}
 use Rattle.melt_core.specs.declared.answer.StepResult.TheVariants.{Going, Answered, Refused}
 use Rattle.melt_core.specs.declared.call.Call.{Call}
 use Rattle.melt_core.specs.Answering.{entry, with_entry}
-use Rattle.melt_core.specs.Advances.{AdvancesWhere, Continues, Goes, KeepsOthers, KeepsOwn, Outcome}
+use Rattle.melt_core.specs.Advances.{AdvancesWhere, Continues, Goes, KeepsOthers, KeepsOwn, StepOutcome}
 use Rattle.melt_core.specs.Stages.{events_left}
 use Rattle.melt_core.specs.Views.{View, call_of, stage_in, stage_of, Standing}
 
@@ -48,7 +48,7 @@ own_over v w t over own =
     record { call = over; history = let same : length w.log ≡ length v.log = ap length own.history in omega arith }
 
 refused_over : (tells : Type 0) (disk : OnDisk) (v w : View) (t : ℕ) (o : Op) (why : Refusal)
-    → Outcome tells disk v w t o (Refused why) → IsOver v w t
+    → StepOutcome tells disk v w t o (Refused why) → IsOver v w t
 refused_over tells disk v w t o (refusal.Pause Asked) is =
     subst (λ (x : View). IsOver v x t) (sym is.same) (record { call = is.first; history = omega arith })
 refused_over tells disk v w t o (refusal.Pause (Space need)) is = own_over v w t is.call is.own
@@ -58,7 +58,7 @@ refused_over tells disk v w t o (refusal.Damaged damaged) is = own_over v w t is
 
 -- an event that does not leave the call going ends it
 pub event_over : (tells : Type 0) (disk : OnDisk) (v w : View) (t : ℕ) (o : Op) (result : StepResult)
-    → (result ≡ Going → ⊥) → Outcome tells disk v w t o result → IsOver v w t
+    → (result ≡ Going → ⊥) → StepOutcome tells disk v w t o result → IsOver v w t
 event_over tells disk v w t o Going ends is = absurd (ends refl)
 event_over tells disk v w t o (Answered reply) ends is =
     record { call = is.call; history = entry_longer t v.log w.log is.history.0 is.history.1 }
@@ -66,8 +66,8 @@ event_over tells disk v w t o (Refused why) ends is = refused_over tells disk v 
 
 -- an event after which the call goes on
 pub going : (tells : Type 0) (disk : OnDisk) (v w : View) (t : ℕ) (o : Op) (result : StepResult) → result ≡ Going
-    → Outcome tells disk v w t o result → Goes disk v w t o
-going tells disk v w t o result is outcome = subst (Outcome tells disk v w t o) is outcome
+    → StepOutcome tells disk v w t o result → Goes disk v w t o
+going tells disk v w t o result is outcome = subst (StepOutcome tells disk v w t o) is outcome
 
 pub going_continues : (disk : OnDisk) (v w : View) (t : ℕ) (o : Op) → Goes disk v w t o → Continues (call_of w t) o
 going_continues disk v w t o is = subst (λ (c : Option Call). Continues c o) (sym is.call) refl
@@ -89,7 +89,7 @@ over_leaves v w t o over =
     record { continues = subst (λ (c : Option Call). Continues c o) (sym over.call) tt; history = over.history }
 
 leaves : (tells : Type 0) (disk : OnDisk) (v w : View) (t : ℕ) (o : Op) (result : StepResult)
-    → Outcome tells disk v w t o result → Leaves v w t o
+    → StepOutcome tells disk v w t o result → Leaves v w t o
 leaves tells disk v w t o Going is = record {
   continues = going_continues disk v w t o is;
   history = let same : length w.log ≡ length v.log = ap length is.own.history in omega arith;

@@ -24,7 +24,7 @@ use Rattle.melt_core.specs.declared.call.Stage.TheVariants.{Searching, Missed, H
 use Rattle.melt_core.specs.declared.call.Stage.TheVariants.{Retrying, LackingCopy}
 use Rattle.melt_core.specs.Stages.{Next, Probes, ReadAs, ReadsAt, NeedsNoRead, reads_left, body_stage}
 use Rattle.melt_core.specs.Stages.{retried, reached}
-use Rattle.melt_core.specs.Advances.{Asks, AdvancesOver, MayAdvance, Moves, Uses, Outcome, reads_after}
+use Rattle.melt_core.specs.Advances.{Asks, AdvancesOver, MayAdvance, Moves, Uses, StepOutcome, reads_after}
 use Rattle.melt_core.specs.Views.{View, maps, state, call_of, stage_in, stage_of}
 use Rattle.melt_core.proofs.Asked.{inside}
 
@@ -152,7 +152,7 @@ reads_nothing (Some (Retrying a)) home none reads = reads
 reads_nothing (Some (LackingCopy search shape)) home none reads = reads
 
 reads_behind : (disk : OnDisk) (v w : View) (t : ℕ) (o : Op) (result : StepResult) → Asks disk v t o
-    → Outcome (Unit {0}) disk v w t o result → reads_after result (stage_of w t) ≤ reads_left (stage_of v t)
+    → StepOutcome (Unit {0}) disk v w t o result → reads_after result (stage_of w t) ≤ reads_left (stage_of v t)
 reads_behind disk v w t o Going asks is =
     let at : reads_left (stage_of w t) ≡ reads_left (Some is.stage) =
     ap (λ (c : Option Call). reads_left (stage_in c)) is.call in
@@ -171,15 +171,15 @@ module _ (end : ℕ) (v w : View) (t : ℕ) (o : Op) (result : StepResult) (may 
 
   no_fault : result ≡ Refused refusal.DiskFault → ⊥
   no_fault is =
-      let lost : Outcome (Unit {0}) may.disk v w t o (Refused refusal.DiskFault) =
-      subst (Outcome (Unit {0}) may.disk v w t o) is over_here.outcome in
+      let lost : StepOutcome (Unit {0}) may.disk v w t o (Refused refusal.DiskFault) =
+      subst (StepOutcome (Unit {0}) may.disk v w t o) is over_here.outcome in
       reads_nothing (stage_of v t) lost.0 none lost.1.reads
 
   -- the record that it finds damaged is none
   pub no_damage : (damaged : Damaged) → result ≡ Refused (refusal.Damaged damaged) → ⊥
   no_damage damaged is =
-      let lost : Outcome (Unit {0}) may.disk v w t o (Refused (refusal.Damaged damaged)) =
-      subst (Outcome (Unit {0}) may.disk v w t o) is over_here.outcome in
+      let lost : StepOutcome (Unit {0}) may.disk v w t o (Refused (refusal.Damaged damaged)) =
+      subst (StepOutcome (Unit {0}) may.disk v w t o) is over_here.outcome in
       reads_nothing (stage_of v t) damaged.home none lost.lost.reads
 
   -- the reader stays as it was

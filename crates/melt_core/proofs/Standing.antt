@@ -18,7 +18,7 @@ use Rattle.melt_scion.specs.Heaps.{AreScionsFor, OnDisk, register_in}
 use Rattle.melt_core.specs.declared.call.Call.{Call}
 use Rattle.melt_core.specs.declared.answer.StepResult.{StepResult}
 use Rattle.melt_core.specs.Answering.{with_entry}
-use Rattle.melt_core.specs.Advances.{AdvancesWhere, AdvancesOver, Asks, Outcome, LeavesClean}
+use Rattle.melt_core.specs.Advances.{AdvancesWhere, AdvancesOver, Asks, StepOutcome, LeavesClean}
 use Rattle.melt_core.specs.Known.{Known, Evolves, region_of}
 use Rattle.melt_core.specs.Stages.{Fits, Applies, change_of, cleared_by}
 use Rattle.melt_core.specs.Events.{Event, Keeps}
@@ -219,7 +219,7 @@ pub advances_where : (tells : Type 0) (disk : OnDisk) (v w : View) (t : ℕ) (o 
     → w.capacity ≡ v.capacity
     → Applies (maps v) (maps w) (state disk v) (state disk w) (change_of (state disk v) (register_in v.held t)
     (rest_of v t) (stage_of v t))
-    → Outcome tells disk v w t o result → LeavesClean disk v w t o result → AdvancesWhere tells disk v w t o result
+    → StepOutcome tells disk v w t o result → LeavesClean disk v w t o result → AdvancesWhere tells disk v w t o result
 advances_where tells disk v w t o result asks made capacity applies outcome clean =
     let s : Standing false disk v = asks.stands in
     let cleared : ℕ = cleared_by (stage_of v t) in
@@ -257,7 +257,7 @@ pub advances : (disk : OnDisk) (v w : View) (t : ℕ) (o : Op) (result : StepRes
     → (made : Made disk v w t (cleared_by (stage_of v t))) → w.capacity ≡ v.capacity
     → Applies (maps v) (maps w) (state disk v) (state disk w) (change_of (state disk v) (register_in v.held t)
     (rest_of v t) (stage_of v t))
-    → Outcome (Unit {0}) disk v w t o result → LeavesClean disk v w t o result → AdvancesOver disk v w t o result
+    → StepOutcome (Unit {0}) disk v w t o result → LeavesClean disk v w t o result → AdvancesOver disk v w t o result
 advances disk v w t o result asks made capacity applies outcome clean =
     advances_where (Unit {0}) disk v w t o result asks
     (record {

@@ -183,10 +183,10 @@ Refuses tells disk v w t o (refusal.Pause pause) = Pauses v w t o pause
 Refuses tells disk v w t o refusal.DiskFault = (home : ℕ) × IsLost v w t home
 Refuses tells disk v w t o (refusal.Damaged damaged) = IsDamaged tells disk v w t damaged
 
-abbrev pub Outcome : Type 0 → OnDisk → View → View → ℕ → Op → StepResult → Type 0
-Outcome tells disk v w t o Going = Goes disk v w t o
-Outcome tells disk v w t o (Answered reply) = IsAnswered disk v w t o reply
-Outcome tells disk v w t o (Refused refusal) = Refuses tells disk v w t o refusal
+abbrev pub StepOutcome : Type 0 → OnDisk → View → View → ℕ → Op → StepResult → Type 0
+StepOutcome tells disk v w t o Going = Goes disk v w t o
+StepOutcome tells disk v w t o (Answered reply) = IsAnswered disk v w t o reply
+StepOutcome tells disk v w t o (Refused refusal) = Refuses tells disk v w t o refusal
 
 -- where a load was answered, the reference that it read has no tag
 abbrev pub LeavesClean : OnDisk → View → View → ℕ → Op → StepResult → Type 0
@@ -205,7 +205,7 @@ pub record AdvancesWhere (tells : Type 0) (disk : OnDisk) (v w : View) (t : ℕ)
       (change_of (state disk v) (register_in v.held t) (rest_of v t) (stage_of v t))
   pub evolves : Evolves (maps v) (maps w) (state disk v) (state disk w) (cleared_by (stage_of v t))
   pub others : KeepsOthers v w t
-  pub outcome : Outcome tells disk v w t o result
+  pub outcome : StepOutcome tells disk v w t o result
   pub clean : LeavesClean disk v w t o result
   pub makes : tells → Standing true disk v → KeepsMade v w
 

@@ -53,13 +53,13 @@ HasPart (Get j) shape = j < shape.nums
 HasPart (Put j v) shape = j < shape.nums
 
 -- a task on an object has one in its register
-abbrev pub HasObject : (ℕ → ℕ) → Task → Type 0
-HasObject register (Use r access) = register r ≢ 0
-HasObject register task = Unit {0}
+abbrev pub HasTarget : (ℕ → ℕ) → Task → Type 0
+HasTarget register (Use r access) = register r ≢ 0
+HasTarget register task = Unit {0}
 
 -- the operation shares words: it has a task, and the object for it
 abbrev pub Shares : (ℕ → ℕ) → Op → Task → Type 0
-Shares register o task = (task_of o ≡ Some task) × HasObject register task
+Shares register o task = (task_of o ≡ Some task) × HasTarget register task
 
 -- the operation loads the reference at the place into the register
 abbrev pub LoadsAt : (ℕ → ℕ) → Op → Place → ℕ → Type 0

@@ -26,13 +26,14 @@ pub record LiesIn (from end : ℕ) (home : Home) : Type 0 where
   pub ends : home.at + cost_of home.shape ≤ end
 
 -- These homes follow one another from a word on, up to the end.
-abbrev pub Follow : ℕ → List Home → ℕ → Type 0
-Follow from [] end = from ≡ end
-Follow from (home ∷ homes) end = (home.at ≡ from) × IsShape home.shape × Follow (from + cost_of home.shape) homes end
+abbrev pub AreAdjacent : ℕ → List Home → ℕ → Type 0
+AreAdjacent from [] end = from ≡ end
+AreAdjacent from (home ∷ homes) end = (home.at ≡ from) × IsShape home.shape
+    × AreAdjacent (from + cost_of home.shape) homes end
 
 -- These are all homes of a space, in ascending order.
 abbrev pub AreHomes : {Disk : Type 0} → Stale Disk → List Home → Type 0
-AreHomes space homes = Follow 1 homes space.end
+AreHomes space homes = AreAdjacent 1 homes space.end
 
 -- the home was reserved for an object of this shape
 pub record IsReserved {Disk : Type 0} (space : Stale Disk) (home : Home) : Type 0 where

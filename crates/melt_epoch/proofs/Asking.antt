@@ -6,7 +6,7 @@ use Rattle.std.proofs.lemmas.Bool.{false≢true}
 use Rattle.atomic_table.specs.declared.shared.Seat.{Seat}
 use Rattle.melt_rule.specs.Rule.{has_cause}
 use Rattle.melt_rule.specs.Seats.{EpochWords, IsSeat, knows_of}
-use Rattle.melt_rule.specs.Tells.{Asks, Names, behind}
+use Rattle.melt_rule.specs.Tells.{Asks, Names, view_behind}
 use Rattle.melt_rule.specs.declared.began.Pair.{Pair}
 use Rattle.melt_rule.specs.declared.view.View.{View}
 use Rattle.melt_epoch.proofs.Following.{idle_seat, sound_sees}
@@ -18,7 +18,7 @@ use Rattle.melt_epoch.specs.declared.mutator.Mutator.{Mutator}
 -- what the view is behind it
 record Behind (v w : View) : Type 0 where
   pub asked : Bool
-  pub is : w ≡ record (behind v w.seen v.known None) { asked = asked }
+  pub is : w ≡ record (view_behind v w.seen v.known None) { asked = asked }
   pub cause : (has_cause v ≡ true → asked ≡ v.asked) × (has_cause v ≡ false → asked ≡ true)
 
 asked_behind : (v w : View) → Asks v w → Behind v w
@@ -28,14 +28,16 @@ asked_behind v w asks = go (has_cause v) refl
     go true is = record {
       asked = v.asked;
       is = asks.1
-          ∙ ap (λ (b : Bool). let u : View = behind v w.seen v.known None in if b then u else record u { asked = true })
+          ∙ ap (λ (b : Bool). let u : View = view_behind v w.seen v.known None in
+          if b then u else record u { asked = true })
           is;
       cause = (λ e. refl, λ e. absurd (false≢true (sym e ∙ is)));
     }
     go false is = record {
       asked = true;
       is = asks.1
-          ∙ ap (λ (b : Bool). let u : View = behind v w.seen v.known None in if b then u else record u { asked = true })
+          ∙ ap (λ (b : Bool). let u : View = view_behind v w.seen v.known None in
+          if b then u else record u { asked = true })
           is;
       cause = (λ e. absurd (false≢true (sym is ∙ e)), λ e. refl);
     }

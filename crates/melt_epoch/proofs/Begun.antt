@@ -6,7 +6,7 @@ use Rattle.std.specs.Prelude.{Option, None, Some, All}
 use Rattle.melt_model.specs.History.{Legal}
 use Rattle.melt_model.specs.declared.history.Entry.{Entry}
 use Rattle.melt_scion.specs.Heaps.{scion_in, state_of}
-use Rattle.melt_scion.specs.Heaps.{base_of as heap_base}
+use Rattle.melt_scion.specs.Heaps.{base_of}
 use Rattle.melt_scion.specs.Placed.{Holds}
 use Rattle.melt_scion.specs.State.{Base, IsFresh, State}
 use Rattle.melt_scion.specs.declared.heap.Heap.{Heap}
@@ -15,7 +15,7 @@ use Rattle.melt_rule.proofs.Laying.{parts_shown, space_laid, state_by}
 use Rattle.melt_rule.specs.Beginning.{MayBegin}
 use Rattle.melt_rule.specs.Rule.{is_bound}
 use Rattle.melt_rule.specs.Seats.{EpochWords}
-use Rattle.melt_rule.specs.Shown.{base_of, globals_from, maps_of, shows}
+use Rattle.melt_rule.specs.Shown.{base_at, globals_from, maps_at, shows}
 use Rattle.melt_rule.specs.Tells.{Sees}
 use Rattle.melt_rule.specs.declared.began.Began.{Began}
 use Rattle.melt_rule.specs.declared.began.Pair.{Pair}
@@ -25,14 +25,14 @@ use Rattle.melt_epoch.proofs.Mutating.{get_map}
 use Rattle.melt_epoch.specs.Ends.{HasJoined, HeapBegins, HistoryBegins, MutatorBegins, MutatorsBegin}
 use Rattle.melt_epoch.specs.Ends.{disk_of, unseated, view_in}
 use Rattle.melt_epoch.specs.Epochs.{Fits}
-use Rattle.melt_epoch.specs.Gathering.{IsGiven, fresh_view, words_of}
+use Rattle.melt_epoch.specs.Gathering.{IsGiven, fresh_view, words_of_heap}
 use Rattle.melt_epoch.specs.Mutators.{HasReader, StandFor}
 use Rattle.melt_epoch.specs.declared.mutator.Mutator.{Mutator}
 
 -- the sizes and scions of a heap are those of an epoch
 pub same_base : (b : Began) (heap : Heap) → length heap.space.list ≡ b.size → length heap.globals ≡ b.globals
-    → length heap.forward ≡ b.forwards → heap.scions ≡ b.scions → base_of b ≡ heap_base heap (disk_of b)
-same_base b heap size globals forwards scions = λ i. record (base_of b) {
+    → length heap.forward ≡ b.forwards → heap.scions ≡ b.scions → base_at b ≡ base_of heap (disk_of b)
+same_base b heap size globals forwards scions = λ i. record (base_at b) {
   size = sym size i;
   globals = sym globals i;
   forwards = sym forwards i;
@@ -53,19 +53,19 @@ module _ (start : Start) (heap : Heap) (end : ℕ) (history : List Entry) (begin
   b = start.began
 
   -- what the words show is the state of the heap
-  pub heap_shown : shows b (words_of heap) ≡ state_of heap [] (disk_of b)
+  pub heap_shown : shows b (words_of_heap heap) ≡ state_of heap [] (disk_of b)
   heap_shown =
       parts_shown b 0 (heap.space.used + 1) heap.globals heap.forward heap.space begins.globals begins.forwards
       ∙ same_parts b heap begins.size begins.globals begins.forwards begins.scions
 
-  words_size : length (words_of heap) ≡ globals_from + b.globals + b.forwards + b.size
+  words_size : length (words_of_heap heap) ≡ globals_from + b.globals + b.forwards + b.size
   words_size =
       let behind = length-append heap.forward heap.space.list in
       let all = length-append heap.globals (heap.forward ++ heap.space.list) in
       omega (arith, behind, all, begins.size, begins.globals, begins.forwards)
 
   pub words_begin : {R : Type 0} (image : R → Option (List ℕ)) (ms : List (Mutator R)) → MutatorsBegin image start ms
-      → heap.space.used ≤ length heap.space.list → MayBegin start (words_of heap)
+      → heap.space.used ≤ length heap.space.list → MayBegin start (words_of_heap heap)
   words_begin {R} image ms mutators within =
       let many : length ms ≡ length b.threads =
       sym (length-map ms (λ (m : Mutator R). m.thread)) ∙ ap length mutators.threads in
@@ -73,8 +73,8 @@ module _ (start : Start) (heap : Heap) (end : ℕ) (history : List Entry) (begin
         size = words_size;
         few_words = omega (arith, words_size, begins.few_words);
         legal = λ told. subst (λ (h : List Entry). Legal h b.globals) stands.history_is (stands.legal told);
-        holds = subst (Holds b.told b.history (maps_of b)) (sym heap_shown)
-            (subst (λ (h : List Entry). Holds b.told h (maps_of b) (state_of heap [] (disk_of b))) stands.history_is
+        holds = subst (Holds b.told b.history (maps_at b)) (sym heap_shown)
+            (subst (λ (h : List Entry). Holds b.told h (maps_at b) (state_of heap [] (disk_of b))) stands.history_is
             stands.holds);
         space = sym begins.words ∙ sym (space_laid b 0 (heap.space.used + 1) heap.globals heap.forward heap.space
             begins.globals begins.forwards);

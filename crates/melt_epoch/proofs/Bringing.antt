@@ -15,7 +15,7 @@ use Rattle.melt_core.specs.declared.call.Search.{Search}
 use Rattle.melt_rule.specs.Coming.{HomeHas}
 use Rattle.melt_rule.specs.Rule.{is_bound}
 use Rattle.melt_rule.specs.Seats.{EpochWords, IsSeat, knows_of}
-use Rattle.melt_rule.specs.Shown.{base_of}
+use Rattle.melt_rule.specs.Shown.{base_at}
 use Rattle.melt_rule.specs.Tells.{FitsIn, Reaches}
 use Rattle.melt_rule.specs.declared.began.Began.{Began}
 use Rattle.melt_rule.specs.declared.view.Doing.{Doing}
@@ -24,8 +24,8 @@ use Rattle.melt_rule.specs.declared.view.View.{View}
 use Rattle.melt_epoch.proofs.Following.{counts_most}
 use Rattle.melt_epoch.proofs.Toward.{Toward, goes_then, goes_toward, toward_full, toward_goes, toward_itself}
 use Rattle.melt_epoch.proofs.Toward.{toward_lacked}
-use Rattle.melt_epoch.specs.Bringing.{Brings, Brought, Copies, IsLost, IsPaused, LacksRoom, Misses, Seeks, Stays}
-use Rattle.melt_epoch.specs.Bringing.{reached, tried_to}
+use Rattle.melt_epoch.specs.Bringing.{Brings, Brought, Copies, IsLost, LacksEither, LacksRoom, Misses, Seeks, Stays}
+use Rattle.melt_epoch.specs.Bringing.{in_use_at, tried_to}
 use Rattle.melt_epoch.specs.Epochs.{Fits}
 use Rattle.melt_epoch.specs.Fetching.{BodyFetched, Fetches, IsUnread, OfDisk}
 use Rattle.melt_epoch.specs.declared.fetch.Fetched.{Fetched}
@@ -50,7 +50,7 @@ of_disk words heap image end fits tells = record { ends = sym fits.ends; tells =
 pub unread_lost : (words : EpochWords) (heap : Heap) (image : Option (List ℕ)) (end home before after : ℕ)
     (why : Refusal) → Fits words heap end
     → (words.start.began.told ≡ true → image ≡ Some words.start.began.image)
-    → (words.start.began.told ≡ true → HasRecord (base_of words.start.began) home)
+    → (words.start.began.told ≡ true → HasRecord (base_at words.start.began) home)
     → IsUnread image heap.scions end home before after why
     → IsLost words.start.began.told image heap.scions end home before after why
 unread_lost words heap image end home before after refusal.DiskFault fits tells has rose = rose
@@ -65,7 +65,7 @@ home_has_here : (v w : View) (home : ℕ) (z : Shape) (u : View) → w.began ≡
     → HomeHas v u.seen home z
 home_has_here v w home z u began has told =
     let had = has (ap (λ (b : Began). b.told) began ∙ told) in (
-      subst (λ (b : Began). HeadIs (base_of b) home (record { shape = z; kind = Body })) began had.0,
+      subst (λ (b : Began). HeadIs (base_at b) home (record { shape = z; kind = Body })) began had.0,
       λ n at. had.1 n (ap (λ (b : Began). named b.maps.homes home) began ∙ at),
     )
 
@@ -90,11 +90,11 @@ body_of image scions end home before after found z rest is fetches =
 
 -- a Stub leads to the object
 pub stub_brings : (v w : View) (search : Search) (target most : ℕ) → 1 ≤ most
-    → Reaches v w (Some (reached search target)) → Brought v w search most target
+    → Reaches v w (Some (in_use_at search target)) → Brought v w search most target
 stub_brings v w search target most some_ clears = record {
   words = 0;
   wins = 0;
-  goes = toward_goes v v w 0 0 0 most (reached search target) some_ (toward_itself v) clears;
+  goes = toward_goes v v w 0 0 0 most (in_use_at search target) some_ (toward_itself v) clears;
   claims = inl (refl, refl);
 }
 
@@ -107,7 +107,7 @@ copies_miss told image scions end before after v w search z forwards (Ok address
   words = cost_of z;
   wins = copied.wins;
   goes = goes_then v v w (cost_of z) copied.wins 0 (cost_of z + 1 + 2 * (forwards - search.tried))
-      (128 + 2 * (forwards - search.tried)) (reached search address)
+      (128 + 2 * (forwards - search.tried)) (in_use_at search address)
       (let refs = small.refs in let nums = small.nums in omega arith) (toward_itself v) copied.goes;
   claims = inr (z, refl, copied.one, copied.object);
 }
@@ -126,7 +126,7 @@ copies_miss told image scions end before after v w search z forwards (Err why) s
 
 pub paused_on : (v w u : View) (search : Search) (tried m n k : ℕ) (why : Refusal) → m + n ≤ k → Toward v w 0 0 m
     → search.tried ≤ tried → v.steps + (tried - search.tried) ≤ w.steps
-    → IsPaused w u (tried_to search tried) n why → IsPaused v u search k why
+    → LacksEither w u (tried_to search tried) n why → LacksEither v u search k why
 paused_on v w u search tried m n k why le toward from read (inl found) = inl (record {
   words = found.words;
   full = toward_full v w u 0 found.words found.words m n k why (omega arith) le toward found.full;
@@ -151,7 +151,7 @@ pub brought_on : (v w u : View) (search : Search) (tried m n k address : ℕ) �
 brought_on v w u search tried m n k address le toward brought = record {
   words = brought.words;
   wins = brought.wins;
-  goes = goes_then v w u brought.words brought.wins m n k (reached search address) le toward brought.goes;
+  goes = goes_then v w u brought.words brought.wins m n k (in_use_at search address) le toward brought.goes;
   claims = elim brought.claims [
     | inl none ↦ inl none
     | inr some_ ↦ inr (

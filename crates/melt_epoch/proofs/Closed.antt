@@ -23,7 +23,7 @@ use Rattle.melt_core.proofs.Resting.{holds_shifts}
 use Rattle.melt_core.specs.StaleBits.{BitsTold}
 use Rattle.melt_rule.proofs.Laying.{shown_by_parts, state_by}
 use Rattle.melt_rule.specs.Ending.{HasEnded as WordsEnd, HistoryEnds as HistorySeen}
-use Rattle.melt_rule.specs.Rule.{Has, Saw, filled, has_cause, threads_of}
+use Rattle.melt_rule.specs.Rule.{Has, Saw, filled_count, has_cause, threads_of}
 use Rattle.melt_rule.specs.Seats.{EpochWords}
 use Rattle.melt_rule.specs.Shown.{forwards_in, free_place, globals_from, globals_in, shows}
 use Rattle.melt_rule.specs.Sights.{first_sight, last_sight, no_calls}
@@ -191,7 +191,7 @@ module _ {R : Type 0} (words : EpochWords) (ms : List (Mutator R)) (may : MayEnd
     used = puts.used
         ∙ (ap (λ (n : ℕ). min (n - 1) (length old.space.list)) free_is
         ∙ ap (λ (n : ℕ). min (free_behind b ms - 1) n) fits.size);
-    won = ap (λ (l : List ℕ). filled (slice_index l) b.forwards) new_forwards ∙ (has.counts.won ∙ won_is);
+    won = ap (λ (l : List ℕ). filled_count (slice_index l) b.forwards) new_forwards ∙ (has.counts.won ∙ won_is);
     spaced = λ k d below is. subst (λ (n : ℕ). b.size + 1 < n) free_is (has.counts.spaced
         (ap (λ (x : View). x.spaced) gathers ∙ all_flag (λ (x : View). x.spaced) (λ x w. refl) ms k d below is));
     forwarded = λ k d below is p within empty. has.counts.forwarded

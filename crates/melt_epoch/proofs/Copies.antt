@@ -19,17 +19,17 @@ use Rattle.melt_rule.specs.declared.view.Doing.TheVariants.{Copied, Copying}
 use Rattle.melt_rule.specs.declared.view.View.{View}
 use Rattle.melt_epoch.proofs.Following.{sees_on, shape_stays}
 use Rattle.melt_epoch.proofs.Toward.{Toward, goes_toward, toward_both, toward_full, toward_on, toward_then}
-use Rattle.melt_epoch.specs.Bringing.{Copies, IsFilled, LacksRoom, Settles, reached}
+use Rattle.melt_epoch.specs.Bringing.{Copies, IsFilled, LacksRoom, SettlesCopy, in_use_at}
 use Rattle.melt_record.specs.declared.head.Kind.TheVariants.{Body}
 use Rattle.melt_scion.specs.Placed.{HeadIs}
-use Rattle.melt_rule.specs.Shown.{base_of}
+use Rattle.melt_rule.specs.Shown.{base_at}
 
 -- the shape of a home's object stays, however the history grows
 pub home_has_on : (v w : View) (g h : List Entry) (home : ℕ) (z : Shape) → w.began ≡ v.began → Begins g h
     → HomeHas w g home z → HomeHas v h home z
 home_has_on v w g h home z began begins has told =
     let had = has (ap (λ (b : Began). b.told) began ∙ told) in (
-      subst (λ (b : Began). HeadIs (base_of b) home (record { shape = z; kind = Body })) began had.0,
+      subst (λ (b : Began). HeadIs (base_at b) home (record { shape = z; kind = Body })) began had.0,
       λ n at. shape_stays g h begins.0 n (record { refs = z.refs; nums = z.nums }) begins.1
           (had.1 n (ap (λ (b : Began). named b.maps.homes home) began ∙ at)),
     )
@@ -126,14 +126,14 @@ module _ (v w u x y : View) (search : Search) (z : Shape) (rest : List ℕ) (add
   shape_here sees =
       home_has_on v v w.seen y.seen search.home z refl (behind_claim.on y.seen sees).begins claims.object
 
-  pub copy_settles : (result : Result ℕ Refusal) → Settles x y copy forwards result
+  pub copy_settles : (result : Result ℕ Refusal) → SettlesCopy x y copy forwards result
       → Copies v y search z forwards result
   copy_settles (Ok found) settled = record {
     wins = settled.wins;
     one = settled.one;
     object = shape_here settled.goes.sees;
     goes = toward_then v x y (cost_of z) settled.wins (cost_of z + 1) (2 * (forwards - search.tried))
-        (cost_of z + 1 + 2 * (forwards - search.tried)) (reached search found) (omega arith) to_copy settled.goes;
+        (cost_of z + 1 + 2 * (forwards - search.tried)) (in_use_at search found) (omega arith) to_copy settled.goes;
   }
   copy_settles (Err refusal) full = inl (record {
     object = shape_here full.0.sees;

@@ -17,7 +17,7 @@ use Rattle.melt_scion.specs.GhostMaps.{no_pairs}
 use Rattle.melt_scion.specs.Heaps.{IsNewHeap, state_of, no_homes_on}
 use Rattle.melt_scion.specs.Scions.{EachOnce}
 use Rattle.melt_scion.specs.declared.heap.Heap.{Heap}
-use Rattle.melt_rule.specs.Shown.{maps_of}
+use Rattle.melt_rule.specs.Shown.{maps_at}
 use Rattle.melt_rule.specs.Seats.{EpochWords}
 use Rattle.melt_rule.specs.declared.began.Pair.{Pair}
 use Rattle.melt_rule.specs.declared.began.Start.{Start}
@@ -54,7 +54,7 @@ module _ (threads : List ℕ) (heap : Heap) (words globals forwards : ℕ) (smal
   abbrev start : Start
   start = empty_start threads heap
 
-  nothing : NoObjects (maps_of start.began)
+  nothing : NoObjects (maps_at start.began)
   nothing = record { address = λ a. refl; home = λ home. refl }
 
   begins_empty : IsEmpty (state_of heap [] (disk_of start.began))
@@ -101,9 +101,9 @@ module _ (threads : List ℕ) (heap : Heap) (words globals forwards : ℕ) (smal
     history_is = refl;
     legal = λ told p e there. let none : None ≡ Some e = there in absurd (cc);
     holds = record {
-      formed = FormedWords_start (maps_of start.began) state nothing begins_empty;
-      no_gaps = NoGaps_start (maps_of start.began) state nothing begins_empty;
-      tells = λ told. Tells_start (maps_of start.began) state nothing begins_empty;
+      formed = FormedWords_start (maps_at start.began) state nothing begins_empty;
+      no_gaps = NoGaps_start (maps_at start.began) state nothing begins_empty;
+      tells = λ told. Tells_start (maps_at start.began) state nothing begins_empty;
     };
     held = λ address n has. absurd (cc);
     fresh = λ address n has. absurd (cc);

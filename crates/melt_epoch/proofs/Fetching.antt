@@ -20,12 +20,12 @@ use Rattle.melt_scion.specs.Placed.{HeadIs}
 use Rattle.melt_scion.specs.Scions.{Scions}
 use Rattle.melt_core.specs.declared.answer.Refusal.{Refusal}
 use Rattle.melt_core.specs.declared.answer.Refusal.TheVariants as refusal
-use Rattle.melt_rule.specs.Shown.{base_of}
+use Rattle.melt_rule.specs.Shown.{base_at}
 use Rattle.melt_rule.specs.declared.began.Began.{Began}
 use Rattle.melt_epoch.specs.Fetching.{BodyFetched, HeadBroken, HeadDamage, HeadRead, IsDamage, IsDamaged, IsDead}
 use Rattle.melt_epoch.specs.Fetching.{OfDisk}
 use Rattle.melt_epoch.specs.Fetching.{IsUnread, ReadsHead, ReadsRest, RestBroken, RestDamage, RestRead, WasRead}
-use Rattle.melt_epoch.specs.Fetching.{rest_of}
+use Rattle.melt_epoch.specs.Fetching.{rest_size}
 
 -- words that were read are those of the disk, where the epoch is told
 read_told : (b : Began) (image : Option (List ℕ)) (at n : ℕ) (words : List ℕ) → image ≡ Some b.image
@@ -38,18 +38,18 @@ read_told b image at n words is read i below =
 
 module _ (b : Began) (image : Option (List ℕ)) (end home : ℕ) (of : OfDisk b image end) where
   first_told : (words : List ℕ) → b.told ≡ true → WasRead image home 2 words
-      → slice_index words 0 ≡ (base_of b).image home
+      → slice_index words 0 ≡ (base_at b).image home
   first_told words told read =
       read_told b image home 2 words (of.tells told) read 0 (omega arith)
       ∙ ap (slice_index b.image) (let e : home + 0 ≡ home = omega arith in e)
 
   second_told : (words : List ℕ) → b.told ≡ true → WasRead image home 2 words
-      → slice_index words 1 ≡ (base_of b).image (home + 1)
+      → slice_index words 1 ≡ (base_at b).image (home + 1)
   second_told words told read = read_told b image home 2 words (of.tells told) read 1 (omega arith)
 
   -- the head that was read is that on disk
   head_stands : (words : List ℕ) (head : Head) → b.told ≡ true → WasRead image home 2 words
-      → IsHead home end (slice_index words 0) (slice_index words 1) head → HeadIs (base_of b) home head
+      → IsHead home end (slice_index words 0) (slice_index words 1) head → HeadIs (base_at b) home head
   head_stands words head told read is =
       subst (λ (e : ℕ). IsHead home e (slice_index b.image home) (slice_index b.image (home + 1)) head) (sym of.ends)
       (subst (λ (x : ℕ). IsHead home end x (slice_index b.image (home + 1)) head) (first_told words told read)
@@ -57,7 +57,7 @@ module _ (b : Began) (image : Option (List ℕ)) (end home : ℕ) (of : OfDisk b
 
   body_here : (z : Shape) (rest : List ℕ) → IsDiskHome home
       → HeadRead image end home (record { shape = z; kind = Body }) → RestRead image end home z rest
-      → HasBody b.told (base_of b) home z (take (rest_of z) rest)
+      → HasBody b.told (base_at b) home z (take (rest_size z) rest)
   body_here z rest range head read = record {
     head = record {
       in_range = range;
@@ -65,32 +65,32 @@ module _ (b : Began) (image : Option (List ℕ)) (end home : ℕ) (of : OfDisk b
       within = subst (λ (e : ℕ). home + cost_of z ≤ e) (sym of.ends) head.is.first_word.within;
       on_disk = λ told. head_stands head.words (record { shape = z; kind = Body }) told head.read head.is;
     };
-    slots = subst (λ (e : ℕ). AreSlots e z.refs (take (rest_of z) rest)) (sym of.ends) read.slots;
-    on_disk = λ told i below. read_told b image (home + 2) (rest_of z) (take (rest_of z) rest)
+    slots = subst (λ (e : ℕ). AreSlots e z.refs (take (rest_size z) rest)) (sym of.ends) read.slots;
+    on_disk = λ told i below. read_told b image (home + 2) (rest_size z) (take (rest_size z) rest)
         (of.tells told) read.read i below;
   }
 
   -- where there is a record, no head of it is damaged
   head_sound : (scions : Scions) (damaged : Damaged) → HeadDamage image scions end home damaged → b.scions ≡ scions
-      → b.told ≡ true → HasRecord (base_of b) home → ⊥
+      → b.told ≡ true → HasRecord (base_at b) home → ⊥
   head_sound scions damaged bad same told has = elim bad.breaks [
-    | inl breaks ↦ no_head_damage (base_of b) home has (slice_index bad.words 0) (slice_index bad.words 1) damaged
+    | inl breaks ↦ no_head_damage (base_at b) home has (slice_index bad.words 0) (slice_index bad.words 1) damaged
         (first_told bad.words told bad.read)
         (second_told bad.words told bad.read)
         (subst (λ (e : ℕ). IsHeadDamage home e (slice_index bad.words 0) (slice_index bad.words 1) damaged)
         (sym of.ends) breaks)
     | inr none ↦
-        let live = stub_live (base_of b) home has none.shape none.scion
+        let live = stub_live (base_at b) home has none.shape none.scion
         (head_stands bad.words (record { shape = none.shape; kind = Stub none.scion }) told bad.read none.head) in
         none.dead live.0 (ap (λ (s : Scions). scion_in s none.scion) (sym same) ∙ live.1)
   ]
 
   -- and no slot
-  rest_sound : (damaged : Damaged) → RestDamage image end home damaged → b.told ≡ true → HasRecord (base_of b) home → ⊥
+  rest_sound : (damaged : Damaged) → RestDamage image end home damaged → b.told ≡ true → HasRecord (base_at b) home → ⊥
   rest_sound damaged bad told has =
-      no_slot_damage (base_of b) home has bad.shape bad.rest.words damaged
+      no_slot_damage (base_at b) home has bad.shape bad.rest.words damaged
       (head_stands bad.head.words (record { shape = bad.shape; kind = Body }) told bad.head.read bad.head.is)
-      (λ i below. read_told b image (home + 2) (rest_of bad.shape) bad.rest.words (of.tells told) bad.rest.read i
+      (λ i below. read_told b image (home + 2) (rest_size bad.shape) bad.rest.words (of.tells told) bad.rest.read i
       (omega arith))
       (subst (λ (e : ℕ). IsSlotDamage home e bad.shape.refs bad.rest.words damaged) (sym of.ends) bad.rest.breaks)
 

@@ -14,7 +14,7 @@ use Rattle.melt_core.specs.Answering.{entry}
 use Rattle.melt_rule.specs.Making.{FirstFree}
 use Rattle.melt_rule.specs.Rule.{is_bound}
 use Rattle.melt_rule.specs.Seats.{EpochWords, IsSeat, knows_of}
-use Rattle.melt_rule.specs.Tells.{Adds, HasAll, Reaches, Sees, Since, behind}
+use Rattle.melt_rule.specs.Tells.{Adds, HasAll, Reaches, Sees, Since, view_behind}
 use Rattle.melt_rule.specs.declared.began.Began.{Began}
 use Rattle.melt_rule.specs.declared.began.Pair.{Pair}
 use Rattle.melt_rule.specs.declared.view.Doing.{Doing}
@@ -45,7 +45,7 @@ no_counts v = record {
 }
 
 behind_counts : (v : View) (h : List Entry) (known : List Pair) (doing : Option Doing) → HasAll v.known known
-    → Counts v (behind v h known doing) 0 0 1
+    → Counts v (view_behind v h known doing) 0 0 1
 behind_counts v h known doing more = record {
   thread = refl;
   parts = refl;
@@ -117,7 +117,7 @@ first_on v w most found counts first = record {
 
 -- a step to a view that is told
 pub step_counts : (v w : View) (known : List Pair) (doing : Option Doing) → HasAll v.known known
-    → w ≡ behind v w.seen known doing → Counts v w 0 0 1
+    → w ≡ view_behind v w.seen known doing → Counts v w 0 0 1
 step_counts v w known doing more is =
     subst (λ (x : View). Counts v x 0 0 1) (sym is) (behind_counts v w.seen known doing more)
 

@@ -25,7 +25,7 @@ use Rattle.melt_rule.specs.Tells.{IsWithin, Names}
 use Rattle.melt_rule.specs.declared.view.View.{View}
 use Rattle.melt_epoch.proofs.Seated.{stand_set}
 use Rattle.melt_epoch.specs.Calls.{HoldsOnly}
-use Rattle.melt_epoch.specs.Mutators.{IsSeated, last_given, with_held}
+use Rattle.melt_epoch.specs.Mutators.{IsSeated, last_given, with_reference}
 use Rattle.melt_epoch.specs.declared.mutator.Mutator.{Mutator}
 
 -- what the last entry gives
@@ -48,7 +48,7 @@ last_given-push g e =
 -- so of a mutator
 pub seated_set : {R : Type 0} (words : EpochWords) (m : Mutator R) (r address : ℕ) (value : Value)
     (seated : IsSeated words m) → length m.registers.regs ≡ 16 → r < 16
-    → Names (knows_of seated.seat).known address value → IsSeated words (with_held m r address value)
+    → Names (knows_of seated.seat).known address value → IsSeated words (with_reference m r address value)
 seated_set words m r address value seated few below names = record {
   seat = seated.seat;
   there = seated.there;
@@ -66,14 +66,15 @@ seated_set words m r address value seated few below names = record {
 
 -- nothing else of a mutator changes where a register holds what a call found
 pub holds_only : {R : Type 0} (m n : Mutator R) (seat : Option (Seat ℕ View)) (reader : Option R) (dst address : ℕ)
-    (value : Value) → n ≡ with_held (record m { seat = seat; reader = reader }) dst address value
-    → n ≡ with_held (record m { seat = n.seat; reader = n.reader }) dst address value
+    (value : Value) → n ≡ with_reference (record m { seat = seat; reader = reader }) dst address value
+    → n ≡ with_reference (record m { seat = n.seat; reader = n.reader }) dst address value
 holds_only {R} m n seat reader dst address value is =
-    subst (λ (x : Mutator R). x ≡ with_held (record m { seat = x.seat; reader = x.reader }) dst address value) (sym is)
+    subst (λ (x : Mutator R). x ≡ with_reference (record m { seat = x.seat; reader = x.reader }) dst address value)
+    (sym is)
     refl
 
 pub holds_found : {R : Type 0} (m n : Mutator R) (seat : Option (Seat ℕ View)) (reader : Option R) (dst address : ℕ)
-    (value : Value) (r : Reply) → n ≡ with_held (record m { seat = seat; reader = reader }) dst address value
+    (value : Value) (r : Reply) → n ≡ with_reference (record m { seat = seat; reader = reader }) dst address value
     → (address ≡ 0 → r ≡ reply.Null) → (address ≢ 0 → r ≡ reply.Ref) → HoldsOnly m n dst (Ok r)
 holds_found m n seat reader dst address value r is null some_ = elim (cases_eq address 0) [
   | inl none ↦ subst (λ (x : Reply). HoldsOnly m n dst (Ok x)) (sym (null none))

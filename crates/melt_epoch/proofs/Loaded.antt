@@ -26,7 +26,7 @@ use Rattle.melt_epoch.proofs.Plainly.{adds_replies, nil_plain, way_replies}
 use Rattle.melt_epoch.proofs.Seated.{seated_by, seated_held}
 use Rattle.melt_epoch.specs.Calls.{Counts}
 use Rattle.melt_epoch.specs.Loading.{HasRead, LacksSlot, LoadAsked, LoadRefused, Loads, LoadsFrom}
-use Rattle.melt_epoch.specs.Mutators.{IsIdle, IsSeated, last_given, with_held}
+use Rattle.melt_epoch.specs.Mutators.{IsIdle, IsSeated, last_given, with_reference}
 use Rattle.melt_epoch.specs.declared.mutator.Mutator.{Mutator}
 
 -- the last entry gives what was read
@@ -61,7 +61,7 @@ module _ {R : Type 0} (words : EpochWords) (m : Mutator R) (seated : IsSeated wo
     (is : Some seat ≡ m.seat) (new : Seat ℕ View) (reader : Option R) (idle : IsIdle words new) where
   pub loaded_seated : (s : Slot) (most dst address : ℕ) → Loads (knows_of seat) (knows_of new) s most address
       → length m.registers.regs ≡ 16 → dst < 16
-      → IsSeated words (with_held (record m { seat = Some new; reader = reader }) dst address
+      → IsSeated words (with_reference (record m { seat = Some new; reader = reader }) dst address
       (last_given (knows_of new).seen))
   loaded_seated s most dst address loads few below =
       seated_held words (record m { reader = reader }) (seated_reader words m reader seated) seat is new loads.words

@@ -43,19 +43,19 @@ use Rattle.melt_epoch.proofs.Following.{step_counts}
 use Rattle.melt_epoch.proofs.Plainly.{Opened, asked_plain, headed_way}
 use Rattle.melt_epoch.proofs.Toward.{Toward, goes_then, toward_counts, toward_full, toward_itself, toward_lacked}
 use Rattle.melt_epoch.proofs.Toward.{toward_on}
-use Rattle.melt_epoch.specs.Bringing.{Brings, Brought, reached}
+use Rattle.melt_epoch.specs.Bringing.{Brings, Brought, in_use_at}
 use Rattle.melt_epoch.specs.Calls.{Counts}
 use Rattle.melt_epoch.specs.Epochs.{Fits}
 use Rattle.melt_epoch.specs.Loading.{HeldHas, IsBefore, LoadAsked, LoadRefused, Loads, LoadsFrom, LoadsGlobal}
-use Rattle.melt_epoch.specs.Loading.{LacksSlot, Resolves, SlotAt}
+use Rattle.melt_epoch.specs.Loading.{LacksSlot, Resolves, KnownSlot}
 use Rattle.melt_epoch.specs.Mutators.{IsIdle}
 use Rattle.melt_record.specs.declared.head.Kind.TheVariants.{Body}
 use Rattle.melt_scion.specs.Placed.{HeadIs}
-use Rattle.melt_rule.specs.Shown.{base_of}
+use Rattle.melt_rule.specs.Shown.{base_at}
 
 -- what is known of a place stays known
-pub slot_more : (old new : List Pair) (place : Place) (s : Slot) → HasAll old new → SlotAt old place s
-    → SlotAt new place s
+pub slot_more : (old new : List Pair) (place : Place) (s : Slot) → HasAll old new → KnownSlot old place s
+    → KnownSlot new place s
 slot_more old new (Field object i) s more at = (at.0, more object at.0 at.1, at.2)
 slot_more old new (Global g) s more at = at
 
@@ -126,7 +126,7 @@ stale_loads v w u x s looked cleared most address few looks clears reads =
     loads_behind v u x s 0 0 2 most address few (first.on u.seen clears.sees) then_.counts reads (inl (refl, refl))
 
 pub stale_slot : (v w u : View) (place : Place) (s : Slot) (looked cleared : Doing) → Reaches v w (Some looked)
-    → Reaches w u (Some cleared) → SlotAt v.known place s → SlotAt u.known place s
+    → Reaches w u (Some cleared) → KnownSlot v.known place s → KnownSlot u.known place s
 stale_slot v w u place s looked cleared looks clears =
     slot_more v.known u.known place s
     (λ a n has. subst (λ (y : View). Has y.known a n) (sym clears.is)
@@ -143,7 +143,7 @@ held_has v w x s place home z finds began begins has told =
       object = held.0;
       home = home;
       of = held.1;
-      body = subst (λ (b : Began). HeadIs (base_of b) home (record { shape = z; kind = Body })) began had.0;
+      body = subst (λ (b : Began). HeadIs (base_at b) home (record { shape = z; kind = Body })) began had.0;
       from = finds.reaches.sees.begins;
       until = begins;
       held = held.2;
@@ -155,8 +155,8 @@ module _ (v w : View) (s : Slot) (place : Place) (home : ℕ) (finds : Finds v w
   looked_toward =
       toward_on v v w 0 0 0 1 (Searching (search_for place home)) (omega arith) (toward_itself v) finds.reaches
 
-  pub home_slot : (u : View) (n target : ℕ) → Brought w u (search_for place home) n target → SlotAt v.known place s
-      → SlotAt u.known place s
+  pub home_slot : (u : View) (n target : ℕ) → Brought w u (search_for place home) n target → KnownSlot v.known place s
+      → KnownSlot u.known place s
   home_slot u n target brought =
       slot_more v.known u.known place s
       (λ a m has. brought.goes.counts.known a m (looked_toward.counts.known a m has))
@@ -166,7 +166,7 @@ module _ (v w : View) (s : Slot) (place : Place) (home : ℕ) (finds : Finds v w
       → Brought w u (search_for place home) n target
       → Reads u x s address → Loads v x s most address
   home_loads u x n most target address few brought reads =
-      let goes = goes_then v w u brought.words brought.wins 1 n (n + 1) (reached (search_for place home) target)
+      let goes = goes_then v w u brought.words brought.wins 1 n (n + 1) (in_use_at (search_for place home) target)
       (omega arith) looked_toward brought.goes in
       let last_ : Begins u.seen x.seen = begins_adds u x.seen (Read s reads.value) reads.adds in
       let all : Begins w.seen x.seen = begins_then w.seen u.seen x.seen brought.goes.sees.begins last_ in
@@ -251,7 +251,7 @@ module _ (v u x : View) (s : Slot) (m n k : ℕ) (le : m + n ≤ k) (way : Way v
         object = held.object;
         home = held.home;
         of = ap (λ (b : Began). named b.maps.homes held.home) (sym way.counts.began) ∙ held.of;
-        body = subst (λ (b : Began). HeadIs (base_of b) held.home (record { shape = z; kind = Body })) way.counts.began
+        body = subst (λ (b : Began). HeadIs (base_at b) held.home (record { shape = z; kind = Body })) way.counts.began
             held.body;
         from = begins_then v.seen u.seen held.then_ way.sees.begins held.from;
         until = held.until;

@@ -12,7 +12,7 @@ use Rattle.melt_core.specs.Answering.{entry}
 use Rattle.melt_rule.proofs.Loads.{snoc_here, snoc_old}
 use Rattle.melt_rule.specs.Making.{Claims, Lacks, Makes as Publishes}
 use Rattle.melt_rule.specs.Rule.{Has}
-use Rattle.melt_rule.specs.Tells.{Adds, HasAll, Polls, Reaches, Sees, Stops, behind}
+use Rattle.melt_rule.specs.Tells.{Adds, HasAll, Polls, Reaches, Sees, Stops, view_behind}
 use Rattle.melt_rule.specs.declared.began.Began.{Began}
 use Rattle.melt_rule.specs.declared.began.Pair.{Pair}
 use Rattle.melt_rule.specs.declared.view.Doing.{Doing}
@@ -20,16 +20,16 @@ use Rattle.melt_rule.specs.declared.view.Doing.TheVariants.{Claimed, Polled}
 use Rattle.melt_rule.specs.declared.view.View.{View}
 use Rattle.melt_epoch.proofs.Following.{Way, adds_on, counts_on, first_on, idle_way, no_counts, reach_way, sees_on}
 use Rattle.melt_epoch.proofs.Following.{sound_sees, step_counts}
-use Rattle.melt_epoch.specs.Calls.{Counts, Fills, LacksRoom, Made}
+use Rattle.melt_epoch.specs.Calls.{Counts, FillsRegion, LacksRoom, Made}
 use Rattle.melt_core.specs.declared.answer.Pause.TheVariants.{Space}
 use Rattle.melt_core.specs.declared.answer.Refusal.TheVariants.{Pause}
 
-pub no_fills : (v : View) (address : ℕ) → Sees v v.seen → Fills v v address 0
+pub no_fills : (v : View) (address : ℕ) → Sees v v.seen → FillsRegion v v address 0
 no_fills v address sound z is = record { sees = sound; counts = no_counts v; at = is }
 
-pub fills_more : (v w u : View) (address k : ℕ) → Fills v w address k
+pub fills_more : (v w u : View) (address k : ℕ) → FillsRegion v w address k
     → ((z : Shape) → w.doing ≡ Some (Claimed address z k) → Reaches w u (Some (Claimed address z (k + 1))))
-    → Fills v u address (k + 1)
+    → FillsRegion v u address (k + 1)
 fills_more v w u address k fills step z is =
     let goes = fills z is in
     let reaches = step z goes.at in
@@ -39,7 +39,7 @@ fills_more v w u address k fills step z is =
 
 -- behind a claim that fits
 claimed_counts : (v : View) (h : List Entry) (doing : Option Doing) (cost : ℕ)
-    → Counts v (record (behind v h v.known doing) { claimed = v.claimed + cost }) cost 0 1
+    → Counts v (record (view_behind v h v.known doing) { claimed = v.claimed + cost }) cost 0 1
 claimed_counts v h doing cost = record {
   thread = refl;
   parts = refl;
@@ -70,7 +70,7 @@ claimed_way v w u address cost sound polls claims =
 
 -- behind its stores and the store of the header
 pub made_it : (v w u x y : View) (address : ℕ) (z : Shape) (claims : Claims w u address (cost_of z)) → Sees v v.seen
-    → Polls v w false → Fills u x address (cost_of z - 1) → Publishes x y address z → 1 ≤ cost_of z
+    → Polls v w false → FillsRegion u x address (cost_of z - 1) → Publishes x y address z → 1 ≤ cost_of z
     → Made v y z address
 made_it v w u x y address z claims sound polls fills publishes some_ =
     let before = claimed_way v w u address (cost_of z) sound polls claims in

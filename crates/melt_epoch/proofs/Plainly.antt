@@ -20,7 +20,7 @@ use Rattle.melt_core.specs.declared.answer.Pause.TheVariants.{Asked}
 use Rattle.melt_core.specs.declared.answer.Refusal.TheVariants.{Pause}
 use Rattle.melt_rule.specs.Rule.{Has}
 use Rattle.melt_rule.specs.Seats.{EpochWords, IsSeat, SpeaksOf, knows_of}
-use Rattle.melt_rule.specs.Tells.{Adds, Ends, HasAll, Heads, Names, Polls, Sees, behind}
+use Rattle.melt_rule.specs.Tells.{Adds, Ends, HasAll, Heads, Names, Polls, Sees, view_behind}
 use Rattle.melt_rule.specs.declared.began.Began.{Began}
 use Rattle.melt_rule.specs.declared.view.Doing.TheVariants.{Headed, Polled}
 use Rattle.melt_rule.specs.declared.view.View.{View}
@@ -86,7 +86,7 @@ nil_plain v rs o most sound nothing =
       refused = tt;
     }
 
-pub asked_counts : (v w : View) → w ≡ record (behind v w.seen v.known None) { stopped = true } → Counts v w 0 0 1
+pub asked_counts : (v w : View) → w ≡ record (view_behind v w.seen v.known None) { stopped = true } → Counts v w 0 0 1
 asked_counts v w is = record {
   thread = ap (λ (x : View). x.thread) is;
   parts = ap (λ (x : View). x.parts) is;

@@ -16,7 +16,7 @@ use Rattle.melt_rule.specs.Tells.{HasAll, Names}
 use Rattle.melt_rule.specs.declared.began.Pair.{Pair}
 use Rattle.melt_rule.specs.declared.view.View.{View}
 use Rattle.melt_epoch.specs.Calls.{IsPlain, Counts, Plain}
-use Rattle.melt_epoch.specs.Mutators.{IsIdle, IsSeated, StandFor, with_held}
+use Rattle.melt_epoch.specs.Mutators.{IsIdle, IsSeated, StandFor, with_reference}
 use Rattle.melt_epoch.specs.declared.mutator.Mutator.{Mutator}
 
 -- what an address stands for, it stands for where more is known
@@ -92,7 +92,7 @@ module _ {R : Type 0} (words : EpochWords) (m : Mutator R) (seated : IsSeated wo
   pub seated_held : (new : Seat ℕ View) (claimed wins most r address : ℕ) (value : Value) → IsIdle words new
       → Counts (knows_of seat) (knows_of new) claimed wins most → length m.registers.regs ≡ 16 → r < 16
       → Names (knows_of new).known address value
-      → IsSeated words (with_held (record m { seat = Some new }) r address value)
+      → IsSeated words (with_reference (record m { seat = Some new }) r address value)
   seated_held new claimed wins most r address value idle counts few below names = record {
     seat = new;
     there = refl;

@@ -4,14 +4,14 @@ use Rattle.std.specs.Prelude.{Option, None, Some}
 use Rattle.atomic_table.specs.declared.shared.Seat.{Seat}
 use Rattle.melt_core.specs.Stages.{retried}
 use Rattle.melt_core.specs.declared.call.Activation.{Activation}
-use Rattle.melt_rule.specs.Coming.{Probes, Wins}
+use Rattle.melt_rule.specs.Coming.{ProbesShared, Wins}
 use Rattle.melt_rule.specs.Seats.{EpochWords, IsSeat, knows_of}
 use Rattle.melt_rule.specs.Tells.{FitsIn, Reaches}
 use Rattle.melt_rule.specs.declared.began.Began.{Began}
 use Rattle.melt_rule.specs.declared.view.Doing.{Doing}
 use Rattle.melt_rule.specs.declared.view.Doing.TheVariants.{Copied, Retrying}
 use Rattle.melt_rule.specs.declared.view.View.{View}
-use Rattle.melt_epoch.specs.Bringing.{Finds, at_hand}
+use Rattle.melt_epoch.specs.Bringing.{FindsSent, at_hand}
 
 -- In how many steps so many words were passed. The first was empty, so that it was not read before its exchange.
 abbrev pub spent : Bool → ℕ → ℕ
@@ -33,16 +33,16 @@ spent_again true passed is some_ = absurd (cc)
 spent_again false passed is some_ = omega arith
 
 -- a word that is filled is found the same, by an exchange or by a read
-pub finds_filled : (v w : View) (empty : Bool) (a : Activation) (sent : ℕ × ℕ) → Finds v w empty a (Some sent)
-    → Probes v w a.search (Copied a) (Retrying (retried a)) (Some sent)
+pub finds_filled : (v w : View) (empty : Bool) (a : Activation) (sent : ℕ × ℕ) → FindsSent v w empty a (Some sent)
+    → ProbesShared v w a.search (Copied a) (Retrying (retried a)) (Some sent)
 finds_filled v w true a sent finds = finds
 finds_filled v w false a sent finds = finds
 
-pub finds_won : (v w : View) (empty : Bool) (a : Activation) → empty ≡ true → Finds v w empty a None → Wins v w a
+pub finds_won : (v w : View) (empty : Bool) (a : Activation) → empty ≡ true → FindsSent v w empty a None → Wins v w a
 finds_won v w true a is finds = finds
 finds_won v w false a is finds = absurd (cc)
 
-pub finds_empty : (v w : View) (empty : Bool) (a : Activation) → empty ≡ false → Finds v w empty a None
+pub finds_empty : (v w : View) (empty : Bool) (a : Activation) → empty ≡ false → FindsSent v w empty a None
     → Reaches v w (Some (Copied a))
 finds_empty v w true a is finds = absurd (cc)
 finds_empty v w false a is finds = finds

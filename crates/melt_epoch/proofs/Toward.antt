@@ -16,7 +16,7 @@ use Rattle.melt_rule.specs.declared.view.Doing.{Doing}
 use Rattle.melt_rule.specs.declared.view.Doing.TheVariants.{Searching}
 use Rattle.melt_rule.specs.declared.view.View.{View}
 use Rattle.melt_epoch.proofs.Following.{counts_most, counts_on, first_on, no_counts, sees_on, step_counts}
-use Rattle.melt_epoch.specs.Bringing.{IsFull, reached}
+use Rattle.melt_epoch.specs.Bringing.{IsFull, in_use_at}
 use Rattle.melt_epoch.specs.Calls.{Counts, Filled, Goes, Lacked}
 
 -- What is seen from the second view on is seen from the first; so much was counted between them.
@@ -86,7 +86,7 @@ toward_filled v w u a m k le toward fills =
 
 -- a copy became the object of its home
 pub toward_wins : (v w u : View) (a m k : ℕ) (activation : Activation) → m + 1 ≤ k → Toward v w a 0 m
-    → Wins w u activation → Goes v u a 1 k (reached activation.search activation.address)
+    → Wins w u activation → Goes v u a 1 k (in_use_at activation.search activation.address)
 toward_wins v w u a m k activation le toward wins =
     let is = wins.is in
     let so = toward.counts in

@@ -13,7 +13,7 @@ use Rattle.melt_core.specs.declared.answer.Refusal.TheVariants as refusal
 use Rattle.melt_core.specs.declared.answer.Refusal.TheVariants.{Pause}
 use Rattle.melt_core.specs.declared.call.Activation.{Activation}
 use Rattle.melt_core.specs.declared.call.Search.{Search}
-use Rattle.melt_rule.specs.Coming.{Commits, HomeHas, Probes}
+use Rattle.melt_rule.specs.Coming.{Commits, HomeHas, ProbesShared}
 use Rattle.melt_rule.specs.Seats.{MayGoOn}
 use Rattle.melt_rule.specs.Tells.{Sees}
 use Rattle.melt_rule.specs.declared.view.Doing.{Doing}
@@ -25,8 +25,8 @@ use Rattle.melt_epoch.specs.declared.bring.Sought.{Sought}
 use Rattle.melt_epoch.specs.declared.bring.Sought.TheVariants as sought
 
 -- the object of the home that is searched for is in use at the address
-abbrev pub reached : Search → ℕ → Doing
-reached search address = Cleared search.place (Disk search.home) address
+abbrev pub in_use_at : Search → ℕ → Doing
+in_use_at search address = Cleared search.place (Disk search.home) address
 
 -- the search, so many forwarding words further
 abbrev pub tried_to : Search → ℕ → Search
@@ -46,7 +46,7 @@ ReadsAll v w words = v.steps + words + 1 ≤ w.steps
 -- What a search comes to: the address to which a word sends its home, or an empty word, or that there is none. Each
 -- word is read once.
 abbrev pub Seeks : View → View → Search → ℕ → Result Sought Refusal → Type 0
-Seeks v w search forwards (Ok (sought.At address)) = Goes v w 0 0 (forwards - search.tried) (reached search address)
+Seeks v w search forwards (Ok (sought.At address)) = Goes v w 0 0 (forwards - search.tried) (in_use_at search address)
 Seeks v w search forwards (Ok (sought.Missed missed)) =
     Goes v w 0 0 (missed.tried + 1 - search.tried) (Missed missed) × (search.tried ≤ missed.tried)
     × (missed.tried < forwards) × (missed ≡ tried_to search missed.tried)
@@ -60,20 +60,20 @@ at_hand true a = Copied a
 at_hand false a = Retrying a
 
 -- what that word is found to send, where it is exchanged or read
-abbrev pub Finds : View → View → Bool → Activation → Option (ℕ × ℕ) → Type 0
-Finds v w true a sent = Commits v w a sent
-Finds v w false a sent = Probes v w a.search (Copied a) (Retrying (retried a)) sent
+abbrev pub FindsSent : View → View → Bool → Activation → Option (ℕ × ℕ) → Type 0
+FindsSent v w true a sent = Commits v w a sent
+FindsSent v w false a sent = ProbesShared v w a.search (Copied a) (Retrying (retried a)) sent
 
 -- A copy that is at hand became the object of its home, or another did: the address is that of the object. Each word is
 -- exchanged once and read once more.
 pub record Settled (v w : View) (a : Activation) (forwards address : ℕ) : Type 0 where
   pub wins : ℕ
   pub one : wins ≤ 1
-  pub goes : Goes v w 0 wins (2 * (forwards - a.search.tried)) (reached a.search address)
+  pub goes : Goes v w 0 wins (2 * (forwards - a.search.tried)) (in_use_at a.search address)
 
-abbrev pub Settles : View → View → Activation → ℕ → Result ℕ Refusal → Type 0
-Settles v w a forwards (Ok address) = Settled v w a forwards address
-Settles v w a forwards (Err refusal) =
+abbrev pub SettlesCopy : View → View → Activation → ℕ → Result ℕ Refusal → Type 0
+SettlesCopy v w a forwards (Ok address) = Settled v w a forwards address
+SettlesCopy v w a forwards (Err refusal) =
     IsFull v w 0 (2 * (forwards - a.search.tried) + 1) refusal × ReadsAll v w (forwards - a.search.tried)
 
 -- The words that a copy wants end past the last one, so that the call was refused.
@@ -97,7 +97,7 @@ pub record CopiedIn (v w : View) (search : Search) (z : Shape) (forwards address
   pub wins : ℕ
   pub one : wins ≤ 1
   pub object : HomeHas v w.seen search.home z
-  pub goes : Goes v w (cost_of z) wins (cost_of z + 1 + 2 * (forwards - search.tried)) (reached search address)
+  pub goes : Goes v w (cost_of z) wins (cost_of z + 1 + 2 * (forwards - search.tried)) (in_use_at search address)
 
 -- The copy found no forwarding word.
 pub record FullBehind (v w : View) (search : Search) (z : Shape) (forwards most : ℕ) (refusal : Refusal) : Type 0 where
@@ -117,7 +117,7 @@ Copies v w search z forwards (Err refusal) =
 pub record Brought (v w : View) (search : Search) (most address : ℕ) : Type 0 where
   pub words : ℕ
   pub wins : ℕ
-  pub goes : Goes v w words wins most (reached search address)
+  pub goes : Goes v w words wins most (in_use_at search address)
   pub claims : ((words ≡ 0) × (wins ≡ 0))
       ⊎ ((z : Shape) × (words ≡ cost_of z) × (wins ≤ 1) × HomeHas v w.seen search.home z)
 
@@ -129,8 +129,8 @@ pub record FoundFull (v w : View) (search : Search) (most : ℕ) (refusal : Refu
   pub claims : (words ≡ 0) ⊎ ((z : Shape) × (words ≡ cost_of z) × HomeHas v w.seen search.home z)
 
 -- the call was refused for want of forwarding words or of words
-abbrev pub IsPaused : View → View → Search → ℕ → Refusal → Type 0
-IsPaused v w search most refusal = FoundFull v w search most refusal ⊎ LacksRoom v w search most refusal
+abbrev pub LacksEither : View → View → Search → ℕ → Refusal → Type 0
+LacksEither v w search most refusal = FoundFull v w search most refusal ⊎ LacksRoom v w search most refusal
 
 -- The reader failed, in this call, or what was read is no record. That cannot be where the epoch is told.
 abbrev pub IsLost : Bool → Option (List ℕ) → Scions → ℕ → ℕ → ℕ → ℕ → Refusal → Type 0
@@ -143,7 +143,7 @@ IsLost told image scions end home before after (refusal.Pause pause) = ⊥
 abbrev pub Misses : Bool → Option (List ℕ) → Scions → ℕ → ℕ → ℕ → View → View → Search → ℕ → Result ℕ Refusal → Type 0
 Misses told image scions end before after v w search most (Ok address) = Brought v w search most address
 Misses told image scions end before after v w search most (Err refusal) =
-    IsPaused v w search most refusal ⊎ ((w ≡ v) × IsLost told image scions end search.home before after refusal)
+    LacksEither v w search most refusal ⊎ ((w ≡ v) × IsLost told image scions end search.home before after refusal)
 
 -- A call comes to its end without an entry. It counts nothing but its steps.
 pub record Stays (v w : View) (most : ℕ) : Type 0 where
@@ -155,5 +155,5 @@ pub record Stays (v w : View) (most : ℕ) : Type 0 where
 abbrev pub Brings : Bool → Option (List ℕ) → Scions → ℕ → ℕ → ℕ → View → View → Search → ℕ → Result ℕ Refusal → Type 0
 Brings told image scions end before after v w search most (Ok address) = Brought v w search most address
 Brings told image scions end before after v w search most (Err refusal) =
-    IsPaused v w search most refusal
+    LacksEither v w search most refusal
     ⊎ (Stays v w most × IsLost told image scions end search.home before after refusal)

@@ -19,11 +19,11 @@ use Rattle.melt_core.specs.declared.answer.Refusal.TheVariants.{Pause}
 use Rattle.melt_rule.specs.Making.{FirstFree}
 use Rattle.melt_rule.specs.Rule.{Has, has_cause}
 use Rattle.melt_rule.specs.Seats.{knows_of}
-use Rattle.melt_rule.specs.Tells.{Adds, HasAll, Polls, Sees, Since, behind, caused}
+use Rattle.melt_rule.specs.Tells.{Adds, HasAll, Polls, Sees, Since, view_behind, caused}
 use Rattle.melt_rule.specs.declared.view.Doing.{Doing}
 use Rattle.melt_rule.specs.declared.view.Doing.TheVariants.{Claimed}
 use Rattle.melt_rule.specs.declared.view.View.{View}
-use Rattle.melt_epoch.specs.Mutators.{with_held}
+use Rattle.melt_epoch.specs.Mutators.{with_reference}
 use Rattle.melt_epoch.specs.declared.mutator.Mutator.{Mutator}
 
 -- A call was answered. Behind all that was seen before and what others added since, history, registers and reply are
@@ -117,8 +117,8 @@ IsPlain m n o steps result = (n ≡ record m { seat = n.seat })
     → Plain (knows_of s) (knows_of t) m.values n.values o steps result)
 
 -- So many words of the own region behind its first were filled.
-abbrev pub Fills : View → View → ℕ → ℕ → Type 0
-Fills v w address stored = (z : Shape) → v.doing ≡ Some (Claimed address z 0)
+abbrev pub FillsRegion : View → View → ℕ → ℕ → Type 0
+FillsRegion v w address stored = (z : Shape) → v.doing ≡ Some (Claimed address z 0)
     → Goes v w 0 0 stored (Claimed address z stored)
 
 -- An object of this shape was made at the address.
@@ -161,13 +161,14 @@ abbrev pub HoldsOnly : {R : Type 0} → Mutator R → Mutator R → ℕ → Resu
 HoldsOnly m n dst (Ok Nil) = n ≡ record m { seat = n.seat; reader = n.reader }
 HoldsOnly m n dst (Ok Range) = n ≡ record m { seat = n.seat; reader = n.reader }
 HoldsOnly m n dst (Ok answer) =
-    (address : ℕ) × (value : Value) × (n ≡ with_held (record m { seat = n.seat; reader = n.reader }) dst address value)
+    (address : ℕ) × (value : Value)
+    × (n ≡ with_reference (record m { seat = n.seat; reader = n.reader }) dst address value)
 HoldsOnly m n dst (Err refusal) = n ≡ record m { seat = n.seat; reader = n.reader }
 
 -- The thread asked all to stop, by one step. It has that cause, where it had none.
 pub record HasAsked (v w : View) : Type 0 where
   pub sees : Sees v w.seen
-  pub is : w ≡ caused (behind v w.seen v.known None)
+  pub is : w ≡ caused (view_behind v w.seen v.known None)
   pub thread : w.thread ≡ v.thread
   pub began : w.began ≡ v.began
   pub known : w.known ≡ v.known

@@ -15,9 +15,9 @@ use Rattle.melt_scion.specs.State.{IsFresh, State}
 use Rattle.melt_scion.specs.declared.heap.Heap.{Heap}
 use Rattle.melt_core.specs.StaleBits.{BitsTold}
 use Rattle.melt_rule.specs.Giving.{spent_view}
-use Rattle.melt_rule.specs.Rule.{Begins, Has, Saw, filled, has_cause}
+use Rattle.melt_rule.specs.Rule.{Begins, Has, Saw, filled_count, has_cause}
 use Rattle.melt_rule.specs.Seats.{EpochWords, knows_of}
-use Rattle.melt_rule.specs.Shown.{globals_from, home_of, maps_of}
+use Rattle.melt_rule.specs.Shown.{globals_from, home_of, maps_at}
 use Rattle.melt_rule.specs.Sights.{first_sight, last_sight}
 use Rattle.melt_rule.specs.declared.began.Began.{Began}
 use Rattle.melt_rule.specs.declared.began.Start.{Start}
@@ -61,7 +61,7 @@ pub record HeapBegins (b : Began) (heap : Heap) (end : ℕ) : Type 0 where
 pub record HistoryBegins (start : Start) (heap : Heap) (history : List Entry) : Type 0 where
   pub history_is : history ≡ start.began.history
   pub legal : start.began.told ≡ true → Legal history start.began.globals
-  pub holds : Holds start.began.told history (maps_of start.began) (state_of heap [] (disk_of start.began))
+  pub holds : Holds start.began.told history (maps_at start.began) (state_of heap [] (disk_of start.began))
   pub held : (address n : ℕ) → Has start.held address n → named start.began.maps.addresses address ≡ Some n
   pub fresh : (address n : ℕ) → Has start.held address n → IsFresh (state_of heap [] (disk_of start.began)) address
 
@@ -148,7 +148,7 @@ pub record HeapEnds {R : Type 0} (b : Began) (ms : List (Mutator R)) (heap : Hea
   pub scions : heap.scions ≡ b.scions
   pub nameless : heap.names ≡ None
   pub used : heap.space.used ≡ min (free_behind b ms - 1) b.size
-  pub won : filled (slice_index heap.forward) b.forwards ≡ sum_by (λ (m : Mutator R). (view_of m).won) ms
+  pub won : filled_count (slice_index heap.forward) b.forwards ≡ sum_by (λ (m : Mutator R). (view_of m).won) ms
   pub spaced : All (λ (m : Mutator R). (view_of m).spaced ≡ true → b.size + 1 < free_behind b ms) ms
   pub forwarded : All (λ (m : Mutator R). (view_of m).forwarded ≡ true → (p : ℕ) → p < b.forwards
       → slice_index heap.forward p ≢ 0) ms

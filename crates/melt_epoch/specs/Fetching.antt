@@ -14,7 +14,7 @@ use Rattle.melt_scion.specs.Scions.{Scions}
 use Rattle.melt_core.specs.Advances.{NamesNoScion}
 use Rattle.melt_core.specs.declared.answer.Refusal.{Refusal}
 use Rattle.melt_core.specs.declared.answer.Refusal.TheVariants as refusal
-use Rattle.melt_rule.specs.Shown.{base_of}
+use Rattle.melt_rule.specs.Shown.{base_at}
 use Rattle.melt_rule.specs.declared.began.Began.{Began}
 use Rattle.melt_epoch.specs.declared.fetch.Fetched.{Fetched}
 use Rattle.melt_epoch.specs.declared.fetch.Fetched.TheVariants as fetched
@@ -47,19 +47,19 @@ ReadsHead image end home before after (Err (refusal.Damaged damaged)) = HeadBrok
 ReadsHead image end home before after (Err (refusal.Pause pause)) = ⊥
 
 -- how many words a Body has behind its head
-abbrev pub rest_of : Shape → ℕ
-rest_of z = z.refs + z.nums
+abbrev pub rest_size : Shape → ℕ
+rest_size z = z.refs + z.nums
 
 -- The words of a Body behind its head were read, in front of others.
 pub record RestRead (image : Option (List ℕ)) (end home : ℕ) (z : Shape) (rest : List ℕ) : Type 0 where
   pub size : length rest ≡ 124
-  pub read : WasRead image (home + 2) (rest_of z) (take (rest_of z) rest)
-  pub slots : AreSlots end z.refs (take (rest_of z) rest)
+  pub read : WasRead image (home + 2) (rest_size z) (take (rest_size z) rest)
+  pub slots : AreSlots end z.refs (take (rest_size z) rest)
 
 -- A slot was read that is none.
 pub record RestBroken (image : Option (List ℕ)) (end home : ℕ) (z : Shape) (damaged : Damaged) : Type 0 where
   pub words : List ℕ
-  pub read : WasRead image (home + 2) (rest_of z) words
+  pub read : WasRead image (home + 2) (rest_size z) words
   pub breaks : IsSlotDamage home end z.refs words damaged
 
 abbrev pub ReadsRest : Option (List ℕ) → ℕ → ℕ → Shape → ℕ → ℕ → Result (List ℕ) Refusal → Type 0
@@ -77,7 +77,7 @@ pub record IsDead (scions : Scions) (home scion : ℕ) (damaged : Damaged) : Typ
 pub record BodyFetched (image : Option (List ℕ)) (end home : ℕ) (z : Shape) (rest : List ℕ) : Type 0 where
   pub small : IsShape z
   pub size : length rest ≡ 124
-  pub has : (b : Began) → OfDisk b image end → HasBody b.told (base_of b) home z (take (rest_of z) rest)
+  pub has : (b : Began) → OfDisk b image end → HasBody b.told (base_at b) home z (take (rest_size z) rest)
 
 -- Two words were read that spell no head, or that of a Stub which names no scion of the home.
 pub record HeadDamage (image : Option (List ℕ)) (scions : Scions) (end home : ℕ) (damaged : Damaged) : Type 0 where
@@ -98,7 +98,7 @@ IsDamage image scions end home damaged = HeadDamage image scions end home damage
 -- A record is damaged: what was read is none. So it is not where the epoch is told, and has a record there.
 pub record IsDamaged (image : Option (List ℕ)) (scions : Scions) (end home : ℕ) (damaged : Damaged) : Type 0 where
   pub breaks : IsDamage image scions end home damaged
-  pub untold : (b : Began) → OfDisk b image end → b.scions ≡ scions → b.told ≡ true → HasRecord (base_of b) home → ⊥
+  pub untold : (b : Began) → OfDisk b image end → b.scions ≡ scions → b.told ≡ true → HasRecord (base_at b) home → ⊥
 
 -- why no record was read: the reader failed, in this call, or the record is none
 abbrev pub IsUnread : Option (List ℕ) → Scions → ℕ → ℕ → ℕ → ℕ → Refusal → Type 0

@@ -11,8 +11,8 @@ use Rattle.melt_rule.specs.declared.view.View.{View}
 use Rattle.melt_epoch.specs.declared.mutator.Mutator.{Mutator}
 
 -- the stop word and the first free place, globals, forwarding words and the words of the space
-abbrev pub words_of : Heap → List ℕ
-words_of heap = front 0 (heap.space.used + 1) ++ (heap.globals ++ (heap.forward ++ heap.space.list))
+abbrev pub words_of_heap : Heap → List ℕ
+words_of_heap heap = front 0 (heap.space.used + 1) ++ (heap.globals ++ (heap.forward ++ heap.space.list))
 
 -- The words stand in the heap again, each where it came from. Those before the first free place are in use, of the
 -- words that there are.

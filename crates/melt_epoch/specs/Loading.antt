@@ -35,18 +35,18 @@ use Rattle.melt_epoch.specs.declared.load.Loaded.TheVariants as loaded
 use Rattle.melt_record.specs.declared.head.Kind.TheVariants.{Body}
 use Rattle.melt_scion.specs.GhostMaps.{named}
 use Rattle.melt_scion.specs.Placed.{HeadIs}
-use Rattle.melt_rule.specs.Shown.{base_of}
+use Rattle.melt_rule.specs.Shown.{base_at}
 
 -- the place is that of the slot in the history, by what is known of addresses
-abbrev pub SlotAt : List Pair → Place → Slot → Type 0
-SlotAt known (Field object i) s = (n : ℕ) × Has known object n × (s ≡ slot.Field n i)
-SlotAt known (Global g) s = s ≡ slot.Global g
+abbrev pub KnownSlot : List Pair → Place → Slot → Type 0
+KnownSlot known (Field object i) s = (n : ℕ) × Has known object n × (s ≡ slot.Field n i)
+KnownSlot known (Global g) s = s ≡ slot.Global g
 
 -- a word was found at the place of a slot
 pub record Found (w : View) (place : Place) (found : word.Ref) : Type 0 where
   pub before : View
   pub slot : Slot
-  pub at : SlotAt before.known place slot
+  pub at : KnownSlot before.known place slot
   pub looks : Looks before w slot place found
 
 -- a home that was found lies before the end of the disk
@@ -61,7 +61,7 @@ pub record Held (v w : View) (s : Slot) (z : Shape) : Type 0 where
   pub object : ℕ
   pub home : ℕ
   pub of : named v.began.maps.homes home ≡ Some object
-  pub body : HeadIs (base_of v.began) home (record { shape = z; kind = Body })
+  pub body : HeadIs (base_at v.began) home (record { shape = z; kind = Body })
   pub from : Begins v.seen then_
   pub until : Begins then_ w.seen
   pub held : last then_ s ≡ Ref object

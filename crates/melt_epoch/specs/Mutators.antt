@@ -46,8 +46,8 @@ given_to None = Nil
 given_to (Some seat) = last_given (knows_of seat).seen
 
 -- a register holds an address from then on, and stands for a value
-abbrev pub with_held : {R : Type 0} → Mutator R → ℕ → ℕ → Value → Mutator R
-with_held m r address value = record m {
+abbrev pub with_reference : {R : Type 0} → Mutator R → ℕ → ℕ → Value → Mutator R
+with_reference m r address value = record m {
   registers = record { regs = slice_set m.registers.regs r address };
   values = slice_set m.values r value;
 }

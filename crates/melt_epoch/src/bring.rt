@@ -8,7 +8,7 @@ ghost use Rattle.melt_rule.specs.Rule.{has_cause};
 ghost use Rattle.melt_core.specs.declared.call.Activation.{Activation as ActivationIs};
 ghost use Rattle.melt_rule.specs.Seats.{IsSeat, knows_of};
 ghost use Rattle.melt_rule.specs.declared.view.Doing.TheVariants.{Copied, Missed, Searching};
-ghost use Rattle.melt_epoch.specs.Bringing.{Brings, Finds, Misses, Seeks, Settles, at_hand};
+ghost use Rattle.melt_epoch.specs.Bringing.{Brings, FindsSent, Misses, Seeks, SettlesCopy, at_hand};
 ghost use Rattle.melt_epoch.specs.Epochs.{Fits};
 
 use crate::copy::copy_in;
@@ -67,7 +67,7 @@ fn ask_next(
     requires at_hand { (knows_of seat.old).doing ≡ Some (at_hand empty activation) }
     requires more { activation.search.tried < words.now.start.began.forwards }
     ensures seat { IsSeat words.now seat.new }
-    ensures finds { Finds (knows_of seat.old) (knows_of seat.new) empty activation result }
+    ensures finds { FindsSent (knows_of seat.old) (knows_of seat.new) empty activation result }
 {
     if empty {
         words.commit(seat, activation)
@@ -89,7 +89,7 @@ pub(crate) fn settle(
     requires forwards { forwards ≡ words.now.start.began.forwards }
     ensures seat { IsSeat words.now seat.new }
     ensures own { (knows_of seat.new).mine ≡ (knows_of seat.new).seen }
-    ensures settles { Settles (knows_of seat.old) (knows_of seat.new) activation forwards result }
+    ensures settles { SettlesCopy (knows_of seat.old) (knows_of seat.new) activation forwards result }
 {
     let mut activation = activation;
     let mut empty = true;

@@ -4,7 +4,7 @@ ghost use Rattle.melt_word.specs.Words.{IsDiskHome, IsShape, cost_of};
 ghost use Rattle.melt_scion.specs.Commits.{HasBody, copy_word};
 ghost use Rattle.melt_rule.specs.Rule.{has_cause};
 ghost use Rattle.melt_rule.specs.Seats.{IsSeat, knows_of};
-ghost use Rattle.melt_rule.specs.Shown.{base_of};
+ghost use Rattle.melt_rule.specs.Shown.{base_at};
 ghost use Rattle.melt_rule.specs.declared.view.Doing.TheVariants.{Copying, Missed};
 ghost use Rattle.melt_epoch.specs.Bringing.{Copies, IsFilled};
 
@@ -59,7 +59,7 @@ pub(crate) fn copy_in(
     requires missed { (knows_of seat.old).doing ≡ Some (Missed search) }
     requires no_cause { has_cause (knows_of seat.old) ≡ false }
     requires forwards { forwards ≡ words.now.start.began.forwards }
-    requires body { HasBody words.now.start.began.told (base_of words.now.start.began) search.home shape rest.now }
+    requires body { HasBody words.now.start.began.told (base_at words.now.start.began) search.home shape rest.now }
     requires length { length rest.now ≡ shape.refs + shape.nums }
     ensures seat { IsSeat words.now seat.new }
     ensures own { (knows_of seat.new).mine ≡ (knows_of seat.new).seen }

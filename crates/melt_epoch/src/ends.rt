@@ -6,7 +6,7 @@ ghost use Rattle.melt_rule.specs.Seats.{IsSeat, MayGoOn, Sits, knows_of};
 ghost use Rattle.melt_rule.specs.declared.began.Start.{Start};
 ghost use Rattle.melt_epoch.specs.Ends.{HasEnded, HasJoined, HeapBegins, HistoryBegins, MayEnd, MutatorsBegin};
 ghost use Rattle.melt_epoch.specs.Ends.{unseated, view_of};
-ghost use Rattle.melt_epoch.specs.Gathering.{IsGiven, PutsBack, gathered_all, words_of};
+ghost use Rattle.melt_epoch.specs.Gathering.{IsGiven, PutsBack, gathered_all, words_of_heap};
 ghost use Rattle.melt_epoch.specs.Mutators.{HasReader};
 
 use crate::epoch::Epoch;
@@ -18,10 +18,10 @@ use melt_scion::{GhostMaps, Heap};
 use melt_space::Space;
 use std::alloc::Global;
 
-/// The words of a heap as those of an epoch: those of the front, the globals, the forwarding words, and the words of the
-/// space.
+/// The words of a heap as those of an epoch: those of the front, the globals, the forwarding words, and the words of
+/// the space.
 fn lay_out(alloc: Global, heap: &Heap) -> Result<Vec<u64>, NoMemory>
-    ensures { IfOk result (λ words. words.items ≡ words_of heap.now) }
+    ensures { IfOk result (λ words. words.items ≡ words_of_heap heap.now) }
 {
     let mut words = Vec::new(alloc);
     words.extend_from_slice(&front(heap.space.used() as u64 + 1))?;

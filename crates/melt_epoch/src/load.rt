@@ -8,7 +8,7 @@ ghost use Rattle.melt_rule.specs.Tells.{Looks, Names, Reads};
 ghost use Rattle.melt_rule.specs.declared.view.Doing.TheVariants.{Cleared};
 ghost use Rattle.melt_rule.specs.declared.view.View.{View as ViewIs};
 ghost use Rattle.melt_epoch.specs.Epochs.{Fits};
-ghost use Rattle.melt_epoch.specs.Loading.{Found, IsBefore, Loads, LoadsGlobal, LoadsSlot, Resolves, SlotAt};
+ghost use Rattle.melt_epoch.specs.Loading.{Found, IsBefore, Loads, LoadsGlobal, LoadsSlot, Resolves, KnownSlot};
 ghost use Rattle.melt_epoch.specs.Mutators.{IsIdle};
 
 use crate::bring::bring;
@@ -23,9 +23,9 @@ use melt_word::Ref;
 fn untag(words: &Words, seat: &mut Seated, place: Place, found: Ref, target: u32) -> u32
     requires seat { IsSeat words.now seat.old }
     requires cleared { (knows_of seat.old).doing ≡ Some (Cleared place found target) }
-    requires named { (s : Slot) × SlotAt (knows_of seat.old).known place s }
+    requires named { (s : Slot) × KnownSlot (knows_of seat.old).known place s }
     ensures seat { IsSeat words.now seat.new }
-    ensures reads { (s : Slot) → SlotAt (knows_of seat.old).known place s
+    ensures reads { (s : Slot) → KnownSlot (knows_of seat.old).known place s
         → Reads (knows_of seat.old) (knows_of seat.new) s result }
 {
     match place {
@@ -43,7 +43,7 @@ fn load_stale(words: &Words, seat: &mut Seated, place: Place, target: u32) -> u3
     requires found { Found (knows_of seat.old) place (Ref.Stale target) }
     ensures seat { IsSeat words.now seat.new }
     ensures own { (knows_of seat.new).mine ≡ (knows_of seat.new).seen }
-    ensures loads { (v : ViewIs) (s : Slot) → SlotAt v.known place s
+    ensures loads { (v : ViewIs) (s : Slot) → KnownSlot v.known place s
         → Looks v (knows_of seat.old) s place (Ref.Stale target) → Loads v (knows_of seat.new) s 3 result }
 {
     words.clear(seat, target);
@@ -71,7 +71,7 @@ fn load_home<R: RecordReader>(
     requires within { home < end }
     ensures seat { IsSeat words.now seat.new }
     ensures own { (knows_of seat.new).mine ≡ (knows_of seat.new).seen }
-    ensures resolves { (v : ViewIs) (s : Slot) → SlotAt v.known place s
+    ensures resolves { (v : ViewIs) (s : Slot) → KnownSlot v.known place s
         → Looks v (knows_of seat.old) s place (Ref.Disk home)
         → Resolves words.now.start.began.told (R.image reader.old) heap.now.scions end (R.faults reader.old)
         (R.faults reader.new) v (knows_of seat.new) s (2 * words.now.start.began.forwards + 132) result }
@@ -110,7 +110,7 @@ pub(crate) fn resolve<R: RecordReader>(
     requires within { IsBefore end found }
     ensures seat { IsSeat words.now seat.new }
     ensures own { (knows_of seat.new).mine ≡ (knows_of seat.new).seen }
-    ensures resolves { (v : ViewIs) (s : Slot) → SlotAt v.known place s → Looks v (knows_of seat.old) s place found
+    ensures resolves { (v : ViewIs) (s : Slot) → KnownSlot v.known place s → Looks v (knows_of seat.old) s place found
         → Resolves words.now.start.began.told (R.image reader.old) heap.now.scions end (R.faults reader.old)
         (R.faults reader.new) v (knows_of seat.new) s (2 * words.now.start.began.forwards + 132) result }
     ensures image { R.image reader.new ≡ R.image reader.old }

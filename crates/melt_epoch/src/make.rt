@@ -5,7 +5,7 @@ ghost use Rattle.melt_word.specs.declared.header.Shape.{Shape as ShapeIs};
 ghost use Rattle.melt_rule.specs.Tells.{Sees};
 ghost use Rattle.melt_rule.specs.Seats.{IsSeat, knows_of};
 ghost use Rattle.melt_rule.specs.declared.view.Doing.TheVariants.{Claimed};
-ghost use Rattle.melt_epoch.specs.Calls.{Fills, Makes};
+ghost use Rattle.melt_epoch.specs.Calls.{FillsRegion, Makes};
 ghost use Rattle.melt_epoch.specs.Mutators.{IsIdle};
 
 use melt_core::{Pause, Refusal};
@@ -38,7 +38,7 @@ fn fill(words: &Words, seat: &mut Seated, address: u32, cost: u32)
     requires region { (z : ShapeIs) × ((knows_of seat.old).doing ≡ Some (Claimed address z 0)) × (cost_of z ≡ cost) }
     requires sound { Sees (knows_of seat.old) (knows_of seat.old).seen }
     ensures seat { IsSeat words.now seat.new }
-    ensures fills { Fills (knows_of seat.old) (knows_of seat.new) address (cost - 1) }
+    ensures fills { FillsRegion (knows_of seat.old) (knows_of seat.new) address (cost - 1) }
 {
     for k in 0..cost - 1 {
         words.fill(seat, address, k);

@@ -7,7 +7,7 @@ ghost use Rattle.melt_model.specs.declared.history.Value.TheVariants.{Nil};
 ghost use Rattle.melt_model.specs.declared.operations.Op.TheVariants.{Copy, Drop, Same};
 ghost use Rattle.melt_core.specs.Answering.{Answers};
 ghost use Rattle.melt_rule.specs.Seats.{EpochWords};
-ghost use Rattle.melt_epoch.specs.Mutators.{IsSeated, given_to, with_held, with_none};
+ghost use Rattle.melt_epoch.specs.Mutators.{IsSeated, given_to, with_reference, with_none};
 
 use melt_model::{Ghost, Reply, Value};
 use melt_rule::Seated;
@@ -65,7 +65,7 @@ impl<R> Mutator<R> {
     /// has seen gave.
     pub(crate) fn hold(&mut self, r: u8, address: u32)
         requires { r < 16 }
-        ensures holds { self.new ≡ with_held self.old r address (given_to self.old.seat) }
+        ensures holds { self.new ≡ with_reference self.old r address (given_to self.old.seat) }
         ensures sixteen { length self.old.registers.regs ≡ 16 }
     {
         let values = Ghost::pick(&(&self.values, &self.seat, r));

@@ -1,5 +1,5 @@
-//! A list of each thread, which a global holds and which its thread walks. Slot 0 of each object refers to the next, and
-//! its first number says at which place of the list it stands, from 1.
+//! A list of each thread, which a global holds and which its thread walks. Slot 0 of each object refers to the next,
+//! and its first number says at which place of the list it stands, from 1.
 ghost use Rattle.std.specs.Prelude.{◌≡◌, ◌≢◌, ◌+◌, ◌*◌, ◌<◌, ◌≤◌, ◌^◌, ◌↔◌, [], All, IsSome};
 ghost use Rattle.melt_epoch.specs.Tests.{HasBegun, MayCall};
 ghost use Rattle.melt_epoch_tests.specs.Stages.{GoesOnStage};

@@ -122,7 +122,8 @@ fn new_world<'d, D: StaleDisk>(
     World::new(alloc, disk, u32::MAX, words, 8, forwards).map_err(|_| anyhow!("no memory"))
 }
 
-/// Makes the list of each thread. Objects that move to the disk do so list by list, so that the homes of one lie together.
+/// Makes the list of each thread. Objects that move to the disk do so list by list, so that the homes of one lie
+/// together.
 fn make_all<'d, T: Threads + Sync>(
     rt: &T,
     alloc: Global,

@@ -16,7 +16,7 @@ use Rattle.melt_scion.specs.declared.heap.Names.{Names}
 use Rattle.melt_scion.proofs.ScionTables.{empty_is_table}
 use Rattle.melt_scion.proofs.Starting.{Formed_start, new_heap_empty, settled_gaps}
 use Rattle.melt_rule.specs.Seats.{EpochWords}
-use Rattle.melt_rule.specs.Shown.{maps_of}
+use Rattle.melt_rule.specs.Shown.{maps_at}
 use Rattle.melt_rule.specs.declared.began.Began.{Began}
 use Rattle.melt_rule.specs.declared.began.Start.{Start}
 use Rattle.melt_move.specs.Collecting.{IsFormedOn}
@@ -73,8 +73,8 @@ module _ (heap : Heap) (end : ℕ) (formed : IsFormedOn heap [] end) (ready : Is
   abbrev start : Start
   start = untold_start heap end
 
-  formed_words : FormedWords (maps_of start.began) (state_of heap [] (disk_of start.began))
-  formed_words = words_on_other (maps_of start.began) heap [] [] formed.disk (disk_of start.began) formed.end_is
+  formed_words : FormedWords (maps_at start.began) (state_of heap [] (disk_of start.began))
+  formed_words = words_on_other (maps_at start.began) heap [] [] formed.disk (disk_of start.began) formed.end_is
       (subst (λ (maps : Maps). FormedWords maps (state_of heap [] formed.disk))
       (maps_are heap formed.maps ready.nameless formed.names) formed.formed.words)
 

@@ -10,9 +10,9 @@ use Rattle.std.proofs.Math.Seq.{drop-append-add, take-add, take-append-add}
 use Rattle.byteorder.specs.Endian.{little_bytes}
 use Rattle.byteorder.specs.Numbers.{length-bytes_low_first}
 use Rattle.melt_io.specs.Outside.{KeepsOthers, SameOutside, Writes, with_words}
-use Rattle.melt_io.specs.Words.{word_bytes, words_of}
+use Rattle.melt_io.specs.Words.{word_bytes, words_in_bytes}
 use Rattle.melt_io.proofs.Images.{length-front, with_words-outside}
-use Rattle.melt_io.proofs.WordBytes.{words_of-append, words_of-front, words_of-padded}
+use Rattle.melt_io.proofs.WordBytes.{words_in_bytes-append, words_in_bytes-front, words_in_bytes-padded}
 
 pub length-word_bytes : (words : List ℕ) → length (word_bytes words) ≡ 8 * length words
 length-word_bytes [] = refl
@@ -161,22 +161,24 @@ length-overwritten bytes part at n h len =
     simp (length-append, length-take, length-drop) (omega arith)
 
 -- what a run gives: a front of what is there, and zeros where that ends
-words_of-filled : (there : List ℕ) (k n z : ℕ) → n ≤ 8 * k → length (take n there) ≡ n → (n < 8 * k → length there ≤ n)
-    → words_of k (take n there ++ replicate z 0) ≡ words_of k there
-words_of-filled there k n z fits len ended =
-    words_of-padded k z (take n there)
+words_in_bytes-filled : (there : List ℕ) (k n z : ℕ) → n ≤ 8 * k → length (take n there) ≡ n
+    → (n < 8 * k → length there ≤ n)
+    → words_in_bytes k (take n there ++ replicate z 0) ≡ words_in_bytes k there
+words_in_bytes-filled there k n z fits len ended =
+    words_in_bytes-padded k z (take n there)
     ∙ elim (cases_lt n (8 * k)) [
-      | inl short ↦ ap (λ bytes. words_of k bytes) (take_all n there (ended short))
+      | inl short ↦ ap (λ bytes. words_in_bytes k bytes) (take_all n there (ended short))
       | inr full ↦
           let whole : take n there ++ drop n there ≡ there = take-append-drop n there in
-          sym (words_of-front k (take n there) (drop n there) (omega arith)) ∙ ap (λ bytes. words_of k bytes) whole
+          sym (words_in_bytes-front k (take n there) (drop n there) (omega arith))
+          ∙ ap (λ bytes. words_in_bytes k bytes) whole
     ]
 
 pub reads-filled : (told : Option (List ℕ)) (at : ℕ) (bytes zeros words : List ℕ) (n z k : ℕ) → n ≤ length bytes
     → length bytes ≡ 8 * k → IfSome told (λ all. take n bytes ≡ take n (drop at all))
     → (n < length bytes → IfSome told (λ all. length all ≤ at + n)) → zeros ≡ replicate z 0
-    → words ≡ words_of k (take n bytes ++ (zeros ++ drop (length bytes - n) (drop n bytes)))
-    → IfSome told (λ all. words ≡ words_of k (drop at all))
+    → words ≡ words_in_bytes k (take n bytes ++ (zeros ++ drop (length bytes - n) (drop n bytes)))
+    → IfSome told (λ all. words ≡ words_in_bytes k (drop at all))
 reads-filled None at bytes zeros words n z k fits len taken ended zero e = tt
 reads-filled (Some all) at bytes zeros words n z k fits len taken ended zero e =
     let there : List ℕ = drop at all in
@@ -184,17 +186,18 @@ reads-filled (Some all) at bytes zeros words n z k fits len taken ended zero e =
     let nothing : behind ≡ [] = drop_all (length bytes - n) (drop n bytes) (omega (arith, length-drop n bytes)) in
     let padded : zeros ++ behind ≡ replicate z 0 = ap (λ rest. zeros ++ rest) nothing ∙ append-nil zeros ∙ zero in
     let front : length (take n there) ≡ n = ap length (sym taken) ∙ length-take-le n bytes fits in
-    e ∙ ap (λ rest. words_of k (take n bytes ++ rest)) padded
-    ∙ ap (λ front. words_of k (front ++ replicate z 0)) taken
-    ∙ words_of-filled there k n z (omega arith) front (λ h. let past : length all ≤ at + n = ended (omega arith) in
+    e ∙ ap (λ rest. words_in_bytes k (take n bytes ++ rest)) padded
+    ∙ ap (λ front. words_in_bytes k (front ++ replicate z 0)) taken
+    ∙ words_in_bytes-filled there k n z (omega arith) front
+    (λ h. let past : length all ≤ at + n = ended (omega arith) in
     omega (arith, length-drop at all))
 
 -- the words up to `end`, behind those up to `done`
 pub reads-more : (told : Option (List ℕ)) (at : ℕ) (words run behind : List ℕ) (done end : ℕ) → done ≤ end
     → done ≤ length words → length run ≡ end - done
-    → IfSome told (λ all. take done words ≡ words_of done (drop (8 * at) all))
-    → IfSome told (λ all. run ≡ words_of (length run) (drop (8 * (at + done)) all))
-    → IfSome told (λ all. take end (take done words ++ (run ++ behind)) ≡ words_of end (drop (8 * at) all))
+    → IfSome told (λ all. take done words ≡ words_in_bytes done (drop (8 * at) all))
+    → IfSome told (λ all. run ≡ words_in_bytes (length run) (drop (8 * (at + done)) all))
+    → IfSome told (λ all. take end (take done words ++ (run ++ behind)) ≡ words_in_bytes end (drop (8 * at) all))
 reads-more None at words run behind done end h within len one two = tt
 reads-more (Some all) at words run behind done end h within len one two =
     let there : List ℕ = drop (8 * at) all in
@@ -207,6 +210,7 @@ reads-more (Some all) at words run behind done end h within len one two =
     ap (λ read. take end read) (sym (append_assoc (take done words) run behind))
     ∙ take_at (take done words ++ run) behind end both
     ∙ ap (λ words. words ++ run) one
-    ∙ ap (λ words. words_of done there ++ words) (two ∙ ap (λ bytes. words_of (length run) bytes) (sym next))
-    ∙ sym (words_of-append done (length run) there)
-    ∙ ap (λ n. words_of n there) count
+    ∙ ap (λ words. words_in_bytes done there ++ words)
+    (two ∙ ap (λ bytes. words_in_bytes (length run) bytes) (sym next))
+    ∙ sym (words_in_bytes-append done (length run) there)
+    ∙ ap (λ n. words_in_bytes n there) count

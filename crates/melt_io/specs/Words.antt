@@ -8,6 +8,6 @@ abbrev pub word_bytes : List ℕ → List ℕ
 word_bytes words = flat_map (little_bytes 8) words
 
 -- the first n words whose bytes these are: bytes that are missing at the end are zeros
-abbrev pub words_of : ℕ → List ℕ → List ℕ
-words_of zero bytes = []
-words_of (suc n) bytes = little_number 8 bytes ∷ words_of n (drop 8 bytes)
+abbrev pub words_in_bytes : ℕ → List ℕ → List ℕ
+words_in_bytes zero bytes = []
+words_in_bytes (suc n) bytes = little_number 8 bytes ∷ words_in_bytes n (drop 8 bytes)

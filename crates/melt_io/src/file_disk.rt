@@ -2,7 +2,7 @@
 ghost use Rattle.std.specs.Prelude.{◌≡◌, ◌+◌, ◌*◌, ◌<◌, ◌≤◌, ◌^◌, ◌↔◌, true, None, length, take, drop, vec_len, IsNone};
 ghost use Rattle.std.specs.Prelude.{IsSome, IsErr, IsErrOf, IfOk, IfSome, OnOk, OnErr};
 ghost use Rattle.melt_io.specs.Outside.{CountsFault, KeepsOthers, Rose, Writes, counted};
-ghost use Rattle.melt_io.specs.Words.{word_bytes, words_of};
+ghost use Rattle.melt_io.specs.Words.{word_bytes, words_in_bytes};
 
 use crate::adapters::StdFile;
 use crate::faults::Faults;
@@ -97,7 +97,7 @@ impl<F: PositionedReader> RecordReader for FileReader<F> {
         requires in_range { at + length words.old ≤ 2 ^ 32 }
         ensures no_file { IsNone self.old.file → IsErr result }
         ensures words { OnOk result (IfSome self.old.file (λ old. IfSome (F.bytes old) (λ bytes. words.new
-            ≡ words_of (length words.old) (drop (8 * at) bytes)))) }
+            ≡ words_in_bytes (length words.old) (drop (8 * at) bytes)))) }
         ensures stays_open { IsSome self.new.file ↔ IsSome self.old.file }
         ensures kept { IfSome self.old.file (λ old. IfSome self.new.file (λ new. F.bytes new ≡ F.bytes old)) }
         ensures no_file_fault { OnOk result (IfSome self.old.file
@@ -304,7 +304,7 @@ fn read_file<F: PositionedReader>(
     requires in_range { at + length words.old ≤ 2 ^ 32 }
     ensures no_file { IsNone file.old → IsErr result }
     ensures words { OnOk result (IfSome file.old (λ old. IfSome (F.bytes old) (λ bytes. words.new
-        ≡ words_of (length words.old) (drop (8 * at) bytes)))) }
+        ≡ words_in_bytes (length words.old) (drop (8 * at) bytes)))) }
     ensures stays_open { IsSome file.new ↔ IsSome file.old }
     ensures kept { IfSome file.old (λ old. IfSome file.new (λ new. F.bytes new ≡ F.bytes old)) }
     ensures no_fault { OnOk result (IfSome file.old (λ old. IfSome file.new (λ new. F.faults new ≡ F.faults old))) }
@@ -328,7 +328,7 @@ fn read_words<F: PositionedReader>(
     requires room { 8 ≤ length piece.old }
     requires in_range { at + length words.old ≤ 2 ^ 32 }
     ensures words { OnOk result (IfSome (F.bytes file.old) (λ bytes. words.new
-        ≡ words_of (length words.old) (drop (8 * at) bytes))) }
+        ≡ words_in_bytes (length words.old) (drop (8 * at) bytes))) }
     ensures kept { F.bytes file.new ≡ F.bytes file.old }
     ensures no_fault { OnOk result (F.faults file.new ≡ F.faults file.old) }
     ensures failed { OnErr result (Rose (F.faults file.old) (F.faults file.new)) }
@@ -357,7 +357,7 @@ fn read_run<F: PositionedReader>(
     requires room { 8 * length words.old ≤ length piece.old }
     requires in_range { at + length words.old ≤ 2 ^ 32 }
     ensures words { OnOk result (IfSome (F.bytes file.old) (λ bytes. words.new
-        ≡ words_of (length words.old) (drop (8 * at) bytes))) }
+        ≡ words_in_bytes (length words.old) (drop (8 * at) bytes))) }
     ensures kept { F.bytes file.new ≡ F.bytes file.old }
     ensures no_fault { OnOk result (F.faults file.new ≡ F.faults file.old) }
     ensures failed { OnErr result (Rose (F.faults file.old) (F.faults file.new)) }

@@ -1,6 +1,6 @@
 //! Words as bytes: 8 bytes for each word, its lowest byte first.
 ghost use Rattle.std.specs.Prelude.{◌≡◌, ℕ, ◌*◌, ◌^◌, ◌<◌, List, All, length};
-ghost use Rattle.melt_io.specs.Words.{word_bytes, words_of};
+ghost use Rattle.melt_io.specs.Words.{word_bytes, words_in_bytes};
 
 use byteorder::{ByteOrder, LittleEndian};
 
@@ -15,7 +15,7 @@ pub fn put_words(words: &[u64], out: &mut [u8])
 /// Reads the words whose bytes these are.
 pub fn get_words(bytes: &[u8], words: &mut [u64])
     requires { length bytes.now ≡ 8 * length words.old }
-    ensures { words.new ≡ words_of (length words.old) bytes.now }
+    ensures { words.new ≡ words_in_bytes (length words.old) bytes.now }
 {
     LittleEndian::read_u64_into(bytes, words);
 }
@@ -23,5 +23,5 @@ pub fn get_words(bytes: &[u8], words: &mut [u64])
 /// The words that are read from the bytes of words are those words.
 pub fn words_read_back()
     ensures { (words : List ℕ) → All (λ word. word < 2 ^ 64) words
-        → words_of (length words) (word_bytes words) ≡ words }
+        → words_in_bytes (length words) (word_bytes words) ≡ words }
 {}

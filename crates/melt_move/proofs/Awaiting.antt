@@ -18,7 +18,7 @@ use Rattle.melt_scion.specs.declared.registers.Registers.{Registers}
 use Rattle.melt_scion.specs.declared.heap.Heap.{Heap}
 use Rattle.melt_scion.proofs.NobodyLeaves.{parts_of_word}
 use Rattle.melt_copy.specs.declared.forwarding.Relocation.{Relocation}
-use Rattle.melt_copy.specs.Tracking.{goes, word_in}
+use Rattle.melt_copy.specs.Tracking.{goes, word_numbered}
 use Rattle.melt_copy.specs.Copied.{MayRename, NumbersAre}
 use Rattle.melt_copy.specs.Moving.{words_in}
 use Rattle.melt_copy.proofs.Collects.{can_rename, none_behind}
@@ -103,7 +103,7 @@ module _ (heap : Heap) (held : List Registers) (disk : OnDisk) (decision : Decis
       (put : IsPutBack (record heap { scions = freed }) new held after decision copied) where
     -- a word of what was put into the space
     pub put_word : (at : ℕ) → 1 ≤ at → at ≤ length copied.words.items
-        → word_at new.space at ≡ word_in copied.words.items at
+        → word_at new.space at ≡ word_numbered copied.words.items at
     put_word zero first last = absurd (omega (arith, first))
     put_word (suc at) first last = put.space.front at (omega (arith, last))
 

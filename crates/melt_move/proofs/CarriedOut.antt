@@ -23,7 +23,7 @@ use Rattle.melt_scion.specs.Heaps.{OnDisk, HasNames, IsSettled, TablesMade, Show
 use Rattle.melt_scion.specs.declared.registers.Registers.{Registers}
 use Rattle.melt_scion.specs.declared.heap.Heap.{Heap}
 use Rattle.melt_copy.specs.declared.forwarding.Relocation.{Relocation}
-use Rattle.melt_copy.specs.Tracking.{goes, word_in}
+use Rattle.melt_copy.specs.Tracking.{goes, word_numbered}
 use Rattle.melt_copy.proofs.Places.{place_behind, same_place}
 use Rattle.melt_move.specs.declared.choice.Departure.{Departure}
 use Rattle.melt_move.specs.declared.commit.Copied.{Copied}
@@ -61,7 +61,7 @@ module _ (maps : Maps) (heap : Heap) (held : List Registers) (disk : OnDisk) (de
   -- a word of an object, but for its home word, is as it was put there
   word_kept : (k : ℕ) (m : Relocation) (at : ℕ) → slice_get decision.choice.stay.moves.items k ≡ Some m → m.to ≤ at
       → at < m.to + cost_of m.shape → (at ≡ m.to + 1 → given_home decision.homes m ≡ 0)
-      → word_at new.space at ≡ word_in copied.words.items at
+      → word_at new.space at ≡ word_numbered copied.words.items at
   word_kept k m at there from to home =
       let place = within heap held disk decision decided maps formed made freed frees
       mid after copied stand put k m there in

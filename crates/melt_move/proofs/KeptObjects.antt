@@ -13,7 +13,7 @@ use Rattle.melt_scion.specs.State.{State, RefersTo}
 use Rattle.melt_scion.specs.State.Reached.{in_slot}
 use Rattle.melt_copy.specs.declared.forwarding.Relocation.{Relocation}
 use Rattle.melt_copy.specs.Moving.{IsRefWord, words_in, header_after}
-use Rattle.melt_copy.specs.Tracking.{word_in, Extends}
+use Rattle.melt_copy.specs.Tracking.{word_numbered, Extends}
 use Rattle.melt_copy.proofs.Copies.{slots_length, object_slot, word_in_at}
 use Rattle.melt_copy.proofs.Growth.{word_in_before}
 use Rattle.melt_copy.proofs.Places.{words_in-before}
@@ -58,7 +58,7 @@ pub object_stays : (held : Bool) (space : SpaceWords) (s : State) (decision : De
     → ((i : ℕ) → i < length (take (2 + m.shape.refs - 2) (drop 2 object))
     → StaysAs s decision (slice_index (take (2 + m.shape.refs - 2) (drop 2 object)) i)
     (slice_index then_ (length first + i))) → last ≡ then_ ++ drop (2 + m.shape.refs) object
-    → ObjectStays s decision held (word_in last) m
+    → ObjectStays s decision held (word_numbered last) m
 object_stays held space s decision m object out first then_ last before header home are of to before_is header_is
     home_is first_is extends stay last_is =
     let refs : ℕ = m.shape.refs in
@@ -88,7 +88,7 @@ object_stays held space s decision m object out first then_ last before header h
       home = word_in_at last (length out) 1 (m.to + 1) (omega (arith, to))
           ∙ (front 1 (omega arith) ∙ (home_is ∙ as_was 1 (omega arith)));
       slots = λ i below.
-          let place : word_in last (m.to + 2 + i) ≡ slice_index then_ (length first + i) =
+          let place : word_numbered last (m.to + 2 + i) ≡ slice_index then_ (length first + i) =
           word_in_at last (length out) (2 + i) (m.to + 2 + i) (omega (arith, to))
           ∙ (in_then (length out + (2 + i)) (omega (arith, below, then_size))
           ∙ ap (slice_index then_) (let sum : length out + (2 + i) ≡ length first + i = omega (arith, first_size) in
@@ -110,7 +110,7 @@ object_stays held space s decision m object out first then_ last before header h
 -- an object that was put there stands where more words are put behind it
 stands_on : (s : State) (decision : Decision) (held : Bool) (words more : List ℕ) (n : ℕ) (m : Relocation)
     → Extends words more n → m.to + cost_of m.shape ≤ length words + 1
-    → ObjectStays s decision held (word_in words) m → ObjectStays s decision held (word_in more) m
+    → ObjectStays s decision held (word_numbered words) m → ObjectStays s decision held (word_numbered more) m
 stands_on s decision held words more n m extends within object = record {
   header = λ header starts. word_in_before words more n m.to extends (omega (arith, within))
       ∙ object.header header starts;
@@ -126,13 +126,13 @@ stands_on s decision held words more n m extends within object = record {
 pub record StandSoFar (s : State) (decision : Decision) (words : List ℕ) (count : ℕ) : Type 0 where
   pub size : length words ≡ words_in (take count decision.choice.stay.moves.items)
   pub objects : (k : ℕ) (m : Relocation) → k < count → slice_get decision.choice.stay.moves.items k ≡ Some m
-      → ObjectStays s decision (nat_lt k decision.front) (word_in words) m
+      → ObjectStays s decision (nat_lt k decision.front) (word_numbered words) m
 
 -- one object more
 pub stand_more : (space : SpaceWords) (s : State) (decision : Decision) (words more : List ℕ) (count : ℕ)
     (m : Relocation) → Stays space s decision m → StandSoFar s decision words count
     → slice_get decision.choice.stay.moves.items count ≡ Some m → Extends words more (cost_of m.shape)
-    → (m.to ≡ length words + 1 → ObjectStays s decision (nat_lt count decision.front) (word_in more) m)
+    → (m.to ≡ length words + 1 → ObjectStays s decision (nat_lt count decision.front) (word_numbered more) m)
     → StandSoFar s decision more (count + 1)
 stand_more space s decision words more count m stays before at extends object =
     let moves : List Relocation = decision.choice.stay.moves.items in
@@ -142,8 +142,8 @@ stand_more space s decision words more count m stays before at extends object =
       objects = λ k x under there. elim (eqb_tells k count) [
         | inl same ↦
             let one : x ≡ m = same_Some x m (sym there ∙ (ap (slice_get moves) same.1 ∙ at)) in
-            subst (λ (i : ℕ). ObjectStays s decision (nat_lt i decision.front) (word_in more) x) (sym same.1)
-            (subst (ObjectStays s decision (nat_lt count decision.front) (word_in more)) (sym one)
+            subst (λ (i : ℕ). ObjectStays s decision (nat_lt i decision.front) (word_numbered more) x) (sym same.1)
+            (subst (ObjectStays s decision (nat_lt count decision.front) (word_numbered more)) (sym one)
             (object (let place = stay.places count m at in omega (arith, place, before.size))))
         | inr other ↦
             let lower : k < count = omega (arith, under, other.1) in

@@ -173,9 +173,9 @@ abbrev pub AreShapes : List Given → Type 0
 AreShapes given = (k : ℕ) (g : Given) → slice_get given k ≡ Some g → IsShape g.shape
 
 -- there is room for the names of so many homes, where there are names
-abbrev pub HasRoomFor : ℕ → Option Names → Type 0
-HasRoomFor more None = Unit {0}
-HasRoomFor more (Some names) = more ≤ names.homes.spare
+abbrev pub HasRoomForNames : ℕ → Option Names → Type 0
+HasRoomForNames more None = Unit {0}
+HasRoomForNames more (Some names) = more ≤ names.homes.spare
 
 -- What stands behind a refusal. Only a fault of the disk gives the heap up, and then no register holds anything; it is
 -- a fault in writing what had room.

@@ -8,7 +8,7 @@ use Rattle.melt_scion.specs.State.{State, HeaderAt, RefersTo, Reached}
 use Rattle.melt_scion.specs.Moves.{WordBecomes, moved_ref}
 use Rattle.melt_copy.specs.declared.forwarding.Relocation.{Relocation}
 use Rattle.melt_copy.specs.Moving.{IsRefWord, IsRelocation, words_in, header_after}
-use Rattle.melt_copy.specs.Tracking.{goes, word_in}
+use Rattle.melt_copy.specs.Tracking.{goes, word_numbered}
 use Rattle.melt_move.specs.declared.decision.Decision.{Decision}
 use Rattle.melt_move.specs.Plans.{IsDecision, HasRoom, home_by}
 
@@ -54,7 +54,7 @@ pub record ObjectStays (s : State) (decision : Decision) (held : Bool) (word : �
 pub record StandIn (s : State) (decision : Decision) (words : List ℕ) : Type 0 where
   pub size : length words ≡ words_in decision.choice.stay.moves.items
   pub objects : (k : ℕ) (m : Relocation) → slice_get decision.choice.stay.moves.items k ≡ Some m
-      → ObjectStays s decision (nat_lt k decision.front) (word_in words) m
+      → ObjectStays s decision (nat_lt k decision.front) (word_numbered words) m
 
 -- these are the words of references, each as it stays
 pub record WordsStay (s : State) (decision : Decision) (old new : List ℕ) : Type 0 where

@@ -12,7 +12,7 @@ ghost use Rattle.melt_scion.specs.Heaps.{HasMaps, IsFormed, IsSettled, KeepsTabl
 ghost use Rattle.melt_scion.specs.Placed.{Maps, Formed};
 ghost use Rattle.melt_move.specs.Collecting.{CarriesOut, CopiesOut, Decides, HoldNothing, IsAsBefore, IsFormedOn};
 ghost use Rattle.melt_move.specs.Collecting.{LacksDisk};
-ghost use Rattle.melt_move.specs.Collecting.{Moves, AreShapes, HasRoomFor, IsRefused, SameNames};
+ghost use Rattle.melt_move.specs.Collecting.{Moves, AreShapes, HasRoomForNames, IsRefused, SameNames};
 ghost use Rattle.melt_copy.specs.Copied.{NumbersAre};
 ghost use Rattle.melt_copy.specs.Moving.{words_in};
 ghost use Rattle.melt_copy.specs.Settling.{RisesBy};
@@ -56,7 +56,7 @@ pub enum MoveRefusal {
 fn reserve_names(names: &mut Option<Names>, more: usize) -> Result<(), NoMemory>
     requires { more < 2 ^ 32 }
     ensures same { SameNames names.old names.new }
-    ensures spare { OnOk result (HasRoomFor more names.new) }
+    ensures spare { OnOk result (HasRoomForNames more names.new) }
 {
     if let Some(names) = names {
         names.homes.reserve(more as u32)?;

@@ -9,7 +9,7 @@ ghost use Rattle.melt_space.specs.Space.{word_at};
 ghost use Rattle.melt_scion.specs.State.{State};
 ghost use Rattle.melt_scion.specs.Moves.{by_place};
 ghost use Rattle.melt_copy.specs.Moving.{words_in};
-ghost use Rattle.melt_copy.specs.Tracking.{Extends, goes, word_in};
+ghost use Rattle.melt_copy.specs.Tracking.{Extends, goes, word_numbered};
 ghost use Rattle.melt_move.specs.Plans.{HasRoom, IsDecision, home_by};
 ghost use Rattle.melt_move.specs.Staying.{AreSources, Follows, IsSource, ObjectStays, StandIn, Stays, StaysAs};
 ghost use Rattle.melt_move.specs.Staying.{WordsStay};
@@ -101,7 +101,7 @@ fn append_object<L: Ledger>(
     requires { (s : State) × Stays space.now s decision.now m }
     ensures extends { OnOk result (Extends out.old.items out.new.items (cost_of m.shape)) }
     ensures object { OnOk result ((s : State) → Stays space.now s decision.now m → m.to ≡ length out.old.items + 1
-        → ObjectStays s decision.now held (word_in out.new.items) m) }
+        → ObjectStays s decision.now held (word_numbered out.new.items) m) }
     ensures visits { steps.new ≤ steps.old + cost_of m.shape }
 {
     let object = space.words_at(m.from, cost(m.shape));

@@ -22,9 +22,9 @@ use Rattle.melt_record.specs.declared.head.Kind.TheVariants.{Body}
 use Rattle.melt_scion.specs.GhostMaps.{named}
 use Rattle.melt_scion.specs.Placed.{HeadIs}
 use Rattle.melt_scion.specs.declared.heap.Heap.{Heap}
-use Rattle.melt_rule.specs.Rule.{Begins, Saw, filled, filled_one, has_cause}
+use Rattle.melt_rule.specs.Rule.{Begins, Saw, filled_count, filled_one, has_cause}
 use Rattle.melt_rule.specs.Seats.{EpochWords}
-use Rattle.melt_rule.specs.Shown.{base_of}
+use Rattle.melt_rule.specs.Shown.{base_at}
 use Rattle.melt_rule.specs.declared.began.Began.{Began}
 use Rattle.melt_rule.specs.declared.view.View.{View}
 use Rattle.melt_epoch.specs.Ends.{HasEnded, HasJoined, SomeCause, free_behind, unseated, view_of}
@@ -46,10 +46,10 @@ one_none zero none = refl
 one_none (suc word) none = absurd (omega (arith, none))
 
 -- and so are all of which none counts
-none_filled : (word : ℕ → ℕ) (n p : ℕ) → filled word n ≡ 0 → p < n → word p ≡ 0
+none_filled : (word : ℕ → ℕ) (n p : ℕ) → filled_count word n ≡ 0 → p < n → word p ≡ 0
 none_filled word zero p none below = absurd (omega (arith, below))
 none_filled word (suc n) p none below =
-    let both : filled word n + filled_one (word n) ≡ 0 = none in
+    let both : filled_count word n + filled_one (word n) ≡ 0 = none in
     elim (cases_lt p n) [
       | inl less ↦ none_filled word n p (omega (arith, both)) less
       | inr more ↦
@@ -112,7 +112,7 @@ module _ (b : Began) (v w : View) (tells : b.told ≡ true) (began : v.began ≡
             (λ (h : List Entry). shape h held.object ≡ Some (record { refs = at.0.refs; nums = at.0.nums })) same
             held.shaped;
         homed = subst (λ (x : Began). named x.maps.homes held.home ≡ Some held.object) began held.of;
-        body = subst (λ (x : Began). HeadIs (base_of x) held.home (record { shape = at.0; kind = Body })) began
+        body = subst (λ (x : Began). HeadIs (base_at x) held.home (record { shape = at.0; kind = Body })) began
             held.body;
         words = at.1;
       }
@@ -169,7 +169,7 @@ module _ {R : Type 0} (faults : R → ℕ) (words : EpochWords) (t : ℕ) (ms ns
             let sum : sum_by (λ (m : Mutator (Worker R)). (view_of m).won) rs ≡ (view_of c.after).won =
             changed_sum (λ (m : Mutator (Worker R)). (view_of m).won) t ns rs Is c
             (λ k m at. (joined_at k m at).won) in
-            let none : filled (slice_index heap.forward) b.forwards ≡ 0 =
+            let none : filled_count (slice_index heap.forward) b.forwards ≡ 0 =
             ended.heap_ends.won ∙ (sum ∙ (forwarded.won ∙ before.won)) in
             full 0 (omega (arith, some_forward))
             (none_filled (slice_index heap.forward) b.forwards 0 none (omega (arith, some_forward)))
@@ -236,7 +236,7 @@ module _ {R : Type 0} (faults : R → ℕ) (words : EpochWords) (t : ℕ) (ms ns
         let sum : sum_by (λ (m : Mutator (Worker R)). (view_of m).won) rs ≡ (view_of c.after).won =
         changed_sum (λ (m : Mutator (Worker R)). (view_of m).won) t ns rs Is c
         (λ k m at. (joined_at k m at).won) in
-        let none : filled (slice_index heap.forward) b.forwards ≡ 0 =
+        let none : filled_count (slice_index heap.forward) b.forwards ≡ 0 =
         ended.heap_ends.won ∙ (sum ∙ (c.is.lacked.spaced.won ∙ before.won)) in
         elim (cases_lt p b.forwards) [
           | inl below ↦ none_filled (slice_index heap.forward) b.forwards p none below
@@ -294,7 +294,8 @@ module _ {R : Type 0} (faults : R → ℕ) (words : EpochWords) (t : ℕ) (ms ns
               let was : unseated c.before ≡ m =
               let both : Some (unseated c.before) ≡ Some m = sym (was_at t ∙ ap (option_map seat) c.was) ∙ at in cc in
               let is : unseated c.after ≡ n =
-              let both : Some (unseated c.after) ≡ Some n = sym (is_at t ∙ ap (option_map seat) c.now) ∙ there in cc in (
+              let both : Some (unseated c.after) ≡ Some n = sym (is_at t ∙ ap (option_map seat) c.now)
+              ∙ there in cc in (
                 subst (λ (x : Mutator (Worker R)). IsAsBefore faults x n) was
                     (subst (λ (x : Mutator (Worker R)). IsAsBefore faults (unseated c.before) x) is as_before),
                 subst

@@ -21,7 +21,7 @@ use Rattle.melt_core.proofs.Values.{get_or_replicate}
 use Rattle.melt_epoch.specs.Mutators.{with_none}
 use Rattle.melt_epoch.specs.declared.mutator.Mutator.{Mutator}
 use Rattle.melt_safepoint.specs.Collections.{CollectedOver, CollectsCore, IsFullCore, MayCollect}
-use Rattle.melt_safepoint.specs.Resting.{Beside, CollectsHeap, IsFullHeap, LeavesHeap, behind, rest_view}
+use Rattle.melt_safepoint.specs.Resting.{Beside, CollectsHeap, IsFullHeap, LeavesHeap, with_names_held, rest_view}
 use Rattle.melt_safepoint.specs.Shown.{Shown}
 use Rattle.melt_safepoint.specs.declared.collector.Collector.{Collector}
 use Rattle.melt_safepoint.specs.declared.ending.Left.{Left}
@@ -128,7 +128,7 @@ parts_collected phase shown later old new h held lent back after plans planned l
     let b : Beside = beside_of old h held in
     let names : Option name_table.Names = Some (names_for (length new.space.list) new.maps) in
     let same : length back ≡ length held = count ∙ ap length lent_is in
-    let shows : parts_view new h after ≡ rest_view new (behind b names back) =
+    let shows : parts_view new h after ≡ rest_view new (with_names_held b names back) =
     ap (parts_view new h) is_back ∙ ap (λ (n : ℕ). let v : View = record (parts_view new h back)
     { calls = replicate n None; records = replicate n (replicate max_rest 0) } in v) same in
     subst (λ (w : View). CollectsCore phase shown later (parts_view old h held) w plans planned) (sym shows)

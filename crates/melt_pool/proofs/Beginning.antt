@@ -14,7 +14,7 @@ use Rattle.melt_scion.specs.State.{IsFresh, State}
 use Rattle.melt_scion.specs.declared.heap.Heap.{Heap}
 use Rattle.melt_scion.specs.declared.heap.Names.{Names as HeapNames}
 use Rattle.melt_core.proofs.Disks.{fresh_on, holds_on}
-use Rattle.melt_rule.specs.Shown.{home_of, maps_of}
+use Rattle.melt_rule.specs.Shown.{home_of, maps_at}
 use Rattle.melt_rule.specs.Tells.{Names}
 use Rattle.melt_rule.specs.declared.began.Began.{Began}
 use Rattle.melt_rule.specs.declared.began.Start.{Start}
@@ -66,7 +66,7 @@ module _ {R : Type 0} (image : R → Option (List ℕ)) (told : Bool) (heap : He
       × ((home : ℕ) → rest.maps.home home ≡ named heap.maps.homes home)
   names_are = subst (λ (o : Option HeapNames). HasNames o heap.maps rest.maps) rest.nameless rest.has_maps
 
-  maps_same : rest.maps ≡ maps_of b
+  maps_same : rest.maps ≡ maps_at b
   maps_same = λ i. record { address = λ a. names_are.0 a i; home = λ k. names_are.1 k i }
 
   words_are : first_image image ms ≡ rest.words
@@ -90,7 +90,7 @@ module _ {R : Type 0} (image : R → Option (List ℕ)) (told : Bool) (heap : He
       }
 
   -- so the heap stands for the history over it; untold, it does over each disk with this end
-  holds_there : Holds told h (maps_of b) t
+  holds_there : Holds told h (maps_at b) t
   holds_there = subst (λ (m : Maps). Holds told h m t) maps_same (by_told told refl)
     where
       by_told : (x : Bool) → told ≡ x → Holds told h rest.maps t

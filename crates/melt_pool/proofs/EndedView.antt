@@ -36,12 +36,12 @@ use Rattle.melt_core.specs.Views.{held_values, maps, max_rest, registers_in, sta
 use Rattle.melt_core.proofs.Making.{hold_words}
 use Rattle.melt_core.proofs.Resting.{holds_shifts}
 use Rattle.melt_core.proofs.Values.{get_or_replicate, held_is, named_made, named_value, value_held}
-use Rattle.melt_rule.specs.Shown.{base_of, globals_from, maps_of}
+use Rattle.melt_rule.specs.Shown.{base_at, globals_from, maps_at}
 use Rattle.melt_rule.specs.Sights.{first_sight, last_sight}
 use Rattle.melt_rule.specs.declared.began.Began.{Began}
 use Rattle.melt_epoch.specs.Ends.{HasEnded, HoldsValues, disk_of, free_behind}
 use Rattle.melt_epoch.specs.declared.mutator.Mutator.{Mutator}
-use Rattle.melt_safepoint.specs.Collections.{IsMarked, NoneForwarded}
+use Rattle.melt_safepoint.specs.Collections.{AllMarked, NoneForwarded}
 use Rattle.melt_safepoint.specs.Shown.{Underlies}
 use Rattle.melt_safepoint.proofs.Collecting.{values_now}
 use Rattle.melt_pool.specs.Beginning.{first_image, start_of, words_told}
@@ -170,11 +170,11 @@ module _ {R : Type 0} (image : R → Option (List ℕ)) (told : Bool) (heap new 
     pub ended_maps : maps w ≡ ended.maps
     ended_maps = names_of_heap new ended.maps ended_nameless ended.has_maps
 
-    begun_maps : maps v ≡ maps_of b
+    begun_maps : maps v ≡ maps_at b
     begun_maps =
         let none : heap.names ≡ None = is_none heap.names nameless.nameless in
-        names_of_heap heap (maps_of b) nameless
-        (subst (λ (o : Option name_table.Names). HasNames o heap.maps (maps_of b)) (sym none)
+        names_of_heap heap (maps_at b) nameless
+        (subst (λ (o : Option name_table.Names). HasNames o heap.maps (maps_at b)) (sym none)
         (λ a. refl, λ home. refl))
 
     -- what was in use is
@@ -311,7 +311,7 @@ module _ {R : Type 0} (image : R → Option (List ℕ)) (told : Bool) (heap new 
           }
 
       -- an object that had no stale bit when the epoch began was held
-      was_held : (n : ℕ) → HasNoBit (first_sight b) n → IsMarked v → (Held (value v) n → ⊥) → ⊥
+      was_held : (n : ℕ) → HasNoBit (first_sight b) n → AllMarked v → (Held (value v) n → ⊥) → ⊥
       was_held n old marked unheld =
           let first : Header = record { shape = old.shape; stale = false } in
           let there : (maps v).address old.address ≡ Some n =
@@ -332,7 +332,7 @@ module _ {R : Type 0} (image : R → Option (List ℕ)) (told : Bool) (heap new 
       -- Where nothing was done in the epoch, each object that no register holds has the stale bit still, if what
       -- registers held is held.
       pub ended_marked : told ≡ true → length seats ≤ 8 → k ≡ h
-          → ((n : ℕ) → Held (value v) n → Held (value w) n) → IsMarked v → IsMarked w
+          → ((n : ℕ) → Held (value v) n → Held (value w) n) → AllMarked v → AllMarked w
       ended_marked tells few same holding marked a header is starts unheld = by_bit header.stale refl
         where
           at : ended.maps.address a ≡ Some is.0
@@ -362,7 +362,7 @@ module _ {R : Type 0} (image : R → Option (List ℕ)) (told : Bool) (heap new 
 
     -- Where no forwarding word is filled, an object whose home had its Body has no address.
     pub ended_body : told ≡ true → NoneForwarded w → (home n : ℕ) (z : Shape) → named heap.maps.homes home ≡ Some n
-        → HeadIs (base_of b) home (record { shape = z; kind = Body }) → (a : ℕ) → (maps w).address a ≢ Some n
+        → HeadIs (base_at b) home (record { shape = z; kind = Body }) → (a : ℕ) → (maps w).address a ≢ Some n
     ended_body tells none home n z homed head a there =
         let stands : HomeStands k ended.maps s home n =
         (ended.holds.tells tells).homes home n (ended.named.homes home ∙ homed) in
@@ -384,7 +384,7 @@ module _ {R : Type 0} (image : R → Option (List ℕ)) (told : Bool) (heap new 
     module _ (disk : OnDisk) (stands : Standing told disk (parts_view heap h registers)) where
       -- so no register holds it
       pub ended_unheld : told ≡ true → length seats ≤ 8 → NoneForwarded w → (home n : ℕ) (z : Shape)
-          → named heap.maps.homes home ≡ Some n → HeadIs (base_of b) home (record { shape = z; kind = Body })
+          → named heap.maps.homes home ≡ Some n → HeadIs (base_at b) home (record { shape = z; kind = Body })
           → Held (value w) n → ⊥
       ended_unheld tells few none home n z homed head held =
           let address : ℕ = register_in (registers_at seats) held.thread held.register in

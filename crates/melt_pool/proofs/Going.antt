@@ -26,7 +26,7 @@ use Rattle.melt_safepoint.specs.declared.thread.ThreadState.{ThreadState}
 use Rattle.melt_safepoint.proofs.Threads.{get_next}
 use Rattle.melt_pool.specs.Calling.{Calls, IsCalled}
 use Rattle.melt_pool.specs.Programs.{DueOnly, EndsWell, GoesOn, HasEndedWell, OwesSilent, ProgramStands, Took, Works}
-use Rattle.melt_pool.specs.Programs.{dropped_for, goes, turns_left}
+use Rattle.melt_pool.specs.Programs.{dropped_for, one_going, turns_left}
 use Rattle.melt_pool.proofs.Onward.{mode_goes, refused_few, reply_goes}
 use Rattle.melt_pool.proofs.Owing.{refused_owes}
 use Rattle.melt_pool.proofs.Refused.{refused_asked, refused_caused, refused_ends, refused_fits, refused_stops}
@@ -60,7 +60,7 @@ ends_told told finish script t faults s after op reply p takes =
       ]
     ]
 
-goes_few : (mode : Mode) → goes mode ≤ 1
+goes_few : (mode : Mode) → one_going mode ≤ 1
 goes_few Running = omega arith
 goes_few Due = omega arith
 goes_few Silent = omega arith
@@ -76,7 +76,7 @@ less_told s after op reply next takes =
     let had : length (left s) ≡ suc (length s.cursor.operations) =
     ap length (ap (λ (o : Option Op). with_first o s.cursor.operations) next) in
     let has : length (left after) ≡ length s.cursor.operations = ap length takes.to_come in
-    let few : goes after.mode ≤ 1 = goes_few after.mode in
+    let few : one_going after.mode ≤ 1 = goes_few after.mode in
     omega (arith, had, has, few)
 
 -- a thread that waits keeps what it holds
@@ -197,7 +197,8 @@ module _ {R : Type 0} (image : R → Option (List ℕ)) (faults : R → ℕ) (sc
   called_nearer after op (Err why) runs next took =
       let now : turns_left after ≡ 2 * length (left s) + 0 =
       ap turns_left took ∙ ap (λ (k : ℕ). 2 * length (left s) + k) (refused_stops why) in
-      let was : turns_left s ≡ 2 * length (left s) + 1 = ap (λ (mode : Mode). 2 * length (left s) + goes mode) runs in
+      let was : turns_left s ≡ 2 * length (left s) + 1 =
+      ap (λ (mode : Mode). 2 * length (left s) + one_going mode) runs in
       omega (arith, now, was)
 
   -- if it waits then, its seat has a cause

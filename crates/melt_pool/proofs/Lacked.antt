@@ -19,9 +19,9 @@ use Rattle.melt_scion.specs.Heaps.{OnDisk}
 use Rattle.melt_scion.specs.Placed.{HeadIs}
 use Rattle.melt_core.specs.Made.{HasMade}
 use Rattle.melt_core.specs.Views.{View, value, values_of}
-use Rattle.melt_rule.specs.Shown.{base_of}
+use Rattle.melt_rule.specs.Shown.{base_at}
 use Rattle.melt_rule.specs.declared.began.Began.{Began}
-use Rattle.melt_safepoint.specs.Collections.{IsMarked, MadeSoFar, NoneForwarded}
+use Rattle.melt_safepoint.specs.Collections.{AllMarked, MadeSoFar, NoneForwarded}
 use Rattle.melt_safepoint.specs.Endings.{HaveCuts}
 use Rattle.melt_safepoint.specs.Needs.{NeedsObject, NeedsWords}
 use Rattle.melt_safepoint.specs.Rows.{AwaitsCall, CollectorStands, LacksWords, Row, StandsBut}
@@ -41,10 +41,10 @@ pub record NothingDone (told : Bool) (b : Began) (shown : Shown) (old new : Row)
   pub under : Underlies told shown.end shown.image disk
   pub none_free : disk.free_homes ≡ []
   pub renewed : Renewed told disk old.view new.view
-  pub marked : told ≡ true → IsMarked old.view → IsMarked new.view
+  pub marked : told ≡ true → AllMarked old.view → AllMarked new.view
   pub made : told ≡ true → (past : ℕ) → HasMade past old.view → HasMade past new.view
   pub nowhere : told ≡ true → (home n : ℕ) (z : Shape) → named b.maps.homes home ≡ Some n
-      → HeadIs (base_of b) home (record { shape = z; kind = Body }) → Held (value new.view) n → ⊥
+      → HeadIs (base_at b) home (record { shape = z; kind = Body }) → Held (value new.view) n → ⊥
   pub states : new.states ≡ old.states
   pub collector : new.collector ≡ old.collector
   pub words : new.words ≡ old.words
@@ -84,7 +84,7 @@ nothing_stands {unpaid} told script config b shown old new stands done = record 
 -- an object to which the slot referred, and whose home has its Body, is what the call wanted words for
 refers_needs : (b : Began) (h : List Entry) (held : ℕ → ℕ → Value) (slot : Slot) (need : ℕ) → b.history ≡ h
     → ((home n : ℕ) (z : Shape) → named b.maps.homes home ≡ Some n
-    → HeadIs (base_of b) home (record { shape = z; kind = Body }) → Held held n → ⊥)
+    → HeadIs (base_at b) home (record { shape = z; kind = Body }) → Held held n → ⊥)
     → RefersTo b slot need → NeedsObject h held slot need
 refers_needs b h held slot need same nowhere refers = record {
   number = refers.object;
@@ -104,7 +104,7 @@ refers_needs b h held slot need same nowhere refers = record {
 -- and so whatever the operation is
 pub from_needs : (b : Began) (v : View) (t : ℕ) (o : Op) (need : ℕ) → b.history ≡ v.log
     → ((home n : ℕ) (z : Shape) → named b.maps.homes home ≡ Some n
-    → HeadIs (base_of b) home (record { shape = z; kind = Body }) → Held (value v) n → ⊥)
+    → HeadIs (base_at b) home (record { shape = z; kind = Body }) → Held (value v) n → ⊥)
     → NeedsFrom b (values_of v t) o need → NeedsWords v.log (value v) t o need
 from_needs b v t (op.New dst refs nums) need same nowhere is = is
 from_needs b v t (op.Load dst src i) need same nowhere is =

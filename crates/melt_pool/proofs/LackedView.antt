@@ -15,7 +15,7 @@ use Rattle.melt_scion.specs.declared.registers.Registers.{Registers}
 use Rattle.melt_core.specs.Views.{Standing, View, held_values, values_of}
 use Rattle.melt_epoch.specs.Ends.{unseated}
 use Rattle.melt_epoch.specs.declared.mutator.Mutator.{Mutator}
-use Rattle.melt_safepoint.specs.Collections.{IsMarked}
+use Rattle.melt_safepoint.specs.Collections.{AllMarked}
 use Rattle.melt_safepoint.specs.declared.thread.ThreadState.{ThreadState}
 use Rattle.melt_pool.specs.Beginning.{start_of}
 use Rattle.melt_pool.specs.Epochs.{HasLacked, IsAsBefore}
@@ -127,7 +127,7 @@ module _ {R : Type 0} (image : R → Option (List ℕ)) (faults : R → ℕ) (to
 
   -- and what had the stale bit has it, where no register holds it
   pub lacked_marked : (disk : OnDisk) → Standing told disk (parts_view heap h registers) → told ≡ true
-      → IsMarked (parts_view heap h registers) → IsMarked w
+      → AllMarked (parts_view heap h registers) → AllMarked w
   lacked_marked disk stands tells marked =
       let few : length registers ≤ 8 = stands.few in
       let count : length ms ≡ length states = armed.count in

@@ -26,7 +26,7 @@ use Rattle.melt_safepoint.specs.Modes.{FitsMode, Waits, mode_for}
 use Rattle.melt_safepoint.specs.Run.{WasRead}
 use Rattle.melt_safepoint.specs.declared.thread.Mode.TheVariants as mode
 use Rattle.melt_pool.specs.Calling.{RefusedFor}
-use Rattle.melt_pool.specs.Programs.{EndsWell, goes}
+use Rattle.melt_pool.specs.Programs.{EndsWell, one_going}
 use Rattle.melt_pool.proofs.Waiting.{forwarded_causes, spaced_causes}
 use Rattle.melt_pool.proofs.Working.{same_cause}
 
@@ -140,7 +140,7 @@ pub refused_fits : (why : Refusal) (o : Op) (next : Option Op) → next ≡ Some
 refused_fits why o next is other = subst (FitsMode (mode_for why)) (sym is) (fits_some why o other)
 
 -- a thread whose call was refused makes no other
-pub refused_stops : (why : Refusal) → goes (mode_for why) ≡ 0
+pub refused_stops : (why : Refusal) → one_going (mode_for why) ≡ 0
 refused_stops (Pause Asked) = refl
 refused_stops (Pause (Space need)) = refl
 refused_stops (Pause Forward) = refl

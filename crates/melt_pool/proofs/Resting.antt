@@ -13,7 +13,7 @@ use Rattle.melt_scion.specs.Placed.{Holds, Maps, value_at}
 use Rattle.melt_scion.specs.Scions.{EachOnce}
 use Rattle.melt_scion.specs.declared.heap.Heap.{Heap}
 use Rattle.melt_scion.specs.declared.heap.Names.{Names as HeapNames}
-use Rattle.melt_rule.specs.Shown.{maps_of}
+use Rattle.melt_rule.specs.Shown.{maps_at}
 use Rattle.melt_rule.specs.declared.began.Start.{Start}
 use Rattle.melt_epoch.specs.Ends.{HeapBegins, HistoryBegins, HoldsValues, MutatorBegins, MutatorsBegin, disk_of}
 use Rattle.melt_epoch.specs.declared.mutator.Mutator.{Mutator}
@@ -30,15 +30,15 @@ module _ {R : Type 0} (image : R → Option (List ℕ)) (start : Start) (heap : 
     (mutators : MutatorsBegin image start ms) (some_forward : 1 ≤ length heap.forward) where
   -- a register stands for its value by the maps
   values_of : (m : Mutator R) → MutatorBegins image start m
-      → HoldsValues (maps_of start.began) (state_of heap [] (disk_of start.began)) m
+      → HoldsValues (maps_at start.began) (state_of heap [] (disk_of start.began)) m
   values_of m is = record {
     stand = λ r. elim (is.registers r) [
       | inl nothing ↦
-          ap (value_at (maps_of start.began)) nothing.0 ∙ ap (λ (v : Value). Some v) (sym nothing.1)
+          ap (value_at (maps_at start.began)) nothing.0 ∙ ap (λ (v : Value). Some v) (sym nothing.1)
       | inr object ↦
           let there = history.held (slice_index m.registers.regs r) object.0 object.2 in
           let first = (history.holds.formed.objects (slice_index m.registers.regs r) object.0 there).1.first in
-          value_there (maps_of start.began) (slice_index m.registers.regs r) first
+          value_there (maps_at start.began) (slice_index m.registers.regs r) first
           ∙ (ap (option_map Ref) there ∙ ap (λ (v : Value). Some v) (sym object.1))
     ];
     hold = λ r. elim (is.registers r) [
@@ -52,18 +52,18 @@ module _ {R : Type 0} (image : R → Option (List ℕ)) (start : Start) (heap : 
   pub begun_rests : IsAtRest image true heap h end ms
   begun_rests = record {
     words = Some start.began.image;
-    maps = maps_of start.began;
+    maps = maps_at start.began;
     disk = disk_of start.began;
     under = record { ends = sym begins.ends; tells = λ told. (refl, λ k. refl) };
     none_free = none;
-    has_maps = subst (λ (o : Option HeapNames). HasNames o heap.maps (maps_of start.began)) (sym begins.nameless) (
+    has_maps = subst (λ (o : Option HeapNames). HasNames o heap.maps (maps_at start.began)) (sym begins.nameless) (
       λ a. ap (λ (pairs : NamePairs). named pairs.addresses a) (sym begins.maps),
       λ home. ap (λ (pairs : NamePairs). named pairs.homes home) (sym begins.maps),
     );
     nameless = begins.nameless;
     settled = begins.settled;
     some_forward = some_forward;
-    holds = subst (λ (told : Bool). Holds told h (maps_of start.began) (state_of heap [] (disk_of start.began))) tells
+    holds = subst (λ (told : Bool). Holds told h (maps_at start.began) (state_of heap [] (disk_of start.began))) tells
         history.holds;
     legal = λ told. subst (Legal h) (sym begins.globals) (history.legal tells);
     few_globals = omega (arith, begins.few_globals, begins.globals);
@@ -72,7 +72,7 @@ module _ {R : Type 0} (image : R → Option (List ℕ)) (start : Start) (heap : 
     few = mutators.few;
     each_once = subst EachOnce (sym mutators.threads) mutators.each_once;
     each = all_by
-        (RestsOn image (Some start.began.image) (maps_of start.began) heap (disk_of start.began)) ms (λ k m at.
+        (RestsOn image (Some start.began.image) (maps_at start.began) heap (disk_of start.began)) ms (λ k m at.
         let is = all_at (MutatorBegins image start) ms k m mutators.each at in
         record {
           unseated_yet = is.unseated_yet;

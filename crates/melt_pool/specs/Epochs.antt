@@ -20,7 +20,7 @@ use Rattle.melt_scion.specs.Placed.{HeadIs}
 use Rattle.melt_scion.specs.declared.heap.Heap.{Heap}
 use Rattle.melt_rule.specs.Rule.{has_cause}
 use Rattle.melt_rule.specs.Seats.{EpochWords}
-use Rattle.melt_rule.specs.Shown.{base_of}
+use Rattle.melt_rule.specs.Shown.{base_at}
 use Rattle.melt_rule.specs.declared.began.Began.{Began}
 use Rattle.melt_epoch.specs.Ends.{HasEnded, unseated, view_of}
 use Rattle.melt_epoch.specs.Mutators.{HasReader}
@@ -62,7 +62,7 @@ pub record RefersTo (b : Began) (slot : Slot) (need : ℕ) : Type 0 where
   pub refers : last b.history slot ≡ Ref object
   pub shaped : shape b.history object ≡ Some (record { refs = z.refs; nums = z.nums })
   pub homed : named b.maps.homes home ≡ Some object
-  pub body : HeadIs (base_of b) home (record { shape = z; kind = Body })
+  pub body : HeadIs (base_at b) home (record { shape = z; kind = Body })
   pub words : need ≡ cost_of z
 
 -- so many words an operation needs, by the values in registers: those of the object that it makes, or to which the slot

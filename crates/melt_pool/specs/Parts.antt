@@ -1,5 +1,5 @@
--- What a run of real threads shows between two epochs, by its parts: heap, history and registers. Its heap keeps no names;
--- for contracts they are made of the maps that it has for them.
+-- What a run of real threads shows between two epochs, by its parts: heap, history and registers. Its heap keeps no
+-- names; for contracts they are made of the maps that it has for them.
 use Rattle.std.specs.Prelude.{◌≡◌, ℕ, zero, suc, ◌+◌, ◌^◌, ◌≤◌, false, List, [], ◌∷◌, length, replicate, slice_get}
 use Rattle.std.specs.Prelude.{Option, None, Some}
 use Rattle.std.specs.FinMap.{from_entries}
@@ -46,7 +46,8 @@ beside_of heap h registers = record {
 abbrev pub parts_view : Heap → List Entry → List Registers → View
 parts_view heap h registers = rest_view heap (beside_of heap h registers)
 
--- A heap that keeps no names, and is small enough for the words of an epoch. Its maps name addresses of its words alone.
+-- A heap that keeps no names, and is small enough for the words of an epoch. Its maps name addresses of its words
+-- alone.
 pub record IsNameless (heap : Heap) : Type 0 where
   pub nameless : is_some heap.names ≡ false
   pub within : (address n : ℕ) → named heap.maps.addresses address ≡ Some n
@@ -55,8 +56,8 @@ pub record IsNameless (heap : Heap) : Type 0 where
   pub few_globals : length heap.globals ≤ 255
   pub few_words : globals_from + length heap.globals + length heap.forward + length heap.space.list ≤ 2 ^ 32
 
--- The mutator of a thread between two epochs has neither a seat nor a reader. It has the values that its registers stand
--- for, which are kept apart.
+-- The mutator of a thread between two epochs has neither a seat nor a reader. It has the values that its registers
+-- stand for, which are kept apart.
 pub record IsAway {R : Type 0} (v : View) (t : ℕ) (m : Mutator R) : Type 0 where
   pub thread : m.thread ≡ t
   pub no_seat : is_some m.seat ≡ false

@@ -130,11 +130,11 @@ abbrev pub made_again : ThreadState → ThreadState
 made_again s = record s { mode = mode_again s.mode }
 
 -- 1 for a thread that neither waits nor has ended
-abbrev pub goes : Mode → ℕ
-goes Running = 1
-goes Due = 1
-goes mode = 0
+abbrev pub one_going : Mode → ℕ
+one_going Running = 1
+one_going Due = 1
+one_going mode = 0
 
 -- how much a thread has still to do before it waits or has ended
 abbrev pub turns_left : ThreadState → ℕ
-turns_left s = 2 * length (left s) + goes s.mode
+turns_left s = 2 * length (left s) + one_going s.mode

@@ -1,5 +1,6 @@
 -- Each kind of step keeps the rule, and tells what it tells.
-use Rattle.std.proofs.Common.{◌≡◌, ℕ, ◌+◌, ◌*◌, ◌<◌, ◌≤◌, Bool, true, false, List, length, get_or, refl, sym, ◌∙◌, ap, subst}
+use Rattle.std.proofs.Common.{◌≡◌, ℕ, ◌+◌, ◌*◌, ◌<◌, ◌≤◌, Bool, true, false, List, length, get_or, refl, sym, ◌∙◌, ap}
+use Rattle.std.proofs.Common.{subst}
 use Rattle.std.proofs.Common.{arith, inl, inr}
 use Rattle.std.proofs.Math.ListN.{set}
 use Rattle.std.proofs.lemmas.List.{set-get_or}
@@ -32,7 +33,7 @@ use Rattle.melt_rule.specs.Plays.{PollPlay, HeadPlay, LookPlay, GlobalLookPlay, 
 use Rattle.melt_rule.specs.Plays.{NumberStorePlay, FindsHeader, FindsReference}
 use Rattle.melt_rule.specs.Rule.{Has, Kept, Rule, has_cause, is_lacking, is_reading}
 use Rattle.melt_rule.specs.Shown.{shows, global_place, word_place, Knows}
-use Rattle.melt_rule.specs.Tells.{FitsIn, behind, Names, Ends}
+use Rattle.melt_rule.specs.Tells.{FitsIn, view_behind, Names, Ends}
 use Rattle.melt_rule.specs.declared.began.Began.{Began}
 use Rattle.melt_rule.specs.declared.began.Start.{Start}
 use Rattle.melt_rule.specs.declared.view.Doing.TheVariants.{Polled, Headed}
@@ -62,14 +63,14 @@ polls start slots id me live goes_on left =
     (λ words views kept at alive small. elim kept.stop.bit [
       | inl zero ↦
           let r = reaches start words views kept id me.0 at alive goes_on (Some Polled) tt refl (inl refl) left in
-          let w : View = behind me.0 kept.history me.0.known (Some Polled) in (
+          let w : View = view_behind me.0 kept.history me.0.known (Some Polled) in (
             w,
             loaded start words views kept id me.0 at alive w 0 r.0,
             λ inside. ((refl, inside), inl (zero, (r.1, no_cause start words views kept id me.0 at goes_on zero))),
           )
       | inr one ↦
           let r = stops start words views kept id me.0 at alive goes_on one left in
-          let w : View = record (behind me.0 kept.history me.0.known None) { stopped = true } in (
+          let w : View = record (view_behind me.0 kept.history me.0.known None) { stopped = true } in (
             w,
             loaded start words views kept id me.0 at alive w 0 r.0,
             λ inside. ((refl, inside), inr (one, r.1)),
@@ -77,7 +78,8 @@ polls start slots id me live goes_on left =
     ])
 
 -- a seat knows one object at an address
-pub one_object : (start : Start) (words : List ℕ) (views : List View) (kept : Kept start words views) (id : ℕ) (v : View)
+pub one_object : (start : Start) (words : List ℕ) (views : List View) (kept : Kept start words views) (id : ℕ)
+    (v : View)
     → get_elem? views id ≡ some v → 0 < v.parts → (a n m : ℕ) → Has v.known a n → Has v.known a m → n ≡ m
 one_object start words views kept id v at live a n m x y =
     let stood = kept.seats id v at live in
@@ -100,7 +102,7 @@ heads start slots id i a n me live goes_on left has at_i =
     record { number = n; named = named; header = header; starts = object.1.starts; shape_is = refl } in
     let r = reaches start words views kept id me.0 at alive goes_on (Some (Headed a header.shape)) there refl (inl refl)
     left in
-    let w : View = behind me.0 kept.history me.0.known (Some (Headed a header.shape)) in
+    let w : View = view_behind me.0 kept.history me.0.known (Some (Headed a header.shape)) in
     let word : found ≡ header_word header =
     ap (λ (k : ℕ). get_or words k 0) at_i
     ∙ (ap (λ (b : Began). get_or words (word_place b a) 0) stood.began
@@ -111,7 +113,8 @@ heads start slots id i a n me live goes_on left has at_i =
       is = word;
       heads = record {
         reaches = r.1;
-        shaped = λ told. (kept.holds.tells (sym (ap (λ (b : Began). b.told) stood.began) ∙ told)).shapes a n header named
+        shaped = λ told.
+            (kept.holds.tells (sym (ap (λ (b : Began). b.told) stood.began) ∙ told)).shapes a n header named
             object.1.starts;
       };
     } in (
@@ -203,13 +206,15 @@ looks_at start slots id at_i a n i z me live has headed below place_is =
 
 pub global_looks : (start : Start) (slots id g : ℕ) (me : Me ℕ View) → 0 < me.0.parts
     → is_lacking me.0.doing ≡ false → is_reading me.0.doing ≡ false → g < me.0.began.globals
-    → Allows (Rule start) slots id me (global_place g) (λ n. n) (GlobalLookPlay (step slots (global_place g) 0 0 none) me)
+    → Allows (Rule start) slots id me (global_place g) (λ n. n)
+    (GlobalLookPlay (step slots (global_place g) 0 0 none) me)
 global_looks start slots id g me live goes_on left below =
     allowed start slots id (global_place g) me (λ n. n) (GlobalLookPlay (step slots (global_place g) 0 0 none) me) live
     (λ words views kept at alive small.
     let stood = kept.seats id me.0 at alive in
     let here : g < start.began.globals = subst (λ (b : Began). g < b.globals) stood.began below in
-    let r = look_step start words views kept id me.0 at alive goes_on left (global_place g) (Global g) (slot.Global g) here refl
+    let r = look_step start words views kept id me.0 at alive goes_on left (global_place g) (Global g)
+    (slot.Global g) here refl
     (kept.holds.formed.globals g here)
     (sym (global_is start.began words g here)) in (
       r.0,
@@ -218,7 +223,8 @@ global_looks start slots id g me live goes_on left below =
         (refl, inside),
         λ h under place.
             let same : g ≡ h = omega arith in
-            subst (λ (x : ℕ). FindsReference me.0 r.0 (slot.Global x) (Global x) (get_or words (global_place g) 0)) same r.2,
+            subst (λ (x : ℕ). FindsReference me.0 r.0 (slot.Global x) (Global x) (get_or words (global_place g) 0)) same
+            r.2,
       ),
     ))
 
@@ -253,11 +259,13 @@ numbers_at start slots id i a n j z me live has headed below place_is =
     (ap is_reading headed) in
     let word : now.word (number_place a z j) ≡ get_or words i 0 =
     sym (space_word start words views kept id me.0 at alive i (number_place a z j) (omega arith) place_is) in
-    let w : View = read start words views kept id me.0 at alive (ap is_lacking headed) (slot.Cell n j) (Num (get_or words i 0)) me.0.known in
+    let w : View = read start words views kept id me.0 at alive (ap is_lacking headed) (slot.Cell n j)
+    (Num (get_or words i 0)) me.0.known in
     let both : IsStep start words words views kept id me.0 at alive w × Ends me.0 w (Read (slot.Cell n j) (Num
     (get_or words i 0))) =
     subst (λ (x : ℕ).
-    let u : View = read start words views kept id me.0 at alive (ap is_lacking headed) (slot.Cell n j) (Num x) me.0.known in
+    let u : View = read start words views kept id me.0 at alive (ap is_lacking headed) (slot.Cell n j)
+    (Num x) me.0.known in
     IsStep start words words views kept id me.0 at alive u × Ends me.0 u (Read (slot.Cell n j) (Num x))) word r in (
       w,
       loaded start words views kept id me.0 at alive w i both.0,
@@ -320,9 +328,11 @@ stores_at start slots id i a n k held x z value me live has headed below place_i
     subst (λ (y : ℕ). WordChanges now (shows start.began (set words i x)) (a + 2 + k) y) word
     (subst (λ (p : ℕ). WordChanges now (shows start.began (set words p x)) (a + 2 + k) x) (sym place)
     (word_changes start.began words (a + 2 + k) x (omega arith) in_words)) in
-    let r = stores start words (set words i x) views kept id me.0 at alive (ap is_lacking headed) only (Field a k) (slot.Field n k) held value
+    let r = stores start words (set words i x) views kept id me.0 at alive (ap is_lacking headed) only (Field a k)
+    (slot.Field n k) held value
     s.0 s.1 names changes (ap is_reading headed) in
-    let w : View = wrote start words (set words i x) views kept id me.0 at alive (ap is_lacking headed) only (Write (slot.Field n k) value) in (
+    let w : View = wrote start words (set words i x) views kept id me.0 at alive (ap is_lacking headed) only
+    (Write (slot.Field n k) value) in (
       w,
       r.0,
       λ within_. (
@@ -345,9 +355,11 @@ stores_at start slots id i a n k held x z value me live has headed below place_i
 pub global_stores : (start : Start) (slots id g held x : ℕ) (value : Value) (me : Me ℕ View) → 0 < me.0.parts
     → is_lacking me.0.doing ≡ false → is_reading me.0.doing ≡ false → g < me.0.began.globals
     → Names me.0.known held value → x ≡ 4 * held
-    → Allows (Rule start) slots id me (global_place g) (λ _. x) (λ found. GlobalStorePlay (step slots (global_place g) x 0 none) me x)
+    → Allows (Rule start) slots id me (global_place g) (λ _. x)
+    (λ found. GlobalStorePlay (step slots (global_place g) x 0 none) me x)
 global_stores start slots id g held x value me live goes_on left below names word =
-    allowed start slots id (global_place g) me (λ _. x) (λ found. GlobalStorePlay (step slots (global_place g) x 0 none) me x) live
+    allowed start slots id (global_place g) me (λ _. x)
+    (λ found. GlobalStorePlay (step slots (global_place g) x 0 none) me x) live
     (λ words views kept at alive small.
     let stood = kept.seats id me.0 at alive in
     let now : State = shows start.began words in
@@ -355,7 +367,8 @@ global_stores start slots id g held x value me live goes_on left below names wor
     let in_words : global_place g < length words = let size = kept.size in omega arith in
     let changes = global_changes start.began words g x here in_words in
     let only : OnlyObjects start words (set words (global_place g) x) = only_global start words g x here in_words in
-    let r = stores start words (set words (global_place g) x) views kept id me.0 at alive goes_on only (Global g) (slot.Global g) held
+    let r = stores start words (set words (global_place g) x) views kept id me.0 at alive goes_on only (Global g)
+    (slot.Global g) held
     value here refl names
     (subst (λ (y : ℕ). GlobalChanges now (shows start.began (set words (global_place g) x)) g y) word changes)
     left in

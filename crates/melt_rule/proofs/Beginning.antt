@@ -28,11 +28,11 @@ use Rattle.melt_rule.proofs.Views.{in_range, begins_self, saw_all}
 use Rattle.melt_rule.proofs.Within.{within}
 use Rattle.melt_rule.specs.Beginning.{MayBegin}
 use Rattle.melt_rule.specs.Giving.{spent_view}
-use Rattle.melt_rule.specs.Rule.{Saw, SeatStands, threads_of, filled, filled_one, BodiesTell, Kept, Rule}
+use Rattle.melt_rule.specs.Rule.{Saw, SeatStands, threads_of, filled_count, filled_one, BodiesTell, Kept, Rule}
 use Rattle.melt_rule.specs.Rule.{first_or_0, others_of, first_view, has_cause, is_lacking}
 use Rattle.melt_rule.specs.Seats.{IsSeat, knows_of}
-use Rattle.melt_rule.specs.Shown.{maps_of, shows}
-use Rattle.melt_rule.specs.Sights.{first_sight, no_calls, stage_at, stage_in}
+use Rattle.melt_rule.specs.Shown.{maps_at, shows}
+use Rattle.melt_rule.specs.Sights.{first_sight, no_calls, stage_at, own_stage}
 use Rattle.melt_rule.specs.Tells.{IsWithin}
 use Rattle.melt_rule.specs.declared.began.Start.{Start}
 use Rattle.melt_rule.specs.declared.view.Away.{Away}
@@ -68,10 +68,10 @@ away_saw h (t ∷ ts) zero a e =
     saw_all h a.thread a.seen (ap (λ (x : Away). x.seen) (sym (some-injective (away_with h t) a e)))
 away_saw h (t ∷ ts) (suc p) a e = away_saw h ts p a e
 
-none_filled : (word : ℕ → ℕ) (n : ℕ) → ((p : ℕ) → p < n → word p ≡ 0) → filled word n ≡ 0
+none_filled : (word : ℕ → ℕ) (n : ℕ) → ((p : ℕ) → p < n → word p ≡ 0) → filled_count word n ≡ 0
 none_filled word zero none = refl
 none_filled word (suc n) none =
-    let before : filled word n ≡ 0 = none_filled word n (λ p below. none p (omega arith)) in
+    let before : filled_count word n ≡ 0 = none_filled word n (λ p below. none p (omega arith)) in
     let last : filled_one (word n) ≡ 0 = ap filled_one (none n (omega arith)) in
     omega arith
 
@@ -92,7 +92,7 @@ module _ (start : Start) (words : List ℕ) (may : MayBegin start words) where
   threads : threads_of first ≡ start.began.threads
   threads = all_threads start.began.history start.began.threads may.some_thread
 
-  first_stands : SeatStands start.began (maps_of start.began) now start.began.history first
+  first_stands : SeatStands start.began (maps_at start.began) now start.began.history first
   first_stands = record {
     began = refl;
     seen = saw_all start.began.history first.thread start.began.history refl;
@@ -138,10 +138,10 @@ module _ (start : Start) (words : List ℕ) (may : MayBegin start words) where
 
   -- nothing was done yet
   first_tied : Tied (first_sight start.began)
-      (sight_of start.began.history (maps_of start.began) now (stage_at (first ∷ [])))
+      (sight_of start.began.history (maps_at start.began) now (stage_at (first ∷ [])))
   first_tied =
-      same_tied (first_sight start.began) start.began.history (maps_of start.began) now no_calls (stage_at (first ∷ []))
-      (λ t. stage_none t (first ∷ []) (each (λ (u : View). stage_in u t ≡ None) (stage_idle first t refl)))
+      same_tied (first_sight start.began) start.began.history (maps_at start.began) now no_calls (stage_at (first ∷ []))
+      (λ t. stage_none t (first ∷ []) (each (λ (u : View). own_stage u t ≡ None) (stage_idle first t refl)))
       (subst (λ (l : List ℕ). Tied (first_sight start.began)
       (record (first_sight start.began) { word = word_at (record { list = l; used = 0 }) })) may.space
       (tied_first (first_sight start.began) (λ t. refl)))
@@ -149,7 +149,7 @@ module _ (start : Start) (words : List ℕ) (may : MayBegin start words) where
   pub begins : Kept start words (first ∷ [])
   begins = record {
     history = start.began.history;
-    maps = maps_of start.began;
+    maps = maps_at start.began;
     size = may.size;
     legal = may.legal;
     holds = may.holds;
@@ -157,7 +157,7 @@ module _ (start : Start) (words : List ℕ) (may : MayBegin start words) where
     few = may.few;
     bodies = bodies;
     maps_stand = record { homes = λ home. refl; begun = λ a n is. is; only = λ a n is. inl is };
-    seats = λ i u e alive. each (SeatStands start.began (maps_of start.began) now start.began.history) first_stands i u
+    seats = λ i u e alive. each (SeatStands start.began (maps_at start.began) now start.began.history) first_stands i u
         e;
     away = λ i p u a e alive has. away_saw start.began.history (others_of start.began.threads) p a
         (ap (λ (z : View). get_elem? z.away p) (only i u e).1 ∙ has);

@@ -34,8 +34,8 @@ use Rattle.melt_rule.proofs.Within.{allowed}
 use Rattle.melt_rule.specs.Barriers.{stale_mask, ClearPlay}
 use Rattle.melt_rule.specs.Coming.{ClearStubPlay}
 use Rattle.melt_rule.specs.Rule.{SeatStands, Kept, Rule, is_lacking, is_reading}
-use Rattle.melt_rule.specs.Shown.{shows, word_place, Knows, stage_of, staged}
-use Rattle.melt_rule.specs.Tells.{IsWithin, behind, Reaches}
+use Rattle.melt_rule.specs.Shown.{shows, word_place, Knows, core_stage, staged}
+use Rattle.melt_rule.specs.Tells.{IsWithin, view_behind, Reaches}
 use Rattle.melt_rule.specs.declared.began.Began.{Began}
 use Rattle.melt_rule.specs.declared.began.Start.{Start}
 use Rattle.melt_rule.specs.declared.view.Doing.{Doing}
@@ -94,7 +94,7 @@ module _ (start : Start) (words after : List ℕ) (views : List View) (kept : Ke
 
   -- the view behind it
   abbrev pub cleared : View
-  cleared = behind v kept.history v.known (Some (Cleared place found target))
+  cleared = view_behind v kept.history v.known (Some (Cleared place found target))
 
   pub clearing : (header : Header) → HeaderAt old target header
       → WordChanges old new target (header_word (record { shape = header.shape; stale = false }))
@@ -106,7 +106,7 @@ module _ (start : Start) (words after : List ℕ) (views : List View) (kept : Ke
       kept.legal kept.holds event in
       let bare : Header = record { shape = header.shape; stale = false } in
       let stays = known_stays kept.maps kept.maps old new target kept.holds.formed keeps.evolves start.began.told v.rest
-      (stage_of (Looked place found target))
+      (core_stage (Looked place found target))
       (λ owns. keeps.regions no_region owns (no_region_apart no_region))
       knows in
       let is_step =
@@ -169,7 +169,7 @@ clears_known start slots id i target place found me tells live goes_on at_i know
     only header
     object.1.starts
     (subst (λ (y : ℕ). WordChanges now (shows start.began (set words i x)) target y) bare changed) in
-    let w : View = behind me.0 kept.history me.0.known (Some (Cleared place found target)) in
+    let w : View = view_behind me.0 kept.history me.0.known (Some (Cleared place found target)) in
     (w, r.0, λ inside. tell (get_or words i 0) w inside r.1))
 
 pub clears_at : (start : Start) (slots id i target : ℕ) (place : Place) (found : Ref) (me : Me ℕ View) → 0 < me.0.parts

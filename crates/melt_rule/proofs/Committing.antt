@@ -45,12 +45,13 @@ use Rattle.melt_rule.proofs.Seating.{seated}
 use Rattle.melt_rule.proofs.Showing.{filled_more, forward_changes}
 use Rattle.melt_rule.proofs.Untagging.{either_yes, either_no}
 use Rattle.melt_rule.proofs.Within.{allowed}
-use Rattle.melt_rule.specs.Coming.{CommitPlay, Commits, FindsCommit, FindsForward, IsForward, Probes, Wins, probe_place}
+use Rattle.melt_rule.specs.Coming.{CommitPlay, Commits, FindsCommit, FindsForward, IsForward, ProbesShared, Wins}
+use Rattle.melt_rule.specs.Coming.{probe_place}
 use Rattle.melt_rule.specs.Plays.{Stays}
-use Rattle.melt_rule.specs.Rule.{Has, SeatStands, Kept, Rule, filled, is_lacking, is_reading}
+use Rattle.melt_rule.specs.Rule.{Has, SeatStands, Kept, Rule, filled_count, is_lacking, is_reading}
 use Rattle.melt_rule.specs.Seats.{EpochWords, IsSeat, knows_of}
 use Rattle.melt_rule.specs.Shown.{shows, owned, forward_place, Knows, staged}
-use Rattle.melt_rule.specs.Tells.{CopyFits, FitsIn, IsWithin, behind}
+use Rattle.melt_rule.specs.Tells.{CopyFits, FitsIn, IsWithin, view_behind}
 use Rattle.melt_rule.specs.declared.began.Began.{Began}
 use Rattle.melt_rule.specs.declared.began.Pair.{Pair}
 use Rattle.melt_rule.specs.declared.began.Start.{Start}
@@ -106,7 +107,8 @@ module _ (start : Start) (words : List ℕ) (views : List View) (kept : Kept sta
       → FindsForward v w a.search (Copied a) (Retrying (retried a)) found → FindsCommit v w a found
   filled_answers found w some_ finds = go finds.sent finds.is finds.probes
     where
-      go : (sent : Option (ℕ × ℕ)) → IsForward found sent → Probes v w a.search (Copied a) (Retrying (retried a)) sent
+      go : (sent : Option (ℕ × ℕ)) → IsForward found sent
+          → ProbesShared v w a.search (Copied a) (Retrying (retried a)) sent
           → FindsCommit v w a found
       go None none_ tells = absurd (some_ none_)
       go (Some sent) sends tells = record { sent = Some sent; is = sends; commits = tells }
@@ -150,7 +152,7 @@ module _ (start : Start) (words : List ℕ) (views : List View) (kept : Kept sta
 
     -- the view behind it
     abbrev pub won : View
-    won = record (behind v kept.history known (Some doing)) { won = v.won + 1 }
+    won = record (view_behind v kept.history known (Some doing)) { won = v.won + 1 }
 
     appeared : NameAppears kept.maps maps a.address n
     appeared = appears start words views kept id v at live a.address n
@@ -192,7 +194,7 @@ module _ (start : Start) (words : List ℕ) (views : List View) (kept : Kept sta
       fresh_here,
     )
 
-    filled_now : filled new.forward start.began.forwards ≡ filled now.forward start.began.forwards + 1
+    filled_now : filled_count new.forward start.began.forwards ≡ filled_count now.forward start.began.forwards + 1
     filled_now = filled_more now.forward new.forward start.began.forwards place place_within empty
         (λ none_. forward_word-filled a.search.home a.address knows.0.body.head.in_range (sym changes.here ∙ none_))
         changes.others

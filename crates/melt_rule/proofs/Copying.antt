@@ -41,8 +41,8 @@ use Rattle.melt_rule.specs.Coming.{HomeHas, ClaimsCopy, LacksCopy, CopyPlay, Fil
 use Rattle.melt_rule.specs.Plays.{Stays}
 use Rattle.melt_rule.specs.Rule.{Begins, SeatStands, Kept, Rule, has_cause, is_lacking, is_reading}
 use Rattle.melt_rule.specs.Seats.{EpochWords, IsSeat, knows_of}
-use Rattle.melt_rule.specs.Shown.{base_of, shows, Knows, owned, staged, free_place, word_place}
-use Rattle.melt_rule.specs.Tells.{FitsIn, IsWithin, behind, Reaches}
+use Rattle.melt_rule.specs.Shown.{base_at, shows, Knows, owned, staged, free_place, word_place}
+use Rattle.melt_rule.specs.Tells.{FitsIn, IsWithin, view_behind, Reaches}
 use Rattle.melt_rule.specs.declared.began.Began.{Began}
 use Rattle.melt_rule.specs.declared.began.Start.{Start}
 use Rattle.melt_rule.specs.declared.view.Doing.{Doing}
@@ -77,12 +77,12 @@ module _ (start : Start) (words : List ℕ) (views : List View) (kept : Kept sta
 
   -- the Body at the home was read, of this shape and with these words behind its head
   abbrev Reads : Search → Shape → List ℕ → Type 0
-  Reads search z rest = HasBody start.began.told (base_of start.began) search.home z rest
+  Reads search z rest = HasBody start.began.told (base_at start.began) search.home z rest
 
   -- it tells the shape of the object of the home
   home_has : (search : Search) (z : Shape) (rest : List ℕ) → Reads search z rest → HomeHas v kept.history search.home z
   home_has search z rest body =
-      subst (λ (b : Began). b.told ≡ true → HeadIs (base_of b) search.home (record { shape = z; kind = Body })
+      subst (λ (b : Began). b.told ≡ true → HeadIs (base_at b) search.home (record { shape = z; kind = Body })
       × ((n : ℕ) → named b.maps.homes search.home ≡ Some n
       → shape kept.history n ≡ Some (record { refs = z.refs; nums = z.nums }))) (sym stood.began) (λ told. (
         body.head.on_disk told,
@@ -224,10 +224,10 @@ module _ (start : Start) (words : List ℕ) (views : List View) (kept : Kept sta
 
     storing : (doing : Option Doing) → owned doing ≡ mine
         → Knows start.began.told kept.maps new v.rest doing → look_of (staged doing) ≡ Some (home_look a.search)
-        → let w : View = behind v kept.history v.known doing in
+        → let w : View = view_behind v kept.history v.known doing in
         IsStep start words after views kept id v at live w × Reaches v w doing
     storing doing owns knows look =
-        let w : View = behind v kept.history v.known doing in
+        let w : View = view_behind v kept.history v.known doing in
         let step =
         leaves_same start words after views kept id v at live (ap is_lacking is)
         (only_word start words views kept id v at live place word inside.0 inside.1)
@@ -248,7 +248,7 @@ module _ (start : Start) (words : List ℕ) (views : List View) (kept : Kept sta
   pub filling_copy : (a : Activation) (k word : ℕ) → v.doing ≡ Some (Copying a k) → k + 1 < cost_of a.shape
       → word ≡ copy_word a.search.home a.shape v.rest (k + 1)
       → let doing : Option Doing = Some (Copying a (k + 1)) in
-      let w : View = behind v kept.history v.known doing in
+      let w : View = view_behind v kept.history v.known doing in
       IsStep start words (stored_at (a.address + 1 + k) word) views kept id v at live w × Reaches v w doing
   filling_copy a k word is few stored =
       let place : ℕ = a.address + 1 + k in
@@ -266,7 +266,7 @@ module _ (start : Start) (words : List ℕ) (views : List View) (kept : Kept sta
   -- the copy is whole once its header is stored
   pub heading_copy : (a : Activation) (k : ℕ) → v.doing ≡ Some (Copying a k) → k + 1 ≡ cost_of a.shape
       → let doing : Option Doing = Some (Copied a) in
-      let w : View = behind v kept.history v.known doing in
+      let w : View = view_behind v kept.history v.known doing in
       let word : ℕ = header_word (record { shape = a.shape; stale = false }) in
       IsStep start words (stored_at a.address word) views kept id v at live w × Reaches v w doing
   heading_copy a k is all =
@@ -298,11 +298,12 @@ module _ (start : Start) (words : List ℕ) (views : List View) (kept : Kept sta
 
 pub copies_at : (start : Start) (slots id : ℕ) (search : Search) (z : Shape) (rest : List ℕ) (me : Me ℕ View)
     → 0 < me.0.parts → has_cause me.0 ≡ false → me.0.doing ≡ Some (Missed search)
-    → HasBody start.began.told (base_of start.began) search.home z rest
+    → HasBody start.began.told (base_at start.began) search.home z rest
     → Allows (Rule start) slots id me free_place (λ n. (n + cost_of z) % 2 ^ 64)
     (CopyPlay z rest (step slots free_place (cost_of z) 0 none) me)
 copies_at start slots id search z rest me live no_cause is body =
-    allowed start slots id free_place me (λ n. (n + cost_of z) % 2 ^ 64) (CopyPlay z rest (step slots free_place (cost_of z) 0 none) me)
+    allowed start slots id free_place me (λ n. (n + cost_of z) % 2 ^ 64)
+    (CopyPlay z rest (step slots free_place (cost_of z) 0 none) me)
     live
     (λ words views kept at alive small.
     let cost : ℕ = cost_of z in
@@ -320,7 +321,8 @@ copies_at start slots id search z rest me live no_cause is body =
           × LacksCopy me.0 w search z =
           lacking_copy start words views kept id me.0 at alive search z rest is no_cause body past in (
             w,
-            subst (λ (n : ℕ). IsStep start words (set words free_place n) views kept id me.0 at alive w) (sym whole) r.0,
+            subst (λ (n : ℕ). IsStep start words (set words free_place n) views kept id me.0 at alive w)
+                (sym whole) r.0,
             λ inside. (
               (refl, inside),
               wide,
@@ -337,7 +339,8 @@ copies_at start slots id search z rest me live no_cause is body =
           × ClaimsCopy me.0 w search z rest first_free =
           copying start words views kept id me.0 at alive search z rest is no_cause body (omega arith) in (
             w,
-            subst (λ (n : ℕ). IsStep start words (set words free_place n) views kept id me.0 at alive w) (sym whole) r.0,
+            subst (λ (n : ℕ). IsStep start words (set words free_place n) views kept id me.0 at alive w)
+                (sym whole) r.0,
             λ inside. (
               (refl, inside),
               wide,
@@ -361,7 +364,7 @@ fills_copy_at start slots id i k word a me live is few stored placed =
     let place : ℕ = a.address + 1 + k in
     let there : i ≡ word_place start.began place =
     placed ∙ ap (λ (b : Began). word_place b place) (kept.seats id me.0 at alive).began in
-    let w : View = behind me.0 kept.history me.0.known (Some (Copying a (k + 1))) in
+    let w : View = view_behind me.0 kept.history me.0.known (Some (Copying a (k + 1))) in
     let r = filling_copy start words views kept id me.0 at alive a k word is few stored in (
       w,
       subst (λ (j : ℕ). IsStep start words (set words j word) views kept id me.0 at alive w) (sym there) r.0,
@@ -384,7 +387,7 @@ heads_copy_at start slots id i k a me live is all placed =
     (λ words views kept at alive small.
     let there : i ≡ word_place start.began a.address =
     placed ∙ ap (λ (b : Began). word_place b a.address) (kept.seats id me.0 at alive).began in
-    let w : View = behind me.0 kept.history me.0.known (Some (Copied a)) in
+    let w : View = view_behind me.0 kept.history me.0.known (Some (Copied a)) in
     let r = heading_copy start words views kept id me.0 at alive a k is all in (
       w,
       subst (λ (j : ℕ). IsStep start words (set words j word) views kept id me.0 at alive w) (sym there) r.0,

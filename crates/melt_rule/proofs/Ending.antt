@@ -22,7 +22,7 @@ use Rattle.melt_rule.specs.Giving.{spent_view}
 use Rattle.melt_rule.specs.Rule.{Has, Begins, Knowing, MadeStay, Saw, SeatStands, threads_of, has_cause, is_reading}
 use Rattle.melt_rule.specs.Rule.{Kept, Rule}
 use Rattle.melt_rule.specs.Shown.{shows}
-use Rattle.melt_rule.specs.Sights.{first_sight, last_sight, no_calls, stage_at, stage_in}
+use Rattle.melt_rule.specs.Sights.{first_sight, last_sight, no_calls, stage_at, own_stage}
 use Rattle.melt_rule.specs.declared.began.Pair.{Pair}
 use Rattle.melt_rule.specs.declared.began.Start.{Start}
 use Rattle.melt_rule.specs.declared.view.View.{View}
@@ -163,7 +163,7 @@ module _ (start : Start) (words : List ℕ) (views : List View) (kept : Kept sta
     -- no other thread has a call, and that of the seat is left
     no_stage : (t : ℕ) → t ≢ v.thread → stage_at views t ≡ None
     no_stage t ne = stage_none t views (λ i u e. elim (ℕ_discrete i id) [
-      | yes is ↦ ap (λ (z : View). stage_in z t) (same i u e is) ∙ stage_other v t (λ e. ne (sym e))
+      | yes is ↦ ap (λ (z : View). own_stage z t) (same i u e is) ∙ stage_other v t (λ e. ne (sym e))
       | no other ↦ stage_idle u t (ap (λ (z : View). z.doing) (alone i u e other))
     ])
 

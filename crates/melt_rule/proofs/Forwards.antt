@@ -10,7 +10,7 @@ use Rattle.melt_forward.specs.Forwarding.{IsForwarding, Sends, forward_word, pro
 use Rattle.melt_word.specs.declared.reference.Ref.TheVariants.{Disk}
 use Rattle.melt_core.specs.declared.call.Search.{Search}
 use Rattle.melt_rule.proofs.Seating.{seated_behind}
-use Rattle.melt_rule.specs.Coming.{IsForward, Probes, probe_place}
+use Rattle.melt_rule.specs.Coming.{IsForward, ProbesShared, probe_place}
 use Rattle.melt_rule.specs.Plays.{Stays}
 use Rattle.melt_rule.specs.Seats.{EpochWords, IsSeat, IsTable, knows_of}
 use Rattle.melt_rule.specs.Shown.{globals_from}
@@ -69,7 +69,7 @@ same_sent word (Some sent) (Some other) is also =
 -- the seat behind it
 pub seated_probed : (words : EpochWords) (old new : Seat ℕ View) (search : Search) (empty another : Doing)
     (sent : Option (ℕ × ℕ)) → IsSeat words old → new.table_id ≡ old.table_id → Stays old.me new.me
-    → Probes (knows_of old) (knows_of new) search empty another sent → IsSeat words new
+    → ProbesShared (knows_of old) (knows_of new) search empty another sent → IsSeat words new
 seated_probed words old new search empty another None seat table stays probes =
     seated_behind words old new (knows_of new).seen (knows_of old).known (Some empty) seat table stays probes.is
 seated_probed words old new search empty another (Some sent) seat table stays probes =

@@ -38,10 +38,10 @@ use Rattle.melt_core.specs.declared.call.Stage.{Stage}
 use Rattle.melt_rule.proofs.Tying.{knows_look, none_pending, stage_apart, stage_here, stage_one, stage_other, stage_own}
 use Rattle.melt_rule.proofs.Tying.{stage_set}
 use Rattle.melt_rule.proofs.Views.{in_range, sum_set, begins_on, own_other, saw_other, saw_all}
-use Rattle.melt_rule.specs.Rule.{Has, Knowing, Saw, SeatStands, threads_of, MapsStand, filled, SumsStand}
+use Rattle.melt_rule.specs.Rule.{Has, Knowing, Saw, SeatStands, threads_of, MapsStand, filled_count, SumsStand}
 use Rattle.melt_rule.specs.Rule.{has_cause, is_lacking, is_reading, StopStands, Kept}
-use Rattle.melt_rule.specs.Shown.{shows, Knows, owned, stage_of, staged}
-use Rattle.melt_rule.specs.Sights.{first_sight, stage_at, stage_in}
+use Rattle.melt_rule.specs.Shown.{shows, Knows, owned, core_stage, staged}
+use Rattle.melt_rule.specs.Sights.{first_sight, stage_at, own_stage}
 use Rattle.melt_rule.specs.Tells.{Since, Sees, Adds}
 use Rattle.melt_rule.specs.declared.began.Began.{Began}
 use Rattle.melt_rule.specs.declared.began.Pair.{Pair}
@@ -58,7 +58,7 @@ knows_stays : (told : Bool) (maps new : Maps) (s t : State) (cleared : ℕ) (res
     → Knows told maps s rest doing → Knows told new t rest doing
 knows_stays told maps new s t cleared rest None formed evolves stays knows = tt
 knows_stays told maps new s t cleared rest (Some doing) formed evolves stays knows =
-    known_stays maps new s t cleared formed evolves told rest (stage_of doing) stays knows
+    known_stays maps new s t cleared formed evolves told rest (core_stage doing) stays knows
 
 module _ (start : Start) (words after : List ℕ) (views : List View) (kept : Kept start words views) (id : ℕ) (v : View)
     (at : get_elem? views id ≡ some v) (live : 0 < v.parts) where
@@ -83,7 +83,8 @@ module _ (start : Start) (words after : List ℕ) (views : List View) (kept : Ke
     pub free : new.free + v.claimed ≡ old.free + w.claimed
     pub bound : (new.free + 126 * v.over ≤ old.free + 126 * w.over) ⊎ (new.free ≤ start.began.size + 1)
     pub over : w.over ≤ v.parts
-    pub won : filled new.forward start.began.forwards + v.won ≡ filled old.forward start.began.forwards + w.won
+    pub won : filled_count new.forward start.began.forwards + v.won
+        ≡ filled_count old.forward start.began.forwards + w.won
 
   -- how the look of the call goes on: it has none, keeps the one that it had, or has looked now
   abbrev pub LookGoes : Option Act → Option Doing → Type 0
@@ -423,7 +424,7 @@ module _ (start : Start) (words after : List ℕ) (views : List View) (kept : Ke
             | inl x ↦ absurd (other x.0)
             | inr x ↦ stage_apart start words views kept id v at live i u x.0 x.1
           ])
-          ∙ (ap (stage_in w) (sym s.thread) ∙ stage_own w)
+          ∙ (ap (own_stage w) (sym s.thread) ∙ stage_own w)
 
       watched_by : (act : Option Act) → s.act ≡ act → LookGoes act w.doing
           → IfSome (look_of (staged w.doing)) (Watched q seen_now t)

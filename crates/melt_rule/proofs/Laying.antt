@@ -6,7 +6,7 @@ use Rattle.std.proofs.lemmas.List.{length-drop}
 use Rattle.std.specs.Prelude.{slice_index}
 use Rattle.melt_space.specs.Space.{SpaceWords, word_at}
 use Rattle.melt_scion.specs.State.{State}
-use Rattle.melt_rule.specs.Shown.{base_of, forwards_in, free_place, front, globals_from, globals_in, space_in, shows}
+use Rattle.melt_rule.specs.Shown.{base_at, forwards_in, free_place, front, globals_from, globals_in, space_in, shows}
 use Rattle.melt_rule.specs.declared.began.Began.{Began}
 
 -- the stop word, the first free place, globals, forwarding words and the words of the space, as an epoch has them
@@ -16,7 +16,7 @@ laid_out stop free globals forwards space = front stop free ++ (globals ++ (forw
 -- the state of these parts, registers aside
 abbrev pub state_by : Began → ℕ → List ℕ → List ℕ → SpaceWords → State
 state_by b free globals forwards space = record {
-  base = base_of b;
+  base = base_at b;
   free = free;
   word = word_at space;
   global = slice_index globals;
@@ -65,7 +65,7 @@ module _ (b : Began) (stop free : ℕ) (globals forwards : List ℕ) (space : Sp
   -- the words show the state of the parts
   pub parts_shown : shows b words ≡ state_by b free globals forwards space
   parts_shown = λ k. record {
-    base = base_of b;
+    base = base_at b;
     free = free;
     word = same_words (space_in b words) space space_laid k;
     global = slice_index (globals_laid k);
@@ -85,7 +85,7 @@ shown_by_parts b words space size is =
     let as_many : b.size ≡ length all = omega arith in
     let whole : all ≡ space.list = sym (is ∙ (ap (λ (n : ℕ). take n all) as_many ∙ take-length all)) in
     λ k. record {
-      base = base_of b;
+      base = base_at b;
       free = slice_index words free_place;
       word = same_words (space_in b words) space whole k;
       global = slice_index (globals_in b words);

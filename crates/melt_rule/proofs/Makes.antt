@@ -41,7 +41,7 @@ use Rattle.melt_rule.proofs.Showing.{free_moves, word_changes, filled_same}
 use Rattle.melt_rule.specs.Making.{Claims, Lacks, Makes}
 use Rattle.melt_rule.specs.Rule.{Has, SeatStands, Kept, has_cause, is_lacking, is_reading}
 use Rattle.melt_rule.specs.Shown.{shows, Knows, owned, free_place, globals_from, word_place}
-use Rattle.melt_rule.specs.Tells.{Adds, behind, Reaches}
+use Rattle.melt_rule.specs.Tells.{Adds, view_behind, Reaches}
 use Rattle.melt_rule.specs.declared.began.Began.{Began}
 use Rattle.melt_rule.specs.declared.began.Pair.{Pair}
 use Rattle.melt_rule.specs.declared.began.Start.{Start}
@@ -98,7 +98,7 @@ free_apart told maps s rest words (Some doing) knows = apart_none (record { at =
 
 -- the view behind the entry of a new object
 abbrev pub made_view : View → List Entry → ℕ → Shape → View
-made_view v h address z = behind v (with_entry v.thread h (Some (Make z.refs z.nums)))
+made_view v h address z = view_behind v (with_entry v.thread h (Some (Make z.refs z.nums)))
     (v.known ++ record { address = address; object = made h } ∷ []) None
 
 -- the object has the number that comes next
@@ -108,7 +108,7 @@ told_makes v h address z told =
     let front : h ≡ v.seen ++ told.between =
     append_cancel_right h (v.seen ++ told.between) (entry v.thread (Make z.refs z.nums) ∷ []) told.seen in
     let view : ℕ → View =
-    λ n. behind v (made_view v h address z).seen (v.known ++ record { address = address; object = n } ∷ []) None in
+    λ n. view_behind v (made_view v h address z).seen (v.known ++ record { address = address; object = n } ∷ []) None in
     record { adds = told; is = ap view (ap made front) }
 
 -- a thread owns its words behind a change of another word
@@ -168,7 +168,7 @@ module _ (start : Start) (words : List ℕ) (views : List View) (kept : Kept sta
 
   -- the view behind a claim of so many words, by a call that knows these words of a record
   abbrev pub claimed : List ℕ → ℕ → ℕ → Bool → Doing → View
-  claimed rest cost over spaced doing = record (behind v kept.history v.known (Some doing)) {
+  claimed rest cost over spaced doing = record (view_behind v kept.history v.known (Some doing)) {
     rest = rest;
     claimed = v.claimed + cost;
     over = over;
@@ -388,11 +388,11 @@ module _ (start : Start) (words : List ℕ) (views : List View) (kept : Kept sta
   -- the next word of the own region is 0
   pub filling : (address k : ℕ) (z : Shape) → v.doing ≡ Some (Claimed address z k) → k + 1 < cost_of z
       → let doing : Option Doing = Some (Claimed address z (k + 1)) in
-      let w : View = behind v kept.history v.known doing in
+      let w : View = view_behind v kept.history v.known doing in
       IsStep start words (with_word (address + 1 + k) 0) views kept id v at live w × Reaches v w doing
   filling address k z is few =
       let doing : Option Doing = Some (Claimed address z (k + 1)) in
-      let w : View = behind v kept.history v.known doing in
+      let w : View = view_behind v kept.history v.known doing in
       let mine = mine_is address k z is in
       let place : ℕ = address + 1 + k in
       let after : List ℕ = with_word place 0 in

@@ -11,12 +11,13 @@ use Rattle.melt_word.specs.Words.{IsShape, cost_of, header_word}
 use Rattle.melt_word.specs.declared.header.Header.{Header}
 use Rattle.melt_word.specs.declared.header.Shape.{Shape}
 use Rattle.melt_rule.proofs.Keeping.{IsStep}
-use Rattle.melt_rule.proofs.Makes.{shape_of_cost, claim_small, claimed, claiming, lacking, filling, publishing, made_view}
+use Rattle.melt_rule.proofs.Makes.{shape_of_cost, claim_small, claimed, claiming, lacking, filling, publishing}
+use Rattle.melt_rule.proofs.Makes.{made_view}
 use Rattle.melt_rule.proofs.Within.{allowed}
 use Rattle.melt_rule.specs.Making.{Claims, Lacks, Makes, ClaimPlay, FillPlay, PublishPlay}
 use Rattle.melt_rule.specs.Rule.{Rule, has_cause, is_reading}
 use Rattle.melt_rule.specs.Shown.{free_place, word_place}
-use Rattle.melt_rule.specs.Tells.{FitsIn, IsWithin, behind, Reaches}
+use Rattle.melt_rule.specs.Tells.{FitsIn, IsWithin, view_behind, Reaches}
 use Rattle.melt_rule.specs.declared.began.Began.{Began}
 use Rattle.melt_rule.specs.declared.began.Start.{Start}
 use Rattle.melt_rule.specs.declared.view.Doing.TheVariants.{Claimed, Lacking}
@@ -24,9 +25,11 @@ use Rattle.melt_rule.specs.declared.view.View.{View}
 
 pub claims : (start : Start) (slots id cost : ℕ) (me : Me ℕ View) → 0 < me.0.parts → has_cause me.0 ≡ false
     → is_reading me.0.doing ≡ false → 2 ≤ cost → cost ≤ 126
-    → Allows (Rule start) slots id me free_place (λ n. (n + cost) % 2 ^ 64) (ClaimPlay (step slots free_place cost 0 none) me)
+    → Allows (Rule start) slots id me free_place (λ n. (n + cost) % 2 ^ 64)
+    (ClaimPlay (step slots free_place cost 0 none) me)
 claims start slots id cost me live no_cause left low high =
-    allowed start slots id free_place me (λ n. (n + cost) % 2 ^ 64) (ClaimPlay (step slots free_place cost 0 none) me) live
+    allowed start slots id free_place me (λ n. (n + cost) % 2 ^ 64)
+    (ClaimPlay (step slots free_place cost 0 none) me) live
     (λ words views kept at alive small.
     let free : ℕ = get_or words free_place 0 in
     let wide : free + cost < 2 ^ 64 = claim_small start words views kept id me.0 at alive cost high in
@@ -34,11 +37,14 @@ claims start slots id cost me live no_cause left low high =
     let size : me.0.began.size ≡ start.began.size = ap (λ (b : Began). b.size) (kept.seats id me.0 at alive).began in
     elim (cases_lt (start.began.size + 1) (free + cost)) [
       | inl past ↦
-          let w : View = claimed start words views kept id me.0 at alive me.0.rest cost (me.0.over + 1) true (Lacking cost) in
-          let r : IsStep start words (set words free_place (free + cost)) views kept id me.0 at alive w × Lacks me.0 w cost =
+          let w : View = claimed start words views kept id me.0 at alive me.0.rest cost (me.0.over + 1) true
+          (Lacking cost) in
+          let r : IsStep start words (set words free_place (free + cost)) views kept id me.0 at alive w
+          × Lacks me.0 w cost =
           lacking start words views kept id me.0 at alive cost high no_cause left past in (
             w,
-            subst (λ (n : ℕ). IsStep start words (set words free_place n) views kept id me.0 at alive w) (sym whole) r.0,
+            subst (λ (n : ℕ). IsStep start words (set words free_place n) views kept id me.0 at alive w)
+                (sym whole) r.0,
             λ inside. ((refl, inside), wide, (λ fits. absurd (omega arith)), (λ over. r.1)),
           )
       | inr fits ↦
@@ -52,7 +58,8 @@ claims start slots id cost me live no_cause left low high =
           (claiming start words views kept id me.0 at alive z.0 z.1 no_cause left
           (let cost_is : cost_of z.0 ≡ cost = z.2 in omega arith)) in (
             w cost,
-            subst (λ (n : ℕ). IsStep start words (set words free_place n) views kept id me.0 at alive (w cost)) (sym whole) r.0,
+            subst (λ (n : ℕ). IsStep start words (set words free_place n) views kept id me.0 at alive (w cost))
+                (sym whole) r.0,
             λ inside. ((refl, inside), wide, (λ within. r.1), (λ past. absurd (omega arith))),
           )
     ])
@@ -66,7 +73,7 @@ fills start slots id i address k z me live is few placed =
     let place : ℕ = address + 1 + k in
     let there : i ≡ word_place start.began place =
     placed ∙ ap (λ (b : Began). word_place b place) (kept.seats id me.0 at alive).began in
-    let w : View = behind me.0 kept.history me.0.known (Some (Claimed address z (k + 1))) in
+    let w : View = view_behind me.0 kept.history me.0.known (Some (Claimed address z (k + 1))) in
     let r = filling start words views kept id me.0 at alive address k z is few in (
       w,
       subst (λ (j : ℕ). IsStep start words (set words j 0) views kept id me.0 at alive w) (sym there) r.0,

@@ -28,8 +28,8 @@ use Rattle.melt_rule.proofs.Showing.{forward_is}
 use Rattle.melt_rule.proofs.Within.{allowed}
 use Rattle.melt_rule.specs.Coming.{FindsForward, ProbePlay, RetryPlay, probe_place}
 use Rattle.melt_rule.specs.Rule.{SeatStands, Kept, Rule, is_lacking, is_reading}
-use Rattle.melt_rule.specs.Shown.{shows, owned, Knows, stage_of, staged}
-use Rattle.melt_rule.specs.Tells.{Reaches, behind}
+use Rattle.melt_rule.specs.Shown.{shows, owned, Knows, core_stage, staged}
+use Rattle.melt_rule.specs.Tells.{Reaches, view_behind}
 use Rattle.melt_rule.specs.declared.began.Began.{Began}
 use Rattle.melt_rule.specs.declared.began.Start.{Start}
 use Rattle.melt_rule.specs.declared.view.Doing.{Doing}
@@ -43,7 +43,7 @@ module _ (start : Start) (words : List ℕ) (views : List View) (kept : Kept sta
   now = shows start.began words
 
   abbrev to : Option Doing → View
-  to doing = behind v kept.history v.known doing
+  to doing = view_behind v kept.history v.known doing
 
   -- a step that changes no word, and leaves the region of the call its own or nobody's
   pub goes : (doing : Option Doing) → Knows start.began.told kept.maps now v.rest doing
@@ -162,7 +162,7 @@ module _ (start : Start) (words : List ℕ) (views : List View) (kept : Kept sta
   pub retrying : (a : Activation) → v.doing ≡ Some (Retrying a) → a.search.tried < start.began.forwards
       → Probing a.search (Copied a) (Retrying (retried a))
   retrying a is more =
-      let known : Known start.began.told kept.maps now v.rest (stage_of (Retrying a)) =
+      let known : Known start.began.told kept.maps now v.rest (core_stage (Retrying a)) =
       subst (Knows start.began.told kept.maps now v.rest) is stood.doing in
       record {
         searches = known.searches;

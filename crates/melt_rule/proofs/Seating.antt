@@ -18,7 +18,7 @@ use Rattle.melt_rule.specs.Plays.{Stays}
 use Rattle.melt_rule.specs.Rule.{has_cause}
 use Rattle.melt_rule.specs.Seats.{EpochWords, IsSeat, IsTable, knows_of}
 use Rattle.melt_rule.specs.Shown.{word_place}
-use Rattle.melt_rule.specs.Tells.{behind, caused, Asks, Names, Polls, Reads, Looks}
+use Rattle.melt_rule.specs.Tells.{view_behind, caused, Asks, Names, Polls, Reads, Looks}
 use Rattle.melt_rule.specs.declared.began.Began.{Began}
 use Rattle.melt_rule.specs.declared.began.Pair.{Pair}
 use Rattle.melt_rule.specs.declared.began.Start.{Start}
@@ -41,7 +41,7 @@ seated words old new seat table stays parts began = record {
 -- behind a step that tells the view
 pub seated_behind : (words : EpochWords) (old new : Seat ℕ View) (h : List Entry) (known : List Pair)
     (doing : Option Doing) → IsSeat words old → new.table_id ≡ old.table_id → Stays old.me new.me
-    → knows_of new ≡ behind (knows_of old) h known doing → IsSeat words new
+    → knows_of new ≡ view_behind (knows_of old) h known doing → IsSeat words new
 seated_behind words old new h known doing seat table stays is =
     seated words old new seat table stays (ap (λ (v : View). v.parts) is) (ap (λ (v : View). v.began) is)
 
@@ -107,7 +107,7 @@ held_small words seat held value is_seat (inr some_) = (is_seat.within.known hel
 pub seated_asked : (words : EpochWords) (old new : Seat ℕ View) → IsSeat words old → new.table_id ≡ old.table_id
     → Stays old.me new.me → Asks (knows_of old) (knows_of new) → IsSeat words new
 seated_asked words old new seat table stays asks =
-    let base : View = behind (knows_of old) (knows_of new).seen (knows_of old).known None in
+    let base : View = view_behind (knows_of old) (knows_of new).seen (knows_of old).known None in
     let same = caused_keeps base (has_cause base) refl in
     seated words old new seat table stays (ap (λ (v : View). v.parts) asks.1 ∙ same.0)
     (ap (λ (v : View). v.began) asks.1 ∙ same.1)

@@ -6,7 +6,7 @@ use Rattle.std.proofs.lemmas.Bool.{cases_lt, cases_eq}
 use Rattle.std.proofs.lemmas.List.{get_or-set_same, get_or-set_other}
 use Rattle.melt_space.specs.Space.{word_at}
 use Rattle.melt_scion.specs.Changes.{SameWords, WordChanges, GlobalChanges, ForwardChanges, FreeMoves}
-use Rattle.melt_rule.specs.Rule.{filled, filled_one}
+use Rattle.melt_rule.specs.Rule.{filled_count, filled_one}
 use Rattle.melt_rule.specs.Shown.{shows, forwards_in, globals_in, space_in}
 use Rattle.melt_rule.specs.Shown.{forward_place, free_place, global_place, globals_from, word_place}
 use Rattle.melt_rule.specs.declared.began.Began.{Began}
@@ -65,7 +65,8 @@ module _ (b : Began) (words : List ℕ) where
   global_is g below = get_take b.globals (drop globals_from words) g below ∙ get_drop globals_from words g
 
   pub forward_is : (p : ℕ) → p < b.forwards → get_or (forwards_in b words) p 0 ≡ get_or words (forward_place b p) 0
-  forward_is p below = get_take b.forwards (drop (globals_from + b.globals) words) p below ∙ get_drop (globals_from + b.globals) words p
+  forward_is p below = get_take b.forwards (drop (globals_from + b.globals) words) p below
+      ∙ get_drop (globals_from + b.globals) words p
 
   -- a word of the space stays where another is set
   space_other : (at x address : ℕ) → (1 ≤ address → word_place b address ≢ at)
@@ -105,8 +106,10 @@ module _ (b : Began) (words : List ℕ) where
     free = get_or-set_other words (global_place g) free_place x 0 (λ same. omega arith);
     word_stays = λ k. space_other (global_place g) x k (λ from same. omega arith);
     here = stretch_here globals_from b.globals words x g below within;
-    others = λ k other. stretch_other globals_from b.globals words (global_place g) x k (λ under same. other (omega arith));
-    forward = λ p. stretch_other (globals_from + b.globals) b.forwards words (global_place g) x p (λ under same. omega arith);
+    others = λ k other. stretch_other globals_from b.globals words (global_place g) x k
+        (λ under same. other (omega arith));
+    forward = λ p. stretch_other (globals_from + b.globals) b.forwards words (global_place g) x p
+        (λ under same. omega arith);
   }
 
   -- a forwarding word is set
@@ -140,15 +143,17 @@ module _ (b : Began) (words : List ℕ) where
     is = get_or-set_same words free_place free 0 within;
     word = λ k. space_other free_place free k (λ from same. omega arith);
     global = λ g. stretch_other globals_from b.globals words free_place free g (λ below same. omega arith);
-    forward = λ p. stretch_other (globals_from + b.globals) b.forwards words free_place free p (λ below same. omega arith);
+    forward = λ p. stretch_other (globals_from + b.globals) b.forwards words free_place free p
+        (λ below same. omega arith);
   }
 
 -- as many words are filled where all of them are the same
-pub filled_same : (old new : ℕ → ℕ) (n : ℕ) → ((p : ℕ) → p < n → new p ≡ old p) → filled new n ≡ filled old n
+pub filled_same : (old new : ℕ → ℕ) (n : ℕ) → ((p : ℕ) → p < n → new p ≡ old p)
+    → filled_count new n ≡ filled_count old n
 filled_same old new zero same = refl
 filled_same old new (suc n) same =
     ap (λ (k : ℕ). k + filled_one (new n)) (filled_same old new n (λ p below. same p (omega arith)))
-    ∙ ap (λ (k : ℕ). filled old n + filled_one k) (same n (omega arith))
+    ∙ ap (λ (k : ℕ). filled_count old n + filled_one k) (same n (omega arith))
 
 filled_some : (word : ℕ) → word ≢ 0 → filled_one word ≡ 1
 filled_some zero some = absurd (some refl)
@@ -156,17 +161,19 @@ filled_some (suc word) some = refl
 
 -- one word more is filled where one of them was empty, and alone is set
 pub filled_more : (old new : ℕ → ℕ) (n at : ℕ) → at < n → old at ≡ 0 → new at ≢ 0
-    → ((p : ℕ) → p ≢ at → new p ≡ old p) → filled new n ≡ filled old n + 1
+    → ((p : ℕ) → p ≢ at → new p ≡ old p) → filled_count new n ≡ filled_count old n + 1
 filled_more old new zero at below empty some same = absurd (omega arith)
 filled_more old new (suc n) at below empty some same = elim (cases_eq at n) [
   | inl last ↦
-      let before : filled new n ≡ filled old n = filled_same old new n (λ p less. same p (λ is. omega arith)) in
+      let before : filled_count new n ≡ filled_count old n = filled_same old new n
+      (λ p less. same p (λ is. omega arith)) in
       let was : filled_one (old n) ≡ 0 = ap (λ (p : ℕ). filled_one (old p)) (sym last) ∙ ap filled_one empty in
       let now : filled_one (new n) ≡ 1 =
       ap (λ (p : ℕ). filled_one (new p)) (sym last) ∙ filled_some (new at) some in
       omega arith
   | inr other ↦
-      let before : filled new n ≡ filled old n + 1 = filled_more old new n at (omega arith) empty some same in
+      let before : filled_count new n ≡ filled_count old n + 1 = filled_more old new n at
+      (omega arith) empty some same in
       let last : filled_one (new n) ≡ filled_one (old n) = ap filled_one (same n (λ is. other (sym is))) in
       omega arith
 ]

@@ -23,11 +23,11 @@ use Rattle.melt_core.specs.declared.call.Search.{Search}
 use Rattle.melt_rule.proofs.Keeping.{IsStep, sees, still_bits}
 use Rattle.melt_rule.proofs.Showing.{stop_sets, filled_same}
 use Rattle.melt_rule.proofs.Within.{allowed}
-use Rattle.melt_rule.specs.Coming.{FillsPlay, SearchesOn}
+use Rattle.melt_rule.specs.Coming.{FillsPlay, IsSearching}
 use Rattle.melt_rule.specs.Plays.{StopPlay, AskPlay}
 use Rattle.melt_rule.specs.Rule.{SeatStands, Kept, Rule, has_cause, is_reading}
 use Rattle.melt_rule.specs.Shown.{shows, owned, Knows}
-use Rattle.melt_rule.specs.Tells.{Sees, behind, caused}
+use Rattle.melt_rule.specs.Tells.{Sees, view_behind, caused}
 use Rattle.melt_rule.specs.declared.began.Began.{Began}
 use Rattle.melt_rule.specs.declared.began.Start.{Start}
 use Rattle.melt_rule.specs.declared.view.View.{View}
@@ -52,7 +52,7 @@ module _ (start : Start) (words : List ℕ) (views : List View) (kept : Kept sta
   -- The view behind it, which may have been asked, or have found all forwarding words filled.
   abbrev pub stopped_by : Bool → Bool → View
   stopped_by asked forwarded =
-      record (behind v kept.history v.known None) { asked = asked; forwarded = forwarded }
+      record (view_behind v kept.history v.known None) { asked = asked; forwarded = forwarded }
 
   pub stops_by : (asked forwarded : Bool) → has_cause (stopped_by asked forwarded) ≡ true
       → (forwarded ≡ true → (p : ℕ) → p < start.began.forwards → old.forward p ≢ 0) → is_reading v.doing ≡ false
@@ -112,14 +112,14 @@ stops_at start slots id me live cause left =
     (λ words views kept at alive small.
     let r = stops_by start words views kept id me.0 at alive me.0.asked me.0.forwarded cause
     (kept.stop.forwarded id me.0 at) left in (
-      behind me.0 kept.history me.0.known None,
+      view_behind me.0 kept.history me.0.known None,
       r.0,
       λ inside. ((refl, inside), record { sees = r.1; is = refl }),
     ))
 
 -- a call that searches knows so much of the forwarding words
 searches_on : (start : Start) (words : List ℕ) (views : List View) (kept : Kept start words views) (id : ℕ) (v : View)
-    → get_elem? views id ≡ some v → 0 < v.parts → (search : Search) → SearchesOn v search
+    → get_elem? views id ≡ some v → 0 < v.parts → (search : Search) → IsSearching v search
     → Searches start.began.told kept.maps (shows start.began words) search.place search.home search.tried
 searches_on start words views kept id v at live search (inl is) =
     subst (Knows start.began.told kept.maps (shows start.began words) v.rest) is (kept.seats id v at live).doing
@@ -130,7 +130,7 @@ searches_on start words views kept id v at live search (inr is) =
     Searches start.began.told kept.maps (shows start.began words) s.place s.home s.tried) is.2 known.searches
 
 -- and is not to read a slot next
-searches_left : (v : View) (search : Search) → SearchesOn v search → is_reading v.doing ≡ false
+searches_left : (v : View) (search : Search) → IsSearching v search → is_reading v.doing ≡ false
 searches_left v search (inl is) = ap is_reading is
 searches_left v search (inr is) = ap is_reading is.1
 
@@ -151,7 +151,7 @@ forwarded_cause false true = refl
 forwarded_cause false false = refl
 
 pub fills_at : (start : Start) (slots id : ℕ) (search : Search) (me : Me ℕ View) → 0 < me.0.parts
-    → SearchesOn me.0 search → me.0.began.forwards ≤ search.tried
+    → IsSearching me.0 search → me.0.began.forwards ≤ search.tried
     → Allows (Rule start) slots id me 0 (λ _. 1) (λ found. FillsPlay (step slots 0 1 0 none) me 1)
 fills_at start slots id search me live on all =
     allowed start slots id 0 me (λ _. 1) (λ found. FillsPlay (step slots 0 1 0 none) me 1) live
@@ -165,7 +165,7 @@ fills_at start slots id search me live on all =
     searches
     read)
     (searches_left me.0 search on) in (
-      record (behind me.0 kept.history me.0.known None) { forwarded = true },
+      record (view_behind me.0 kept.history me.0.known None) { forwarded = true },
       r.0,
       λ inside. ((refl, inside), (r.1, refl)),
     ))
@@ -185,7 +185,7 @@ pub asks_at : (start : Start) (slots id : ℕ) (me : Me ℕ View) → 0 < me.0.p
 asks_at start slots id me live left =
     allowed start slots id 0 me (λ _. 1) (λ found. AskPlay (step slots 0 1 0 none) me 1) live
     (λ words views kept at alive small.
-    let base : View = behind me.0 kept.history me.0.known None in
+    let base : View = view_behind me.0 kept.history me.0.known None in
     let c = caused_is base (has_cause base) refl in
     let r = stops_by start words views kept id me.0 at alive c.0 me.0.forwarded c.2
     (kept.stop.forwarded id me.0 at) left in (

@@ -25,7 +25,7 @@ use Rattle.melt_rule.specs.Rule.{Has, Knowing, Saw, SeatStands, threads_of, Whol
 use Rattle.melt_rule.specs.Rule.{has_cause, is_lacking, is_reading, StopStands, Kept, Rule}
 use Rattle.melt_rule.specs.Seats.{EpochWords, Sits, knows_of}
 use Rattle.melt_rule.specs.Shown.{shows, owned}
-use Rattle.melt_rule.specs.Sights.{first_sight, stage_at, stage_in}
+use Rattle.melt_rule.specs.Sights.{first_sight, stage_at, own_stage}
 use Rattle.melt_rule.specs.declared.began.Pair.{Pair}
 use Rattle.melt_rule.specs.declared.began.Start.{Start}
 use Rattle.melt_rule.specs.declared.view.Away.{Away}
@@ -425,9 +425,9 @@ module _ (start : Start) (words : List ℕ) (views : List View) (kept : Kept sta
   taken_stage : stage_at after w.thread ≡ None
   taken_stage = stage_none w.thread after (λ i u e. elim (found i u e) [
     | is_both j is ↦
-        ap (λ (z : View). stage_in z w.thread) (sym is)
+        ap (λ (z : View). own_stage z w.thread) (sym is)
         ∙ stage_apart start words views kept other w there live_w id v (λ same. differ (sym same)) at
-    | is_spent is ↦ ap (λ (z : View). stage_in z w.thread) (sym is) ∙ stage_idle spent_view w.thread refl
+    | is_spent is ↦ ap (λ (z : View). own_stage z w.thread) (sym is) ∙ stage_idle spent_view w.thread refl
     | as_before ne ne' old ↦ stage_apart start words views kept other w there live_w i u ne' old
   ])
 

@@ -18,8 +18,8 @@ use Rattle.melt_core.specs.StaleBits.{BitIs, Look, Sight, Tied, Watched, look_of
 use Rattle.melt_core.specs.declared.call.Stage.{Stage}
 use Rattle.melt_rule.proofs.Views.{cases_zero}
 use Rattle.melt_rule.specs.Rule.{Kept, is_bound, is_lacking, is_reading}
-use Rattle.melt_rule.specs.Shown.{Knows, stage_of, staged}
-use Rattle.melt_rule.specs.Sights.{stage_at, stage_in}
+use Rattle.melt_rule.specs.Shown.{Knows, core_stage, staged}
+use Rattle.melt_rule.specs.Sights.{stage_at, own_stage}
 use Rattle.melt_rule.specs.declared.began.Start.{Start}
 use Rattle.melt_rule.specs.declared.view.Doing.{Doing}
 use Rattle.melt_rule.specs.declared.view.Doing.TheVariants.{Cleared}
@@ -45,7 +45,7 @@ none_pending doing left = refl
 pub knows_look : (told : Bool) (maps : Maps) (s : State) (rest : List ℕ) (doing : Option Doing) (look : Look)
     → look_of (staged doing) ≡ Some look → Knows told maps s rest doing → HasLooked maps s look.place look.found
 knows_look told maps s rest None look is knows = absurd (let e : None ≡ Some look = is in cc)
-knows_look told maps s rest (Some doing) look is knows = known_look told maps s rest (stage_of doing) look is knows
+knows_look told maps s rest (Some doing) look is knows = known_look told maps s rest (core_stage doing) look is knows
 
 no_stage : (b : Bool) → let none : Option Stage = None in (if b then none else none) ≡ none
 no_stage true = refl
@@ -56,33 +56,33 @@ or_none None = refl
 or_none (Some stage) = refl
 
 -- the stage that a seat shows: of its own thread, of another, and where no call is in flight
-pub stage_own : (v : View) → stage_in v v.thread ≡ staged v.doing
+pub stage_own : (v : View) → own_stage v v.thread ≡ staged v.doing
 stage_own v = rw (eq-eqb v.thread v.thread refl) refl
 
-pub stage_other : (v : View) (t : ℕ) → v.thread ≢ t → stage_in v t ≡ None
+pub stage_other : (v : View) (t : ℕ) → v.thread ≢ t → own_stage v t ≡ None
 stage_other v t other = rw (ne_eqb v.thread t other) refl
 
-pub stage_idle : (v : View) (t : ℕ) → v.doing ≡ None → stage_in v t ≡ None
+pub stage_idle : (v : View) (t : ℕ) → v.doing ≡ None → own_stage v t ≡ None
 stage_idle v t idle =
     ap (λ (doing : Option Doing). if v.thread == t then staged doing else None) idle ∙ no_stage (v.thread == t)
 
 module _ (t : ℕ) where
   -- a thread is at the stage at which it was where the seat that is replaced shows the same
   pub stage_set : (views : List View) (id : ℕ) (v w : View) → get_elem? views id ≡ some v
-      → stage_in w t ≡ stage_in v t → stage_at (set views id w) t ≡ stage_at views t
+      → own_stage w t ≡ own_stage v t → stage_at (set views id w) t ≡ stage_at views t
   stage_set [] id v w at same = absurd (some-ne-none v (sym at))
   stage_set (x ∷ xs) zero v w at same =
       ap (λ (o : Option Stage). option_or o (stage_at xs t))
-      (same ∙ ap (λ (u : View). stage_in u t) (sym (some-injective x v at)))
-  stage_set (x ∷ xs) (suc id) v w at same = ap (option_or (stage_in x t)) (stage_set xs id v w at same)
+      (same ∙ ap (λ (u : View). own_stage u t) (sym (some-injective x v at)))
+  stage_set (x ∷ xs) (suc id) v w at same = ap (option_or (own_stage x t)) (stage_set xs id v w at same)
 
   -- and where a seat is added without a call
-  pub stage_more : (views : List View) (w : View) → stage_in w t ≡ None
+  pub stage_more : (views : List View) (w : View) → own_stage w t ≡ None
       → stage_at (views ++ w ∷ []) t ≡ stage_at views t
   stage_more [] w none = ap (λ (o : Option Stage). option_or o None) none
-  stage_more (x ∷ xs) w none = ap (option_or (stage_in x t)) (stage_more xs w none)
+  stage_more (x ∷ xs) w none = ap (option_or (own_stage x t)) (stage_more xs w none)
 
-  pub stage_none : (views : List View) → ((j : ℕ) (u : View) → get_elem? views j ≡ some u → stage_in u t ≡ None)
+  pub stage_none : (views : List View) → ((j : ℕ) (u : View) → get_elem? views j ≡ some u → own_stage u t ≡ None)
       → stage_at views t ≡ None
   stage_none [] none = refl
   stage_none (x ∷ xs) none =
@@ -91,12 +91,12 @@ module _ (t : ℕ) where
 
   -- it is at the stage that one seat shows where no other shows one
   pub stage_one : (views : List View) (id : ℕ) (v : View) → get_elem? views id ≡ some v
-      → ((j : ℕ) (u : View) → j ≢ id → get_elem? views j ≡ some u → stage_in u t ≡ None)
-      → stage_at views t ≡ stage_in v t
+      → ((j : ℕ) (u : View) → j ≢ id → get_elem? views j ≡ some u → own_stage u t ≡ None)
+      → stage_at views t ≡ own_stage v t
   stage_one [] id v at others = absurd (some-ne-none v (sym at))
   stage_one (x ∷ xs) zero v at others =
-      ap (option_or (stage_in x t)) (stage_none xs (λ j u e. others (suc j) u (λ same. omega arith) e))
-      ∙ (or_none (stage_in x t) ∙ ap (λ (u : View). stage_in u t) (some-injective x v at))
+      ap (option_or (own_stage x t)) (stage_none xs (λ j u e. others (suc j) u (λ same. omega arith) e))
+      ∙ (or_none (own_stage x t) ∙ ap (λ (u : View). own_stage u t) (some-injective x v at))
   stage_one (x ∷ xs) (suc id) v at others =
       ap (λ (o : Option Stage). option_or o (stage_at xs t)) (others 0 x (λ same. omega arith) refl)
       ∙ stage_one xs id v at (λ j u ne e. others (suc j) u (λ same. ne (omega arith)) e)
@@ -104,7 +104,7 @@ module _ (t : ℕ) where
 module _ (start : Start) (words : List ℕ) (views : List View) (kept : Kept start words views) (id : ℕ) (v : View)
     (at : get_elem? views id ≡ some v) (live : 0 < v.parts) where
   -- no other seat shows a stage of the thread of a seat,
-  pub stage_apart : (j : ℕ) (u : View) → j ≢ id → get_elem? views j ≡ some u → stage_in u v.thread ≡ None
+  pub stage_apart : (j : ℕ) (u : View) → j ≢ id → get_elem? views j ≡ some u → own_stage u v.thread ≡ None
   stage_apart j u other is = elim (cases_zero u.parts) [
     | inl none ↦ stage_idle u v.thread (ap (λ (z : View). z.doing) (kept.spent j u is none))
     | inr alive ↦ stage_other u v.thread

@@ -42,8 +42,8 @@ use Rattle.melt_rule.proofs.Leaving.{OnlyObjects, leaves, only_global, only_spac
 use Rattle.melt_rule.proofs.Within.{allowed, within}
 use Rattle.melt_rule.specs.Barriers.{Untags, UntagPlay, GlobalUntagPlay}
 use Rattle.melt_rule.specs.Rule.{Has, SeatStands, Kept, Rule, is_lacking}
-use Rattle.melt_rule.specs.Shown.{shows, owned, global_place, word_place, Knows, stage_of}
-use Rattle.melt_rule.specs.Tells.{FitsIn, behind, Reads}
+use Rattle.melt_rule.specs.Shown.{shows, owned, global_place, word_place, Knows, core_stage}
+use Rattle.melt_rule.specs.Tells.{FitsIn, view_behind, Reads}
 use Rattle.melt_rule.specs.declared.began.Began.{Began}
 use Rattle.melt_rule.specs.declared.began.Pair.{Pair}
 use Rattle.melt_rule.specs.declared.began.Start.{Start}
@@ -60,7 +60,7 @@ module _ (start : Start) (words : List ℕ) (views : List View) (kept : Kept sta
   stood : SeatStands start.began kept.maps old kept.history v
   stood = kept.seats id v at live
 
-  pub knows : Known start.began.told kept.maps old v.rest (stage_of (Cleared place found target))
+  pub knows : Known start.began.told kept.maps old v.rest (core_stage (Cleared place found target))
   knows = subst (Knows start.began.told kept.maps old v.rest) cleared stood.doing
 
   -- either way the slot of the look is read
@@ -95,7 +95,8 @@ module _ (start : Start) (words : List ℕ) (views : List View) (kept : Kept sta
           (inr (reads words slot_ is_slot Nil)) in
           (r.0, r.1, (0, reference.is ∙ ap ref_word is, r.2))
       go (Clean a) is =
-          let r = looks start words views kept id v at live (ap is_lacking cleared) place slot_ (Clean a) knows.0.at is_slot
+          let r = looks start words views kept id v at live (ap is_lacking cleared) place slot_
+          (Clean a) knows.0.at is_slot
           (subst IsRef is reference.in_range)
           (reference.is ∙ ap ref_word is)
           (subst (MayStand kept.maps old) is reference.stands)
@@ -125,20 +126,23 @@ module _ (start : Start) (words : List ℕ) (views : List View) (kept : Kept sta
 
       -- the view behind an exchange that was won
       abbrev pub won : Slot → View
-      won slot_ = behind v (with_entry v.thread kept.history (Some (Read slot_ (Object n)))) (v.known ++ pair ∷ []) None
+      won slot_ = view_behind v (with_entry v.thread kept.history (Some (Read slot_ (Object n))))
+          (v.known ++ pair ∷ []) None
 
       pub wins : (slot_ : Slot) → SlotAt kept.maps place slot_ → word_in old place ≡ ref_word found
           → PlaceChanges old new place (ref_word (Clean target))
           → IsStep start words after views kept id v at live (won slot_) × Reads v (won slot_) slot_ target
       wins slot_ is_slot same changes =
           let act : Option Act = Some (Read slot_ (Object n)) in
-          let last_at : start.began.told ≡ true → LastAt kept.history kept.maps place slot_ (Object n) = λ told. record {
+          let last_at : start.began.told ≡ true → LastAt kept.history kept.maps place slot_ (Object n) =
+          λ told. record {
             slot = is_slot;
             last =
                 let e : Some (Object n) ≡ Some (last kept.history slot_) =
                 ap (option_map Object) (sym named)
                 ∙ (sym (knows.1.same told)
-                ∙ stands_at start words views kept id v at live (ap is_lacking cleared) place slot_ found knows.0.at is_slot
+                ∙ stands_at start words views kept id v at live
+                (ap is_lacking cleared) place slot_ found knows.0.at is_slot
                 knows.0.in_range
                 same
                 told) in
@@ -200,7 +204,8 @@ either_no x a b differ = rw (ne_eqb x a differ) refl
 -- the exchange at a place
 module _ (start : Start) (words : List ℕ) (views : List View) (kept : Kept start words views) (id : ℕ) (v : View)
     (at : get_elem? views id ≡ some v) (live : 0 < v.parts) (place : Place) (found : Ref) (target : ℕ)
-    (cleared : v.doing ≡ Some (Cleared place found target)) (slot_ : Slot) (is_slot : SlotAt kept.maps place slot_) where
+    (cleared : v.doing ≡ Some (Cleared place found target)) (slot_ : Slot)
+    (is_slot : SlotAt kept.maps place slot_) where
   abbrev now : State
   now = shows start.began words
 
@@ -221,7 +226,8 @@ module _ (start : Start) (words : List ℕ) (views : List View) (kept : Kept sta
             is_slot
             (sym word ∙ (won_.1 ∙ from))
             changes in
-            let w : View = won start words views kept id v at live place found target cleared (set words i after_) only n
+            let w : View = won start words views kept id v at live place found target cleared
+            (set words i after_) only n
             known_.1.named.1
             slot_ in (
               w,
@@ -260,7 +266,8 @@ pub untags_at : (start : Start) (slots id i a n k target before_ after_ : ℕ) (
     → Allows (Rule start) slots id me i (λ x. either (x == before_) after_ x)
     (UntagPlay (step slots i before_ after_ none) me)
 untags_at start slots id i a n k target before_ after_ found me live has cleared place_is from to =
-    allowed start slots id i me (λ x. either (x == before_) after_ x) (UntagPlay (step slots i before_ after_ none) me) live
+    allowed start slots id i me (λ x. either (x == before_) after_ x)
+    (UntagPlay (step slots i before_ after_ none) me) live
     (λ words views kept at alive small.
     let stood_ = kept.seats id me.0 at alive in
     let s : State = shows start.began words in
@@ -321,7 +328,8 @@ global_untags start slots id g target before_ after_ found me live cleared from 
     let in_words : global_place g < length words = let size = kept.size in omega arith in
     let after : List ℕ = set words (global_place g) after_ in
     let changes = global_changes start.began words g after_ below in_words in
-    let r = exchanges start words views kept id me.0 at alive (Global g) found target cleared (slot.Global g) refl (global_place g)
+    let r = exchanges start words views kept id me.0 at alive (Global g) found target cleared (slot.Global g) refl
+    (global_place g)
     before_ after_ from
     (kept.holds.formed.globals g below)
     (sym (global_is start.began words g below))
@@ -336,7 +344,9 @@ global_untags start slots id g target before_ after_ found me live cleared from 
             let is_g : g ≡ h = cc in
             let is_f : found ≡ f = cc in
             let is_t : target ≡ t = cc in
-            let U : ℕ → Ref → ℕ → Type 0 = λ p q u. Untags me.0 r.0 (slot.Global p) q u (get_or words (global_place g) 0) in
-            subst (λ (p : ℕ). U p f t) is_g (subst (λ (q : Ref). U g q t) is_f (subst (λ (u : ℕ). U g found u) is_t r.2)),
+            let U : ℕ → Ref → ℕ → Type 0 =
+            λ p q u. Untags me.0 r.0 (slot.Global p) q u (get_or words (global_place g) 0) in
+            subst (λ (p : ℕ). U p f t) is_g
+            (subst (λ (q : Ref). U g q t) is_f (subst (λ (u : ℕ). U g found u) is_t r.2)),
       ),
     ))

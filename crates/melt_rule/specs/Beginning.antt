@@ -6,7 +6,7 @@ use Rattle.melt_scion.specs.Placed.{Holds}
 use Rattle.melt_scion.specs.Scions.{EachOnce}
 use Rattle.melt_scion.specs.State.{IsFresh}
 use Rattle.melt_rule.specs.Rule.{Has}
-use Rattle.melt_rule.specs.Shown.{free_place, globals_from, maps_of, shows, space_in}
+use Rattle.melt_rule.specs.Shown.{free_place, globals_from, maps_at, shows, space_in}
 use Rattle.melt_rule.specs.declared.began.Start.{Start}
 
 -- The words stand for the history, which is legal, by the maps. Nothing was claimed past the last word, no forwarding
@@ -16,7 +16,7 @@ pub record MayBegin (start : Start) (words : List ℕ) : Type 0 where
   pub size : length words ≡ globals_from + start.began.globals + start.began.forwards + start.began.size
   pub few_words : length words ≤ 2 ^ 32
   pub legal : start.began.told ≡ true → Legal start.began.history start.began.globals
-  pub holds : Holds start.began.told start.began.history (maps_of start.began) (shows start.began words)
+  pub holds : Holds start.began.told start.began.history (maps_at start.began) (shows start.began words)
   pub space : start.began.words ≡ (space_in start.began words).list
   pub first : 1 ≤ start.began.free
   pub free : slice_index words free_place ≡ start.began.free

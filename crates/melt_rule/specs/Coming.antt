@@ -17,8 +17,8 @@ use Rattle.melt_core.specs.declared.call.Activation.{Activation}
 use Rattle.melt_core.specs.declared.call.Search.{Search}
 use Rattle.melt_rule.specs.Making.{FirstFree}
 use Rattle.melt_rule.specs.Plays.{Stays}
-use Rattle.melt_rule.specs.Shown.{base_of, forward_place, word_place}
-use Rattle.melt_rule.specs.Tells.{Sees, behind, Reaches}
+use Rattle.melt_rule.specs.Shown.{base_at, forward_place, word_place}
+use Rattle.melt_rule.specs.Tells.{Sees, view_behind, Reaches}
 use Rattle.melt_rule.specs.declared.began.Began.{Began}
 use Rattle.melt_rule.specs.declared.view.Doing.{Doing}
 use Rattle.melt_rule.specs.declared.view.Doing.TheVariants.{Cleared, Copied, Copying, LackingCopy, Missed, Retrying}
@@ -27,9 +27,9 @@ use Rattle.melt_rule.specs.declared.view.View.{View}
 
 -- A forwarding word was found: none, one that sends the home to an address, or one that sends another home. The object
 -- of a home that is sent has no stale bit.
-abbrev pub Probes : View → View → Search → Doing → Doing → Option (ℕ × ℕ) → Type 0
-Probes v w search empty another None = Reaches v w (Some empty)
-Probes v w search empty another (Some sent) =
+abbrev pub ProbesShared : View → View → Search → Doing → Doing → Option (ℕ × ℕ) → Type 0
+ProbesShared v w search empty another None = Reaches v w (Some empty)
+ProbesShared v w search empty another (Some sent) =
     (sent.0 ≡ search.home → Reaches v w (Some (Cleared search.place (Disk search.home) sent.1)))
     × (sent.0 ≢ search.home → Reaches v w (Some another))
 
@@ -43,17 +43,17 @@ abbrev pub probe_place : Began → Search → ℕ
 probe_place b search = forward_place b (probe search.home b.forwards search.tried)
 
 -- The call searches, with a copy at hand or without.
-abbrev pub SearchesOn : View → Search → Type 0
-SearchesOn v search = (v.doing ≡ Some (Searching search))
+abbrev pub IsSearching : View → Search → Type 0
+IsSearching v search = (v.doing ≡ Some (Searching search))
     ⊎ ((a : Activation) × (v.doing ≡ Some (Retrying a)) × (a.search ≡ search))
 
 -- All forwarding words send other homes, and the stop word was set.
 abbrev pub Fills : View → View → Type 0
-Fills v w = Sees v w.seen × (w ≡ record (behind v w.seen v.known None) { forwarded = true })
+Fills v w = Sees v w.seen × (w ≡ record (view_behind v w.seen v.known None) { forwarded = true })
 
 -- where it is told, a Body of this shape stands at the home on disk, and the object of the home has the shape
 abbrev pub HomeHas : View → List Entry → ℕ → Shape → Type 0
-HomeHas v h home z = v.began.told ≡ true → HeadIs (base_of v.began) home (record { shape = z; kind = Body })
+HomeHas v h home z = v.began.told ≡ true → HeadIs (base_at v.began) home (record { shape = z; kind = Body })
     × ((n : ℕ) → named v.began.maps.homes home ≡ Some n → shape h n ≡ Some (record { refs = z.refs; nums = z.nums }))
 
 -- Words from the address on are for a copy of the Body of this shape, with these words behind its head.
@@ -62,7 +62,7 @@ pub record ClaimsCopy (v w : View) (search : Search) (z : Shape) (rest : List �
   pub object : HomeHas v w.seen search.home z
   pub first : FirstFree v address
   pub fits : address + cost_of z ≤ v.began.size + 1
-  pub is : w ≡ record (behind v w.seen v.known
+  pub is : w ≡ record (view_behind v w.seen v.known
       (Some (Copying (record { search = search; address = address; shape = z }) 0))) {
         rest = rest;
         claimed = v.claimed + cost_of z;
@@ -75,7 +75,7 @@ pub record LacksCopy (v w : View) (search : Search) (z : Shape) : Type 0 where
   pub found : ℕ
   pub first : FirstFree v found
   pub past : v.began.size + 1 < found + cost_of z
-  pub is : w ≡ record (behind v w.seen v.known (Some (LackingCopy search z))) {
+  pub is : w ≡ record (view_behind v w.seen v.known (Some (LackingCopy search z))) {
     claimed = v.claimed + cost_of z;
     over = v.over + 1;
     spaced = true;
@@ -91,20 +91,20 @@ pub record Wins (v w : View) (a : Activation) : Type 0 where
   pub sees : Sees v w.seen
   pub object : ℕ
   pub named : v.began.told ≡ true → named v.began.maps.homes a.search.home ≡ Some object
-  pub is : w ≡ record (behind v w.seen (v.known ++ record { address = a.address; object = object } ∷ [])
+  pub is : w ≡ record (view_behind v w.seen (v.known ++ record { address = a.address; object = object } ∷ [])
       (Some (Cleared a.search.place (Disk a.search.home) a.address))) { won = v.won + 1 }
 
 -- A commit found what its forwarding word sent by then: none, so that the copy is sent
 -- there now; this home; or another.
 abbrev pub Commits : View → View → Activation → Option (ℕ × ℕ) → Type 0
 Commits v w a None = Wins v w a
-Commits v w a (Some sent) = Probes v w a.search (Copied a) (Retrying (retried a)) (Some sent)
+Commits v w a (Some sent) = ProbesShared v w a.search (Copied a) (Retrying (retried a)) (Some sent)
 
 -- a forwarding word was found in a search
 pub record FindsForward (v w : View) (search : Search) (empty another : Doing) (found : ℕ) : Type 0 where
   pub sent : Option (ℕ × ℕ)
   pub is : IsForward found sent
-  pub probes : Probes v w search empty another sent
+  pub probes : ProbesShared v w search empty another sent
 
 abbrev pub ProbePlay : Step ℕ → Me ℕ View → ℕ → Me ℕ View → Type 0
 ProbePlay s m found w = Stays m w

@@ -8,7 +8,7 @@ use Rattle.melt_scion.specs.GhostMaps.{named}
 use Rattle.melt_scion.specs.Placed.{Maps, Holds}
 use Rattle.melt_scion.specs.State.{State, IsFresh}
 use Rattle.melt_core.specs.StaleBits.{BitsTold}
-use Rattle.melt_rule.specs.Rule.{Has, Begins, MadeStay, Saw, threads_of, filled, has_cause, is_lacking}
+use Rattle.melt_rule.specs.Rule.{Has, Begins, MadeStay, Saw, threads_of, filled_count, has_cause, is_lacking}
 use Rattle.melt_rule.specs.Shown.{globals_from, shows}
 use Rattle.melt_rule.specs.Sights.{first_sight, last_sight}
 use Rattle.melt_rule.specs.declared.began.Began.{Began}
@@ -23,7 +23,8 @@ pub record HistoryEnds (start : Start) (v : View) : Type 0 where
   pub since : Begins start.began.history v.seen
   pub mine : Saw v.seen v.thread v.mine
   pub away : (p : ℕ) (a : Away) → get_elem? v.away p ≡ some a → Saw v.seen a.thread a.seen
-  pub strangers : (t : ℕ) → ((p : ℕ) → get_elem? (threads_of v) p ≡ some t → ⊥) → own v.seen t ≡ own start.began.history t
+  pub strangers : (t : ℕ) → ((p : ℕ) → get_elem? (threads_of v) p ≡ some t → ⊥)
+      → own v.seen t ≡ own start.began.history t
 
 -- The maps have what they had at the beginning and what the view knows, and no more. What it knows has no stale bit.
 pub record MapsEnd (b : Began) (maps : Maps) (s : State) (v : View) : Type 0 where
@@ -38,15 +39,15 @@ pub record MapsEnd (b : Began) (maps : Maps) (s : State) (v : View) : Type 0 whe
 pub record CountsEnd (b : Began) (stop : ℕ) (s : State) (v : View) : Type 0 where
   pub free : s.free ≡ b.free + v.claimed
   pub spaced : v.spaced ≡ true → b.size + 1 < s.free
-  pub won : filled s.forward b.forwards ≡ v.won
+  pub won : filled_count s.forward b.forwards ≡ v.won
   pub forwarded : v.forwarded ≡ true → (p : ℕ) → p < b.forwards → s.forward p ≢ 0
   pub bit : (stop ≡ 0) ⊎ (stop ≡ 1)
   pub stopped : v.stopped ≡ true → stop ≡ 1
   pub caused : stop ≡ 1 → has_cause v ≡ true
   pub sets : has_cause v ≡ true → is_lacking v.doing ≡ false → stop ≡ 1
 
--- The words stand for the history that the view has seen. Where it is told, each object that was made in the epoch has an
--- address, and the words have the stale bit as the history says.
+-- The words stand for the history that the view has seen. Where it is told, each object that was made in the epoch has
+-- an address, and the words have the stale bit as the history says.
 pub record HasEnded (start : Start) (words : List ℕ) (v : View) : Type 0 where
   pub size : length words ≡ globals_from + start.began.globals + start.began.forwards + start.began.size
   pub maps : Maps

@@ -7,7 +7,7 @@ use Rattle.melt_model.specs.declared.history.Act.TheVariants.{Make}
 use Rattle.melt_word.specs.Words.{IsShape, cost_of, header_word}
 use Rattle.melt_word.specs.declared.header.Shape.{Shape}
 use Rattle.melt_rule.specs.Plays.{Stays}
-use Rattle.melt_rule.specs.Tells.{Sees, Adds, behind, Reaches}
+use Rattle.melt_rule.specs.Tells.{Sees, Adds, view_behind, Reaches}
 use Rattle.melt_rule.specs.declared.view.Doing.TheVariants.{Claimed, Lacking}
 use Rattle.melt_rule.specs.declared.view.View.{View}
 
@@ -25,7 +25,7 @@ pub record Claims (v w : View) (address cost : ℕ) : Type 0 where
   pub shape : Shape
   pub small : IsShape shape
   pub costs : cost_of shape ≡ cost
-  pub is : w ≡ record (behind v w.seen v.known (Some (Claimed address shape 0))) { claimed = v.claimed + cost }
+  pub is : w ≡ record (view_behind v w.seen v.known (Some (Claimed address shape 0))) { claimed = v.claimed + cost }
 
 -- They end past the last word, which is a cause to stop.
 pub record Lacks (v w : View) (cost : ℕ) : Type 0 where
@@ -33,7 +33,7 @@ pub record Lacks (v w : View) (cost : ℕ) : Type 0 where
   pub found : ℕ
   pub first : FirstFree v found
   pub past : v.began.size + 1 < found + cost
-  pub is : w ≡ record (behind v w.seen v.known (Some (Lacking cost))) {
+  pub is : w ≡ record (view_behind v w.seen v.known (Some (Lacking cost))) {
     claimed = v.claimed + cost;
     over = v.over + 1;
     spaced = true;
@@ -47,7 +47,7 @@ ClaimTells v w cost (Some address) = Claims v w address cost
 -- The region became an object of this shape, with the number that comes next.
 pub record Makes (v w : View) (address : ℕ) (shape : Shape) : Type 0 where
   pub adds : Adds v w.seen (Make shape.refs shape.nums)
-  pub is : w ≡ behind v w.seen
+  pub is : w ≡ view_behind v w.seen
       (v.known ++ record { address = address; object = made (v.seen ++ adds.between) } ∷ []) None
 
 -- The call has words from the address on, of which so many are filled.

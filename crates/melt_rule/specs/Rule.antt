@@ -16,7 +16,7 @@ use Rattle.melt_scion.specs.Regions.{Apart}
 use Rattle.melt_scion.specs.State.{State, IsFresh}
 use Rattle.melt_rule.specs.Giving.{spent_view}
 use Rattle.melt_core.specs.StaleBits.{Tied, sight_of}
-use Rattle.melt_rule.specs.Shown.{base_of, shows, globals_from, Knows, owned}
+use Rattle.melt_rule.specs.Shown.{base_at, shows, globals_from, Knows, owned}
 use Rattle.melt_rule.specs.Sights.{first_sight, stage_at}
 use Rattle.melt_rule.specs.declared.began.Began.{Began}
 use Rattle.melt_rule.specs.declared.began.Pair.{Pair}
@@ -86,7 +86,7 @@ pub record MapsStand (b : Began) (maps : Maps) (views : List View) : Type 0 wher
 -- The object of a home has the shape of the Body that stands there on disk, if one does.
 abbrev pub BodiesTell : Began → Type 0
 BodiesTell b = (home n : ℕ) (z : Shape) → named b.maps.homes home ≡ Some n
-    → HeadIs (base_of b) home (record { shape = z; kind = Body })
+    → HeadIs (base_at b) home (record { shape = z; kind = Body })
     → shape b.history n ≡ Some (record { refs = z.refs; nums = z.nums })
 
 -- 1 for a word that is filled
@@ -95,9 +95,9 @@ filled_one zero = 0
 filled_one (suc word) = 1
 
 -- how many of the first n words are filled
-abbrev pub filled : (ℕ → ℕ) → ℕ → ℕ
-filled word zero = 0
-filled word (suc n) = filled word n + filled_one (word n)
+abbrev pub filled_count : (ℕ → ℕ) → ℕ → ℕ
+filled_count word zero = 0
+filled_count word (suc n) = filled_count word n + filled_one (word n)
 
 -- What the numbers in views add up to. Each claim that ends past the last word is of a seat that lacks words since;
 -- with as many such claims as there are threads at most, the first free place stays small.
@@ -106,7 +106,7 @@ pub record SumsStand (b : Began) (threads : ℕ) (s : State) (views : List View)
   pub free : s.free ≡ b.free + sum_by (λ (v : View). v.claimed) views
   pub bound : s.free ≤ b.size + 1 + 126 * sum_by (λ (v : View). v.over) views
   pub over : (id : ℕ) (v : View) → get_elem? views id ≡ some v → v.over ≤ v.parts
-  pub won : filled s.forward b.forwards ≡ sum_by (λ (v : View). v.won) views
+  pub won : filled_count s.forward b.forwards ≡ sum_by (λ (v : View). v.won) views
 
 -- a view has a cause to stop
 abbrev pub has_cause : View → Bool

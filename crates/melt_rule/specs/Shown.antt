@@ -22,8 +22,8 @@ abbrev pub home_of : ℕ × Shape → Home
 home_of home = record { at = home.0; shape = home.1 }
 
 -- what no step changes
-abbrev pub base_of : Began → Base
-base_of b = record {
+abbrev pub base_at : Began → Base
+base_at b = record {
   size = b.size;
   globals = b.globals;
   forwards = b.forwards;
@@ -35,12 +35,12 @@ base_of b = record {
 }
 
 -- the maps with which an epoch begins
-abbrev pub maps_of : Began → Maps
-maps_of b = record { address = named b.maps.addresses; home = named b.maps.homes }
+abbrev pub maps_at : Began → Maps
+maps_at b = record { address = named b.maps.addresses; home = named b.maps.homes }
 
 -- The words of an epoch are, in this order: the stop word, the first free place, the globals, the forwarding words, and
--- the words of the space. Behind the stop word and the first free place stand seven words each that nobody uses, so that a
--- line of the cache, which has eight, holds no two of stop word, first free place and globals.
+-- the words of the space. Behind the stop word and the first free place stand seven words each that nobody uses, so
+-- that a line of the cache, which has eight, holds no two of stop word, first free place and globals.
 abbrev pub free_place : ℕ
 free_place = 8
 
@@ -73,7 +73,7 @@ word_place b address = 15 + b.globals + b.forwards + address
 -- the state of the words, registers aside
 abbrev pub shows : Began → List ℕ → State
 shows b words = record {
-  base = base_of b;
+  base = base_at b;
   free = slice_index words free_place;
   word = word_at (space_in b words);
   global = slice_index (globals_in b words);
@@ -82,28 +82,28 @@ shows b words = record {
 }
 
 -- the stage of the core at which the call is, whatever it is to do
-abbrev pub stage_of : Doing → Stage
-stage_of Polled = stage.Polled (LoadGlobal 0 0)
-stage_of (Headed address shape) = stage.Headed address shape (Get 0)
-stage_of (Looked place found target) = stage.Looked place found target 0
-stage_of (Cleared place found target) = stage.Cleared place found target 0
-stage_of (Claimed address shape stored) = stage.Claimed address shape stored 0
-stage_of (Lacking need) = stage.Lacking need
-stage_of (Searching search) = stage.Searching search
-stage_of (Missed search) = stage.Missed search
-stage_of (Copying a stored) = stage.Copying a stored
-stage_of (Copied a) = stage.Copied a
-stage_of (Retrying a) = stage.Retrying a
-stage_of (LackingCopy search shape) = stage.LackingCopy search shape
+abbrev pub core_stage : Doing → Stage
+core_stage Polled = stage.Polled (LoadGlobal 0 0)
+core_stage (Headed address shape) = stage.Headed address shape (Get 0)
+core_stage (Looked place found target) = stage.Looked place found target 0
+core_stage (Cleared place found target) = stage.Cleared place found target 0
+core_stage (Claimed address shape stored) = stage.Claimed address shape stored 0
+core_stage (Lacking need) = stage.Lacking need
+core_stage (Searching search) = stage.Searching search
+core_stage (Missed search) = stage.Missed search
+core_stage (Copying a stored) = stage.Copying a stored
+core_stage (Copied a) = stage.Copied a
+core_stage (Retrying a) = stage.Retrying a
+core_stage (LackingCopy search shape) = stage.LackingCopy search shape
 
 abbrev pub staged : Option Doing → Option Stage
-staged doing = option_map stage_of doing
+staged doing = option_map core_stage doing
 
 -- what is known of a call, and the words that it owns
 abbrev pub Knows : Bool → Maps → State → List ℕ → Option Doing → Type 0
 Knows told maps s rest None = Unit {0}
-Knows told maps s rest (Some doing) = Known told maps s rest (stage_of doing)
+Knows told maps s rest (Some doing) = Known told maps s rest (core_stage doing)
 
 abbrev pub owned : Option Doing → Region
 owned None = no_region
-owned (Some doing) = region_of (stage_of doing)
+owned (Some doing) = region_of (core_stage doing)

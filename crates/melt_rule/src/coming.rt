@@ -12,12 +12,12 @@ ghost use Rattle.melt_word.specs.declared.reference.Ref.TheVariants.{Disk};
 ghost use Rattle.melt_scion.specs.Commits.{HasBody, copy_word};
 ghost use Rattle.melt_scion.specs.Heaps.{scion_in};
 ghost use Rattle.melt_core.specs.Stages.{further, retried};
-ghost use Rattle.melt_rule.specs.Coming.{Commits, CopyTells, Fills, Probes, SearchesOn};
+ghost use Rattle.melt_rule.specs.Coming.{Commits, CopyTells, Fills, ProbesShared, IsSearching};
 ghost use Rattle.melt_rule.specs.Coming.{ClearStubPlay, CommitPlay, CopyPlay, FillCopyPlay, FillsPlay};
 ghost use Rattle.melt_rule.specs.Coming.{HeadCopyPlay, ProbePlay, RetryPlay};
 ghost use Rattle.melt_rule.specs.Rule.{has_cause};
 ghost use Rattle.melt_rule.specs.Seats.{IsSeat, knows_of};
-ghost use Rattle.melt_rule.specs.Shown.{base_of};
+ghost use Rattle.melt_rule.specs.Shown.{base_at};
 ghost use Rattle.melt_rule.specs.Tells.{Reaches};
 ghost use Rattle.melt_rule.specs.declared.view.Doing.TheVariants.{Cleared, Copied, Copying, Missed, Retrying};
 ghost use Rattle.melt_rule.specs.declared.view.Doing.TheVariants.{Searching};
@@ -109,7 +109,7 @@ impl Words {
         requires searching { (knows_of seat.old).doing ≡ Some (Searching search) }
         requires more { search.tried < self.now.start.began.forwards }
         ensures seat { IsSeat self.now seat.new }
-        ensures probes { Probes (knows_of seat.old) (knows_of seat.new) search (Missed search)
+        ensures probes { ProbesShared (knows_of seat.old) (knows_of seat.new) search (Missed search)
             (Searching (further search)) result }
     {
         let at = self.forwards_at + search.tried as usize;
@@ -122,7 +122,7 @@ impl Words {
         requires retrying { (knows_of seat.old).doing ≡ Some (Retrying activation) }
         requires more { activation.search.tried < self.now.start.began.forwards }
         ensures seat { IsSeat self.now seat.new }
-        ensures probes { Probes (knows_of seat.old) (knows_of seat.new) activation.search (Copied activation)
+        ensures probes { ProbesShared (knows_of seat.old) (knows_of seat.new) activation.search (Copied activation)
             (Retrying (retried activation)) result }
     {
         let at = self.forwards_at + activation.search.tried as usize;
@@ -132,7 +132,7 @@ impl Words {
     /// Sets the stop word, as the search read all forwarding words, and each sends another home.
     pub fn stop_filled(&self, seat: &mut Seated, search: Search)
         requires seat { IsSeat self.now seat.old }
-        requires searches { SearchesOn (knows_of seat.old) search }
+        requires searches { IsSearching (knows_of seat.old) search }
         requires all { self.now.start.began.forwards ≤ search.tried }
         ensures seat { IsSeat self.now seat.new }
         ensures fills { Fills (knows_of seat.old) (knows_of seat.new) }
@@ -169,7 +169,7 @@ impl Words {
         requires seat { IsSeat self.now seat.old }
         requires missed { (knows_of seat.old).doing ≡ Some (Missed search) }
         requires no_cause { has_cause (knows_of seat.old) ≡ false }
-        requires body { HasBody self.now.start.began.told (base_of self.now.start.began) search.home shape rest.now }
+        requires body { HasBody self.now.start.began.told (base_at self.now.start.began) search.home shape rest.now }
         ensures seat { IsSeat self.now seat.new }
         ensures tells { CopyTells (knows_of seat.old) (knows_of seat.new) search shape rest.now result }
     {
@@ -189,7 +189,7 @@ impl Words {
         requires seat { IsSeat self.now seat.old }
         requires missed { (knows_of seat.old).doing ≡ Some (Missed search) }
         requires no_cause { has_cause (knows_of seat.old) ≡ false }
-        requires body { HasBody self.now.start.began.told (base_of self.now.start.began) search.home shape rest.now }
+        requires body { HasBody self.now.start.began.told (base_at self.now.start.began) search.home shape rest.now }
         ensures seat { IsSeat self.now seat.new }
         ensures tells { CopyTells (knows_of seat.old) (knows_of seat.new) search shape rest.now result }
     {

@@ -34,9 +34,9 @@ pub const FREE_AT: usize = 8;
 /// Where the first global stands, or what stands behind the globals where there is none.
 pub const GLOBALS_AT: usize = 16;
 
-/// The words before the globals as an epoch begins: the stop word, which is not set, and the first free place. Each begins
-/// a line of the cache of its own, so that a thread that makes an object takes the stop word from no other thread, which
-/// reads it in each call.
+/// The words before the globals as an epoch begins: the stop word, which is not set, and the first free place. Each
+/// begins a line of the cache of its own, so that a thread that makes an object takes the stop word from no other
+/// thread, which reads it in each call.
 pub fn front(free: u64) -> [u64; GLOBALS_AT]
     ensures { result ≡ front 0 free }
 {

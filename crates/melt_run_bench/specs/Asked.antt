@@ -1,5 +1,6 @@
 -- What the words of the program ask for.
-use Rattle.std.specs.Prelude.{ℕ, ◌^◌, ◌==◌, nat_lt, true, if◌then◌else◌, List, [], ◌∷◌, Option, None, Some, codes, option_and_then}
+use Rattle.std.specs.Prelude.{ℕ, ◌^◌, ◌==◌, nat_lt, true, if◌then◌else◌, List, [], ◌∷◌, Option, None, Some, codes}
+use Rattle.std.specs.Prelude.{option_and_then}
 use Rattle.std.specs.List.{after_first, before_first}
 use Rattle.std.specs.Option.{option_map}
 use Rattle.std.specs.Str.{bytes_eq}
@@ -13,8 +14,8 @@ within_word None = None
 within_word (Some n) = if nat_lt n (2 ^ 32) then Some n else None
 
 -- the same numbers, with this one under this name, if it is one
-abbrev pub with_number : Config → (name : List ℕ) → (number : ℕ) → Option Config
-with_number config name number =
+abbrev pub with_setting : Config → (name : List ℕ) → (number : ℕ) → Option Config
+with_setting config name number =
     if bytes_eq name (codes "heap") then Some (record config { heap = number })
     else if bytes_eq name (codes "forward") then Some (record config { forward = number })
     else if bytes_eq name (codes "disk") then Some (record config { disk = number })
@@ -27,7 +28,7 @@ with_number config name number =
 abbrev pub with_named : Asked → (name : List ℕ) → (number : ℕ) → Option Asked
 with_named asked name number =
     if bytes_eq name (codes "time") then Some (record asked { timed = number })
-    else option_map (λ config. record asked { config = config }) (with_number asked.config name number)
+    else option_map (λ config. record asked { config = config }) (with_setting asked.config name number)
 
 -- the same, and what one more word asks for, if it asks for something: a number stands behind the first `=` of a word
 abbrev pub with_word : Asked → (word : List ℕ) → Option Asked
@@ -37,6 +38,6 @@ with_word asked word =
     (within_word (number_of (after_first (λ b. b == 61) word)))
 
 -- what these words ask for together, beside what was asked for before, if each of them asks for something
-abbrev pub with_words : Asked → (words : List (List ℕ)) → Option Asked
-with_words asked [] = Some asked
-with_words asked (word ∷ words) = option_and_then (λ next. with_words next words) (with_word asked word)
+abbrev pub with_settings : Asked → (words : List (List ℕ)) → Option Asked
+with_settings asked [] = Some asked
+with_settings asked (word ∷ words) = option_and_then (λ next. with_settings next words) (with_word asked word)

@@ -2,7 +2,7 @@
 ghost use Rattle.std.specs.Prelude.{◌≡◌, ◌≤◌, ◌↔◌, map, string_bytes, IsTrue, IfOk, IfSome, OnErr};
 ghost use Rattle.melt_trace.specs.Language.{number_of};
 ghost use Rattle.melt_model.specs.Config.{InRanges};
-ghost use Rattle.melt_run_bench.specs.Asked.{with_named, with_number, with_word, with_words, within_word};
+ghost use Rattle.melt_run_bench.specs.Asked.{with_named, with_setting, with_word, with_settings, within_word};
 
 use anyhow::{Context, Result, ensure};
 use melt_model::Config;
@@ -40,8 +40,8 @@ fn number_in(text: &str) -> Option<u32>
 }
 
 /// The same numbers, with this one under this name.
-fn with_number(config: Config, name: &str, number: u32) -> Option<Config>
-    ensures { result ≡ with_number config name.now number }
+fn with_setting(config: Config, name: &str, number: u32) -> Option<Config>
+    ensures { result ≡ with_setting config name.now number }
 {
     let mut config = config;
     match name {
@@ -66,7 +66,7 @@ fn with_named(asked: Asked, name: &str, number: u32) -> Option<Asked>
             ..asked
         });
     }
-    let config = with_number(asked.config, name, number)?;
+    let config = with_setting(asked.config, name, number)?;
     Some(Asked { config, ..asked })
 }
 
@@ -105,9 +105,9 @@ fn is_in_ranges(config: Config) -> bool
 
 /// What the words ask for together.
 pub fn asked_by(words: &[String]) -> Result<Asked>
-    ensures asks { IfOk result (λ asked. with_words NO_WORDS (map string_bytes words.now) ≡ Some asked) }
+    ensures asks { IfOk result (λ asked. with_settings NO_WORDS (map string_bytes words.now) ≡ Some asked) }
     ensures ranges { IfOk result (λ asked. InRanges asked.config) }
-    ensures refused { OnErr result (IfSome (with_words NO_WORDS (map string_bytes words.now))
+    ensures refused { OnErr result (IfSome (with_settings NO_WORDS (map string_bytes words.now))
         (λ asked. InRanges asked.config → ⊥)) }
 {
     let mut asked = NO_WORDS;

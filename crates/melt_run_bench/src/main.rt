@@ -1,6 +1,7 @@
 //! Runs a trace from standard input by real threads, over a disk in memory or in the file `melt.stale` of the current
-//! folder. The words behind its name are `file`, and numbers, as `heap=4096`. It tells how each thread ended and how many
-//! collections there were, and with `time=9` makes nine runs and tells how long each took. `bench/threads` times it.
+//! folder. The words behind its name are `file`, and numbers, as `heap=4096`. It tells how each thread ended and how
+//! many collections there were, and with `time=9` makes nine runs and tells how long each took. `bench/threads` times
+//! it.
 #![tactic(auto)]
 
 ghost use Rattle.melt_model.specs.Config.{InRanges};

@@ -20,8 +20,8 @@ pub struct Timed {
     pub took: Duration,
 }
 
-/// Runs a trace by real threads, each operation as soon as it comes, over a disk that has no homes yet. The time is that of
-/// the run alone.
+/// Runs a trace by real threads, each operation as soon as it comes, over a disk that has no homes yet. The time is
+/// that of the run alone.
 pub fn time_run<X: Threads + Sync + Clock, D: StaleDisk>(
     rt: &X,
     alloc: Global,

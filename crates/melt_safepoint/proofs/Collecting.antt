@@ -35,7 +35,7 @@ use Rattle.melt_core.specs.Views.{View, maps, maps_of, state, value, values_of, 
 use Rattle.melt_core.specs.Views.{call_of, claimed, claimed_in, InUse, Bounded, Counts, Standing, IsQuiet}
 use Rattle.melt_core.proofs.Alive.{placed as placed_now}
 use Rattle.melt_core.proofs.Values.{same_values, value_held, may_value}
-use Rattle.melt_safepoint.specs.Resting.{Beside, NamesHeap, behind, rest_view}
+use Rattle.melt_safepoint.specs.Resting.{Beside, NamesHeap, with_names_held, rest_view}
 
 -- A heap and what is beside it, between two epochs: what an epoch that begins with them stands for over a disk, told or
 -- not. The names are those of the heap.
@@ -125,17 +125,17 @@ pub record StandsFor (told : Bool) (later : OnDisk) (heap new : Heap) (b : Besid
   pub settled : IsSettled new
   pub size : length new.space.list ≡ length heap.space.list
   pub globals : length new.globals ≡ length heap.globals
-  pub bounded : Bounded (rest_view new (behind b names registers))
-  pub counts : told ≡ true → InUseOf new (behind b names registers)
+  pub bounded : Bounded (rest_view new (with_names_held b names registers))
+  pub counts : told ≡ true → InUseOf new (with_names_held b names registers)
 
 module _ (told : Bool) (disk later : OnDisk) (heap new : Heap) (b : Beside) (names : Option name_table.Names)
     (registers : List Registers) (rests : RestsOver told disk heap b) where
   -- the objects in use are within the heap still
   counts_for : StandsFor told later heap new b names registers → told ≡ true
-      → Counts (rest_view new (behind b names registers))
+      → Counts (rest_view new (with_names_held b names registers))
   counts_for is tells =
       let none : claimed b.calls ≡ 0 = unclaimed b.calls rests.quiet in
-      let counts : InUseOf new (behind b names registers) = is.counts tells in
+      let counts : InUseOf new (with_names_held b names registers) = is.counts tells in
       record {
         in_use = counts.in_use;
         adds_up = counts.adds_up;
@@ -145,7 +145,7 @@ module _ (told : Bool) (disk later : OnDisk) (heap new : Heap) (b : Beside) (nam
 
   -- such a heap stands for the same history
   pub standing_for : StandsFor told later heap new b names registers → length registers ≡ length b.held
-      → Standing told later (rest_view new (behind b names registers))
+      → Standing told later (rest_view new (with_names_held b names registers))
   standing_for is threads =
       let v : View = rest_view heap b in
       let s : Standing told disk v = rests.stands in
@@ -176,13 +176,13 @@ module _ (told : Bool) (disk later : OnDisk) (heap new : Heap) (b : Beside) (nam
 
   -- and is at rest
   pub rests_for : StandsFor told later heap new b names registers → length registers ≡ length b.held
-      → RestsOver told later new (behind b names registers)
+      → RestsOver told later new (with_names_held b names registers)
   rests_for is threads = record { stands = standing_for is threads; quiet = rests.quiet; names = is.names_are }
 
   -- and registers for the values that they held
   pub values_for : StandsFor told later heap new b names registers
       → ((t : ℕ) → length (registers_in registers t) ≡ length (registers_in b.held t)) → (t : ℕ)
-      → values_of (rest_view new (behind b names registers)) t ≡ values_of (rest_view heap b) t
+      → values_of (rest_view new (with_names_held b names registers)) t ≡ values_of (rest_view heap b) t
   values_for is sizes t =
       same_values b.names names (registers_in b.held t) (registers_in registers t) (sizes t) (is.holds t)
 
@@ -250,7 +250,7 @@ module _ (phase : Phase) (finish : ℕ) (image : Option (List ℕ)) (journal : J
   placed_after tells = was.collected.placed v.log (value v) (placed_told told disk v rests.stands tells)
 
   -- and what is in use is counted
-  used_after : told ≡ true → InUseOf new (behind b names registers)
+  used_after : told ≡ true → InUseOf new (with_names_held b names registers)
   used_after tells =
       let free : new.space.used + 1 ≤ length new.space.list + 1 = was.collected.words.free in
       let adds_up : CostsSum (words_of v.log) (InUse was.after) journal.live =

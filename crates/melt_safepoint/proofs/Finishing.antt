@@ -16,7 +16,7 @@ use Rattle.melt_scion.specs.declared.registers.Registers.{Registers}
 use Rattle.melt_move.specs.Planned.{plan_after}
 use Rattle.melt_core.specs.Epochs.{HasFinished}
 use Rattle.melt_core.specs.Views.{View, held_values, maps_of, registers_in, value, values_of, IsQuiet, Standing}
-use Rattle.melt_safepoint.specs.Collections.{CollectedOver, CollectsCore, FullOver, Gathers, IsFullCore, IsMarked}
+use Rattle.melt_safepoint.specs.Collections.{CollectedOver, CollectsCore, FullOver, Gathers, IsFullCore, AllMarked}
 use Rattle.melt_safepoint.specs.Collections.{MayCollect}
 use Rattle.melt_safepoint.specs.Shown.{Shown}
 use Rattle.melt_safepoint.specs.Tables.{Renewed}
@@ -30,7 +30,7 @@ same_word space after zero same = refl
 same_word space after (suc k) same = ap (λ (words : List ℕ). get_or words k 0) same
 
 -- an epoch that ends changes no stale bit and no register
-pub finished_marked : (v x : View) → HasFinished v x → IsMarked v → IsMarked x
+pub finished_marked : (v x : View) → HasFinished v x → AllMarked v → AllMarked x
 finished_marked v x finished marked a header named starts lone =
     marked a header
     (subst (λ (names : Option name_table.Names). IsNamed (maps_of names) a) finished.names named)

@@ -26,7 +26,7 @@ use Rattle.melt_core.proofs.Alive.{alive_sum}
 use Rattle.melt_core.proofs.Disks.{stands_over}
 use Rattle.melt_core.proofs.OnDiskCosts.{alive_within}
 use Rattle.melt_safepoint.specs.Collections.{MayCollect, Gathers, CollectedOver, CollectsCore}
-use Rattle.melt_safepoint.specs.Resting.{Beside, CollectsHeap, LeavesHeap, MayCollectHeap, NamesHeap, behind}
+use Rattle.melt_safepoint.specs.Resting.{Beside, CollectsHeap, LeavesHeap, MayCollectHeap, NamesHeap, with_names_held}
 use Rattle.melt_safepoint.specs.Resting.{rest_view}
 use Rattle.melt_safepoint.specs.Shown.{Shown, Underlies}
 use Rattle.melt_safepoint.specs.Tables.{Renewed}
@@ -41,11 +41,11 @@ same_value v w values = fun_ext (λ t. fun_ext (λ r. ap (λ (vs : List Value). 
 
 -- A new epoch begins, in which all stands as it stood.
 pub renewed_by : (told : Bool) (later : OnDisk) (heap new : Heap) (b : Beside) (names : Option name_table.Names)
-    (registers : List Registers) → RestsOver told later new (behind b names registers)
+    (registers : List Registers) → RestsOver told later new (with_names_held b names registers)
     → length new.space.list ≡ length heap.space.list → length new.globals ≡ length heap.globals
     → length new.forward ≡ length heap.forward → length registers ≡ length b.held
-    → ((t : ℕ) → values_of (rest_view new (behind b names registers)) t ≡ values_of (rest_view heap b) t)
-    → Renewed told later (rest_view heap b) (rest_view new (behind b names registers))
+    → ((t : ℕ) → values_of (rest_view new (with_names_held b names registers)) t ≡ values_of (rest_view heap b) t)
+    → Renewed told later (rest_view heap b) (rest_view new (with_names_held b names registers))
 renewed_by told later heap new b names registers rests words globals forwards threads values = record {
   stands = rests.stands;
   quiet = rests.quiet;
@@ -68,7 +68,7 @@ module _ (told : Bool) (phase : Phase) (disk : OnDisk) (heap new : Heap) (b : Be
   y = rest_view c.mid b
 
   abbrev w : View
-  w = rest_view new (behind b names registers)
+  w = rest_view new (with_names_held b names registers)
 
   -- the words that the journal has of registers are those of the objects that they hold
   held_sum : CostsSum (words_of x.log) (Held (value x)) journal.held
@@ -219,7 +219,7 @@ module _ (phase : Phase) (shown later : Shown) (heap new : Heap) (b : Beside) (n
   v = rest_view heap b
 
   abbrev new_view : View
-  new_view = rest_view new (behind b names registers)
+  new_view = rest_view new (with_names_held b names registers)
 
   -- all was at rest over a disk that is seen so
   made_rests : (told : Bool) (free : List ℕ) (seen : SeenDisk told shown.end shown.image free v)
@@ -259,7 +259,7 @@ module _ (phase : Phase) (shown later : Shown) (heap new : Heap) (b : Beside) (n
       let moved : phase ≡ Move → Carried told Move seen.disk heap new b names registers later.end later.image entry =
       λ move. subst (λ (p : Phase). Carried told p seen.disk heap new b names registers later.end later.image entry)
       move c in
-      let rests : RestsOver told (with_free c.was.later free) new (behind b names registers) = record {
+      let rests : RestsOver told (with_free c.was.later free) new (with_names_held b names registers) = record {
         stands = with_free_stands told c.was.later free new_view (λ tells. c.free tells ∙ seen.same_free)
             c.at_rest.stands;
         quiet = c.at_rest.quiet;

@@ -9,7 +9,7 @@ use Rattle.melt_model.specs.declared.reports.Journal.{Journal}
 use Rattle.melt_model.proofs.Sums.{CostsSum-one}
 use Rattle.melt_trace.specs.Script.{Script}
 use Rattle.melt_core.specs.Views.{View, value}
-use Rattle.melt_safepoint.specs.Collections.{IsMarked, NoneForwarded}
+use Rattle.melt_safepoint.specs.Collections.{AllMarked, NoneForwarded}
 use Rattle.melt_safepoint.specs.Journals.{IsTight, before}
 use Rattle.melt_safepoint.specs.Needs.{NeedsWords}
 use Rattle.melt_safepoint.specs.Passing.{NoneOwn, WaitsForRoom}
@@ -33,7 +33,7 @@ tight_behind config run words need collected is above small =
     subst (IsTight config) (sym last) tight
 
 -- what the Moves that were forced tell of a call that lacked words behind them
-left_by : (config : Config) (forced : ℕ) (v w : View) (need : ℕ) → LeftBy forced v → (IsMarked v → IsMarked w)
+left_by : (config : Config) (forced : ℕ) (v w : View) (need : ℕ) → LeftBy forced v → (AllMarked v → AllMarked w)
     → w.log ≡ v.log → ((u r : ℕ) → value w u r ≡ value v u r) → config.heap + 1 < v.free + need
     → LacksBy config forced w need
 left_by config zero v w need by marked history values above = tt
@@ -57,7 +57,7 @@ pub record LeavesLacking (told : Bool) (config : Config) (old new : Row) (t need
   pub above : config.heap + 1 < old.view.free + need
   pub small : need ≤ 126
   pub none_forwarded : NoneForwarded new.view
-  pub marked : told ≡ true → IsMarked old.view → IsMarked new.view
+  pub marked : told ≡ true → AllMarked old.view → AllMarked new.view
   pub op : Op
   pub next : (s : ThreadState) → slice_get old.states t ≡ Some s → s.op ≡ Some op
   pub needs : told ≡ true → NeedsWords old.view.log (value old.view) t op need

@@ -20,7 +20,7 @@ use Rattle.melt_copy.specs.Settling.{with_image, HasKept, SettlesBelow}
 use Rattle.melt_move.specs.Collecting.{HasMoved, Moves}
 use Rattle.melt_move.specs.Planned.{Settles, CopiesIn, CollectsIn, CollectsPlanned}
 use Rattle.melt_core.specs.Views.{View, maps_of, values_of, Bounded, Counts}
-use Rattle.melt_safepoint.specs.Resting.{Beside, LeavesHeap, NamesHeap, behind, rest_view}
+use Rattle.melt_safepoint.specs.Resting.{Beside, LeavesHeap, NamesHeap, with_names_held, rest_view}
 use Rattle.melt_safepoint.proofs.Collecting.{InUseOf, RestsOver, StandsFor, WasCollected, tables_made, formed_now}
 use Rattle.melt_safepoint.proofs.Collecting.{values_now, placed_told, rests_for, values_for, collected_for}
 use Rattle.melt_safepoint.proofs.Collecting.{same_maps, same_sizes}
@@ -289,12 +289,13 @@ pub record Carried (told : Bool) (phase : Phase) (disk : OnDisk) (heap new : Hea
   pub headers : (a n : ℕ) (header : Header) → (maps_of b.names).address a ≡ Some n
       → HeaderAt (state_of heap b.held disk) a header → HeaderAt (state_of mid b.held between) a header
   pub was : WasCollected phase (maps_of b.names) between mid new b.held registers finish image journal
-  pub at_rest : RestsOver told was.later new (behind b names registers)
+  pub at_rest : RestsOver told was.later new (with_names_held b names registers)
   pub free : told ≡ true → was.later.free_homes ≡ disk.free_homes
   pub size : length new.space.list ≡ length heap.space.list
   pub globals : length new.globals ≡ length heap.globals
   pub forwards : length new.forward ≡ length heap.forward
-  pub values : (t : ℕ) → values_of (rest_view new (behind b names registers)) t ≡ values_of (rest_view heap b) t
+  pub values : (t : ℕ)
+      → values_of (rest_view new (with_names_held b names registers)) t ≡ values_of (rest_view heap b) t
 
 -- The registers are those of as many threads, each of which has 16, before and after.
 pub record SameThreads (held registers : List Registers) : Type 0 where
@@ -346,7 +347,8 @@ module _ (told : Bool) (phase : Phase) (disk : OnDisk) (heap new : Heap) (b : Be
         collected_for phase finish image journal told p.between p.mid new b names registers over_mid named p.was
 
     -- the values in registers are those from before
-    over_values : (t : ℕ) → values_of (rest_view new (behind b names registers)) t ≡ values_of (rest_view heap b) t
+    over_values : (t : ℕ)
+        → values_of (rest_view new (with_names_held b names registers)) t ≡ values_of (rest_view heap b) t
     over_values t =
         values_for told p.between p.was.later p.mid new b names registers over_mid over_stands
         (same_sizes b.held registers threads.threads threads.before threads.after) t

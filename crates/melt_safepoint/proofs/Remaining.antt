@@ -40,7 +40,7 @@ use Rattle.melt_safepoint.specs.declared.thread.Mode.{Mode}
 use Rattle.melt_safepoint.specs.declared.thread.Mode.TheVariants as mode
 use Rattle.melt_safepoint.specs.Threads.{AllEnded}
 use Rattle.melt_safepoint.specs.Journals.{MayMove, before, end_of}
-use Rattle.melt_safepoint.specs.Run.{answered, is_halted, lost_in, MayHalt, register_left, IsLeft, IsFull, Leaves}
+use Rattle.melt_safepoint.specs.Run.{answered, is_halted, lost_in, MayHalt, register_left, IsLeft, IsFull, HasLeft}
 use Rattle.melt_safepoint.specs.Run.{HasRun, CountsFaults}
 use Rattle.melt_safepoint.specs.Shown.{Shown, Underlies}
 use Rattle.melt_safepoint.specs.Modes.{IsEnded}
@@ -232,7 +232,7 @@ ran told script config seen ended report stands is None (Some heap) halts cause 
     record {
       reported = step_report told script config seen ended report stands reports
           (subst (MayHalt config report) (sym halts) tt);
-      left = subst (λ (o : Option Halt). Leaves told script config seen report o (Some heap)) (sym halts)
+      left = subst (λ (o : Option Halt). HasLeft told script config seen report o (Some heap)) (sym halts)
           (left_heap told script config seen stands.disk heap stands.v stands.states report stands.table cause.2
           cause.3 (is.log ∙ stands.log));
     }
@@ -244,7 +244,7 @@ ran told script config seen ended report stands is (Some (halt.DiskFull finish n
       reported = step_report told script config seen ended report stands reports
           (subst (MayHalt config report) (sym halts)
           (may_halt told config seen stands.disk stands.v ended report finish need limit is.journal cause.3));
-      left = subst (λ (o : Option Halt). Leaves told script config seen report o (Some heap)) (sym halts) (
+      left = subst (λ (o : Option Halt). HasLeft told script config seen report o (Some heap)) (sym halts) (
         left_heap told script config seen stands.disk heap stands.v stands.states report stands.table cause.1
             cause.2 (is.log ∙ stands.log),
         λ so. left_full script config seen stands.disk stands.v stands.states ended report heap finish need limit
@@ -261,7 +261,7 @@ ran told script config seen ended report stands is (Some halt.DiskFault) None ha
     record {
       reported = step_report told script config seen ended report stands reports
           (subst (MayHalt config report) (sym halts) tt);
-      left = subst (λ (o : Option Halt). Leaves told script config seen report o None) (sym halts) tt;
+      left = subst (λ (o : Option Halt). HasLeft told script config seen report o None) (sym halts) tt;
     }
 ran told script config seen ended report stands is None None halts cause = absurd cause
 ran told script config seen ended report stands is (Some (halt.DiskFull finish need limit)) None halts cause =

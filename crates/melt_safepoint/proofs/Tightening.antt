@@ -21,8 +21,8 @@ use Rattle.melt_scion.specs.declared.registers.Registers.{Registers}
 use Rattle.melt_scion.proofs.Geometry.{one_header}
 use Rattle.melt_scion.proofs.Phases.{leaving_not_held}
 use Rattle.melt_core.specs.Views.{maps_of}
-use Rattle.melt_safepoint.specs.Collections.{IsMarked}
-use Rattle.melt_safepoint.specs.Resting.{Beside, behind, rest_view}
+use Rattle.melt_safepoint.specs.Collections.{AllMarked}
+use Rattle.melt_safepoint.specs.Resting.{Beside, with_names_held, rest_view}
 use Rattle.melt_safepoint.proofs.Collecting.{RestsOver, formed_now, maps_after}
 use Rattle.melt_safepoint.proofs.MovedSums.{contains_or_not, moved_counts}
 use Rattle.melt_safepoint.proofs.PlannedRest.{Carried}
@@ -162,7 +162,7 @@ module _ (told : Bool) (disk : OnDisk) (heap new : Heap) (b : Beside) (names : O
   t = state_of new registers c.was.later
 
   -- what had the stale bit has it still in the settled heap
-  marked_between : IsMarked (rest_view heap b) → (a : ℕ) (header : Header) → IsNamed (maps_of b.names) a
+  marked_between : AllMarked (rest_view heap b) → (a : ℕ) (header : Header) → IsNamed (maps_of b.names) a
       → HeaderAt s a header → (HoldsAt s a → ⊥) → header.stale ≡ true
   marked_between marked a header had starts lone =
       let object : (h : Header) × ObjectAt (state_of heap b.held disk) a h =
@@ -174,14 +174,14 @@ module _ (told : Bool) (disk : OnDisk) (heap new : Heap) (b : Beside) (names : O
       (λ holds. lone (record { thread = holds.thread; register = holds.register; holds = holds.holds }))
 
   -- a Move leaves the words of what registers hold, where all other objects had the stale bit
-  pub move_tight : IsMarked (rest_view heap b) → journal.live ≡ journal.held
+  pub move_tight : AllMarked (rest_view heap b) → journal.live ≡ journal.held
   move_tight marked =
       tight_words (maps_of b.names) c.was.after s t c.was.to c.was.home c.was.scion
       (formed_now told c.between (rest_view c.mid b) c.at_mid.stands) c.was.collected journal.held journal.live
       c.was.held_words c.was.live (marked_between marked)
 
   -- and then all others have it
-  pub move_marks : IsMarked (rest_view new (behind b names registers))
+  pub move_marks : AllMarked (rest_view new (with_names_held b names registers))
   move_marks a header named starts lone =
       marked_words (maps_of b.names) c.was.after s t c.was.to c.was.home c.was.scion
       (formed_now told c.between (rest_view c.mid b) c.at_mid.stands) c.was.collected a header

@@ -12,7 +12,7 @@ use Rattle.melt_scion.specs.Heaps.{OnDisk}
 use Rattle.melt_scion.specs.declared.heap.Heap.{Heap}
 use Rattle.melt_core.specs.Views.{View}
 use Rattle.melt_safepoint.specs.Ended.{EndedStands, EndsBy}
-use Rattle.melt_safepoint.specs.Run.{HasRun, IsLeft, IsStepReport, Leaves, MayEnd}
+use Rattle.melt_safepoint.specs.Run.{HasRun, IsLeft, IsStepReport, HasLeft, MayEnd}
 use Rattle.melt_safepoint.specs.Shown.{Shown, Underlies}
 use Rattle.melt_safepoint.specs.declared.ending.Ended.{Ended}
 use Rattle.melt_safepoint.specs.declared.thread.ThreadState.{ThreadState}
@@ -53,8 +53,8 @@ left_untold {script} {config} {shown} {report} {heap} is = record {
 }
 
 leaves_untold : (script : Script) (config : Config) (shown : Shown) (report : Report) (h : Option Halt)
-    (heap : Option Heap) → Leaves true script config shown report h heap
-    → Leaves false script config shown report h heap
+    (heap : Option Heap) → HasLeft true script config shown report h heap
+    → HasLeft false script config shown report h heap
 leaves_untold script config shown report None (Some heap) leaves = left_untold leaves
 leaves_untold script config shown report (Some (halt.DiskFull end need limit)) (Some heap) leaves =
     (left_untold leaves.0, λ (told : false ≡ true). absurd (cc))

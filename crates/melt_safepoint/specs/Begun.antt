@@ -17,8 +17,8 @@ use Rattle.melt_safepoint.specs.declared.ending.Stop.{Stop}
 use Rattle.melt_safepoint.specs.declared.engine.Engine.{Engine}
 use Rattle.melt_safepoint.specs.declared.run.Run.{Run}
 
--- The engine makes collections and runs epochs, and the run may be passed to it: it stands, with no forwarding word filled
--- and no thread that waits for a collection, and no thread was lost and no collection made so far.
+-- The engine makes collections and runs epochs, and the run may be passed to it: it stands, with no forwarding word
+-- filled and no thread that waits for a collection, and no thread was lost and no collection made so far.
 pub record IsBegun {C F E S : Type 0}
     (collect : Shared C (E × (Global × (MutBor Collector × (MutBor S × (Bool × Unit {0})))))
     (Result E CollectRefusal × (MutBor Collector × (MutBor S × Unit {0}))))

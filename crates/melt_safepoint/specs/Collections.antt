@@ -29,8 +29,8 @@ abbrev pub NoneForwarded : View → Type 0
 NoneForwarded v = (p : ℕ) → slice_index v.forward p ≡ 0
 
 -- Each object in use that no register holds has the stale bit. What stands on disk says nothing of that.
-abbrev pub IsMarked : View → Type 0
-IsMarked v = (a : ℕ) (header : Header) → IsNamed (maps v) a → HeaderAt (state no_homes_on v) a header
+abbrev pub AllMarked : View → Type 0
+AllMarked v = (a : ℕ) (header : Header) → IsNamed (maps v) a → HeaderAt (state no_homes_on v) a header
     → (HoldsAt (state no_homes_on v) a → ⊥) → header.stale ≡ true
 
 -- of the words that were made behind the last collection, all are in use
@@ -62,8 +62,8 @@ pub record CollectedOver (told : Bool) (phase : Phase) (later : Shown) (free : L
   pub same_free : disk.free_homes ≡ free
   pub renewed : Renewed told disk v w
   pub gathers : told ≡ true → Gathers v entry
-  pub marked : told ≡ true → phase ≡ Move → IsMarked w
-  pub tight : told ≡ true → phase ≡ Move → IsMarked v → entry.live ≡ entry.held
+  pub marked : told ≡ true → phase ≡ Move → AllMarked w
+  pub tight : told ≡ true → phase ≡ Move → AllMarked v → entry.live ≡ entry.held
 
 -- A collection of the phase was made and written down, and the next one planned by that. A new epoch has begun, behind
 -- the words in use. The disk ends where it ended, or further on after a Move, within its limit.

@@ -48,8 +48,8 @@ rest_view heap b = record {
 }
 
 -- the same with other names and registers
-abbrev pub behind : Beside → Option name_table.Names → List Registers → Beside
-behind b names held = record b { names = names; held = held }
+abbrev pub with_names_held : Beside → Option name_table.Names → List Registers → Beside
+with_names_held b names held = record b { names = names; held = held }
 
 -- The names are those of the maps of the heap, for as many addresses as it has words.
 pub record NamesHeap (heap : Heap) (names : Option name_table.Names) : Type 0 where
@@ -83,7 +83,7 @@ abbrev pub CollectsHeap : Phase → (shown later : Shown) → (heap new : Heap) 
 CollectsHeap phase shown later heap new held held_after old plans =
     (b : Beside) (names : Option name_table.Names) → b.held ≡ held → NamesHeap heap b.names → NamesHeap new names
     → MayCollect shown.end (rest_view heap b)
-    → CollectsCore phase shown later (rest_view heap b) (rest_view new (behind b names held_after)) old plans
+    → CollectsCore phase shown later (rest_view heap b) (rest_view new (with_names_held b names held_after)) old plans
 
 -- The disk had no room for the new homes of a Move of a heap and registers. The heap is handed back, in which all
 -- stands as before, whatever stood beside it.

@@ -13,7 +13,7 @@ use Rattle.melt_move.specs.Planned.{phase_done}
 use Rattle.melt_scion.specs.Heaps.{OnDisk}
 use Rattle.melt_core.specs.Views.{View, value, IsQuiet}
 use Rattle.melt_safepoint.specs.declared.thread.ThreadState.{ThreadState}
-use Rattle.melt_safepoint.specs.Collections.{CollectsCore, IsMarked, MadeSoFar, NoneForwarded}
+use Rattle.melt_safepoint.specs.Collections.{CollectsCore, AllMarked, MadeSoFar, NoneForwarded}
 use Rattle.melt_safepoint.specs.Counts.{CountsCollections}
 use Rattle.melt_safepoint.specs.Ended.{StopsSo}
 use Rattle.melt_safepoint.specs.Endings.{HaveCuts}
@@ -170,7 +170,7 @@ pub record OnlyHeld (v : View) : Type 0 where
 -- the second there is none.
 abbrev pub LeftBy : ℕ → View → Type 0
 LeftBy zero v = Unit {0}
-LeftBy (suc zero) v = IsMarked v
+LeftBy (suc zero) v = AllMarked v
 LeftBy (suc (suc k)) v = OnlyHeld v
 
 -- A run at a safepoint, behind a collection, and behind so many that were forced in a row: a thread that lacked room is
@@ -196,7 +196,7 @@ NoRoom config v need = (held : ℕ) → CostsSum (words_of v.log) (Held (value v
 -- what so many forced Moves in a row tell of a call that lacked words behind them
 abbrev pub LacksBy : Config → ℕ → View → ℕ → Type 0
 LacksBy config zero v need = Unit {0}
-LacksBy config (suc zero) v need = IsMarked v
+LacksBy config (suc zero) v need = AllMarked v
 LacksBy config (suc (suc k)) v need = NoRoom config v need
 
 -- The thread made its call, behind so many forced Moves in a row, and lacked so many words.

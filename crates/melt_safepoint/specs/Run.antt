@@ -193,20 +193,20 @@ pub record IsFull (script : Script) (shown : Shown) (report : Report) (heap : He
 
 -- the heap that is left: none where a fault of the disk halted the run, and else one, which is the one for which a full
 -- disk was refused
-abbrev pub Leaves : Bool → Script → Config → Shown → Report → Option Halt → Option Heap → Type 0
-Leaves told script config shown report None (Some heap) = IsLeft told script config shown report heap
-Leaves told script config shown report (Some (halt.DiskFull end need limit)) (Some heap) =
+abbrev pub HasLeft : Bool → Script → Config → Shown → Report → Option Halt → Option Heap → Type 0
+HasLeft told script config shown report None (Some heap) = IsLeft told script config shown report heap
+HasLeft told script config shown report (Some (halt.DiskFull end need limit)) (Some heap) =
     IsLeft told script config shown report heap × (told ≡ true → IsFull script shown report heap end need)
-Leaves told script config shown report (Some halt.DiskFault) None = Unit {0}
-Leaves told script config shown report None None = ⊥
-Leaves told script config shown report (Some (halt.DiskFull end need limit)) None = ⊥
-Leaves told script config shown report (Some halt.DiskFault) (Some heap) = ⊥
+HasLeft told script config shown report (Some halt.DiskFault) None = Unit {0}
+HasLeft told script config shown report None None = ⊥
+HasLeft told script config shown report (Some (halt.DiskFull end need limit)) None = ⊥
+HasLeft told script config shown report (Some halt.DiskFault) (Some heap) = ⊥
 
 -- a report, and the heap that is left over what the disk shows in the end
 pub record HasRun (told : Bool) (script : Script) (config : Config) (shown : Shown) (report : Report)
     (heap : Option Heap) : Type 0 where
   pub reported : IsStepReport told script config report
-  pub left : Leaves told script config shown report report.halt heap
+  pub left : HasLeft told script config shown report report.halt heap
 
 -- so many were lost of those that a count of faults counted, or the count stands at its end
 abbrev pub CountsLost : (lost before after : ℕ) → Type 0

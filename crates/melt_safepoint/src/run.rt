@@ -13,7 +13,8 @@ ghost use Rattle.melt_safepoint.specs.Epochs.{GoesOnFrom, to_do};
 ghost use Rattle.melt_safepoint.specs.Lends.{LendsAtMost, LendsTwice};
 ghost use Rattle.melt_safepoint.specs.Losses.{CountsLosses};
 ghost use Rattle.melt_safepoint.specs.Passing.{NoneOwn};
-ghost use Rattle.melt_safepoint.specs.Rows.{KeepsRun, RunStands, SomeStands, StopCounts, StopKeeps, StopStores, StopTwice};
+ghost use Rattle.melt_safepoint.specs.Rows.{KeepsRun, RunStands, SomeStands, StopCounts, StopKeeps, StopStores};
+ghost use Rattle.melt_safepoint.specs.Rows.{StopTwice};
 ghost use Rattle.melt_safepoint.specs.Rows.{StopsRun, journal_of, row_of};
 ghost use Rattle.melt_safepoint.specs.Shown.{Shown};
 ghost use Rattle.melt_safepoint.specs.Threads.{AllEnded, NoneBelow, SomeGoesOn};
@@ -117,7 +118,8 @@ impl<'a, E: Machine> Run<'a, E> {
         ensures count { S.sees.faults space.old ≤ S.sees.faults space.new }
         ensures lost { IfOk result (λ run. CountsLosses self.entry.states.items run.states.items
             (S.sees.read_faults space.old) (S.sees.read_faults space.new)) }
-        ensures lends { (n : ℕ) → LendsEach C.Fn F.Fn E.view E.stored S.sees engine.now n → LendsAtMost n (S.sees.lends space.old) (S.sees.lends space.new) }
+        ensures lends { (n : ℕ) → LendsEach C.Fn F.Fn E.view E.stored S.sees engine.now n
+            → LendsAtMost n (S.sees.lends space.old) (S.sees.lends space.new) }
         ensures idle { AllEnded self.entry.states.items → S.sees.lends space.new ≡ S.sees.lends space.old }
         ensures stopped { IfErr result (StopsRun (S.sees.shown space.old) (S.sees.shown space.new)
             (row_of E.view self.entry)) }

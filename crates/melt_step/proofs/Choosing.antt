@@ -36,7 +36,7 @@ use Rattle.melt_core.specs.declared.answer.StepResult.TheVariants.{Going, Answer
 use Rattle.melt_core.proofs.Resting.{start_at_rest, stands_stopped}
 use Rattle.melt_step.specs.Choices.{SoFar, nothing_yet, with_reply, SetsSoFar, SetsBy, CollectsRest, Chosen, AreTold}
 use Rattle.melt_safepoint.proofs.TableModes.{dropped_keeps}
-use Rattle.melt_safepoint.specs.Resting.{Beside, NamesHeap, behind, rest_view}
+use Rattle.melt_safepoint.specs.Resting.{Beside, NamesHeap, with_names_held, rest_view}
 use Rattle.melt_safepoint.proofs.Collecting.{RestsOver}
 use Rattle.melt_safepoint.proofs.PlannedRest.{Carried, PlannedOver, carried, leaves_heap, planned_over}
 use Rattle.melt_step.proofs.Resting.{beside_of, names_kept, names_left, only_view}
@@ -297,7 +297,7 @@ collection_stands threads globals end end_after image image_after all heap new r
     (record { threads = c.only.threads; before = c.only.before; after = c.only.behind }) in
     let log : after.log ≡ rest.log = c.only.log in
     let same : after.log.items ≡ rest.log.items = cc in
-    let shows : rest_view new (behind b new.names registers) ≡ view (core_of new after) =
+    let shows : rest_view new (with_names_held b new.names registers) ≡ view (core_of new after) =
     only_view heap new rest after c.only in
     record {
       disk = moved.was.later;

@@ -36,7 +36,7 @@ use Rattle.melt_safepoint.proofs.Journals.{before_end}
 use Rattle.melt_safepoint.proofs.Modes.{lost_ends}
 use Rattle.melt_safepoint.proofs.Threads.{set_got}
 use Rattle.melt_safepoint.proofs.Lacking.{lacking_open, Frees, frees_ended, told_goes, called_at}
-use Rattle.melt_safepoint.specs.Collections.{IsMarked, MadeSoFar}
+use Rattle.melt_safepoint.specs.Collections.{AllMarked, MadeSoFar}
 use Rattle.melt_step.specs.Lone.{IsAloneReady, CalledAlone, CalledOver, LacksAlone}
 use Rattle.melt_step.specs.Going.{CallsFirst, Goes, MadeCall, MakesCall}
 use Rattle.melt_safepoint.specs.Epochs.{LacksFirst}
@@ -348,7 +348,7 @@ tight_behind config run words need collected is above small =
     subst (IsTight config) (sym last) tight
 
 -- what the Moves that were forced tell of a call that lacked words behind them
-left_by : (config : Config) (forced : ℕ) (v w : View) (need : ℕ) → LeftBy forced v → (IsMarked v → IsMarked w)
+left_by : (config : Config) (forced : ℕ) (v w : View) (need : ℕ) → LeftBy forced v → (AllMarked v → AllMarked w)
     → w.log ≡ v.log → ((u r : ℕ) → value w u r ≡ value v u r) → config.heap + 1 < v.free + need
     → LacksBy config forced w need
 left_by config zero v w need by marked history values above = tt

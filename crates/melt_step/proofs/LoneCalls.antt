@@ -57,7 +57,7 @@ use Rattle.melt_safepoint.specs.Needs.{NeedsWords}
 use Rattle.melt_safepoint.specs.Shown.{Underlies}
 use Rattle.melt_safepoint.specs.Threads.{TakesReply, most_forwards}
 use Rattle.melt_safepoint.proofs.Modes.{NoPause}
-use Rattle.melt_safepoint.specs.Collections.{IsMarked, NoneForwarded}
+use Rattle.melt_safepoint.specs.Collections.{AllMarked, NoneForwarded}
 use Rattle.melt_step.specs.Lone.{CalledOver, IsAloneReady}
 use Rattle.melt_safepoint.specs.Tables.{DropsIfEnded}
 use Rattle.melt_step.proofs.Calling.{Begins, KeepsOthers_both, dropped_stands, lost_state, stop_dropped, thread_there}
@@ -444,8 +444,8 @@ lacks_these told disk v w t o need globals bounds none on stands lacks =
         (stands.known t c is) by lacks
 
 -- Each object that no register holds has the stale bit still, where registers are as they were.
-marked_still : (v w : View) → Keeps v w → ((u : ℕ) → registers_in w.held u ≡ registers_in v.held u) → IsMarked v
-    → IsMarked w
+marked_still : (v w : View) → Keeps v w → ((u : ℕ) → registers_in w.held u ≡ registers_in v.held u) → AllMarked v
+    → AllMarked w
 marked_still v w keeps registers marked a header named starts unheld =
     marked a header (subst (λ (m : Maps). IsNamed m a) keeps.names named)
     (record { in_range = starts.in_range; word = sym (keeps.word a) ∙ starts.word })

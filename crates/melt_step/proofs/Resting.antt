@@ -15,7 +15,7 @@ use Rattle.melt_core.specs.Views.{View, maps_of, numbers_of, view, Standing}
 use Rattle.melt_core.specs.declared.machine.Rest.{Rest}
 use Rattle.melt_safepoint.specs.Collections.{CollectsCore, IsFullCore, MayCollect}
 use Rattle.melt_safepoint.specs.Resting.{Beside, CollectsHeap, IsFullHeap, LeavesHeap, MayCollectHeap, NamesHeap}
-use Rattle.melt_safepoint.specs.Resting.{behind, rest_view}
+use Rattle.melt_safepoint.specs.Resting.{with_names_held, rest_view}
 use Rattle.melt_safepoint.specs.Shown.{Shown}
 use Rattle.melt_safepoint.specs.declared.collector.Collector.{Collector}
 use Rattle.melt_safepoint.specs.declared.ending.Left.{Left}
@@ -75,20 +75,21 @@ names_left heap new some leaves =
 
 -- a rest with other registers shows them
 pub lent_view : (heap new : Heap) (rest : Rest) (registers : List Registers) → length registers ≡ length rest.held.items
-    → rest_view new (behind (beside_of heap rest) new.names registers) ≡ view (core_of new (with_held rest registers))
+    → rest_view new (with_names_held (beside_of heap rest) new.names registers)
+    ≡ view (core_of new (with_held rest registers))
 lent_view heap new rest registers count =
-    ap (λ (held : List Registers). rest_view new (behind (beside_of heap rest) new.names held))
+    ap (λ (held : List Registers). rest_view new (with_names_held (beside_of heap rest) new.names held))
     (sym (with_items_is rest.held registers (count ∙ sym rest.held.ok.0)))
 
 -- and so does one in which nothing but registers changed
 pub only_view : (heap new : Heap) (rest after : Rest) → OnlyRegisters rest after
-    → rest_view new (behind (beside_of heap rest) new.names after.held.items) ≡ view (core_of new after)
+    → rest_view new (with_names_held (beside_of heap rest) new.names after.held.items) ≡ view (core_of new after)
 only_view heap new rest after only =
     same_view new heap rest after only.calls only.records only.log only.made
   where
     same_view : (new heap : Heap) (rest after : Rest) → after.calls.items ≡ rest.calls.items
         → after.records.items ≡ rest.records.items → after.log ≡ rest.log → after.made ≡ rest.made
-        → rest_view new (behind (beside_of heap rest) new.names after.held.items) ≡ view (core_of new after)
+        → rest_view new (with_names_held (beside_of heap rest) new.names after.held.items) ≡ view (core_of new after)
     same_view new heap rest after calls records log made = cc
 
 -- A core became a heap and a rest, whose registers were lent for a collection.
@@ -121,7 +122,7 @@ module _ (v : View) (heap : Heap) (rest : Rest) (shown : Shown)
       → CollectsHeap phase shown later heap new lent registers old plans → LeavesHeap heap new
       → CollectsCore phase shown later v (view (core_of new (with_held rest registers))) old plans
   lent_collects phase later new lent registers old plans was count collects leaves =
-      let w : View = rest_view new (behind (beside_of heap rest) new.names registers) in
+      let w : View = rest_view new (with_names_held (beside_of heap rest) new.names registers) in
       subst (λ (shows : View). CollectsCore phase shown later v shows old plans)
       (lent_view heap new rest registers (count ∙ ap length was))
       (finished_collects v x finished stands_still phase shown later w old plans

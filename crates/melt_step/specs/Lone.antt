@@ -13,7 +13,7 @@ use Rattle.melt_core.specs.Views.{View, maps, state, value, values_of, registers
 use Rattle.melt_safepoint.specs.declared.thread.Mode.TheVariants.{Lacking}
 use Rattle.melt_safepoint.specs.declared.thread.ThreadState.{ThreadState}
 use Rattle.melt_safepoint.specs.Needs.{NeedsWords}
-use Rattle.melt_safepoint.specs.Collections.{IsMarked, NoneForwarded}
+use Rattle.melt_safepoint.specs.Collections.{AllMarked, NoneForwarded}
 use Rattle.melt_safepoint.specs.Shown.{Underlies}
 use Rattle.melt_safepoint.specs.Threads.{most_forwards}
 use Rattle.melt_safepoint.specs.Tables.{ThreadLost, ThreadTold}
@@ -50,7 +50,7 @@ pub record LacksAlone (told : Bool) (v w : View) (t : ℕ) (s after : ThreadStat
   pub registers : registers_in w.held t ≡ registers_in v.held t
   pub values : values_of w t ≡ values_of v t
   pub none_forwarded : NoneForwarded w
-  pub marked : IsMarked v → IsMarked w
+  pub marked : AllMarked v → AllMarked w
 
 -- The call was made alone, over a disk: it was answered, or ended its thread, or lacked words.
 pub record CalledOver (told : Bool) (disk : OnDisk) (v w : View) (t : ℕ) (s after : ThreadState) (o : Op)

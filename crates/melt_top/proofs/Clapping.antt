@@ -29,7 +29,7 @@ use Rattle.clap.specs.Faults.{level_fault, default_fault, defaults_fault}
 use Rattle.clap.specs.declared.builder.action.ArgAction.TheVariants.{Set, SetTrue}
 use Rattle.clap.specs.declared.builder.value_parser.Reading.TheVariants as how
 use Rattle.clap.specs.declared.parser.matches.ValueSource.TheVariants.{CommandLine}
-use Rattle.melt_top.specs.Words.{Given, Names, Reading, is_among, is_given, read_from, with_word}
+use Rattle.melt_top.specs.Words.{Given, Names, Reading, is_among, is_given, read_from, with_next_word}
 
 -- an option with one value, and a flag, as the parser has them when it is built
 abbrev pub rule_for : Text → Rule
@@ -407,14 +407,14 @@ module _ (title : Text) (names : Names) where
 
   -- The first word is refused by both.
   both_refuse : (w : Walk) (word : Text) (words : List Text) (reading : Reading)
-      → with_word names reading.given reading.waits word ≡ None
+      → with_next_word names reading.given reading.waits word ≡ None
       → Fails (turn_fault shape [] w word) → Agrees names (faults_from w (word ∷ words)) (rows_from w (word ∷ words))
       (read_from names reading (word ∷ words))
   both_refuse w word words reading none fails = rw none (first_word_fails w word words fails)
 
   -- The first word is taken by both.
   both_take : (w : Walk) (word : Text) (words : List Text) (reading : Reading) (next_walk : Walk) (next : Reading)
-      → with_word names reading.given reading.waits word ≡ Some next → turn_fault shape [] w word ≡ []
+      → with_next_word names reading.given reading.waits word ≡ Some next → turn_fault shape [] w word ≡ []
       → walked rules [] w word ≡ next_walk
       → Agrees names (faults_from next_walk words) (rows_from next_walk words) (read_from names next words)
       → Agrees names (faults_from w (word ∷ words)) (rows_from w (word ∷ words))

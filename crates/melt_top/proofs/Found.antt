@@ -13,7 +13,7 @@ use Rattle.clap.specs.declared.builder.value_parser.Reading.TheVariants as how
 use Rattle.clap.specs.declared.parser.matches.ArgMatches.{ArgMatches}
 use Rattle.clap.specs.declared.parser.matches.ValueSource.TheVariants.{DefaultValue}
 use Rattle.melt_top.specs.Parses.{Has}
-use Rattle.melt_top.specs.Words.{Given, Names, is_among, is_given, value_of}
+use Rattle.melt_top.specs.Words.{Given, Names, is_among, is_given, value_given}
 use Rattle.melt_top.proofs.Clapping.{at_row-missing, filled_rows, flag_for, has_row-for, option_default, row_for}
 use Rattle.melt_top.proofs.Clapping.{row_with, rows_for, rule_for, text_for}
 
@@ -157,13 +157,13 @@ module _ (get : Row → Option Text) (on_given : (name value : Text) → get (ro
 
 value_read : (names : Names) (given : Given) (name : Text) → is_among names.options name ≡ true
     → cond (is_given given name) (option_map (text_for names) (find (λ g. bytes_eq g.0 name) given)) None
-    ≡ value_of given name
+    ≡ value_given given name
 value_read names [] name is = refl
 value_read names (g ∷ given) name is = go (bytes_eq g.0 name) refl (value_read names given name is)
   where
     go : (b : Bool) → bytes_eq g.0 name ≡ b
         → cond (is_given given name) (option_map (text_for names) (find (λ h. bytes_eq h.0 name) given)) None
-        ≡ value_of given name
+        ≡ value_given given name
         → cond (b || is_given given name)
         (option_map (text_for names) (cond b (Some g) (find (λ h. bytes_eq h.0 name) given))) None
         ≡ option_map (λ (h : Text × Text). h.1) (cond b (Some g) (find (λ h. bytes_eq h.0 name) given))

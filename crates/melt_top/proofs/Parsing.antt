@@ -16,7 +16,7 @@ use Rattle.clap.specs.declared.error.Error.{Error}
 use Rattle.clap.specs.declared.error.kind.ErrorKind.{ErrorKind}
 use Rattle.clap.specs.declared.parser.matches.ArgMatches.{ArgMatches}
 use Rattle.melt_top.specs.Words.{Given, Names, given_of, read_from, parts_options}
-use Rattle.melt_top.specs.Parses.{Has, IsWord, Parses, asked_for, names_of, refusal_for, title_of}
+use Rattle.melt_top.specs.Parses.{Has, IsWord, Parses, asked_for, names_of_verb, refusal_for, title_of}
 use Rattle.melt_top.specs.declared.options.Verb.{Verb}
 use Rattle.melt_top.specs.declared.options.Verb.TheVariants as verb
 use Rattle.melt_top.specs.declared.options.WordsRefusal.{WordsRefusal}
@@ -26,26 +26,26 @@ use Rattle.melt_top.proofs.Found.{has}
 
 -- ---- the parsers that are asked for
 
-pub asked_simple : (v : Verb) → is_simple (asked_for (title_of v) (names_of v)) ≡ true
+pub asked_simple : (v : Verb) → is_simple (asked_for (title_of v) (names_of_verb v)) ≡ true
 unfolding clap_on_literals
 asked_simple verb.Step = refl
 asked_simple verb.Run = refl
 asked_simple verb.Gen = refl
 
-pub asked_free : (v : Verb) → is_simple_and_free (asked_for (title_of v) (names_of v)) ≡ true
+pub asked_free : (v : Verb) → is_simple_and_free (asked_for (title_of v) (names_of_verb v)) ≡ true
 unfolding clap_on_literals
 asked_free verb.Step = refl
 asked_free verb.Run = refl
 asked_free verb.Gen = refl
 
-asked_built : (v : Verb) → built (asked_for (title_of v) (names_of v)) ≡ app_for (title_of v) (names_of v)
+asked_built : (v : Verb) → built (asked_for (title_of v) (names_of_verb v)) ≡ app_for (title_of v) (names_of_verb v)
 unfolding clap_on_literals
 asked_built verb.Step = refl
 asked_built verb.Run = refl
 asked_built verb.Gen = refl
 
 words_behind_the_first : (v : Verb) (all : List (List ℕ))
-    → argument_words (asked_for (title_of v) (names_of v)) all ≡ drop 1 all
+    → argument_words (asked_for (title_of v) (names_of_verb v)) all ≡ drop 1 all
 words_behind_the_first verb.Step all = refl
 words_behind_the_first verb.Run all = refl
 words_behind_the_first verb.Gen all = refl
@@ -54,14 +54,14 @@ given_without_dashes : (names : Names) (words : List (List ℕ)) → list_any pa
     → given_of names words ≡ read_from names (record { given = []; waits = None }) words
 given_without_dashes names words none = rw none refl
 
-pub options_agree : (v : Verb) (app : App) (all : List (List ℕ)) → app ≡ asked_for (title_of v) (names_of v)
+pub options_agree : (v : Verb) (app : App) (all : List (List ℕ)) → app ≡ asked_for (title_of v) (names_of_verb v)
     → list_any parts_options (drop 1 all) ≡ false
-    → AllByRecursion IsWord (drop 1 all) → Comes (names_of v) (fault_of app all) (matches_of app all)
-    (given_of (names_of v) (drop 1 all))
+    → AllByRecursion IsWord (drop 1 all) → Comes (names_of_verb v) (fault_of app all) (matches_of app all)
+    (given_of (names_of_verb v) (drop 1 all))
 options_agree v app all is none each =
-    subst (Comes (names_of v) (fault_of app all) (matches_of app all))
-    (sym (given_without_dashes (names_of v) (drop 1 all) none))
-    (parser_agrees (title_of v) (names_of v) (drop 1 all) all app (ap built is ∙ asked_built v)
+    subst (Comes (names_of_verb v) (fault_of app all) (matches_of app all))
+    (sym (given_without_dashes (names_of_verb v) (drop 1 all) none))
+    (parser_agrees (title_of v) (names_of_verb v) (drop 1 all) all app (ap built is ∙ asked_built v)
     (ap (λ (a : App). argument_words a all) is ∙ words_behind_the_first v all) each)
 
 -- ---- what is answered

@@ -20,9 +20,9 @@ use Rattle.melt_model.specs.declared.reports.ThreadEnd.TheVariants as end
 use Rattle.melt_trace.specs.Script.{Script}
 use Rattle.melt_trace.specs.Language.{max_bytes, script_of}
 use Rattle.melt_top.specs.Text.{read_fault_text, refused_text}
-use Rattle.melt_top.specs.Command.{number_of, status_of, ended, is_disk_fault, is_damaged, is_out_of_heap}
+use Rattle.melt_top.specs.Command.{exit_number, status_of, ended, is_disk_fault, is_damaged, is_out_of_heap}
 use Rattle.melt_top.specs.Command.{halted_by_fault, halted_by_full}
-use Rattle.melt_top.specs.Headline.{Change, IsUntouched, ReadAFront, ReadAtMost, InputDue, Due, IsRefused, WroteAll}
+use Rattle.melt_top.specs.Headline.{Change, IsUntouched, ReadAFront, ReadAtMost, InputDue, Due, IsUsage, WroteAll}
 use Rattle.melt_top.specs.Headline.{Outcome, IsBuilt, DiskChange, IsUnused, TraceDue}
 use Rattle.melt_top.specs.declared.command.Command.{Command}
 use Rattle.melt_top.specs.declared.command.Run.{Run}
@@ -218,26 +218,26 @@ wrote_all command input disk out due output bytes is same written =
 
 no_usage : (way : Way) (run : Run) (input : Change) (disk : DiskChange) (due : Status) (output : List ℕ)
     → InputDue way run input disk due output → due ≡ status.Usage → ⊥
-no_usage way run input disk due output (inl failed) e = omega (arith, ap number_of failed.status, ap number_of e)
+no_usage way run input disk due output (inl failed) e = omega (arith, ap exit_number failed.status, ap exit_number e)
 no_usage way run input disk due output (inr read) e = elim read.trace [
-  | inl refused ↦ omega (arith, ap number_of refused.status, ap number_of e)
+  | inl refused ↦ omega (arith, ap exit_number refused.status, ap exit_number e)
   | inr ran ↦ subst IsOfReport (sym ran.ran.status ∙ e) (of_report ran.ran.report)
 ]
 
 -- Usage is due only where the words are refused
 pub refused_words : (command : Option Command) (input : Change) (disk : DiskChange) (due : Status) (output : List ℕ)
-    → Due command input disk due output → due ≡ status.Usage → IsRefused command
+    → Due command input disk due output → due ≡ status.Usage → IsUsage command
 refused_words None input disk due output is e = tt
 refused_words (Some (Step run)) input disk due output is e = no_usage way.Written run input disk due output is e
 refused_words (Some (Threads run)) input disk due output is e = no_usage way.Running run input disk due output is e
 refused_words (Some (Gen recipe)) input disk due output is e = elim is.done [
   | inl none ↦ none.many
-  | inr trace ↦ absurd (omega (arith, ap number_of trace.status, ap number_of e))
+  | inr trace ↦ absurd (omega (arith, ap exit_number trace.status, ap exit_number e))
 ]
 
 -- and nothing else is due there
 pub usage_due : (command : Option Command) (input : Change) (disk : DiskChange) (due : Status) (output : List ℕ)
-    → Due command input disk due output → IsRefused command → due ≡ status.Usage
+    → Due command input disk due output → IsUsage command → due ≡ status.Usage
 usage_due None input disk due output is refused = is.status
 usage_due (Some (Step run)) input disk due output is refused = absurd refused
 usage_due (Some (Threads run)) input disk due output is refused = absurd refused
@@ -272,7 +272,7 @@ input_fault_rose : (way : Way) (run : Run) (input : Change) (disk : DiskChange) 
     → InputDue way run input disk due output → due ≡ status.ReadFault → Rose input.faults_before input.faults_after
 input_fault_rose way run input disk due output (inl failed) e = failed.fault
 input_fault_rose way run input disk due output (inr read) e = elim read.trace [
-  | inl refused ↦ absurd (omega (arith, ap number_of refused.status, ap number_of e))
+  | inl refused ↦ absurd (omega (arith, ap exit_number refused.status, ap exit_number e))
   | inr ran ↦ absurd (subst IsOfReport (sym ran.ran.status ∙ e) (of_report ran.ran.report))
 ]
 
@@ -280,14 +280,14 @@ input_fault_rose way run input disk due output (inr read) e = elim read.trace [
 pub read_fault_rose : (command : Option Command) (input : Change) (disk : DiskChange) (due : Status) (output : List ℕ)
     → Due command input disk due output → due ≡ status.ReadFault
     → Rose input.faults_before input.faults_after
-read_fault_rose None input disk due output is e = absurd (omega (arith, ap number_of is.status, ap number_of e))
+read_fault_rose None input disk due output is e = absurd (omega (arith, ap exit_number is.status, ap exit_number e))
 read_fault_rose (Some (Step run)) input disk due output is e =
     input_fault_rose way.Written run input disk due output is e
 read_fault_rose (Some (Threads run)) input disk due output is e =
     input_fault_rose way.Running run input disk due output is e
 read_fault_rose (Some (Gen recipe)) input disk due output is e = elim is.done [
-  | inl none ↦ absurd (omega (arith, ap number_of none.status, ap number_of e))
-  | inr trace ↦ absurd (omega (arith, ap number_of trace.status, ap number_of e))
+  | inl none ↦ absurd (omega (arith, ap exit_number none.status, ap exit_number e))
+  | inr trace ↦ absurd (omega (arith, ap exit_number trace.status, ap exit_number e))
 ]
 
 -- a failed write is never due
@@ -314,18 +314,18 @@ refused_trace way run bytes disk due output line reason bad unused is told = inl
 fault_cases : (a b c d e : Bool) → first_of (a || b) c d e ≡ status.DiskFault → (a ≡ true) ⊎ (b ≡ true)
 fault_cases true b c d e is = inl refl
 fault_cases false true c d e is = inr refl
-fault_cases false false true d e is = absurd (omega (arith, ap number_of is))
-fault_cases false false false true e is = absurd (omega (arith, ap number_of is))
-fault_cases false false false false true is = absurd (omega (arith, ap number_of is))
-fault_cases false false false false false is = absurd (omega (arith, ap number_of is))
+fault_cases false false true d e is = absurd (omega (arith, ap exit_number is))
+fault_cases false false false true e is = absurd (omega (arith, ap exit_number is))
+fault_cases false false false false true is = absurd (omega (arith, ap exit_number is))
+fault_cases false false false false false is = absurd (omega (arith, ap exit_number is))
 
 -- and where it is that of damage
 damage_case : (a b c d : Bool) → first_of a b c d ≡ status.Damaged → b ≡ true
-damage_case true b c d is = absurd (omega (arith, ap number_of is))
+damage_case true b c d is = absurd (omega (arith, ap exit_number is))
 damage_case false true c d is = refl
-damage_case false false true d is = absurd (omega (arith, ap number_of is))
-damage_case false false false true is = absurd (omega (arith, ap number_of is))
-damage_case false false false false is = absurd (omega (arith, ap number_of is))
+damage_case false false true d is = absurd (omega (arith, ap exit_number is))
+damage_case false false false true is = absurd (omega (arith, ap exit_number is))
+damage_case false false false false is = absurd (omega (arith, ap exit_number is))
 
 -- a thread that could not read the disk is counted
 lost_counts : (e : ThreadEnd) → is_disk_fault e ≡ true → is_lost e ≡ true
@@ -375,9 +375,9 @@ run_fault_rose : (way : Way) (run : Run) (input : Change) (disk : DiskChange) (d
     → InputDue way run input disk due output → due ≡ status.DiskFault
     → Rose disk.faults_before disk.faults_after ⊎ Rose disk.read_faults_before disk.read_faults_after
 run_fault_rose way run input disk due output (inl failed) e =
-    absurd (omega (arith, ap number_of failed.status, ap number_of e))
+    absurd (omega (arith, ap exit_number failed.status, ap exit_number e))
 run_fault_rose way run input disk due output (inr read) e = elim read.trace [
-  | inl refused ↦ absurd (omega (arith, ap number_of refused.status, ap number_of e))
+  | inl refused ↦ absurd (omega (arith, ap exit_number refused.status, ap exit_number e))
   | inr ran ↦
       let report = ran.ran.report in
       elim (fault_cases (ended is_disk_fault report) (halted_by_fault report.halt) (ended is_damaged report)
@@ -395,13 +395,13 @@ run_fault_rose way run input disk due output (inr read) e = elim read.trace [
 pub disk_fault_rose : (command : Option Command) (input : Change) (disk : DiskChange) (due : Status) (output : List ℕ)
     → Due command input disk due output → due ≡ status.DiskFault
     → Rose disk.faults_before disk.faults_after ⊎ Rose disk.read_faults_before disk.read_faults_after
-disk_fault_rose None input disk due output is e = absurd (omega (arith, ap number_of is.status, ap number_of e))
+disk_fault_rose None input disk due output is e = absurd (omega (arith, ap exit_number is.status, ap exit_number e))
 disk_fault_rose (Some (Step run)) input disk due output is e = run_fault_rose way.Written run input disk due output is e
 disk_fault_rose (Some (Threads run)) input disk due output is e =
     run_fault_rose way.Running run input disk due output is e
 disk_fault_rose (Some (Gen recipe)) input disk due output is e = elim is.done [
-  | inl none ↦ absurd (omega (arith, ap number_of none.status, ap number_of e))
-  | inr trace ↦ absurd (omega (arith, ap number_of trace.status, ap number_of e))
+  | inl none ↦ absurd (omega (arith, ap exit_number none.status, ap exit_number e))
+  | inr trace ↦ absurd (omega (arith, ap exit_number trace.status, ap exit_number e))
 ]
 
 -- a thread that ended by damage did not read a disk that tells its words
@@ -416,9 +416,9 @@ damaged_untold script config report t end.Halted may is = absurd (cc)
 run_undamaged : (way : Way) (run : Run) (input : Change) (disk : DiskChange) (due : Status) (output : List ℕ)
     → InputDue way run input disk due output → due ≡ status.Damaged → IsSome disk.before → ⊥
 run_undamaged way run input disk due output (inl failed) e tells =
-    omega (arith, ap number_of failed.status, ap number_of e)
+    omega (arith, ap exit_number failed.status, ap exit_number e)
 run_undamaged way run input disk due output (inr read) e tells = elim read.trace [
-  | inl refused ↦ omega (arith, ap number_of refused.status, ap number_of e)
+  | inl refused ↦ omega (arith, ap exit_number refused.status, ap exit_number e)
   | inr ran ↦
       let report = ran.ran.report in
       let found = some_ended is_damaged report.threads
@@ -432,12 +432,12 @@ run_undamaged way run input disk due output (inr read) e tells = elim read.trace
 -- damage is never due where the disk tells its words
 pub never_damaged : (command : Option Command) (input : Change) (disk : DiskChange) (due : Status) (output : List ℕ)
     → Due command input disk due output → due ≡ status.Damaged → IsSome disk.before → ⊥
-never_damaged None input disk due output is e tells = omega (arith, ap number_of is.status, ap number_of e)
+never_damaged None input disk due output is e tells = omega (arith, ap exit_number is.status, ap exit_number e)
 never_damaged (Some (Step run)) input disk due output is e tells =
     run_undamaged way.Written run input disk due output is e tells
 never_damaged (Some (Threads run)) input disk due output is e tells =
     run_undamaged way.Running run input disk due output is e tells
 never_damaged (Some (Gen recipe)) input disk due output is e tells = elim is.done [
-  | inl none ↦ omega (arith, ap number_of none.status, ap number_of e)
-  | inr trace ↦ omega (arith, ap number_of trace.status, ap number_of e)
+  | inl none ↦ omega (arith, ap exit_number none.status, ap exit_number e)
+  | inr trace ↦ omega (arith, ap exit_number trace.status, ap exit_number e)
 ]

@@ -6,7 +6,7 @@ use Rattle.std.specs.List.{list_any}
 use Rattle.std.specs.Str.{bytes_eq}
 use Rattle.melt_model.specs.Config.{InRanges}
 use Rattle.melt_model.specs.declared.config.Config.{Config}
-use Rattle.melt_trace.specs.Language.{number_of as number_spelled}
+use Rattle.melt_trace.specs.Language.{number_of}
 use Rattle.melt_model.specs.declared.reports.ThreadEnd.{ThreadEnd}
 use Rattle.melt_model.specs.declared.reports.ThreadEnd.TheVariants as end
 use Rattle.melt_model.specs.declared.reports.Halt.{Halt}
@@ -20,7 +20,7 @@ use Rattle.melt_top.specs.declared.command.Run.{Run}
 use Rattle.melt_gen.specs.declared.workload.Workload.{Workload}
 use Rattle.melt_gen.specs.declared.workload.Workload.TheVariants as workload
 use Rattle.melt_top.specs.Parses.{gen_names, run_names, step_names}
-use Rattle.melt_top.specs.Words.{Given, given_of, is_given, value_of}
+use Rattle.melt_top.specs.Words.{Given, given_of, is_given, value_given}
 use Rattle.melt_top.specs.declared.status.Status.{Status}
 use Rattle.melt_top.specs.declared.text.Texts.{Texts}
 use Rattle.melt_top.specs.declared.status.Status.TheVariants as status
@@ -33,7 +33,7 @@ between low high (Some n) = if nat_le low n && nat_le n high then Some n else No
 -- the number that an option gives, or another where it was not given
 abbrev pub number_or : (low : ℕ) → (high : ℕ) → (otherwise : ℕ) → Option (List ℕ) → Option ℕ
 number_or low high otherwise None = Some otherwise
-number_or low high otherwise (Some value) = between low high (number_spelled value)
+number_or low high otherwise (Some value) = between low high (number_of value)
 
 infixl 10 ◌>>=◌
 abbrev pub ◌>>=◌ : {A B : Type 0} → Option A → (A → Option B) → Option B
@@ -46,12 +46,12 @@ configured config = if nat_le config.mark config.move_ then Some config else Non
 -- what a run is given
 abbrev pub config_of : Given → Option Config
 config_of given = do
-  heap ← number_or 16 4194304 65536 (value_of given (codes "heap"))
-  forward ← number_or 1 65536 1024 (value_of given (codes "forward"))
-  disk ← number_or 2 268435456 16777216 (value_of given (codes "disk"))
-  mark ← number_or 0 100 50 (value_of given (codes "mark"))
-  move_ ← number_or 0 100 80 (value_of given (codes "move"))
-  every ← number_or 1 1048576 0 (value_of given (codes "every"))
+  heap ← number_or 16 4194304 65536 (value_given given (codes "heap"))
+  forward ← number_or 1 65536 1024 (value_given given (codes "forward"))
+  disk ← number_or 2 268435456 16777216 (value_given given (codes "disk"))
+  mark ← number_or 0 100 50 (value_given given (codes "mark"))
+  move_ ← number_or 0 100 80 (value_given given (codes "move"))
+  every ← number_or 1 1048576 0 (value_given given (codes "every"))
   configured
       (record { heap = heap; forward = forward; disk = disk; mark = mark; move_ = move_; every = every })
 
@@ -74,13 +74,13 @@ plain_texts_of given = record {
   log = false;
 }
 
-abbrev pub threads_of : Given → Option Run
-threads_of given = option_map (λ config. record { config = config; texts = plain_texts_of given }) (config_of given)
+abbrev pub threads_run : Given → Option Run
+threads_run given = option_map (λ config. record { config = config; texts = plain_texts_of given }) (config_of given)
 
 -- the number that an option has to give
 abbrev pub number_given : (low : ℕ) → (high : ℕ) → Option (List ℕ) → Option ℕ
 number_given low high None = None
-number_given low high (Some value) = between low high (number_spelled value)
+number_given low high (Some value) = between low high (number_of value)
 
 -- the kind of work of this name
 abbrev pub kind_named : List ℕ → Option Workload
@@ -94,10 +94,10 @@ kind_named name =
 -- what a trace is made of, which each option has to say
 abbrev pub recipe_of : Given → Option Recipe
 recipe_of given = do
-  kind ← option_and_then kind_named (value_of given (codes "kind"))
-  seed ← option_and_then number_spelled (value_of given (codes "seed"))
-  size ← number_given 1 100000 (value_of given (codes "size"))
-  threads ← number_given 1 8 (value_of given (codes "threads"))
+  kind ← option_and_then kind_named (value_given given (codes "kind"))
+  seed ← option_and_then number_of (value_given given (codes "seed"))
+  size ← number_given 1 100000 (value_given given (codes "size"))
+  threads ← number_given 1 8 (value_given given (codes "threads"))
   Some (record { kind = kind; seed = seed; size = size; threads = threads })
 
 -- the command that the words mean, or none
@@ -105,7 +105,7 @@ abbrev pub meant : List (List ℕ) → Option Command
 meant [] = None
 meant (word ∷ words) =
     if bytes_eq word (codes "step") then option_map Step (option_and_then run_of (given_of step_names words))
-    else if bytes_eq word (codes "run") then option_map Threads (option_and_then threads_of (given_of run_names words))
+    else if bytes_eq word (codes "run") then option_map Threads (option_and_then threads_run (given_of run_names words))
     else if bytes_eq word (codes "gen") then option_map Gen (option_and_then recipe_of (given_of gen_names words))
     else None
 
@@ -151,19 +151,19 @@ abbrev pub ended : (ThreadEnd → Bool) → Report → Bool
 ended test report = list_any (λ (r : ThreadReport). test r.end) report.threads
 
 -- what the process answers for a status
-abbrev pub number_of : Status → ℕ
-number_of status.Done = 0
-number_of status.Usage = 1
-number_of status.Trace = 2
-number_of status.ReadFault = 3
-number_of status.DiskFault = 4
-number_of status.OutOfHeap = 5
-number_of status.DiskFull = 6
-number_of status.WriteFault = 7
-number_of status.NoMemory = 8
-number_of status.Damaged = 9
-number_of status.BadDump = 10
-number_of status.Illegal = 11
+abbrev pub exit_number : Status → ℕ
+exit_number status.Done = 0
+exit_number status.Usage = 1
+exit_number status.Trace = 2
+exit_number status.ReadFault = 3
+exit_number status.DiskFault = 4
+exit_number status.OutOfHeap = 5
+exit_number status.DiskFull = 6
+exit_number status.WriteFault = 7
+exit_number status.NoMemory = 8
+exit_number status.Damaged = 9
+exit_number status.BadDump = 10
+exit_number status.Illegal = 11
 
 -- the status of a report: the first of these that applies
 abbrev pub status_of : Report → Status

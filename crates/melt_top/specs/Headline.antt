@@ -156,12 +156,12 @@ pub record NotUnderstood (input : Change) (disk : DiskChange) (due : Status) (ou
   pub told : output ≡ usage_text
 
 -- the script that is made
-abbrev pub made : Recipe → Script
-made recipe = generated recipe.kind recipe.seed recipe.size recipe.threads
+abbrev pub script_made : Recipe → Script
+script_made recipe = generated recipe.kind recipe.seed recipe.size recipe.threads
 
 -- it would have more operations than a trace may have
 abbrev pub IsTooLong : Recipe → Type 0
-IsTooLong recipe = 1048576 < operation_count (made recipe).programs
+IsTooLong recipe = 1048576 < operation_count (script_made recipe).programs
 
 -- a trace that would be too long is refused as words that mean nothing are
 pub record MadeNone (recipe : Recipe) (due : Status) (output : List ℕ) : Type 0 where
@@ -173,7 +173,7 @@ pub record MadeNone (recipe : Recipe) (due : Status) (output : List ℕ) : Type 
 pub record MadeTrace (recipe : Recipe) (due : Status) (output : List ℕ) : Type 0 where
   pub few : IsTooLong recipe → ⊥
   pub status : due ≡ status.Done
-  pub told : output ≡ canonical (made recipe)
+  pub told : output ≡ canonical (script_made recipe)
 
 -- what `gen` has to write and to answer, and it reads nothing
 pub record GenDue (recipe : Recipe) (input : Change) (disk : DiskChange) (due : Status) (output : List ℕ)
@@ -190,11 +190,11 @@ Due (Some (Threads run)) input disk due output = InputDue way.Running run input 
 Due (Some (Gen recipe)) input disk due output = GenDue recipe input disk due output
 
 -- the words mean nothing, or a trace that would be too long
-abbrev pub IsRefused : Option Command → Type 0
-IsRefused None = Unit {0}
-IsRefused (Some (Step run)) = ⊥
-IsRefused (Some (Threads run)) = ⊥
-IsRefused (Some (Gen recipe)) = IsTooLong recipe
+abbrev pub IsUsage : Option Command → Type 0
+IsUsage None = Unit {0}
+IsUsage (Some (Step run)) = ⊥
+IsUsage (Some (Threads run)) = ⊥
+IsUsage (Some (Gen recipe)) = IsTooLong recipe
 
 -- what was read at most: only `step` and `run` read
 abbrev pub ReadAtMost : Option Command → Change → Type 0

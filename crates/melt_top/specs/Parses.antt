@@ -10,7 +10,7 @@ use Rattle.clap.specs.declared.builder.action.ArgAction.TheVariants.{Set, SetTru
 use Rattle.clap.specs.declared.error.kind.ErrorKind.{ErrorKind}
 use Rattle.clap.specs.declared.error.kind.ErrorKind.TheVariants as kind
 use Rattle.clap.specs.declared.parser.matches.ArgMatches.{ArgMatches}
-use Rattle.melt_top.specs.Words.{Given, Names, given_of, is_among, is_given, parts_options, value_of}
+use Rattle.melt_top.specs.Words.{Given, Names, given_of, is_among, is_given, parts_options, value_given}
 use Rattle.melt_top.specs.declared.options.Verb.{Verb}
 use Rattle.melt_top.specs.declared.options.Verb.TheVariants as verb
 use Rattle.melt_top.specs.declared.options.WordsRefusal.{WordsRefusal}
@@ -32,10 +32,10 @@ step_names = record run_names { flags = codes "quiet" ∷ codes "table" ∷ code
 abbrev pub gen_names : Names
 gen_names = record { options = codes "kind" ∷ codes "seed" ∷ codes "size" ∷ codes "threads" ∷ []; flags = [] }
 
-abbrev pub names_of : Verb → Names
-names_of verb.Step = step_names
-names_of verb.Run = run_names
-names_of verb.Gen = gen_names
+abbrev pub names_of_verb : Verb → Names
+names_of_verb verb.Step = step_names
+names_of_verb verb.Run = run_names
+names_of_verb verb.Gen = gen_names
 
 abbrev pub title_of : Verb → List ℕ
 title_of verb.Step = codes "step"
@@ -75,7 +75,7 @@ IsFlag names name = (is_among names.options name ≡ false) × (is_among names.f
 
 -- the matches have what was given: each value, and of each flag whether it stands
 pub record Has (names : Names) (matches : ArgMatches) (given : Given) : Type 0 where
-  pub values : (name : List ℕ) → TakesValue names name → first_value (found_of matches) name ≡ value_of given name
+  pub values : (name : List ℕ) → TakesValue names name → first_value (found_of matches) name ≡ value_given given name
   pub flags : (name : List ℕ) → IsFlag names name
       → one_text (found_of matches) name ≡ Some (bool_text (is_given given name))
 

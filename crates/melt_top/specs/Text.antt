@@ -24,15 +24,15 @@ use Rattle.melt_stats.specs.Table.{table_text}
 use Rattle.melt_top.specs.declared.text.Texts.{Texts}
 
 -- a word, and a number right behind it
-abbrev pub numbered : List ℕ → ℕ → List ℕ
-numbered word n = word ++ decimal n
+abbrev pub with_digits : List ℕ → ℕ → List ℕ
+with_digits word n = word ++ decimal n
 
 -- each reply stands on a line of its own
 abbrev pub reply_line : Reply → List ℕ
 reply_line reply.Done = line (codes "ok") []
 reply_line reply.Null = line (codes "null") []
 reply_line reply.Ref = line (codes "ref") []
-reply_line (reply.Num v) = numbered [] v ++ 10 ∷ []
+reply_line (reply.Num v) = with_digits [] v ++ 10 ∷ []
 reply_line reply.Yes = line (codes "yes") []
 reply_line reply.No = line (codes "no") []
 reply_line reply.Nil = line (codes "nil") []
@@ -75,20 +75,22 @@ thread_lines texts t (r ∷ rs) = thread_text texts t r ++ thread_lines texts (t
 -- ---- the history
 
 abbrev pub slot_field : Slot → List ℕ
-slot_field (slot.Field n i) = numbered (codes " f ") n ++ numbered (codes " ") i
-slot_field (slot.Cell n j) = numbered (codes " n ") n ++ numbered (codes " ") j
-slot_field (slot.Global g) = numbered (codes " g ") g
+slot_field (slot.Field n i) = with_digits (codes " f ") n ++ with_digits (codes " ") i
+slot_field (slot.Cell n j) = with_digits (codes " n ") n ++ with_digits (codes " ") j
+slot_field (slot.Global g) = with_digits (codes " g ") g
 
 abbrev pub value_field : Value → List ℕ
 value_field value.Nil = codes " nil"
-value_field (value.Ref n) = numbered (codes " ref ") n
-value_field (value.Num v) = numbered (codes " num ") v
+value_field (value.Ref n) = with_digits (codes " ref ") n
+value_field (value.Num v) = with_digits (codes " num ") v
 
 -- what thread t did, when so many objects had been made: an object has the number of those made before it
 abbrev pub act_line : (t count : ℕ) → Act → List ℕ
 act_line t count (act.Make refs nums) = line (codes "make") (t ∷ count ∷ refs ∷ nums ∷ [])
-act_line t count (act.Read slot value) = numbered (codes "read ") t ++ slot_field slot ++ value_field value ++ 10 ∷ []
-act_line t count (act.Write slot value) = numbered (codes "write ") t ++ slot_field slot ++ value_field value ++ 10 ∷ []
+act_line t count (act.Read slot value) =
+    with_digits (codes "read ") t ++ slot_field slot ++ value_field value ++ 10 ∷ []
+act_line t count (act.Write slot value) =
+    with_digits (codes "write ") t ++ slot_field slot ++ value_field value ++ 10 ∷ []
 
 -- entries, when so many objects had been made
 abbrev pub entry_lines : ℕ → List Entry → List ℕ

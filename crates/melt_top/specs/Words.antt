@@ -18,8 +18,8 @@ is_among names name = list_any (λ n. bytes_eq n name) names
 abbrev pub Given : Type 0
 Given = List (List ℕ × List ℕ)
 
-abbrev pub value_of : Given → (name : List ℕ) → Option (List ℕ)
-value_of given name = option_map (λ g. g.1) (find (λ g. bytes_eq g.0 name) given)
+abbrev pub value_given : Given → (name : List ℕ) → Option (List ℕ)
+value_given given name = option_map (λ g. g.1) (find (λ g. bytes_eq g.0 name) given)
 
 abbrev pub is_given : Given → (name : List ℕ) → Bool
 is_given given name = list_any (λ g. bytes_eq g.0 name) given
@@ -30,19 +30,19 @@ pub record Reading : Type 0 where
   pub waits : Option (List ℕ)
 
 -- the option has its value, and may not have had one before
-abbrev pub with_value : Given → (name : List ℕ) → (value : List ℕ) → Option Reading
-with_value given name value =
+abbrev pub with_given : Given → (name : List ℕ) → (value : List ℕ) → Option Reading
+with_given given name value =
     if is_given given name then None else Some (record { given = given ++ (name, value) ∷ []; waits = None })
 
 -- the option's word has the value too, behind `=`, or the next word is the value
 abbrev pub with_name : Given → (name : List ℕ) → (value : Option (List ℕ)) → Option Reading
-with_name given name (Some value) = with_value given name value
+with_name given name (Some value) = with_given given name value
 with_name given name None = Some (record { given = given; waits = Some name })
 
 -- a flag is a word by itself
 abbrev pub with_flag : Given → (name : List ℕ) → (value : Option (List ℕ)) → Option Reading
 with_flag given name (Some value) = None
-with_flag given name None = with_value given name []
+with_flag given name None = with_given given name []
 
 -- a word that is to be an option of these names
 abbrev pub with_option : Names → Given → (parts : Option (List ℕ × Option (List ℕ))) → Option Reading
@@ -56,9 +56,9 @@ with_option names given (Some parts) =
 abbrev pub is_value : List ℕ → Bool
 is_value word = not (is_long_word word || is_short_word word)
 
-abbrev pub with_word : Names → Given → (waits : Option (List ℕ)) → List ℕ → Option Reading
-with_word names given None word = with_option names given (long_of word)
-with_word names given (Some name) word = if is_value word then with_value given name word else None
+abbrev pub with_next_word : Names → Given → (waits : Option (List ℕ)) → List ℕ → Option Reading
+with_next_word names given None word = with_option names given (long_of word)
+with_next_word names given (Some name) word = if is_value word then with_given given name word else None
 
 abbrev pub ended : Given → (waits : Option (List ℕ)) → Option Given
 ended given None = Some given
@@ -67,7 +67,7 @@ ended given (Some name) = None
 abbrev pub read_from : Names → Reading → List (List ℕ) → Option Given
 read_from names reading [] = ended reading.given reading.waits
 read_from names reading (word ∷ words) =
-    option_and_then (λ next. read_from names next words) (with_word names reading.given reading.waits word)
+    option_and_then (λ next. read_from names next words) (with_next_word names reading.given reading.waits word)
 
 -- nothing may stand behind the options, so no word parts them from others
 abbrev pub parts_options : List ℕ → Bool

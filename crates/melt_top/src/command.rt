@@ -4,7 +4,7 @@ ghost use Rattle.std.specs.Prelude.{map, option_and_then, option_map, string_byt
 ghost use Rattle.melt_model.specs.Config.{InRanges};
 ghost use Rattle.melt_trace.specs.Language.{number_of};
 ghost use Rattle.melt_top.specs.Command.{HasRanges, between, config_of, kind_named, meant, number_or, recipe_of};
-ghost use Rattle.melt_top.specs.Command.{plain_texts_of, run_of, texts_of, threads_of};
+ghost use Rattle.melt_top.specs.Command.{plain_texts_of, run_of, texts_of, threads_run};
 ghost use Rattle.melt_top.specs.Words.{Given, given_of};
 ghost use Rattle.melt_top.specs.Parses.{Has, gen_names, run_names, step_names};
 
@@ -158,7 +158,7 @@ fn read_run(options: &ArgMatches<'_>) -> Option<Run>
 }
 
 fn read_threads(options: &ArgMatches<'_>) -> Option<Run>
-    ensures value { (given : Given) → Has run_names options.now given → result ≡ threads_of given }
+    ensures value { (given : Given) → Has run_names options.now given → result ≡ threads_run given }
     ensures ranges { IfSome result (λ run. InRanges run.config) }
 {
     Some(Run {
@@ -210,7 +210,7 @@ fn step_command(alloc: Global, words: &[String]) -> Result<Option<Command>, NoMe
 fn threads_command(alloc: Global, words: &[String]) -> Result<Option<Command>, NoMemory>
     requires { 0 < length words.now }
     ensures value { IfOk result (λ command. command
-        ≡ option_map Command.Threads (option_and_then threads_of
+        ≡ option_map Command.Threads (option_and_then threads_run
         (given_of run_names (drop 1 (map string_bytes words.now))))) }
     ensures ranges { IfOk result (λ command. IfSome command HasRanges) }
 {

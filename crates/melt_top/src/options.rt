@@ -6,7 +6,7 @@ ghost use Rattle.clap.specs.Simple.{app_of, with_rule};
 ghost use Rattle.clap.specs.Values.{kind_of};
 ghost use Rattle.melt_top.specs.declared.options.WordsRefusal.TheVariants.{NoMemory};
 ghost use Rattle.melt_top.specs.Words.{parts_options};
-ghost use Rattle.melt_top.specs.Parses.{IsWord, Parses, asked_for, flag_rule, gen_names, names_of};
+ghost use Rattle.melt_top.specs.Parses.{IsWord, Parses, asked_for, flag_rule, gen_names, names_of_verb};
 ghost use Rattle.melt_top.specs.Parses.{option_rule, refusal_for, run_names, step_names, title_of};
 
 use clap::error::ErrorKind;
@@ -125,7 +125,7 @@ fn gen_parser<'a>(alloc: Global) -> Result<Command<'a>, AllocError>
 
 /// The parser for the options of a command. It knows no help, no version and no other words.
 fn parser_for<'a>(alloc: Global, verb: Verb) -> Result<Command<'a>, AllocError>
-    ensures { IfOk result (λ parser. app_of parser ≡ asked_for (title_of verb) (names_of verb)) }
+    ensures { IfOk result (λ parser. app_of parser ≡ asked_for (title_of verb) (names_of_verb verb)) }
 {
     match verb {
         Verb::Step => step_parser(alloc),
@@ -141,7 +141,7 @@ pub fn options_given<'a>(
     words: &'a [String],
 ) -> Result<ArgMatches<'a>, WordsRefusal>
     requires { 0 < length words.now }
-    ensures { Parses (names_of verb) (drop 1 (map string_bytes words.entry.now)) result }
+    ensures { Parses (names_of_verb verb) (drop 1 (map string_bytes words.entry.now)) result }
 {
     if has_dashes(&words[1..]) {
         return Err(WordsRefusal::Usage);

@@ -1,6 +1,6 @@
 //! The statuses that the program ends with.
 ghost use Rattle.std.specs.Prelude.{◌≡◌, ◌≤◌};
-ghost use Rattle.melt_top.specs.Command.{number_of, status_of, ended, is_disk_fault, is_damaged, is_out_of_heap};
+ghost use Rattle.melt_top.specs.Command.{exit_number, status_of, ended, is_disk_fault, is_damaged, is_out_of_heap};
 
 use melt_model::{Halt, Report, ThreadEnd};
 
@@ -24,7 +24,7 @@ pub enum Status {
 impl Status {
     /// The status of the process, from 0 to 11.
     pub fn code(self) -> u8
-        ensures { result ≡ number_of self }
+        ensures { result ≡ exit_number self }
     {
         self as u8
     }

@@ -2,7 +2,7 @@
 ghost use Rattle.std.specs.Prelude.{◌≡◌, ◌≤◌, ◌%◌, ◌^◌, [], ◌++◌, ◌∷◌, IfOk, OnOk};
 ghost use Rattle.std.specs.List.{flat_map, sum_by};
 ghost use Rattle.melt_model.specs.History.{made};
-ghost use Rattle.melt_top.specs.Text.{numbered, number_in, reply_line, sum_lines, reply_lines, end_line, halt_line};
+ghost use Rattle.melt_top.specs.Text.{with_digits, number_in, reply_line, sum_lines, reply_lines, end_line, halt_line};
 ghost use Rattle.melt_top.specs.Text.{thread_text, thread_lines, slot_field, value_field, act_line, log_text};
 ghost use Rattle.melt_top.specs.Text.{table_part, log_part, text};
 
@@ -25,7 +25,7 @@ pub struct Texts {
 
 /// Adds a word, and a number right behind it.
 fn push_numbered(out: &mut Vec<u8>, word: &[u8], number: u64) -> Result<(), NoMemory>
-    ensures { OnOk result (out.new.items ≡ out.old.items ++ numbered word.now number) }
+    ensures { OnOk result (out.new.items ≡ out.old.items ++ with_digits word.now number) }
 {
     let mut buffer = Buffer::new();
     out.extend_from_slice(word)?;
@@ -34,7 +34,7 @@ fn push_numbered(out: &mut Vec<u8>, word: &[u8], number: u64) -> Result<(), NoMe
 }
 
 fn push_number_line(out: &mut Vec<u8>, number: u64) -> Result<(), NoMemory>
-    ensures { OnOk result (out.new.items ≡ out.old.items ++ (numbered [] number ++ 10 ∷ [])) }
+    ensures { OnOk result (out.new.items ≡ out.old.items ++ (with_digits [] number ++ 10 ∷ [])) }
 {
     push_numbered(out, b"", number)?;
     out.push(b'\n')?;

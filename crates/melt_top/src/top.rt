@@ -7,7 +7,7 @@ ghost use Rattle.melt_model.specs.Config.{InRanges};
 ghost use Rattle.melt_trace.specs.Grammar.{line};
 ghost use Rattle.melt_top.specs.Command.{HasRanges, meant};
 ghost use Rattle.melt_top.specs.Text.{refused_text};
-ghost use Rattle.melt_top.specs.Headline.{Due, InputDue, IsRefused, MadeNone, MadeTrace, ReadAFront, RunDue, TraceDue};
+ghost use Rattle.melt_top.specs.Headline.{Due, InputDue, IsUsage, MadeNone, MadeTrace, ReadAFront, RunDue, TraceDue};
 ghost use Rattle.melt_top.specs.Headline.{IsBuilt, Outcome, ReadAtMost, change, disk_change, stored_by};
 
 use crate::command::{Command, Recipe, Run, command_of};
@@ -220,8 +220,8 @@ pub fn melt<X: Threads + Sync, S: Source, K: Sink, D: StaleDisk, G: Gate + Sync>
         (change K.written K.faults out.old out.new)
         result }
     // Each answer by itself. Want of memory alone has no cause.
-    ensures usage { result ≡ Status.Usage → IsRefused (meant (map string_bytes words.now)) }
-    ensures refused { IsRefused (meant (map string_bytes words.now)) →
+    ensures usage { result ≡ Status.Usage → IsUsage (meant (map string_bytes words.now)) }
+    ensures refused { IsUsage (meant (map string_bytes words.now)) →
         (result ≡ Status.Usage) ⊎ (result ≡ Status.WriteFault) ⊎ (result ≡ Status.NoMemory) }
     ensures read_fault { result ≡ Status.ReadFault → Rose (S.faults input.old) (S.faults input.new) }
     ensures write_fault { result ≡ Status.WriteFault → Rose (K.faults out.old) (K.faults out.new) }

@@ -1,7 +1,7 @@
 use Rattle.std.proofs.Common.{◌≡◌, ℕ, ◌+◌, ◌*◌, ◌-◌, take, subst, arith}
 use Rattle.melt_scion.specs.Commits.{HasBody}
 use Rattle.melt_rule.specs.Seats.{knows_of}
-use Rattle.melt_rule.specs.Shown.{base_of}
+use Rattle.melt_rule.specs.Shown.{base_at}
 use Rattle.melt_epoch.proofs.Bringing.{body_of, of_disk, stub_brings}
 use Rattle.melt_epoch.proofs.bring.bring_missed.Goals as goal
 
@@ -10,7 +10,7 @@ copy_in-requires-clause-body g c =
     let words = c.args.words.now in
     let image = g.R.RecordReader.image c.args.reader.now in
     let z = c.in-Body.shape in
-    subst (λ (n : ℕ). HasBody words.start.began.told (base_of words.start.began) c.args.search.home z
+    subst (λ (n : ℕ). HasBody words.start.began.told (base_at words.start.began) c.args.search.home z
     (take n c.in-Body.rest))
     (let first = c.from.ensures in let more = c.from-in-Body.ensures in
     let e : z.refs + z.nums ≡ c.from.result + c.from-in-Body.result = omega arith in e)

@@ -6,7 +6,7 @@ use Rattle.melt_rule.specs.declared.view.Doing.{Doing}
 use Rattle.melt_rule.specs.declared.view.Doing.TheVariants.{Missed, Searching}
 use Rattle.melt_rule.specs.declared.view.View.{View}
 use Rattle.melt_epoch.proofs.Toward.{searches_within, toward_filled, toward_goes, toward_on}
-use Rattle.melt_epoch.specs.Bringing.{reached}
+use Rattle.melt_epoch.specs.Bringing.{in_use_at}
 use Rattle.melt_epoch.specs.Calls.{Goes}
 use Rattle.melt_epoch.proofs.bring.seek.Goals as goal
 
@@ -32,9 +32,9 @@ returns-in-Some-clause-seeks c =
     let t = c.loop-search.search.tried in
     let most = c.args.forwards - c.args.search.tried in
     subst (λ (d : Doing). Goes v u 0 0 most d)
-    (ap (λ (s : Search). reached s c.in-Some.address) loop.search)
+    (ap (λ (s : Search). in_use_at s c.in-Some.address) loop.search)
     (toward_goes v (knows_of c.loop-search.seat) u 0 0 (t - c.args.search.tried) most
-    (reached c.loop-search.search c.in-Some.address)
+    (in_use_at c.loop-search.search c.in-Some.address)
     (let f = loop.from in let more = c.loop-search-test.true in omega arith)
     loop.toward
     (c.in-Some.ensures.probes.0 c.if-home-search.true))

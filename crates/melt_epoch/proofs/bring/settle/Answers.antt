@@ -9,7 +9,7 @@ use Rattle.melt_epoch.proofs.Settling.{finds_empty, finds_filled, finds_won, han
 use Rattle.melt_epoch.proofs.Settling.{spent_most}
 use Rattle.melt_epoch.proofs.Settling.{spent_next}
 use Rattle.melt_epoch.proofs.Toward.{toward_filled, toward_goes, toward_on, toward_wins}
-use Rattle.melt_epoch.specs.Bringing.{reached}
+use Rattle.melt_epoch.specs.Bringing.{in_use_at}
 use Rattle.melt_epoch.specs.Calls.{Goes}
 use Rattle.melt_epoch.proofs.bring.settle.Goals as goal
 
@@ -27,7 +27,7 @@ returns-in-None-clause-settles c =
       wins = 1;
       one = omega arith;
       goes = subst (λ (d : Doing). Goes v u 0 1 most d)
-          (ap (λ (b : Activation). reached b.search a.address) loop.activation)
+          (ap (λ (b : Activation). in_use_at b.search a.address) loop.activation)
           (toward_wins v w u 0 (spent c.loop-activation.empty passed) most a
           (let s = spent_most c.loop-activation.empty passed in let more = c.loop-activation-test.true in
           let from = loop.from in omega arith)
@@ -69,8 +69,8 @@ returns-in-Some-clause-settles c =
       wins = 0;
       one = omega arith;
       goes = subst (λ (d : Doing). Goes v u 0 0 most d)
-          (ap (λ (b : Activation). reached b.search c.in-Some.address) loop.activation)
-          (toward_goes v w u 0 0 (spent c.loop-activation.empty passed) most (reached a.search c.in-Some.address)
+          (ap (λ (b : Activation). in_use_at b.search c.in-Some.address) loop.activation)
+          (toward_goes v w u 0 0 (spent c.loop-activation.empty passed) most (in_use_at a.search c.in-Some.address)
           (let s = spent_most c.loop-activation.empty passed in let more = c.loop-activation-test.true in
           let from = loop.from in omega arith)
           loop.toward (finds.0 c.if-home-activation.true));

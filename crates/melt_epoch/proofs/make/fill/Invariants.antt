@@ -1,9 +1,9 @@
 use Rattle.melt_rule.specs.Seats.{IsSeat, knows_of}
-use Rattle.melt_epoch.specs.Calls.{Fills}
+use Rattle.melt_epoch.specs.Calls.{FillsRegion}
 use Rattle.melt_epoch.proofs.make.fill.Given as goal
 
 abbrev pub invariant-loop-k : goal.invariant-loop-k
 invariant-loop-k l = record {
   seat : IsSeat l.words l.seat;
-  fills : Fills (knows_of l.fn.seat) (knows_of l.seat) l.address l.k;
+  fills : FillsRegion (knows_of l.fn.seat) (knows_of l.seat) l.address l.k;
 }

@@ -10,7 +10,7 @@ use Rattle.melt_rule.specs.declared.view.View.{View}
 use Rattle.melt_epoch.proofs.Following.{idle_seat, sound_adds, sound_sees}
 use Rattle.melt_epoch.proofs.Making.{claimed_way, lacked_it, made_it, stopped_sees}
 use Rattle.melt_epoch.proofs.Plainly.{asked_counts, asked_idle}
-use Rattle.melt_epoch.specs.Calls.{Fills, LacksRoom}
+use Rattle.melt_epoch.specs.Calls.{FillsRegion, LacksRoom}
 use Rattle.melt_epoch.proofs.make.make_object.Goals as goal
 
 pub returns-then-poll-clause-seat : goal.returns-then-poll-clause-seat
@@ -65,7 +65,7 @@ returns-clause-makes c =
     subst (Claims w u c.in-Some.address) is c.in-Some.ensures.tells in
     made_it v w u (knows_of c.fill.new.seat) (knows_of c.publish.new.seat) c.in-Some.address c.args.shape claims
     c.requires.seat.sound c.if-poll.ensures.polls
-    (subst (λ (n : ℕ). Fills u (knows_of c.fill.new.seat) c.in-Some.address (n - 1)) is c.fill.ensures.fills)
+    (subst (λ (n : ℕ). FillsRegion u (knows_of c.fill.new.seat) c.in-Some.address (n - 1)) is c.fill.ensures.fills)
     c.publish.ensures.makes
     (omega arith)
 

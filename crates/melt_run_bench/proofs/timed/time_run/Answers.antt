@@ -2,4 +2,5 @@
 use Rattle.melt_run_bench.proofs.timed.time_run.Goals as goal
 
 pub returns : goal.returns
-returns g c = λ told some. (c.in_ok-report.ensures.has_run told (λ yes. rw c.new-space.ensures.disk (some yes))).reported
+returns g c = λ told some.
+    (c.in_ok-report.ensures.has_run told (λ yes. rw c.new-space.ensures.disk (some yes))).reported

@@ -6,7 +6,7 @@ use Rattle.melt_rule.specs.Beginning.{MayBegin}
 use Rattle.melt_rule.specs.declared.began.Start.{Start}
 use Rattle.melt_epoch.proofs.Begun.{all_joined, all_readers, epoch_fits, none_seated, words_begin}
 use Rattle.melt_epoch.specs.Ends.{HistoryBegins, MutatorsBegin}
-use Rattle.melt_epoch.specs.Gathering.{words_of}
+use Rattle.melt_epoch.specs.Gathering.{words_of_heap}
 use Rattle.melt_epoch.proofs.epoch.Epoch.begin_with.Goals as goal
 
 pub returns-in_err-laid-clause-kept : goal.returns-in_err-laid-clause-kept
@@ -18,11 +18,11 @@ begin-requires-clause-begins g c =
     let start : Start = c.args.start.now in
     let is : c.args.start.now ≡ start = refl in
     let heap : Heap = c.args.heap in
-    let words : words_of heap ≡ c.deref.result.now = sym (c.deref.ensures.value ∙ c.in_ok-laid.ensures) in
+    let words : words_of_heap heap ≡ c.deref.result.now = sym (c.deref.ensures.value ∙ c.in_ok-laid.ensures) in
     let within : heap.space.used ≤ length heap.space.list =
     subst (λ (h : Heap). h.space.used ≤ length h.space.list) c.heap.view_is c.words.ensures.within.used in
     subst (MayBegin start) words
-    (subst (λ (s : Start). MayBegin s (words_of heap)) is
+    (subst (λ (s : Start). MayBegin s (words_of_heap heap)) is
     (words_begin c.args.start.now heap c.args.end c.args.pass c.requires.heap c.requires.history
     (g.R.RecordReader.image)
     c.args.mutators.now c.requires.mutators within))

@@ -9,7 +9,7 @@ use Rattle.melt_rule.proofs.Seating.{inside_seat}
 use Rattle.melt_rule.specs.Coming.{ClaimsCopy, CopyPlay}
 use Rattle.melt_rule.specs.Rule.{Rule}
 use Rattle.melt_rule.specs.Seats.{EpochWords, knows_of}
-use Rattle.melt_rule.specs.Shown.{base_of, free_place}
+use Rattle.melt_rule.specs.Shown.{base_at, free_place}
 use Rattle.melt_rule.specs.declared.began.Began.{Began}
 use Rattle.melt_rule.proofs.words.Words.claim_body.Goals as goal
 
@@ -21,12 +21,12 @@ fetch_add-found-requires g c =
     c.requires.seat in
     let z : Shape = g.B.ReadBody.shape in
     let rest : List ℕ = g.B.ReadBody.rest in
-    let body : HasBody start.began.told (base_of start.began) c.args.search.home z rest =
-    subst (λ (e : EpochWords). HasBody e.start.began.told (base_of e.start.began) c.args.search.home z rest)
+    let body : HasBody start.began.told (base_at start.began) c.args.search.home z rest =
+    subst (λ (e : EpochWords). HasBody e.start.began.told (base_at e.start.began) c.args.search.home z rest)
     (sym c.self.view_is)
-    (subst (λ (y : Shape). HasBody c.args.self.now.start.began.told (base_of c.args.self.now.start.began)
+    (subst (λ (y : Shape). HasBody c.args.self.now.start.began.told (base_at c.args.self.now.start.began)
     c.args.search.home y rest) (sym c.requires.is_shape)
-    (subst (λ (l : List ℕ). HasBody c.args.self.now.start.began.told (base_of c.args.self.now.start.began)
+    (subst (λ (l : List ℕ). HasBody c.args.self.now.start.began.told (base_at c.args.self.now.start.began)
     c.args.search.home c.args.shape l) (sym c.requires.is_rest) c.requires.body)) in
     let need : c.from-need.result ≡ cost_of z =
     c.from-need.ensures ∙ (c.cost.ensures ∙ ap cost_of (sym c.requires.is_shape)) in (

@@ -4,7 +4,7 @@ use Rattle.melt_core.specs.Stages.{further}
 use Rattle.melt_rule.proofs.Forwards.{forwards_known, has_forward, may_unpack, probe_at, same_sent, seated_probed}
 use Rattle.melt_rule.proofs.Probing.{probes_at}
 use Rattle.melt_rule.proofs.Seating.{inside_seat}
-use Rattle.melt_rule.specs.Coming.{Probes}
+use Rattle.melt_rule.specs.Coming.{ProbesShared}
 use Rattle.melt_rule.specs.Seats.{knows_of}
 use Rattle.melt_rule.specs.declared.view.Doing.TheVariants.{Missed, Searching}
 use Rattle.melt_rule.proofs.words.Words.probe.Goals as goal
@@ -63,7 +63,7 @@ returns-clause-probes c =
     let f = c.load.ensures.2.1 c.args.search c.requires.searching
     (probe_at id start c.self.inside.before c.self.inside.forwards_at c.args.seat.now c.args.search c.self.invariant
     seat) in
-    subst (λ (s : Option (ℕ × ℕ)). Probes (knows_of c.args.seat.now) (knows_of c.load.new.seat) c.args.search
+    subst (λ (s : Option (ℕ × ℕ)). ProbesShared (knows_of c.args.seat.now) (knows_of c.load.new.seat) c.args.search
     (Missed c.args.search) (Searching (further c.args.search)) s)
     (same_sent c.load.result f.sent c.unpack.result f.is c.unpack.ensures)
     f.probes

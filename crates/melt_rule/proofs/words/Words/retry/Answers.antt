@@ -4,7 +4,7 @@ use Rattle.melt_core.specs.Stages.{retried}
 use Rattle.melt_rule.proofs.Forwards.{forwards_known, has_forward, may_unpack, probe_at, same_sent, seated_probed}
 use Rattle.melt_rule.proofs.Probing.{retries_at}
 use Rattle.melt_rule.proofs.Seating.{inside_seat}
-use Rattle.melt_rule.specs.Coming.{Probes}
+use Rattle.melt_rule.specs.Coming.{ProbesShared}
 use Rattle.melt_rule.specs.Seats.{knows_of}
 use Rattle.melt_rule.specs.declared.view.Doing.TheVariants.{Copied, Retrying}
 use Rattle.melt_rule.proofs.words.Words.retry.Goals as goal
@@ -65,7 +65,8 @@ returns-clause-probes c =
     let f = c.load.ensures.2.1 c.args.activation c.requires.retrying
     (probe_at id start c.self.inside.before c.self.inside.forwards_at c.args.seat.now c.args.activation.search
     c.self.invariant seat) in
-    subst (λ (s : Option (ℕ × ℕ)). Probes (knows_of c.args.seat.now) (knows_of c.load.new.seat) c.args.activation.search
+    subst (λ (s : Option (ℕ × ℕ)). ProbesShared (knows_of c.args.seat.now)
+    (knows_of c.load.new.seat) c.args.activation.search
     (Copied c.args.activation) (Retrying (retried c.args.activation)) s)
     (same_sent c.load.result f.sent c.unpack.result f.is c.unpack.ensures)
     f.probes
