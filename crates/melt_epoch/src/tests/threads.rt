@@ -72,9 +72,12 @@ fn two_threads_make_objects_and_share_them(rt: HostRuntime) {
     free_two(&rt, mutators);
 }
 
+/// How often eight threads do so; `bench/rounds` tries more.
+const ROUNDS: u32 = 100;
+
 #[test]
 fn eight_threads_make_objects_and_share_them(rt: HostRuntime) {
-    for _ in 0..100 {
+    for _ in 0..ROUNDS {
         let mut mutators = eight_mutators();
         let epoch = begun(&rt, rt.alloc(), 2048, 1, 0, &mut mutators);
         all_share_objects(&rt, &epoch, &mut mutators, 100);

@@ -81,12 +81,15 @@ fn load_by_eight<'d, T: Threads + Wait + Abort + Sync>(
     Ok(world)
 }
 
+/// How often eight threads load one home; `bench/rounds` tries more.
+const ROUNDS: u32 = 100;
+
 #[test]
 fn eight_loads_of_one_home_find_one_object(rt: HostRuntime) -> Result<(), Fail> {
     let alloc = rt.alloc();
     let mut disk = MemDisk::new(alloc);
     let mut world = fine(world_behind(alloc, &mut disk, &ONE))?;
-    for round in 0..100_u32 {
+    for round in 0..ROUNDS {
         world = load_by_eight(&rt, alloc, world)?;
         world = fine(world.collect(alloc, Phase::Move))?;
         world = fine(world.collect(alloc, Phase::Move))?;

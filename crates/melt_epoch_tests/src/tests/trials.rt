@@ -1,11 +1,14 @@
 use super::trial::run_trial;
 use std::test::Fail;
 
+/// How many programs are tried; `bench/rounds` tries more.
+const SEEDS: u64 = 100;
+
 #[test]
 fn random_programs_stand_in_an_order(rt: HostRuntime) -> Result<(), Fail> {
     let mut returned = 0_usize;
     let mut refused = 0_usize;
-    for seed in 0..100_u64 {
+    for seed in 0..SEEDS {
         let Ok(outcome) = run_trial(&rt, rt.alloc(), seed) else {
             return Err("no trial".into());
         };
