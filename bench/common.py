@@ -1,5 +1,5 @@
-"""What bench/gen, bench/flags, bench/start, bench/leak, bench/reload, bench/move, bench/epoch and bench/threads share:
-the program, the largest traces, and how a process is measured."""
+"""What bench/run, bench/collect, bench/gen, bench/flags, bench/start, bench/leak, bench/reload, bench/move, bench/epoch
+and bench/threads share: the program, the plain ones, the largest traces, and how a process is measured."""
 import bisect
 import os
 import pathlib
@@ -12,7 +12,8 @@ import tempfile
 import time
 from typing import NamedTuple
 
-PROGRAM = pathlib.Path(__file__).resolve().parent.parent / "crates/melt_top/out/melt_top"
+HERE = pathlib.Path(__file__).resolve().parent
+PROGRAM = HERE.parent / "crates/melt_top/out/melt_top"
 KINDS = ["list", "queue", "table", "tree"]
 SIZES = range(1, 100001)  # objects of each thread
 MEASURE = "/usr/bin/time"
@@ -36,53 +37,73 @@ def built(program):
     return path
 
 
-def compiled(source, folder):
-    """A program of this text in C."""
-    text, program = pathlib.Path(folder, "plain.c"), pathlib.Path(folder, "plain")
-    text.write_text(source)
-    subprocess.run([os.environ.get("CC", "gcc"), "-O2", "-Wall", "-o", program, text], check=True)
+def compiled_file(path, folder):
+    """The program of a file in C, put into this folder."""
+    program = pathlib.Path(folder, path.stem)
+    subprocess.run([os.environ.get("CC", "gcc"), "-O2", "-Wall", "-o", program, path], check=True)
     return str(program)
 
 
-def run(words, given=subprocess.DEVNULL, into=subprocess.DEVNULL, folder=None):
-    """Runs a process once, with its input from a file and its output into one, in this folder. Answers what it took."""
+def compiled(source, folder):
+    """A program of this text in C."""
+    path = pathlib.Path(folder, "plain.c")
+    path.write_text(source)
+    return compiled_file(path, folder)
+
+
+def peer(name, folder):
+    """The plain program of this name from bench/peers."""
+    return compiled_file(HERE / "peers" / f"{name}.c", folder)
+
+
+def run(words, given=subprocess.DEVNULL, into=subprocess.DEVNULL, folder=None, wanted=0):
+    """Runs a process once, with its input from a file and its output into one, in this folder. Answers what it took.
+    Where another status than 0 is wanted, what it says of that on standard error is dropped."""
     if given != subprocess.DEVNULL:
         given.seek(0)
     if into != subprocess.DEVNULL:
         into.seek(0)
         into.truncate()
     begun = time.perf_counter()
-    child = subprocess.Popen(words, stdin=given, stdout=into, cwd=folder)
+    child = subprocess.Popen(words, stdin=given, stdout=into, stderr=subprocess.DEVNULL if wanted else None, cwd=folder)
     _, status, usage = os.wait4(child.pid, 0)
     seconds = time.perf_counter() - begun
     child.returncode = os.waitstatus_to_exitcode(status)
-    if child.returncode:
+    if child.returncode != wanted:
         fail(f"{' '.join(map(str, words))} ended with status {child.returncode}")
     return Cost(seconds, usage.ru_utime + usage.ru_stime)
 
 
-def peak(words, given=subprocess.DEVNULL, into=subprocess.DEVNULL, folder=None):
+def peak(words, given=subprocess.DEVNULL, into=subprocess.DEVNULL, folder=None, wanted=0):
     """The peak of memory in MiB, or None where GNU time is missing."""
     if not os.access(MEASURE, os.X_OK):
         return None
     with tempfile.NamedTemporaryFile() as told:
-        run([MEASURE, "-f", "%M", "-o", told.name, *words], given, into, folder)
+        run([MEASURE, "-f", "%M", "-o", told.name, *words], given, into, folder, wanted)
         return int(told.read().split()[-1]) / 1024
 
 
-def instructions(words, given=subprocess.DEVNULL):
+def instructions(words, given=subprocess.DEVNULL, wanted=0):
     """How many instructions a process takes outside the system, or None where valgrind is missing."""
     if shutil.which("valgrind") is None:
         return None
     with tempfile.NamedTemporaryFile("r") as told, tempfile.TemporaryDirectory() as folder:
         run(["valgrind", "--tool=cachegrind", "--cache-sim=no", "--cachegrind-out-file=/dev/null",
-             f"--log-file={told.name}", *words], given, folder=folder)
+             f"--log-file={told.name}", *words], given, folder=folder, wanted=wanted)
         return int(re.search(r"I +refs: +([\d,]+)", told.read())[1].replace(",", ""))
 
 
 def least(costs):
     """The best time of each sort."""
     return Cost(*map(min, zip(*costs)))
+
+
+def written(words, given=subprocess.DEVNULL):
+    """What a process writes."""
+    with tempfile.TemporaryFile() as into:
+        run(words, given, into)
+        into.seek(0)
+        return into.read()
 
 
 def processor(words, given=subprocess.DEVNULL):
