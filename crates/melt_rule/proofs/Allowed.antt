@@ -56,9 +56,9 @@ no_cause start words views kept id v at goes_on off = go (has_cause v) refl
     go false is = refl
     go true is = let on = kept.stop.sets id v at is goes_on in absurd (let e : 0 ≡ 1 = sym off ∙ on in omega arith)
 
-pub polls : (start : Start) (slots id : ℕ) (me : Me ℕ View) → 0 < me.0.parts → is_lacking me.0.doing ≡ false
+pub polls : {start : Start} {slots : ℕ} (id : ℕ) {me : Me ℕ View} → 0 < me.0.parts → is_lacking me.0.doing ≡ false
     → is_reading me.0.doing ≡ false → Allows (Rule start) slots id me 0 (λ n. n) (PollPlay (step slots 0 0 0 none) me)
-polls start slots id me live goes_on left =
+polls {start} {slots} id {me} live goes_on left =
     allowed start slots id 0 me (λ n. n) (PollPlay (step slots 0 0 0 none) me) live
     (λ words views kept at alive small. elim kept.stop.bit [
       | inl zero ↦
@@ -86,10 +86,10 @@ one_object start words views kept id v at live a n m x y =
     let e : Some n ≡ Some m = sym (stood.known a n x) ∙ stood.known a m y in
     cc
 
-pub heads : (start : Start) (slots id i a n : ℕ) (me : Me ℕ View) → 0 < me.0.parts → is_lacking me.0.doing ≡ false
-    → is_reading me.0.doing ≡ false → Has me.0.known a n → i ≡ word_place me.0.began a
+pub heads : {start : Start} {slots : ℕ} (id : ℕ) {i a n : ℕ} {me : Me ℕ View} → 0 < me.0.parts
+    → me.0.doing ≡ Some Polled → Has me.0.known a n → i ≡ word_place me.0.began a
     → Allows (Rule start) slots id me i (λ n. n) (HeadPlay (step slots i 0 0 none) me)
-heads start slots id i a n me live goes_on left has at_i =
+heads {start} {slots} id {i} {a} {n} {me} live polled has at_i =
     allowed start slots id i me (λ n. n) (HeadPlay (step slots i 0 0 none) me) live
     (λ words views kept at alive small.
     let stood = kept.seats id me.0 at alive in
@@ -100,8 +100,8 @@ heads start slots id i a n me live goes_on left has at_i =
     let found : ℕ = get_or words i 0 in
     let there : IsObjectAt kept.maps now a header.shape =
     record { number = n; named = named; header = header; starts = object.1.starts; shape_is = refl } in
-    let r = reaches start words views kept id me.0 at alive goes_on (Some (Headed a header.shape)) there refl (inl refl)
-    left in
+    let r = reaches start words views kept id me.0 at alive (ap is_lacking polled) (Some (Headed a header.shape))
+    there refl (inl refl) (ap is_reading polled) in
     let w : View = view_behind me.0 kept.history me.0.known (Some (Headed a header.shape)) in
     let word : found ≡ header_word header =
     ap (λ (k : ℕ). get_or words k 0) at_i
@@ -173,10 +173,10 @@ module _ (start : Start) (words : List ℕ) (views : List View) (kept : Kept sta
         },
       )
 
-pub looks_at : (start : Start) (slots id at_i a n i : ℕ) (z : Shape) (me : Me ℕ View) → 0 < me.0.parts
+pub looks_at : {start : Start} {slots : ℕ} (id : ℕ) {at_i a n i : ℕ} {z : Shape} {me : Me ℕ View} → 0 < me.0.parts
     → Has me.0.known a n → me.0.doing ≡ Some (Headed a z) → i < z.refs → at_i ≡ word_place me.0.began (a + 2 + i)
     → Allows (Rule start) slots id me at_i (λ n. n) (LookPlay (step slots at_i 0 0 none) me)
-looks_at start slots id at_i a n i z me live has headed below place_is =
+looks_at {start} {slots} id {at_i} {a} {n} {i} {z} {me} live has headed below place_is =
     allowed start slots id at_i me (λ n. n) (LookPlay (step slots at_i 0 0 none) me) live
     (λ words views kept at alive small.
     let stood = kept.seats id me.0 at alive in
@@ -204,17 +204,17 @@ looks_at start slots id at_i a n i z me live has headed below place_is =
       ),
     ))
 
-pub global_looks : (start : Start) (slots id g : ℕ) (me : Me ℕ View) → 0 < me.0.parts
-    → is_lacking me.0.doing ≡ false → is_reading me.0.doing ≡ false → g < me.0.began.globals
+pub global_looks : {start : Start} {slots : ℕ} (id : ℕ) {g : ℕ} {me : Me ℕ View} → 0 < me.0.parts
+    → me.0.doing ≡ Some Polled → g < me.0.began.globals
     → Allows (Rule start) slots id me (global_place g) (λ n. n)
     (GlobalLookPlay (step slots (global_place g) 0 0 none) me)
-global_looks start slots id g me live goes_on left below =
+global_looks {start} {slots} id {g} {me} live polled below =
     allowed start slots id (global_place g) me (λ n. n) (GlobalLookPlay (step slots (global_place g) 0 0 none) me) live
     (λ words views kept at alive small.
     let stood = kept.seats id me.0 at alive in
     let here : g < start.began.globals = subst (λ (b : Began). g < b.globals) stood.began below in
-    let r = look_step start words views kept id me.0 at alive goes_on left (global_place g) (Global g)
-    (slot.Global g) here refl
+    let r = look_step start words views kept id me.0 at alive (ap is_lacking polled) (ap is_reading polled)
+    (global_place g) (Global g) (slot.Global g) here refl
     (kept.holds.formed.globals g here)
     (sym (global_is start.began words g here)) in (
       r.0,
@@ -246,11 +246,11 @@ module _ (start : Start) (words : List ℕ) (views : List View) (kept : Kept sta
     named = (kept.seats id v at live).known a n has;
   }
 
-pub numbers_at : (start : Start) (slots id i a n j : ℕ) (z : Shape) (me : Me ℕ View) → 0 < me.0.parts
+pub numbers_at : {start : Start} {slots : ℕ} (id : ℕ) {i a n j : ℕ} {z : Shape} {me : Me ℕ View} → 0 < me.0.parts
     → Has me.0.known a n → me.0.doing ≡ Some (Headed a z) → j < z.nums
     → i ≡ word_place me.0.began (number_place a z j)
     → Allows (Rule start) slots id me i (λ n. n) (NumberPlay (step slots i 0 0 none) me)
-numbers_at start slots id i a n j z me live has headed below place_is =
+numbers_at {start} {slots} id {i} {a} {n} {j} {z} {me} live has headed below place_is =
     allowed start slots id i me (λ n. n) (NumberPlay (step slots i 0 0 none) me) live
     (λ words views kept at alive small.
     let now : State = shows start.began words in
@@ -302,11 +302,11 @@ in_table : (start : Start) (words : List ℕ) (views : List View) (kept : Kept s
     → address ≤ start.began.size → word_place start.began address < length words
 in_table start words views kept address below = let size = kept.size in omega arith
 
-pub stores_at : (start : Start) (slots id i a n k held x : ℕ) (z : Shape) (value : Value) (me : Me ℕ View)
+pub stores_at : {start : Start} {slots : ℕ} (id : ℕ) {i a n k held x : ℕ} {z : Shape} {value : Value} {me : Me ℕ View}
     → 0 < me.0.parts → Has me.0.known a n → me.0.doing ≡ Some (Headed a z) → k < z.refs
     → i ≡ word_place me.0.began (a + 2 + k) → Names me.0.known held value → x ≡ 4 * held
     → Allows (Rule start) slots id me i (λ _. x) (λ found. StorePlay (step slots i x 0 none) me x)
-stores_at start slots id i a n k held x z value me live has headed below place_is names word =
+stores_at {start} {slots} id {i} {a} {n} {k} {held} {x} {z} {value} {me} live has headed below place_is names word =
     allowed start slots id i me (λ _. x) (λ found. StorePlay (step slots i x 0 none) me x) live
     (λ words views kept at alive small.
     let stood = kept.seats id me.0 at alive in
@@ -352,12 +352,11 @@ stores_at start slots id i a n k held x z value me live has headed below place_i
       ),
     ))
 
-pub global_stores : (start : Start) (slots id g held x : ℕ) (value : Value) (me : Me ℕ View) → 0 < me.0.parts
-    → is_lacking me.0.doing ≡ false → is_reading me.0.doing ≡ false → g < me.0.began.globals
-    → Names me.0.known held value → x ≡ 4 * held
+pub global_stores : {start : Start} {slots : ℕ} (id : ℕ) {g held x : ℕ} {value : Value} {me : Me ℕ View}
+    → 0 < me.0.parts → me.0.doing ≡ Some Polled → g < me.0.began.globals → Names me.0.known held value → x ≡ 4 * held
     → Allows (Rule start) slots id me (global_place g) (λ _. x)
     (λ found. GlobalStorePlay (step slots (global_place g) x 0 none) me x)
-global_stores start slots id g held x value me live goes_on left below names word =
+global_stores {start} {slots} id {g} {held} {x} {value} {me} live polled below names word =
     allowed start slots id (global_place g) me (λ _. x)
     (λ found. GlobalStorePlay (step slots (global_place g) x 0 none) me x) live
     (λ words views kept at alive small.
@@ -367,13 +366,12 @@ global_stores start slots id g held x value me live goes_on left below names wor
     let in_words : global_place g < length words = let size = kept.size in omega arith in
     let changes = global_changes start.began words g x here in_words in
     let only : OnlyObjects start words (set words (global_place g) x) = only_global start words g x here in_words in
-    let r = stores start words (set words (global_place g) x) views kept id me.0 at alive goes_on only (Global g)
-    (slot.Global g) held
-    value here refl names
+    let r = stores start words (set words (global_place g) x) views kept id me.0 at alive (ap is_lacking polled) only
+    (Global g) (slot.Global g) held value here refl names
     (subst (λ (y : ℕ). GlobalChanges now (shows start.began (set words (global_place g) x)) g y) word changes)
-    left in
-    let w : View = wrote start words (set words (global_place g) x) views kept id me.0 at alive goes_on only
-    (Write (slot.Global g) value) in (
+    (ap is_reading polled) in
+    let w : View = wrote start words (set words (global_place g) x) views kept id me.0 at alive (ap is_lacking polled)
+    only (Write (slot.Global g) value) in (
       w,
       r.0,
       λ within_. (
@@ -388,11 +386,11 @@ global_stores start slots id g held x value me live goes_on left below names wor
       ),
     ))
 
-pub number_stores : (start : Start) (slots id i a n j x : ℕ) (z : Shape) (me : Me ℕ View) → 0 < me.0.parts
+pub number_stores : {start : Start} {slots : ℕ} (id : ℕ) {i a n j x : ℕ} {z : Shape} {me : Me ℕ View} → 0 < me.0.parts
     → Has me.0.known a n → me.0.doing ≡ Some (Headed a z) → j < z.nums
     → i ≡ word_place me.0.began (number_place a z j)
     → Allows (Rule start) slots id me i (λ _. x) (λ found. NumberStorePlay (step slots i x 0 none) me x)
-number_stores start slots id i a n j x z me live has headed below place_is =
+number_stores {start} {slots} id {i} {a} {n} {j} {x} {z} {me} live has headed below place_is =
     allowed start slots id i me (λ _. x) (λ found. NumberStorePlay (step slots i x 0 none) me x) live
     (λ words views kept at alive small.
     let stood = kept.seats id me.0 at alive in

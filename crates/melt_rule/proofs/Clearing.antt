@@ -172,10 +172,10 @@ clears_known start slots id i target place found me tells live goes_on at_i know
     let w : View = view_behind me.0 kept.history me.0.known (Some (Cleared place found target)) in
     (w, r.0, λ inside. tell (get_or words i 0) w inside r.1))
 
-pub clears_at : (start : Start) (slots id i target : ℕ) (place : Place) (found : Ref) (me : Me ℕ View) → 0 < me.0.parts
-    → me.0.doing ≡ Some (Looked place found target) → i ≡ word_place me.0.began target
+pub clears_at : {start : Start} {slots : ℕ} (id : ℕ) {i target : ℕ} {place : Place} {found : Ref} {me : Me ℕ View}
+    → 0 < me.0.parts → me.0.doing ≡ Some (Looked place found target) → i ≡ word_place me.0.began target
     → Allows (Rule start) slots id me i (λ n. bit_and n stale_mask) (ClearPlay (step slots i stale_mask 0 none) me)
-clears_at start slots id i target place found me live looked at_i =
+clears_at {start} {slots} id {i} {target} {place} {found} {me} live looked at_i =
     clears_known start slots id i target place found me (ClearPlay (step slots i stale_mask 0 none) me) live
     (ap is_lacking looked)
     at_i
@@ -196,13 +196,13 @@ clears_at start slots id i target place found me live looked at_i =
     ))
 
 -- the object to which the live scion of a Stub leads
-pub stub_clears_at : (start : Start) (slots id i scion target : ℕ) (search : Search) (me : Me ℕ View) → 0 < me.0.parts
-    → me.0.doing ≡ Some (Missed search)
+pub stub_clears_at : {start : Start} {slots : ℕ} (id : ℕ) {i : ℕ} (scion : ℕ) {target : ℕ} {search : Search}
+    {me : Me ℕ View} → 0 < me.0.parts → me.0.doing ≡ Some (Missed search)
     → scion_in me.0.began.scions scion ≡ Some (record { home = search.home; address = target })
     → i ≡ word_place me.0.began target
     → Allows (Rule start) slots id me i (λ n. bit_and n stale_mask)
     (ClearStubPlay (step slots i stale_mask 0 none) me)
-stub_clears_at start slots id i scion target search me live missed scion_live at_i =
+stub_clears_at {start} {slots} id {i} scion {target} {search} {me} live missed scion_live at_i =
     clears_known start slots id i target search.place (Disk search.home) me
     (ClearStubPlay (step slots i stale_mask 0 none) me)
     live

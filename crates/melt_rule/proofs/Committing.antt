@@ -51,7 +51,7 @@ use Rattle.melt_rule.specs.Plays.{Stays}
 use Rattle.melt_rule.specs.Rule.{Has, SeatStands, Kept, Rule, filled_count, is_lacking, is_reading}
 use Rattle.melt_rule.specs.Seats.{EpochWords, IsSeat, knows_of}
 use Rattle.melt_rule.specs.Shown.{shows, owned, forward_place, Knows, staged}
-use Rattle.melt_rule.specs.Tells.{CopyFits, FitsIn, IsWithin, view_behind}
+use Rattle.melt_rule.specs.Tells.{CopyFits, IsWithin, view_behind}
 use Rattle.melt_rule.specs.declared.began.Began.{Began}
 use Rattle.melt_rule.specs.declared.began.Pair.{Pair}
 use Rattle.melt_rule.specs.declared.began.Start.{Start}
@@ -294,10 +294,10 @@ module _ (start : Start) (words : List ℕ) (views : List View) (kept : Kept sta
       let r = wins n.0 n.1 empty in
       (won n.0 n.1 empty, r.0, record { sent = None; is = empty; commits = r.1 })
 
-pub commits_at : (start : Start) (slots id i word : ℕ) (a : Activation) (me : Me ℕ View) → 0 < me.0.parts
+pub commits_at : {start : Start} {slots : ℕ} (id : ℕ) {i word : ℕ} {a : Activation} {me : Me ℕ View} → 0 < me.0.parts
     → me.0.doing ≡ Some (Copied a) → i ≡ probe_place me.0.began a.search → word ≡ forward_word a.search.home a.address
     → Allows (Rule start) slots id me i (λ x. either (x == 0) word x) (CommitPlay (step slots i 0 word none) me)
-commits_at start slots id i word a me live copied placed is =
+commits_at {start} {slots} id {i} {word} {a} {me} live copied placed is =
     allowed start slots id i me (λ x. either (x == 0) word x) (CommitPlay (step slots i 0 word none) me) live
     (λ words views kept at alive small.
     let p : ℕ = place start words views kept id me.0 at alive a copied in
@@ -335,15 +335,14 @@ commits_at start slots id i word a me live copied placed is =
     ])
 
 -- the seat behind it
-pub seated_committed : (words : EpochWords) (old new : Seat ℕ View) (a : Activation) (sent : Option (ℕ × ℕ))
+pub seated_committed : {words : EpochWords} {old new : Seat ℕ View} (a : Activation) (sent : Option (ℕ × ℕ))
     → IsSeat words old → new.table_id ≡ old.table_id → Stays old.me new.me
     → Commits (knows_of old) (knows_of new) a sent → IsSeat words new
-seated_committed words old new a None seat table stays wins =
-    seated words old new seat table stays (ap (λ (v : View). v.parts) wins.is) (ap (λ (v : View). v.began) wins.is)
-seated_committed words old new a (Some sent) seat table stays tells =
-    seated_probed words old new a.search (Copied a) (Retrying (retried a)) (Some sent) seat table stays tells
+seated_committed a None seat table stays wins = seated seat table stays wins.is refl refl
+seated_committed a (Some sent) seat table stays tells =
+    seated_probed a.search (Copied a) (Retrying (retried a)) (Some sent) seat table stays tells
 
 -- the forwarding word of a copy is one of those that there are
-pub copied_within : (v : View) (a : Activation) → IsWithin v → v.doing ≡ Some (Copied a)
+pub copied_within : {v : View} {a : Activation} → IsWithin v → v.doing ≡ Some (Copied a)
     → CopyFits v.began a × (a.search.tried < v.began.forwards)
-copied_within v a inside is = subst (FitsIn v.began) is inside.doing
+copied_within inside is = rw is at inside.doing

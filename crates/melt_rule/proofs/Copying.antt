@@ -42,7 +42,7 @@ use Rattle.melt_rule.specs.Plays.{Stays}
 use Rattle.melt_rule.specs.Rule.{Begins, SeatStands, Kept, Rule, has_cause, is_lacking, is_reading}
 use Rattle.melt_rule.specs.Seats.{EpochWords, IsSeat, knows_of}
 use Rattle.melt_rule.specs.Shown.{base_at, shows, Knows, owned, staged, free_place, word_place}
-use Rattle.melt_rule.specs.Tells.{FitsIn, IsWithin, view_behind, Reaches}
+use Rattle.melt_rule.specs.Tells.{IsWithin, view_behind, Reaches}
 use Rattle.melt_rule.specs.declared.began.Began.{Began}
 use Rattle.melt_rule.specs.declared.began.Start.{Start}
 use Rattle.melt_rule.specs.declared.view.Doing.{Doing}
@@ -296,28 +296,29 @@ module _ (start : Start) (words : List ℕ) (views : List View) (kept : Kept sta
       )
       refl
 
-pub copies_at : (start : Start) (slots id : ℕ) (search : Search) (z : Shape) (rest : List ℕ) (me : Me ℕ View)
-    → 0 < me.0.parts → has_cause me.0 ≡ false → me.0.doing ≡ Some (Missed search)
-    → HasBody start.began.told (base_at start.began) search.home z rest
-    → Allows (Rule start) slots id me free_place (λ n. (n + cost_of z) % 2 ^ 64)
-    (CopyPlay z rest (step slots free_place (cost_of z) 0 none) me)
-copies_at start slots id search z rest me live no_cause is body =
-    allowed start slots id free_place me (λ n. (n + cost_of z) % 2 ^ 64)
-    (CopyPlay z rest (step slots free_place (cost_of z) 0 none) me)
+pub copies_at : {start : Start} {slots : ℕ} (id : ℕ) {cost : ℕ} {search : Search} {z : Shape} {rest : List ℕ}
+    {me : Me ℕ View} → 0 < me.0.parts → has_cause me.0 ≡ false → me.0.doing ≡ Some (Missed search)
+    → HasBody start.began.told (base_at start.began) search.home z rest → cost ≡ cost_of z
+    → Allows (Rule start) slots id me free_place (λ n. (n + cost) % 2 ^ 64)
+    (CopyPlay z rest (step slots free_place cost 0 none) me)
+copies_at {start} {slots} id {cost} {search} {z} {rest} {me} live no_cause is body is_cost =
+    allowed start slots id free_place me (λ n. (n + cost) % 2 ^ 64)
+    (CopyPlay z rest (step slots free_place cost 0 none) me)
     live
     (λ words views kept at alive small.
-    let cost : ℕ = cost_of z in
     let refs : z.refs ≤ 62 = body.head.small.refs in
     let nums : z.nums ≤ 62 = body.head.small.nums in
     let first_free : ℕ = get_or words free_place 0 in
     let wide : first_free + cost < 2 ^ 64 = claim_small start words views kept id me.0 at alive cost (omega arith) in
-    let whole : (first_free + cost) % 2 ^ 64 ≡ first_free + cost = mod-eq_of_lt wide in
+    let whole : (first_free + cost) % 2 ^ 64 ≡ first_free + cost_of z =
+    mod-eq_of_lt wide ∙ ap (λ (n : ℕ). first_free + n) is_cost in
     let size : me.0.began.size ≡ start.began.size = ap (λ (b : Began). b.size) (kept.seats id me.0 at alive).began in
-    elim (cases_lt (start.began.size + 1) (first_free + cost)) [
+    elim (cases_lt (start.began.size + 1) (first_free + cost_of z)) [
       | inl past ↦
           let w : View =
-          claimed start words views kept id me.0 at alive me.0.rest cost (me.0.over + 1) true (LackingCopy search z) in
-          let r : IsStep start words (set words free_place (first_free + cost)) views kept id me.0 at alive w
+          claimed start words views kept id me.0 at alive me.0.rest (cost_of z) (me.0.over + 1) true
+          (LackingCopy search z) in
+          let r : IsStep start words (set words free_place (first_free + cost_of z)) views kept id me.0 at alive w
           × LacksCopy me.0 w search z =
           lacking_copy start words views kept id me.0 at alive search z rest is no_cause body past in (
             w,
@@ -334,8 +335,8 @@ copies_at start slots id search z rest me live no_cause is body =
           )
       | inr fits ↦
           let doing : Doing = Copying (record { search = search; address = first_free; shape = z }) 0 in
-          let w : View = claimed start words views kept id me.0 at alive rest cost me.0.over me.0.spaced doing in
-          let r : IsStep start words (set words free_place (first_free + cost)) views kept id me.0 at alive w
+          let w : View = claimed start words views kept id me.0 at alive rest (cost_of z) me.0.over me.0.spaced doing in
+          let r : IsStep start words (set words free_place (first_free + cost_of z)) views kept id me.0 at alive w
           × ClaimsCopy me.0 w search z rest first_free =
           copying start words views kept id me.0 at alive search z rest is no_cause body (omega arith) in (
             w,
@@ -354,11 +355,11 @@ copies_at start slots id search z rest me live no_cause is body =
           )
     ])
 
-pub fills_copy_at : (start : Start) (slots id i k word : ℕ) (a : Activation) (me : Me ℕ View) → 0 < me.0.parts
-    → me.0.doing ≡ Some (Copying a k) → k + 1 < cost_of a.shape
+pub fills_copy_at : {start : Start} {slots : ℕ} (id : ℕ) {i k word : ℕ} {a : Activation} {me : Me ℕ View}
+    → 0 < me.0.parts → me.0.doing ≡ Some (Copying a k) → k + 1 < cost_of a.shape
     → word ≡ copy_word a.search.home a.shape me.0.rest (k + 1) → i ≡ word_place me.0.began (a.address + 1 + k)
     → Allows (Rule start) slots id me i (λ n. word) (λ n. FillCopyPlay (step slots i word 0 none) me word)
-fills_copy_at start slots id i k word a me live is few stored placed =
+fills_copy_at {start} {slots} id {i} {k} {word} {a} {me} live is few stored placed =
     allowed start slots id i me (λ n. word) (λ n. FillCopyPlay (step slots i word 0 none) me word) live
     (λ words views kept at alive small.
     let place : ℕ = a.address + 1 + k in
@@ -377,12 +378,11 @@ fills_copy_at start slots id i k word a me live is few stored placed =
       ),
     ))
 
-pub heads_copy_at : (start : Start) (slots id i k : ℕ) (a : Activation) (me : Me ℕ View) → 0 < me.0.parts
-    → me.0.doing ≡ Some (Copying a k) → k + 1 ≡ cost_of a.shape → i ≡ word_place me.0.began a.address
-    → let word : ℕ = header_word (record { shape = a.shape; stale = false }) in
-    Allows (Rule start) slots id me i (λ n. word) (λ n. HeadCopyPlay (step slots i word 0 none) me word)
-heads_copy_at start slots id i k a me live is all placed =
-    let word : ℕ = header_word (record { shape = a.shape; stale = false }) in
+pub heads_copy_at : {start : Start} {slots : ℕ} (id : ℕ) {i k word : ℕ} {a : Activation} {me : Me ℕ View}
+    → 0 < me.0.parts → me.0.doing ≡ Some (Copying a k) → k + 1 ≡ cost_of a.shape
+    → i ≡ word_place me.0.began a.address → word ≡ header_word (record { shape = a.shape; stale = false })
+    → Allows (Rule start) slots id me i (λ n. word) (λ n. HeadCopyPlay (step slots i word 0 none) me word)
+heads_copy_at {start} {slots} id {i} {k} {word} {a} {me} live is all placed is_word =
     allowed start slots id i me (λ n. word) (λ n. HeadCopyPlay (step slots i word 0 none) me word) live
     (λ words views kept at alive small.
     let there : i ≡ word_place start.began a.address =
@@ -390,7 +390,9 @@ heads_copy_at start slots id i k a me live is all placed =
     let w : View = view_behind me.0 kept.history me.0.known (Some (Copied a)) in
     let r = heading_copy start words views kept id me.0 at alive a k is all in (
       w,
-      subst (λ (j : ℕ). IsStep start words (set words j word) views kept id me.0 at alive w) (sym there) r.0,
+      subst (λ (j : ℕ). IsStep start words (set words j word) views kept id me.0 at alive w) (sym there)
+          (subst (λ (x : ℕ). IsStep start words (set words (word_place start.began a.address) x) views kept id me.0 at
+          alive w) (sym is_word) r.0),
       λ inside. (
         (refl, inside),
         λ b j other.
@@ -401,19 +403,12 @@ heads_copy_at start slots id i k a me live is all placed =
     ))
 
 -- a copy lies within the space
-pub copying_within : (v : View) (a : Activation) (k : ℕ) → IsWithin v → v.doing ≡ Some (Copying a k)
+pub copying_within : {v : View} {a : Activation} {k : ℕ} → IsWithin v → v.doing ≡ Some (Copying a k)
     → a.address + cost_of a.shape ≤ v.began.size + 1
-copying_within v a k inside is = (subst (FitsIn v.began) is inside.doing).0.within
+copying_within inside is = (rw is at inside.doing).0.within
 
--- a seat behind the claim
-pub seated_copying : (words : EpochWords) (old new : Seat ℕ View) (search : Search) (z : Shape) (rest : List ℕ)
-    (address : ℕ) → IsSeat words old → new.table_id ≡ old.table_id → Stays old.me new.me
-    → ClaimsCopy (knows_of old) (knows_of new) search z rest address → IsSeat words new
-seated_copying words old new search z rest address seat table stays claims =
-    seated words old new seat table stays (ap (λ (v : View). v.parts) claims.is) (ap (λ (v : View). v.began) claims.is)
-
-pub seated_lacking : (words : EpochWords) (old new : Seat ℕ View) (search : Search) (z : Shape) → IsSeat words old
+-- a seat behind a claim of words past the last one
+pub seated_lacking : {words : EpochWords} {old new : Seat ℕ View} {search : Search} {z : Shape} → IsSeat words old
     → new.table_id ≡ old.table_id → Stays old.me new.me → LacksCopy (knows_of old) (knows_of new) search z
     → IsSeat words new
-seated_lacking words old new search z seat table stays lacks =
-    seated words old new seat table stays (ap (λ (v : View). v.parts) lacks.is) (ap (λ (v : View). v.began) lacks.is)
+seated_lacking seat table stays lacks = seated seat table stays lacks.is refl refl

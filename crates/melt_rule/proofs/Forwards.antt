@@ -1,51 +1,35 @@
 -- What a seat gives a step on a forwarding word, and what the step gives back.
-use Rattle.std.proofs.Common.{◌≡◌, ℕ, ◌+◌, ◌<◌, refl, sym, ◌∙◌, ap, subst, arith, inl, inr}
+use Rattle.std.proofs.Common.{◌≡◌, ℕ, ◌+◌, ◌<◌, refl, sym, ◌∙◌, ap, arith, inl, inr}
 use Rattle.std.specs.Prelude.{Option, None, Some, MatchOption}
 use native.Mathlib.Decide.{ℕ_discrete}
-use Rattle.atomic_table.specs.Seated.{TableId}
 use Rattle.atomic_table.specs.declared.shared.Seat.{Seat}
 use Rattle.melt_forward.proofs.Pairs.{forward_word-filled, one_pair}
 use Rattle.melt_forward.proofs.Probing.{probe_is}
-use Rattle.melt_forward.specs.Forwarding.{IsForwarding, Sends, forward_word, probe}
-use Rattle.melt_word.specs.declared.reference.Ref.TheVariants.{Disk}
+use Rattle.melt_forward.specs.Forwarding.{IsForwarding, Sends, forward_word}
 use Rattle.melt_core.specs.declared.call.Search.{Search}
-use Rattle.melt_rule.proofs.Seating.{seated_behind}
-use Rattle.melt_rule.specs.Coming.{IsForward, ProbesShared, probe_place}
+use Rattle.melt_rule.proofs.Seating.{seated}
+use Rattle.melt_rule.proofs.Standing.{AtTable}
+use Rattle.melt_rule.specs.Coming.{FindsForward, IsForward, ProbesShared, probe_place}
 use Rattle.melt_rule.specs.Plays.{Stays}
-use Rattle.melt_rule.specs.Seats.{EpochWords, IsSeat, IsTable, knows_of}
-use Rattle.melt_rule.specs.Shown.{globals_from}
+use Rattle.melt_rule.specs.Seats.{EpochWords, IsSeat, knows_of}
 use Rattle.melt_rule.specs.declared.began.Began.{Began}
-use Rattle.melt_rule.specs.declared.began.Start.{Start}
 use Rattle.melt_rule.specs.declared.view.Doing.{Doing}
-use Rattle.melt_rule.specs.declared.view.Doing.TheVariants.{Cleared}
 use Rattle.melt_rule.specs.declared.view.View.{View}
+use Rattle.melt_rule.specs.declared.words.Words.TheInside.{Inside}
 
-module _ (id : TableId) (start : Start) (before forwards_at : ℕ) (seat : Seat ℕ View) (search : Search)
-    (table : IsTable id start before forwards_at) (is_seat : IsSeat (record { id = id; start = start }) seat) where
-  abbrev began : Began
-  began = (knows_of seat).began
+-- where the next forwarding word of a search stands
+pub probe_at : {inside : Inside} {seat : Seat ℕ View} → AtTable inside seat → (search : Search)
+    → inside.forwards_at + search.tried ≡ probe_place (knows_of seat).began search
+probe_at {seat} at search =
+    let globals = ap (λ (b : Began). b.globals) at.is_seat.began in
+    let place = probe_is search.home (knows_of seat).began.forwards search.tried in
+    omega arith
 
-  -- where the next forwarding word of a search stands
-  pub probe_at : forwards_at + search.tried ≡ probe_place began search
-  probe_at =
-      let first : forwards_at ≡ globals_from + start.began.globals = table.forwards_is in
-      let globals : began.globals ≡ start.began.globals = ap (λ (b : Began). b.globals) is_seat.began in
-      let place : probe search.home began.forwards search.tried ≡ search.tried =
-      probe_is search.home began.forwards search.tried in
-      omega arith
-
-  -- the table has it
-  pub has_forward : search.tried < began.forwards → forwards_at + search.tried < id.words
-  has_forward more =
-      let first : forwards_at ≡ globals_from + start.began.globals = table.forwards_is in
-      let words = table.words in
-      let forwards : began.forwards ≡ start.began.forwards = ap (λ (b : Began). b.forwards) is_seat.began in
-      omega arith
-
--- as the words of the epoch say it
-pub forwards_known : (words : EpochWords) (seat : Seat ℕ View) (tried : ℕ) → IsSeat words seat
-    → tried < words.start.began.forwards → tried < (knows_of seat).began.forwards
-forwards_known words seat tried is_seat more = subst (λ (b : Began). tried < b.forwards) (sym is_seat.began) more
+-- the table has it
+pub has_forward : {inside : Inside} {seat : Seat ℕ View} → AtTable inside seat → (search : Search)
+    → search.tried < (knows_of seat).began.forwards
+    → inside.forwards_at + search.tried < inside.table.shared.table_id.words
+has_forward at search more = let forwards = ap (λ (b : Began). b.forwards) at.is_seat.began in omega arith
 
 -- what was found may be unpacked
 pub may_unpack : (word : ℕ) (sent : Option (ℕ × ℕ)) → IsForward word sent → IsForwarding word
@@ -66,17 +50,19 @@ same_sent word (Some sent) (Some other) is also =
     let one = one_pair word sent.0 sent.1 other.0 other.1 is also in
     ap (λ (h : ℕ). Some (h, sent.1)) one.0 ∙ ap (λ (a : ℕ). Some (other.0, a)) one.1
 
+-- so it is what the search finds
+pub probed_as : {v w : View} {search : Search} {empty another : Doing} {word : ℕ} (sent : Option (ℕ × ℕ))
+    → FindsForward v w search empty another word → MatchOption sent (word ≡ 0) (λ pair. Sends word pair.0 pair.1)
+    → ProbesShared v w search empty another sent
+probed_as {word} sent found is = rw (← same_sent word found.sent sent found.is is) found.probes
+
 -- the seat behind it
-pub seated_probed : (words : EpochWords) (old new : Seat ℕ View) (search : Search) (empty another : Doing)
+pub seated_probed : {words : EpochWords} {old new : Seat ℕ View} (search : Search) (empty another : Doing)
     (sent : Option (ℕ × ℕ)) → IsSeat words old → new.table_id ≡ old.table_id → Stays old.me new.me
     → ProbesShared (knows_of old) (knows_of new) search empty another sent → IsSeat words new
-seated_probed words old new search empty another None seat table stays probes =
-    seated_behind words old new (knows_of new).seen (knows_of old).known (Some empty) seat table stays probes.is
-seated_probed words old new search empty another (Some sent) seat table stays probes =
+seated_probed search empty another None seat table stays probes = seated seat table stays probes.is refl refl
+seated_probed search empty another (Some sent) seat table stays probes =
     elim (ℕ_discrete sent.0 search.home) [
-      | yes same ↦ seated_behind words old new (knows_of new).seen (knows_of old).known
-          (Some (Cleared search.place (Disk search.home) sent.1)) seat table stays
-          (probes.0 same).is
-      | no other ↦ seated_behind words old new (knows_of new).seen (knows_of old).known (Some another) seat table stays
-          (probes.1 other).is
+      | yes same ↦ seated seat table stays (probes.0 same).is refl refl
+      | no other ↦ seated seat table stays (probes.1 other).is refl refl
     ]

@@ -8,6 +8,7 @@ pub mod Loads
 pub mod Stores
 pub mod Allowed
 pub mod Seating
+pub mod Standing
 pub mod Stopping
 pub mod Claiming
 pub mod Makes

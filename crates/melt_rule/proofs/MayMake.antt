@@ -17,17 +17,17 @@ use Rattle.melt_rule.proofs.Within.{allowed}
 use Rattle.melt_rule.specs.Making.{Claims, Lacks, Makes, ClaimPlay, FillPlay, PublishPlay}
 use Rattle.melt_rule.specs.Rule.{Rule, has_cause, is_reading}
 use Rattle.melt_rule.specs.Shown.{free_place, word_place}
-use Rattle.melt_rule.specs.Tells.{FitsIn, IsWithin, view_behind, Reaches}
+use Rattle.melt_rule.specs.Tells.{IsWithin, view_behind, Reaches}
 use Rattle.melt_rule.specs.declared.began.Began.{Began}
 use Rattle.melt_rule.specs.declared.began.Start.{Start}
 use Rattle.melt_rule.specs.declared.view.Doing.TheVariants.{Claimed, Lacking}
 use Rattle.melt_rule.specs.declared.view.View.{View}
 
-pub claims : (start : Start) (slots id cost : ℕ) (me : Me ℕ View) → 0 < me.0.parts → has_cause me.0 ≡ false
+pub claims : {start : Start} {slots : ℕ} (id cost : ℕ) {me : Me ℕ View} → 0 < me.0.parts → has_cause me.0 ≡ false
     → is_reading me.0.doing ≡ false → 2 ≤ cost → cost ≤ 126
     → Allows (Rule start) slots id me free_place (λ n. (n + cost) % 2 ^ 64)
     (ClaimPlay (step slots free_place cost 0 none) me)
-claims start slots id cost me live no_cause left low high =
+claims {start} {slots} id cost {me} live no_cause left low high =
     allowed start slots id free_place me (λ n. (n + cost) % 2 ^ 64)
     (ClaimPlay (step slots free_place cost 0 none) me) live
     (λ words views kept at alive small.
@@ -64,10 +64,10 @@ claims start slots id cost me live no_cause left low high =
           )
     ])
 
-pub fills : (start : Start) (slots id i address k : ℕ) (z : Shape) (me : Me ℕ View) → 0 < me.0.parts
+pub fills : {start : Start} {slots : ℕ} (id : ℕ) {i address k : ℕ} {z : Shape} {me : Me ℕ View} → 0 < me.0.parts
     → me.0.doing ≡ Some (Claimed address z k) → k + 1 < cost_of z → i ≡ word_place me.0.began (address + 1 + k)
     → Allows (Rule start) slots id me i (λ n. 0) (λ n. FillPlay (step slots i 0 0 none) me 0)
-fills start slots id i address k z me live is few placed =
+fills {start} {slots} id {i} {address} {k} {z} {me} live is few placed =
     allowed start slots id i me (λ n. 0) (λ n. FillPlay (step slots i 0 0 none) me 0) live
     (λ words views kept at alive small.
     let place : ℕ = address + 1 + k in
@@ -86,14 +86,12 @@ fills start slots id i address k z me live is few placed =
       ),
     ))
 
-pub publishes : (start : Start) (slots id i address k : ℕ) (y z : Shape) (me : Me ℕ View) → 0 < me.0.parts
-    → me.0.doing ≡ Some (Claimed address y k) → k + 1 ≡ cost_of y → cost_of y ≡ cost_of z → IsShape z
-    → i ≡ word_place me.0.began address
-    → let word : ℕ = header_word (record { shape = z; stale = false }) in
-    Allows (Rule start) slots id me i (λ n. word) (λ n. PublishPlay (step slots i word 0 none) me word)
-publishes start slots id i address k y z me live is all cost small placed =
+pub publishes : {start : Start} {slots : ℕ} (id : ℕ) {i address k word : ℕ} {y z : Shape} {me : Me ℕ View}
+    → 0 < me.0.parts → me.0.doing ≡ Some (Claimed address y k) → k + 1 ≡ cost_of y → cost_of y ≡ cost_of z
+    → IsShape z → i ≡ word_place me.0.began address → word ≡ header_word (record { shape = z; stale = false })
+    → Allows (Rule start) slots id me i (λ n. word) (λ n. PublishPlay (step slots i word 0 none) me word)
+publishes {start} {slots} id {i} {address} {k} {word} {y} {z} {me} live is all cost small placed is_word =
     let header : Header = record { shape = z; stale = false } in
-    let word : ℕ = header_word header in
     allowed start slots id i me (λ n. word) (λ n. PublishPlay (step slots i word 0 none) me word) live
     (λ words views kept at alive wide.
     let there : i ≡ word_place start.began address =
@@ -101,20 +99,22 @@ publishes start slots id i address k y z me live is all cost small placed =
     let w : View = made_view me.0 kept.history address z in
     let r = publishing start words views kept id me.0 at alive address k y z is all cost small in (
       w,
-      subst (λ (j : ℕ). IsStep start words (set words j word) views kept id me.0 at alive w) (sym there) r.0,
+      subst (λ (x : ℕ). IsStep start words (set words i x) views kept id me.0 at alive w) (sym is_word)
+          (subst (λ (j : ℕ). IsStep start words (set words j (header_word header)) views kept id me.0 at alive w)
+          (sym there) r.0),
       λ inside. (
         (refl, inside),
         λ b j x q other range stored.
             let same : Some (Claimed address y k) ≡ Some (Claimed b x j) = sym is ∙ other in
             let there : address ≡ b = cc in
             let headers : header ≡ record { shape = q; stale = false } =
-            same_header header (record { shape = q; stale = false }) small range stored in
+            same_header header (record { shape = q; stale = false }) small range (sym is_word ∙ stored) in
             subst (λ (a : ℕ). Makes me.0 w a q) there
             (subst (Makes me.0 w address) (ap (λ (h : Header). h.shape) headers) r.1),
       ),
     ))
 
 -- the region of a call lies within the space
-pub region_within : (v : View) (address k : ℕ) (z : Shape) → IsWithin v → v.doing ≡ Some (Claimed address z k)
+pub region_within : {v : View} {address k : ℕ} {z : Shape} → IsWithin v → v.doing ≡ Some (Claimed address z k)
     → address + cost_of z ≤ v.began.size + 1
-region_within v address k z inside is = (subst (FitsIn v.began) is inside.doing).1
+region_within inside is = (rw is at inside.doing).1

@@ -198,10 +198,10 @@ probed_word start words views kept id i v at live search more place =
 fewer : (b c : Began) (tried : ℕ) → b ≡ c → tried < b.forwards → tried < c.forwards
 fewer b c tried same below = subst (λ (x : Began). tried < x.forwards) same below
 
-pub probes_at : (start : Start) (slots id i : ℕ) (search : Search) (me : Me ℕ View) → 0 < me.0.parts
+pub probes_at : {start : Start} {slots : ℕ} (id : ℕ) {i : ℕ} {search : Search} {me : Me ℕ View} → 0 < me.0.parts
     → me.0.doing ≡ Some (Searching search) → search.tried < me.0.began.forwards → i ≡ probe_place me.0.began search
     → Allows (Rule start) slots id me i (λ n. n) (ProbePlay (step slots i 0 0 none) me)
-probes_at start slots id i search me live is more place =
+probes_at {start} {slots} id {i} {search} {me} live is more place =
     allowed start slots id i me (λ n. n) (ProbePlay (step slots i 0 0 none) me) live
     (λ words views kept at alive small.
     let goes_on : is_lacking me.0.doing ≡ false = ap is_lacking is in
@@ -225,10 +225,10 @@ probes_at start slots id i search me live is more place =
       ),
     ))
 
-pub retries_at : (start : Start) (slots id i : ℕ) (a : Activation) (me : Me ℕ View) → 0 < me.0.parts
+pub retries_at : {start : Start} {slots : ℕ} (id : ℕ) {i : ℕ} {a : Activation} {me : Me ℕ View} → 0 < me.0.parts
     → me.0.doing ≡ Some (Retrying a) → a.search.tried < me.0.began.forwards → i ≡ probe_place me.0.began a.search
     → Allows (Rule start) slots id me i (λ n. n) (RetryPlay (step slots i 0 0 none) me)
-retries_at start slots id i a me live is more place =
+retries_at {start} {slots} id {i} {a} {me} live is more place =
     allowed start slots id i me (λ n. n) (RetryPlay (step slots i 0 0 none) me) live
     (λ words views kept at alive small.
     let goes_on : is_lacking me.0.doing ≡ false = ap is_lacking is in

@@ -104,10 +104,10 @@ module _ (start : Start) (words : List ℕ) (views : List View) (kept : Kept sta
       } in
       (is_step, sees start words after views kept id v at live w is_step refl)
 
-pub stops_at : (start : Start) (slots id : ℕ) (me : Me ℕ View) → 0 < me.0.parts → has_cause me.0 ≡ true
+pub stops_at : {start : Start} {slots : ℕ} (id : ℕ) {me : Me ℕ View} → 0 < me.0.parts → has_cause me.0 ≡ true
     → is_reading me.0.doing ≡ false
     → Allows (Rule start) slots id me 0 (λ _. 1) (λ found. StopPlay (step slots 0 1 0 none) me 1)
-stops_at start slots id me live cause left =
+stops_at {start} {slots} id {me} live cause left =
     allowed start slots id 0 me (λ _. 1) (λ found. StopPlay (step slots 0 1 0 none) me 1) live
     (λ words views kept at alive small.
     let r = stops_by start words views kept id me.0 at alive me.0.asked me.0.forwarded cause
@@ -150,10 +150,10 @@ forwarded_cause true spaced = refl
 forwarded_cause false true = refl
 forwarded_cause false false = refl
 
-pub fills_at : (start : Start) (slots id : ℕ) (search : Search) (me : Me ℕ View) → 0 < me.0.parts
+pub fills_at : {start : Start} {slots : ℕ} (id : ℕ) {search : Search} {me : Me ℕ View} → 0 < me.0.parts
     → IsSearching me.0 search → me.0.began.forwards ≤ search.tried
     → Allows (Rule start) slots id me 0 (λ _. 1) (λ found. FillsPlay (step slots 0 1 0 none) me 1)
-fills_at start slots id search me live on all =
+fills_at {start} {slots} id {search} {me} live on all =
     allowed start slots id 0 me (λ _. 1) (λ found. FillsPlay (step slots 0 1 0 none) me 1) live
     (λ words views kept at alive small.
     let searches = searches_on start words views kept id me.0 at alive search on in
@@ -180,9 +180,9 @@ caused_is : (v : View) (b : Bool) → has_cause v ≡ b
 caused_is v true is = (v.asked, ap (λ (b : Bool). if b then v else record v { asked = true }) is, is)
 caused_is v false is = (true, ap (λ (b : Bool). if b then v else record v { asked = true }) is, refl)
 
-pub asks_at : (start : Start) (slots id : ℕ) (me : Me ℕ View) → 0 < me.0.parts → is_reading me.0.doing ≡ false
+pub asks_at : {start : Start} {slots : ℕ} (id : ℕ) {me : Me ℕ View} → 0 < me.0.parts → is_reading me.0.doing ≡ false
     → Allows (Rule start) slots id me 0 (λ _. 1) (λ found. AskPlay (step slots 0 1 0 none) me 1)
-asks_at start slots id me live left =
+asks_at {start} {slots} id {me} live left =
     allowed start slots id 0 me (λ _. 1) (λ found. AskPlay (step slots 0 1 0 none) me 1) live
     (λ words views kept at alive small.
     let base : View = view_behind me.0 kept.history me.0.known None in

@@ -260,12 +260,13 @@ module _ (start : Start) (words : List ℕ) (views : List View) (kept : Kept sta
             )
       ]
 
-pub untags_at : (start : Start) (slots id i a n k target before_ after_ : ℕ) (found : Ref) (me : Me ℕ View)
+pub untags_at : {start : Start} {slots : ℕ} (id : ℕ) {i a n k target before_ after_ : ℕ} {found : Ref} {me : Me ℕ View}
     → 0 < me.0.parts → Has me.0.known a n → me.0.doing ≡ Some (Cleared (Field a k) found target)
     → i ≡ word_place me.0.began (a + 2 + k) → before_ ≡ ref_word found → after_ ≡ ref_word (Clean target)
     → Allows (Rule start) slots id me i (λ x. either (x == before_) after_ x)
     (UntagPlay (step slots i before_ after_ none) me)
-untags_at start slots id i a n k target before_ after_ found me live has cleared place_is from to =
+untags_at {start} {slots} id {i} {a} {n} {k} {target} {before_} {after_} {found} {me} live has cleared place from
+    to =
     allowed start slots id i me (λ x. either (x == before_) after_ x)
     (UntagPlay (step slots i before_ after_ none) me) live
     (λ words views kept at alive small.
@@ -281,7 +282,7 @@ untags_at start slots id i a n k target before_ after_ found me live has cleared
     subst (λ (b : Began). a + 2 + k ≤ b.size) stood_.began
     (subst (FitsIn me.0.began) cleared (within start words views kept id me.0 at alive).doing).3 in
     let place : i ≡ word_place start.began (a + 2 + k) =
-    place_is ∙ ap (λ (b : Began). word_place b (a + 2 + k)) stood_.began in
+    place ∙ ap (λ (b : Began). word_place b (a + 2 + k)) stood_.began in
     let in_words : word_place start.began (a + 2 + k) < length words = let size = kept.size in omega arith in
     let after : List ℕ = set words i after_ in
     let r = exchanges start words views kept id me.0 at alive (Field a k) found target cleared (slot.Field n k)
@@ -312,12 +313,12 @@ untags_at start slots id i a n k target before_ after_ found me live has cleared
       ),
     ))
 
-pub global_untags : (start : Start) (slots id g target before_ after_ : ℕ) (found : Ref) (me : Me ℕ View)
+pub global_untags : {start : Start} {slots : ℕ} (id : ℕ) {g target before_ after_ : ℕ} {found : Ref} {me : Me ℕ View}
     → 0 < me.0.parts → me.0.doing ≡ Some (Cleared (Global g) found target) → before_ ≡ ref_word found
     → after_ ≡ ref_word (Clean target)
     → Allows (Rule start) slots id me (global_place g) (λ x. either (x == before_) after_ x)
     (GlobalUntagPlay (step slots (global_place g) before_ after_ none) me)
-global_untags start slots id g target before_ after_ found me live cleared from to =
+global_untags {start} {slots} id {g} {target} {before_} {after_} {found} {me} live cleared from to =
     allowed start slots id (global_place g) me (λ x. either (x == before_) after_ x)
     (GlobalUntagPlay (step slots (global_place g) before_ after_ none) me)
     live

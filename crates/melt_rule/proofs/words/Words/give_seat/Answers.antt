@@ -1,13 +1,13 @@
-use Rattle.std.proofs.Common.{subst, arith, sym}
+use Rattle.std.proofs.Common.{arith}
 use Rattle.melt_rule.proofs.Giving.{gives, giver_seat, given_seat}
-use Rattle.melt_rule.specs.Seats.{EpochWords, IsSeat}
+use Rattle.melt_rule.proofs.Standing.{at_table}
 use Rattle.melt_rule.proofs.words.Words.give_seat.Goals as goal
 
 pub split_seat-requires : goal.split_seat-requires
 split_seat-requires c =
-    let seat = subst (λ (w : EpochWords). IsSeat w c.args.seat.now) (sym c.self.view_is) c.requires.seat in (
-      seat.same,
-      (let size = c.self.invariant.words in omega arith),
+    let at = at_table c.self.inside c.self.view_is c.self.invariant c.requires.seat in (
+      at.is_seat.same,
+      omega arith,
       gives c.self.inside.table.shared.key c.args.seat.now.id c.args.seat.now.me.0 c.requires.away c.requires.parts
           c.requires.room,
     )

@@ -1,72 +1,30 @@
-use Rattle.std.proofs.Common.{ℕ, ◌+◌, subst}
-use Rattle.std.specs.Prelude.{Option}
-use Rattle.melt_core.specs.Stages.{retried}
-use Rattle.melt_rule.proofs.Forwards.{forwards_known, has_forward, may_unpack, probe_at, same_sent, seated_probed}
+use Rattle.melt_rule.proofs.Forwards.{has_forward, may_unpack, probe_at, probed_as, seated_probed}
 use Rattle.melt_rule.proofs.Probing.{retries_at}
-use Rattle.melt_rule.proofs.Seating.{inside_seat}
-use Rattle.melt_rule.specs.Coming.{ProbesShared}
-use Rattle.melt_rule.specs.Seats.{knows_of}
-use Rattle.melt_rule.specs.declared.view.Doing.TheVariants.{Copied, Retrying}
+use Rattle.melt_rule.proofs.Standing.{at_table}
 use Rattle.melt_rule.proofs.words.Words.retry.Goals as goal
 
 pub load-requires : goal.load-requires
 load-requires c =
-    let start = c.self.inside.table.shared.key in
-    let id = c.self.inside.table.shared.table_id in
-    let seat = inside_seat c.args.self.now (record { id = id; start = start }) c.args.seat.now c.self.view_is
-    c.requires.seat in
-    let before = c.self.inside.before in
-    let at = c.self.inside.forwards_at in
-    let more = forwards_known c.args.self.now c.args.seat.now c.args.activation.search.tried c.requires.seat
-    c.requires.more in (
-      seat.same,
-      has_forward id start before at c.args.seat.now c.args.activation.search c.self.invariant seat more,
-      retries_at start id.slots c.args.seat.now.id (at + c.args.activation.search.tried) c.args.activation
-          c.args.seat.now.me seat.live
-          c.requires.retrying
-          more
-          (probe_at id start before at c.args.seat.now c.args.activation.search c.self.invariant seat),
+    let at = at_table c.self.inside c.self.view_is c.self.invariant c.requires.seat in (
+      at.is_seat.same,
+      has_forward at c.args.activation.search (rw c.requires.seat.began c.requires.more),
+      retries_at _ at.is_seat.live c.requires.retrying (rw c.requires.seat.began c.requires.more)
+          (probe_at at c.args.activation.search),
     )
 
 pub unpack-requires : goal.unpack-requires
 unpack-requires c =
-    let start = c.self.inside.table.shared.key in
-    let id = c.self.inside.table.shared.table_id in
-    let seat = inside_seat c.args.self.now (record { id = id; start = start }) c.args.seat.now c.self.view_is
-    c.requires.seat in
-    let f = c.load.ensures.2.1 c.args.activation c.requires.retrying
-    (probe_at id start c.self.inside.before c.self.inside.forwards_at c.args.seat.now c.args.activation.search
-    c.self.invariant seat) in
+    let at = at_table c.self.inside c.self.view_is c.self.invariant c.requires.seat in
+    let f = c.load.ensures.2.1 c.args.activation c.requires.retrying (probe_at at c.args.activation.search) in
     may_unpack c.load.result f.sent f.is
-
-pub returns-clause-seat : goal.returns-clause-seat
-returns-clause-seat c =
-    let start = c.self.inside.table.shared.key in
-    let id = c.self.inside.table.shared.table_id in
-    let seat = inside_seat c.args.self.now (record { id = id; start = start }) c.args.seat.now c.self.view_is
-    c.requires.seat in
-    let f = c.load.ensures.2.1 c.args.activation c.requires.retrying
-    (probe_at id start c.self.inside.before c.self.inside.forwards_at c.args.seat.now c.args.activation.search
-    c.self.invariant seat) in
-    seated_probed c.args.self.now c.args.seat.now c.load.new.seat c.args.activation.search (Copied c.args.activation)
-    (Retrying (retried c.args.activation))
-    f.sent
-    c.requires.seat
-    c.load.ensures.0
-    c.load.ensures.2.0
-    f.probes
 
 pub returns-clause-probes : goal.returns-clause-probes
 returns-clause-probes c =
-    let start = c.self.inside.table.shared.key in
-    let id = c.self.inside.table.shared.table_id in
-    let seat = inside_seat c.args.self.now (record { id = id; start = start }) c.args.seat.now c.self.view_is
-    c.requires.seat in
-    let f = c.load.ensures.2.1 c.args.activation c.requires.retrying
-    (probe_at id start c.self.inside.before c.self.inside.forwards_at c.args.seat.now c.args.activation.search
-    c.self.invariant seat) in
-    subst (λ (s : Option (ℕ × ℕ)). ProbesShared (knows_of c.args.seat.now)
-    (knows_of c.load.new.seat) c.args.activation.search
-    (Copied c.args.activation) (Retrying (retried c.args.activation)) s)
-    (same_sent c.load.result f.sent c.unpack.result f.is c.unpack.ensures)
-    f.probes
+    let at = at_table c.self.inside c.self.view_is c.self.invariant c.requires.seat in
+    let f = c.load.ensures.2.1 c.args.activation c.requires.retrying (probe_at at c.args.activation.search) in
+    probed_as c.unpack.result f c.unpack.ensures
+
+pub returns-clause-seat : goal.returns-clause-seat
+returns-clause-seat c =
+    seated_probed c.args.activation.search _ _ _ c.requires.seat c.load.ensures.0 c.load.ensures.2.0
+    (returns-clause-probes c)
