@@ -1,7 +1,7 @@
 -- The canonical text of a script in range is read as that script.
 use Rattle.std.proofs.Common.{◌≡◌, ℕ, zero, suc, ◌+◌, ◌^◌, ◌<◌, ◌≤◌, Bool, true, false, cond, eqb, List, [], ◌∷◌, ◌++◌}
 use Rattle.std.proofs.Common.{length, map, Some, Result, Ok, Err, refl, sym, ap, subst, ◌∙◌, append_assoc, eq-eqb}
-use Rattle.std.proofs.Common.{arith}
+use Rattle.std.proofs.Common.{length-append, arith}
 use Rattle.std.specs.Prelude.{codes}
 use Rattle.std.specs.List.{AllByRecursion, list_all, flat_map}
 use Rattle.std.specs.Str.{bytes_eq}
@@ -22,9 +22,10 @@ use Rattle.melt_trace.specs.Grammar.{line, op_line, item_line, program_lines, ca
 use Rattle.melt_trace.specs.Language.{max_bytes, Place, first_place, global, ranges_of, numbers, operation_count}
 use Rattle.melt_trace.specs.Language.{with_operation, with_program, fits, is_skipped, lines_of, without_empty_rest}
 use Rattle.melt_trace.specs.Language.{word_of, after_line, after_word, and_then, heading, in_heading, number_of}
+use Rattle.melt_trace.specs.Language.{after_operation}
 use Rattle.melt_trace.specs.Language.{after_fields, after, script_from, script_of, AreItems, IsOrder, IsScript}
 use Rattle.melt_trace.proofs.Cuts.{split_parts, line_before}
-use Rattle.melt_trace.proofs.Kept.{AreWithin, placed}
+use Rattle.melt_trace.proofs.Kept.{AreWithin, placed, same_Ok}
 use Rattle.melt_trace.proofs.Again.{is_plain, spaced, AreWords, split_line, line_taken, number_again, numbers_again}
 
 -- ---- texts that lead from one place to another
@@ -65,14 +66,23 @@ lines_again w ns rest plain words =
     ∙ line_before (w ++ spaced ns) parts.0 parts.1
     ∙ ap (λ (ls : List (List ℕ)). (w ++ spaced ns) ∷ without_empty_rest ls) (sym parts.2)
 
+-- the text is one line, which leads from the one place to the other
+abbrev LeadsOn : Place → List ℕ → Place → Type 0
+LeadsOn place text next = (n : ℕ) (rest : List ℕ)
+    → script_from n place (lines_of (text ++ rest)) ≡ script_from (n + 1) next (lines_of rest)
+
+leads_on : (place next : Place) (w ns : List ℕ) → IsLine w ns
+    → after_fields place place.stage (w ∷ map decimal ns) ≡ Ok next → LeadsOn place (line w ns) next
+leads_on place next w ns h e n rest =
+    ap (script_from n place) (lines_again w ns rest h.plain h.words)
+    ∙ next_line n place next (w ++ spaced ns) (lines_of rest) (line_taken place w ns h.some h.plain h.shown h.words ∙ e)
+
+leads_once : (place next : Place) (text : List ℕ) → LeadsOn place text next → Leads place text next
+leads_once place next text h n rest = (n + 1, h n rest)
+
 leads_line : (place next : Place) (w ns : List ℕ) → IsLine w ns
     → after_fields place place.stage (w ∷ map decimal ns) ≡ Ok next → Leads place (line w ns) next
-leads_line place next w ns h e n rest = (
-  n + 1,
-  ap (script_from n place) (lines_again w ns rest h.plain h.words)
-      ∙ next_line n place next (w ++ spaced ns) (lines_of rest) (line_taken place w ns h.some h.plain h.shown h.words
-      ∙ e),
-)
+leads_line place next w ns h e = leads_once place next (line w ns) (leads_on place next w ns h e)
 
 -- ---- lines of a program
 
@@ -95,11 +105,11 @@ within_global (suc n) g lt = (omega arith, omega arith)
 
 operation_leads : (threads : ℕ) (script : Script) (items : List Item) (blocks : List Bool) (o : Op)
     → script.globals ≤ 64 → InRange script.globals o
-    → Leads (inside threads script items blocks) (op_line o)
+    → LeadsOn (inside threads script items blocks) (op_line o)
     (inside threads script (items ++ item.Op o ∷ []) (with_operation blocks))
 operation_leads threads script items blocks (op.New a b c) few h =
     let words : AreWords (a ∷ b ∷ c ∷ []) = (omega (arith, h.0), (omega (arith, h.1), (omega (arith, h.2), tt))) in
-    leads_line (inside threads script items blocks) _ (codes "new") (a ∷ b ∷ c ∷ [])
+    leads_on (inside threads script items blocks) _ (codes "new") (a ∷ b ∷ c ∷ [])
     (record { some = omega arith; plain = refl; shown = refl; words = words })
     (worded (inside threads script items blocks) _ word.New (a ∷ b ∷ c ∷ []) refl (
       omega arith,
@@ -108,7 +118,7 @@ operation_leads threads script items blocks (op.New a b c) few h =
     ) words refl)
 operation_leads threads script items blocks (op.Load a b c) few h =
     let words : AreWords (a ∷ b ∷ c ∷ []) = (omega (arith, h.0), (omega (arith, h.1), (omega (arith, h.2), tt))) in
-    leads_line (inside threads script items blocks) _ (codes "load") (a ∷ b ∷ c ∷ [])
+    leads_on (inside threads script items blocks) _ (codes "load") (a ∷ b ∷ c ∷ [])
     (record { some = omega arith; plain = refl; shown = refl; words = words })
     (worded (inside threads script items blocks) _ word.Load (a ∷ b ∷ c ∷ []) refl (
       omega arith,
@@ -117,7 +127,7 @@ operation_leads threads script items blocks (op.Load a b c) few h =
     ) words refl)
 operation_leads threads script items blocks (op.Store a b c) few h =
     let words : AreWords (a ∷ b ∷ c ∷ []) = (omega (arith, h.0), (omega (arith, h.1), (omega (arith, h.2), tt))) in
-    leads_line (inside threads script items blocks) _ (codes "store") (a ∷ b ∷ c ∷ [])
+    leads_on (inside threads script items blocks) _ (codes "store") (a ∷ b ∷ c ∷ [])
     (record { some = omega arith; plain = refl; shown = refl; words = words })
     (worded (inside threads script items blocks) _ word.Store (a ∷ b ∷ c ∷ []) refl (
       omega arith,
@@ -126,7 +136,7 @@ operation_leads threads script items blocks (op.Store a b c) few h =
     ) words refl)
 operation_leads threads script items blocks (op.Get a b) few h =
     let words : AreWords (a ∷ b ∷ []) = (omega (arith, h.0), (omega (arith, h.1), tt)) in
-    leads_line (inside threads script items blocks) _ (codes "get") (a ∷ b ∷ [])
+    leads_on (inside threads script items blocks) _ (codes "get") (a ∷ b ∷ [])
     (record { some = omega arith; plain = refl; shown = refl; words = words })
     (worded (inside threads script items blocks) _ word.Get (a ∷ b ∷ []) refl (
       omega arith,
@@ -135,7 +145,7 @@ operation_leads threads script items blocks (op.Get a b) few h =
     ) words refl)
 operation_leads threads script items blocks (op.Put a b c) few h =
     let words : AreWords (a ∷ b ∷ c ∷ []) = (omega (arith, h.0), (omega (arith, h.1), (h.2, tt))) in
-    leads_line (inside threads script items blocks) _ (codes "put") (a ∷ b ∷ c ∷ [])
+    leads_on (inside threads script items blocks) _ (codes "put") (a ∷ b ∷ c ∷ [])
     (record { some = omega arith; plain = refl; shown = refl; words = words })
     (worded (inside threads script items blocks) _ word.Put (a ∷ b ∷ c ∷ []) refl (
       omega arith,
@@ -145,7 +155,7 @@ operation_leads threads script items blocks (op.Put a b c) few h =
 operation_leads threads script items blocks (op.GLoad a g) few h =
     let words : AreWords (a ∷ g ∷ []) = (omega (arith, h.0), (omega (arith, h.1), tt)) in
     let range = within_global script.globals g h.1 in
-    leads_line (inside threads script items blocks) _ (codes "gload") (a ∷ g ∷ [])
+    leads_on (inside threads script items blocks) _ (codes "gload") (a ∷ g ∷ [])
     (record { some = omega arith; plain = refl; shown = refl; words = words })
     (worded (inside threads script items blocks) _ word.GLoad (a ∷ g ∷ []) refl (
       omega arith,
@@ -155,7 +165,7 @@ operation_leads threads script items blocks (op.GLoad a g) few h =
 operation_leads threads script items blocks (op.GStore g a) few h =
     let words : AreWords (g ∷ a ∷ []) = (omega (arith, h.0), (omega (arith, h.1), tt)) in
     let range = within_global script.globals g h.0 in
-    leads_line (inside threads script items blocks) _ (codes "gstore") (g ∷ a ∷ [])
+    leads_on (inside threads script items blocks) _ (codes "gstore") (g ∷ a ∷ [])
     (record { some = omega arith; plain = refl; shown = refl; words = words })
     (worded (inside threads script items blocks) _ word.GStore (g ∷ a ∷ []) refl (
       range.0,
@@ -164,7 +174,7 @@ operation_leads threads script items blocks (op.GStore g a) few h =
     ) words refl)
 operation_leads threads script items blocks (op.Same a b) few h =
     let words : AreWords (a ∷ b ∷ []) = (omega (arith, h.0), (omega (arith, h.1), tt)) in
-    leads_line (inside threads script items blocks) _ (codes "same") (a ∷ b ∷ [])
+    leads_on (inside threads script items blocks) _ (codes "same") (a ∷ b ∷ [])
     (record { some = omega arith; plain = refl; shown = refl; words = words })
     (worded (inside threads script items blocks) _ word.Same (a ∷ b ∷ []) refl (
       omega arith,
@@ -173,7 +183,7 @@ operation_leads threads script items blocks (op.Same a b) few h =
     ) words refl)
 operation_leads threads script items blocks (op.Copy a b) few h =
     let words : AreWords (a ∷ b ∷ []) = (omega (arith, h.0), (omega (arith, h.1), tt)) in
-    leads_line (inside threads script items blocks) _ (codes "copy") (a ∷ b ∷ [])
+    leads_on (inside threads script items blocks) _ (codes "copy") (a ∷ b ∷ [])
     (record { some = omega arith; plain = refl; shown = refl; words = words })
     (worded (inside threads script items blocks) _ word.Copy (a ∷ b ∷ []) refl (
       omega arith,
@@ -182,14 +192,49 @@ operation_leads threads script items blocks (op.Copy a b) few h =
     ) words refl)
 operation_leads threads script items blocks (op.Drop r) few h =
     let words : AreWords (r ∷ []) = (omega (arith, h), tt) in
-    leads_line (inside threads script items blocks) _ (codes "drop") (r ∷ [])
+    leads_on (inside threads script items blocks) _ (codes "drop") (r ∷ [])
     (record { some = omega arith; plain = refl; shown = refl; words = words })
     (worded (inside threads script items blocks) _ word.Drop (r ∷ []) refl (omega arith, omega (arith, h), tt) words
     refl)
 operation_leads threads script items blocks op.Collect few h =
-    leads_line (inside threads script items blocks) _ (codes "collect") []
+    leads_on (inside threads script items blocks) _ (codes "collect") []
     (record { some = omega arith; plain = refl; shown = refl; words = tt })
     (worded (inside threads script items blocks) _ word.Collect [] refl tt tt refl)
+
+-- a place in a program, and bytes that begin with the canonical line of an operation that may stand there
+pub record IsOperationLine (place : Place) (o : Op) (bytes rest : List ℕ) : Type 0 where
+  pub inside : place.stage ≡ stage.Inside
+  pub few : place.script.globals ≤ 64
+  pub range : InRange place.script.globals o
+  pub text : bytes ≡ op_line o ++ rest
+
+op_line_some : (o : Op) → 0 < length (op_line o)
+op_line_some (op.New dst refs nums) = omega arith
+op_line_some (op.Load dst src i) = omega arith
+op_line_some (op.Store obj i src) = omega arith
+op_line_some (op.Get src j) = omega arith
+op_line_some (op.Put obj j v) = omega arith
+op_line_some (op.GLoad dst g) = omega arith
+op_line_some (op.GStore g src) = omega arith
+op_line_some (op.Same a b) = omega arith
+op_line_some (op.Copy dst src) = omega arith
+op_line_some (op.Drop r) = omega arith
+op_line_some op.Collect = omega arith
+
+pub shorter_behind : (o : Op) (bytes rest : List ℕ) → bytes ≡ op_line o ++ rest → length rest < length bytes
+shorter_behind o bytes rest e = omega (arith, ap length e, length-append (op_line o) rest, op_line_some o)
+
+pub operation_taken : (place next : Place) (o : Op) (bytes rest : List ℕ) → IsOperationLine place o bytes rest
+    → after_operation place (Some o) ≡ Ok next
+    → (n : ℕ) → script_from n place (lines_of bytes) ≡ script_from (n + 1) next (lines_of rest)
+operation_taken place next o bytes rest h e n =
+    let behind : Stage → Place = λ s.
+    placed s place.threads place.script (place.items ++ item.Op o ∷ []) (with_operation place.blocks) in
+    let leads : LeadsOn place (op_line o) (behind place.stage) =
+    subst (λ (s : Stage). LeadsOn (placed s place.threads place.script place.items place.blocks) (op_line o) (behind s))
+    (sym h.inside) (operation_leads place.threads place.script place.items place.blocks o h.few h.range) in
+    ap (λ (b : List ℕ). script_from n place (lines_of b)) h.text ∙ leads n rest
+    ∙ ap (λ (p : Place). script_from (n + 1) p (lines_of rest)) (same_Ok (behind place.stage) next e)
 
 repeat_leads : (threads : ℕ) (script : Script) (items : List Item) (blocks : List Bool) (n : ℕ) → 0 < n → n ≤ 1048576
     → length blocks < 4 → Leads (inside threads script items blocks) (line (codes "repeat") (n ∷ []))
@@ -233,7 +278,9 @@ items_lead threads script before [] blocks few h =
 items_lead threads script before (item.Op o ∷ items) blocks few h =
     then_items threads script before (item.Op o) items blocks (with_operation blocks) (op_line o)
     (flat_map item_line items)
-    (operation_leads threads script before blocks o few h.0)
+    (leads_once (inside threads script before blocks)
+    (inside threads script (before ++ item.Op o ∷ []) (with_operation blocks)) (op_line o)
+    (operation_leads threads script before blocks o few h.0))
     (items_lead threads script (before ++ item.Op o ∷ []) items (with_operation blocks) few h.1)
 items_lead threads script before (item.Repeat n ∷ items) blocks few h =
     then_items threads script before (item.Repeat n) items blocks (false ∷ blocks) (line (codes "repeat") (n ∷ []))

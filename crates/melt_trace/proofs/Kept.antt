@@ -29,7 +29,7 @@ use Rattle.melt_trace.specs.Language.{script_from, script_of, AreItems, IsOrder,
 
 -- ---- results
 
-same_Ok : {A : Type 0} (x y : A) → ◌≡◌ {A = Result A ℕ} (Ok x) (Ok y) → x ≡ y
+pub same_Ok : {A : Type 0} (x y : A) → ◌≡◌ {A = Result A ℕ} (Ok x) (Ok y) → x ≡ y
 same_Ok x y e = cc
 
 then_ok : {A B : Type 0} (r : Result A ℕ) (f : A → Result B ℕ) (y : B) → and_then r f ≡ Ok y

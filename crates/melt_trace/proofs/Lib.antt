@@ -6,3 +6,4 @@ pub mod Steps
 pub mod Kept
 pub mod Again
 pub mod Canonical
+pub mod Spelled

@@ -87,6 +87,20 @@ LeadsTo (Ok x) draft read = (read ≡ Ok (place_of draft)) × IsSoundDraft draft
 LeadsTo (Err (fault.Bad reason)) draft read = read ≡ Err (number_of_reason reason)
 LeadsTo (Err fault.NoMemory) draft read = Unit {0}
 
+-- The first line of the bytes was taken: the rest says behind it what all of them say before it.
+pub record IsTaken (bytes : List ℕ) (old new : Draft) (rest : List ℕ) : Type 0 where
+  pub sound : IsSoundDraft new
+  pub same : (n : ℕ) → script_from n (place_of old) (lines_of bytes)
+      ≡ script_from (n + 1) (place_of new) (lines_of rest)
+  pub shorter : length rest < length bytes
+
+-- the first line of the bytes was taken as reading does, and what is left was answered, unless memory ran out
+abbrev pub TakesLine : {X : Type 0} → (X → List ℕ) → Result X Fault → List ℕ → Draft → Draft → Type 0
+TakesLine view (Ok x) bytes old new = IsTaken bytes old new (view x)
+TakesLine view (Err (fault.Bad reason)) bytes old new = (n : ℕ)
+    → script_from n (place_of old) (lines_of bytes) ≡ Err (n, number_of_reason reason)
+TakesLine view (Err fault.NoMemory) bytes old new = Unit {0}
+
 -- the lines that are left lead to what all lines say
 pub record IsReadTo (bytes : List ℕ) (draft : Draft) (rest : List ℕ) (number : ℕ) : Type 0 where
   pub sound : IsSoundDraft draft

@@ -1,9 +1,10 @@
 //! The parser of whole traces.
-ghost use Rattle.std.specs.Prelude.{◌≡◌, Ok, IfOk, IfErr};
+ghost use Rattle.std.specs.Prelude.{◌≡◌, ◌<◌, length, Ok, IfOk, IfErr};
 ghost use Rattle.melt_trace.specs.Language.{number_of, script_of};
-ghost use Rattle.melt_trace.specs.Drafts.{place_of};
+ghost use Rattle.melt_trace.specs.Drafts.{place_of, IsSoundDraft, TakesLine};
 ghost use Rattle.melt_trace.specs.Refusal.{IsRefusedTrace};
 
+mod canonical;
 mod draft;
 mod fault;
 mod fields;
@@ -18,6 +19,7 @@ mod words;
 
 use crate::error::{ParseRefusal, TraceError};
 use crate::language::Stage;
+use crate::parser::canonical::canonical_operation;
 use crate::parser::draft::Draft;
 use crate::parser::fault::Fault;
 use crate::parser::line::take_line;
@@ -30,6 +32,24 @@ use std::alloc::Global;
 /// The most bytes that a trace may have.
 pub const MAX_BYTES: usize = 16_777_216;
 
+/// Takes the first line, where there is a byte, and answers what stands behind it.
+#[inline(always)]
+fn take_next<'a>(draft: &mut Draft, alloc: Global, bytes: &'a [u8]) -> Result<&'a [u8], Fault>
+    requires sound { IsSoundDraft draft.old }
+    requires some { 0 < length bytes.now }
+    ensures { TakesLine (λ rest. rest.now) result bytes.now draft.old draft.new }
+{
+    if matches!(draft.stage, Stage::Inside)
+        && let Some((op, rest)) = canonical_operation(bytes, draft.globals)
+    {
+        draft.operation(op)?;
+        return Ok(rest);
+    }
+    let (line, rest) = next_line(bytes);
+    take_line(draft, alloc, line)?;
+    Ok(rest)
+}
+
 /// What the lines of the bytes say.
 fn read_lines(alloc: Global, bytes: &[u8]) -> Result<Draft, ParseRefusal>
     ensures found { IfOk result (λ draft. script_of bytes.now ≡ Ok (place_of draft).script) }
@@ -41,13 +61,12 @@ fn read_lines(alloc: Global, bytes: &[u8]) -> Result<Draft, ParseRefusal>
     let mut draft = Draft::empty(alloc, Stage::Version, 0, 0);
     let mut rest = bytes;
     let mut line: u32 = 1;
-    while let Some((text, behind)) = next_line(rest) {
-        match take_line(&mut draft, alloc, text) {
-            Ok(()) => {}
+    while !rest.is_empty() {
+        rest = match take_next(&mut draft, alloc, rest) {
+            Ok(behind) => behind,
             Err(Fault::Bad(reason)) => return Err(ParseRefusal::Bad(TraceError::at(line, reason))),
             Err(Fault::NoMemory) => return Err(ParseRefusal::NoMemory),
-        }
-        rest = behind;
+        };
         line += 1;
     }
     if matches!(draft.stage, Stage::Over) {

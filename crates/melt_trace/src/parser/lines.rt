@@ -1,5 +1,5 @@
 //! The lines of a trace.
-ghost use Rattle.std.specs.Prelude.{◌≡◌, ◌==◌, ◌<◌, [], ◌∷◌, length, position, MatchOption, IfSome};
+ghost use Rattle.std.specs.Prelude.{◌≡◌, ◌==◌, ◌<◌, ◌∷◌, length, position};
 ghost use Rattle.melt_trace.specs.Language.{lines_of};
 
 /// Where the first byte of this value stands.
@@ -9,16 +9,14 @@ pub fn place(bytes: &[u8], byte: u8) -> Option<usize>
     bytes.iter().position(|b| *b == byte)
 }
 
-/// The first line, and what stands behind it.
-pub fn next_line(bytes: &[u8]) -> Option<(&[u8], &[u8])>
-    ensures line { MatchOption result (lines_of bytes.now ≡ []) (λ x. lines_of bytes.now ≡ x.0.now ∷ lines_of x.1.now) }
-    ensures shorter { IfSome result (λ x. length x.1.now < length bytes.now) }
+/// The first line, where there is a byte, and what stands behind it.
+pub fn next_line(bytes: &[u8]) -> (&[u8], &[u8])
+    requires { 0 < length bytes.now }
+    ensures line { lines_of bytes.now ≡ result.0.now ∷ lines_of result.1.now }
+    ensures shorter { length result.1.now < length bytes.now }
 {
-    if bytes.is_empty() {
-        return None;
-    }
     match place(bytes, b'\n') {
-        Some(end) => Some((&bytes[..end], &bytes[end + 1..])),
-        None => Some((bytes, &bytes[bytes.len()..])),
+        Some(end) => (&bytes[..end], &bytes[end + 1..]),
+        None => (bytes, &bytes[bytes.len()..]),
     }
 }

@@ -39,6 +39,61 @@ fn what_a_trace_says(rt: HostRuntime) -> Result<(), Fail> {
     Ok(())
 }
 
+/// Whether the line is read as this operation.
+fn says(rt: &HostRuntime, line: &[u8], op: Op) -> Result<bool, Fail> {
+    let mut text = Vec::from_slice(rt.alloc(), b"melt 1\nthreads 1\nglobals 64\nthread 0\n")?;
+    text.extend_from_slice(line)?;
+    text.extend_from_slice(b"\ndone\n")?;
+    let trace = parse(rt.alloc(), &text)?;
+    match trace.programs() {
+        [program] => Ok(program.items() == [Item::Op(op)].as_slice()),
+        _ => Ok(false),
+    }
+}
+
+#[test]
+fn canonical_lines_and_others(rt: HostRuntime) -> Result<(), Fail> {
+    let (v, g, r) = (18_446_744_073_709_551_609, 63, 15);
+    let new = Op::New {
+        dst: 15,
+        refs: 62,
+        nums: 0,
+    };
+    let load = Op::Load {
+        dst: 1,
+        src: 10,
+        i: 63,
+    };
+    let store = Op::Store {
+        obj: 0,
+        i: 9,
+        src: 15,
+    };
+    let put = Op::Put { obj: 3, j: 0, v };
+    let lines = [
+        (b"new 15 62 0".as_slice(), b" new 15 62 0".as_slice(), new),
+        (b"load 1 10 63", b"load  1 10 63", load),
+        (b"store 0 9 15", b"store 0  9 15", store),
+        (b"get 2 10", b"get 2 10 ", Op::Get { src: 2, j: 10 }),
+        (
+            b"put 3 0 18446744073709551609",
+            b"put 3  0 18446744073709551609",
+            put,
+        ),
+        (b"gload 4 63", b"gload 4  63", Op::GLoad { dst: 4, g }),
+        (b"gstore 63 5", b"gstore 63 5 ", Op::GStore { g, src: 5 }),
+        (b"same 6 7", b" same 6 7", Op::Same { a: 6, b: 7 }),
+        (b"copy 8 9", b"copy  8 9", Op::Copy { dst: 8, src: 9 }),
+        (b"drop 15", b"drop 15 ", Op::Drop { r }),
+        (b"collect", b" collect", Op::Collect),
+    ];
+    for (canonical, other, op) in lines {
+        assert!(rt; says(&rt, canonical, op)?);
+        assert!(rt; says(&rt, other, op)?);
+    }
+    Ok(())
+}
+
 #[test]
 fn bad_openings(rt: HostRuntime) {
     let texts = [
@@ -78,6 +133,11 @@ fn bad_lines(rt: HostRuntime) -> Result<(), Fail> {
         (b"thread 0\nend\n".as_slice(), (5, 6)),
         (b"thread 0\ndrop\n".as_slice(), (5, 7)),
         (b"thread 0\ndrop 01\n".as_slice(), (5, 8)),
+        (b"thread 0\ndrop 1x\n".as_slice(), (5, 8)),
+        (b"thread 0\ndrop 1\x1f\n".as_slice(), (5, 2)),
+        (b"thread 0\nput 0 0 00\n".as_slice(), (5, 8)),
+        (b"thread 0\ncollects\n".as_slice(), (5, 6)),
+        (b"collect\n".as_slice(), (4, 6)),
         (
             b"thread 0\nput 0 0 18446744073709551616\n".as_slice(),
             (5, 8),

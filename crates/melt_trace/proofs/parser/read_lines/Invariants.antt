@@ -2,8 +2,8 @@ use Rattle.std.proofs.Common.{length}
 use Rattle.melt_trace.specs.Drafts.{IsReadTo}
 use Rattle.melt_trace.proofs.parser.read_lines.Given as goal
 
-abbrev pub invariant-loop-text : goal.invariant-loop-text
-invariant-loop-text l = IsReadTo l.bytes l.draft l.rest l.line
+abbrev pub invariant-loop-rest : goal.invariant-loop-rest
+invariant-loop-rest l = IsReadTo l.bytes l.draft l.rest l.line
 
-abbrev pub decreases-loop-text : goal.decreases-loop-text
-decreases-loop-text l = length l.rest
+abbrev pub decreases-loop-rest : goal.decreases-loop-rest
+decreases-loop-rest l = length l.rest
