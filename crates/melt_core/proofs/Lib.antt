@@ -17,6 +17,7 @@ pub mod Counting
 pub mod WordsMade
 pub mod Plain
 pub mod Asked
+pub mod AtOnce
 pub mod Words
 pub mod Going
 pub mod Tasks

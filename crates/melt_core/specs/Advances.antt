@@ -1,5 +1,5 @@
 -- What one event does to a core.
-use Rattle.std.specs.Prelude.{◌≡◌, ◌≢◌, ◌⊎◌, ℕ, ◌+◌, ◌^◌, ◌<◌, ◌≤◌, Bool, true, false, List, length}
+use Rattle.std.specs.Prelude.{◌≡◌, ◌≢◌, ◌⊎◌, ℕ, zero, suc, ◌+◌, ◌^◌, ◌<◌, ◌≤◌, Bool, true, false, List, length}
 use Rattle.std.specs.Prelude.{Option, None, Some, IfSome, IsSome, slice_index}
 use Rattle.melt_model.specs.Alive.{Alive, words_of, CostsSum}
 use Rattle.melt_model.specs.declared.history.Act.{Act}
@@ -216,6 +216,17 @@ AdvancesOver disk v w t o result = AdvancesWhere (Unit {0}) disk v w t o result
 -- over each disk over which the words are well formed
 pub record Moves (v w : View) (t : ℕ) (o : Op) (result : StepResult) : Type 0 where
   pub over : (disk : OnDisk) → Standing false disk v → AdvancesOver disk v w t o result
+
+-- so many events of one call and one more, each right behind the one before: all but the last go on
+abbrev pub MovesBy : ℕ → View → View → ℕ → Op → StepResult → Type 0
+MovesBy zero v w t o result = Moves v w t o result
+MovesBy (suc more) v w t o result = (u : View) × Moves v u t o Going × MovesBy more u w t o result
+
+-- Events of one call, each right behind the one before. Where they are several, the call is not refused.
+pub record MovesOn (v w : View) (t : ℕ) (o : Op) (result : StepResult) : Type 0 where
+  pub more : ℕ
+  pub moves : MovesBy more v w t o result
+  pub refused : (refusal : Refusal) → result ≡ Refused refusal → more ≡ 0
 
 -- the words that a reader tells, if it tells any, are those of the disk
 abbrev pub TellsDisk : Option (List ℕ) → OnDisk → Type 0

@@ -31,7 +31,8 @@ impl Core {
     }
 
     /// The event after the header of an object was read.
-    fn after_head(
+    #[inline(always)]
+    pub(crate) fn after_head(
         &mut self,
         thread: u32,
         op: Op,

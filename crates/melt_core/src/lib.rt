@@ -3,6 +3,7 @@
 
 mod advance;
 pub mod answer;
+mod at_once;
 mod body;
 pub mod call;
 mod held;

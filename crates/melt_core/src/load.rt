@@ -6,7 +6,7 @@
 //! and the word that the exchange finds is always one that may be answered: a word with a tag can only have become one
 //! without. Where the word was a home, its object is searched for first, and made if it must be: `probing`, `record`
 //! and `body` have those events.
-ghost use Rattle.std.specs.Prelude.{◌≡◌, ◌<◌, length, Some, None};
+ghost use Rattle.std.specs.Prelude.{◌≡◌, ◌<◌, length, Some, None, IfSome, IfNone};
 ghost use Rattle.melt_scion.specs.Heaps.{OnDisk};
 ghost use Rattle.melt_core.specs.Advances.{Moves, MayMove};
 ghost use Rattle.melt_core.specs.Changed.{HasPlace, HasRead, HoldsRef, StandsAt};
@@ -19,7 +19,7 @@ use crate::call::{Access, Place, Search, Stage, Task};
 use crate::machine::Core;
 use crate::parts::{Cell, found, reference, value_at};
 use melt_model::{Act, Op, Reply, Slot, Value};
-use melt_word::{Header, Ref, encode_header, encode_ref};
+use melt_word::{Header, Ref, Shape, encode_header, encode_ref};
 
 /// What a load found that takes the slow path: a reference with a tag at the place, for register `dst`. Its object is
 /// at the address `target`.
@@ -32,11 +32,23 @@ pub(crate) struct Looked {
 }
 
 impl Core {
-    /// Reads the header of the object in a register. Its shape never changes, so that what is known of it stays.
-    pub(crate) fn head(&mut self, thread: u32, op: Op, r: u8, access: Access) -> StepResult
+    /// Reads the header of the object in a register, and answers its address and its shape, if it has the part that is
+    /// used. Its shape never changes, so that what is known of it stays.
+    // (inlined, since each caller has a part of one kind and needs no code for the others)
+    #[inline(always)]
+    pub(crate) fn find_part(
+        &mut self,
+        thread: u32,
+        op: Op,
+        r: u8,
+        access: Access,
+    ) -> Option<(u32, Shape)>
         requires asks { MayMove (view self.old) thread op }
         requires stage { stage_of (view self.old) thread ≡ Some (Stage.Polled (Task.Use r access)) }
-        ensures { Moves (view self.old) (view self.new) thread op result }
+        ensures there { IfSome result (λ part. Moves (view self.old) (view self.new) thread op StepResult.Going
+            × (stage_of (view self.new) thread ≡ Some (Stage.Headed part.0 part.1 access))) }
+        ensures range { IfNone result
+            (Moves (view self.old) (view self.new) thread op (StepResult.Answered Reply.Range)) }
     {
         let address = self.register(thread, r);
         let shape = self.heap.space.shape(address);
@@ -47,10 +59,22 @@ impl Core {
                 access,
             };
             self.set_stage(thread, op, stage);
-            return StepResult::Going;
+            return Some((address, shape));
         }
         self.set_call(thread, None);
-        StepResult::Answered(Reply::Range)
+        None
+    }
+
+    /// The event of a call that reads the header of the object in a register.
+    pub(crate) fn head(&mut self, thread: u32, op: Op, r: u8, access: Access) -> StepResult
+        requires asks { MayMove (view self.old) thread op }
+        requires stage { stage_of (view self.old) thread ≡ Some (Stage.Polled (Task.Use r access)) }
+        ensures { Moves (view self.old) (view self.new) thread op result }
+    {
+        match self.find_part(thread, op, r, access) {
+            Some(_) => StepResult::Going,
+            None => StepResult::Answered(Reply::Range),
+        }
     }
 
     /// Reads a number word of an object.

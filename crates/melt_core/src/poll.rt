@@ -16,7 +16,8 @@ use melt_word::Shape;
 
 impl Core {
     /// Reads the stop word.
-    fn poll(&mut self, thread: u32, op: Op, task: Task) -> StepResult
+    #[inline(always)]
+    pub(crate) fn poll(&mut self, thread: u32, op: Op, task: Task) -> StepResult
         requires asks { MayMove (view self.old) thread op }
         requires first { call_of (view self.old) thread ≡ None }
         requires shares { Shares (register_in (view self.old).held thread) op task }
@@ -32,7 +33,8 @@ impl Core {
 
     /// Begins an operation on a part of the object in a register. Where that holds none, the answer needs no shared
     /// word.
-    fn poll_object(&mut self, thread: u32, op: Op, r: u8, access: Access) -> StepResult
+    #[inline(always)]
+    pub(crate) fn poll_object(&mut self, thread: u32, op: Op, r: u8, access: Access) -> StepResult
         requires asks { MayMove (view self.old) thread op }
         requires first { call_of (view self.old) thread ≡ None }
         requires task { task_of op ≡ Some (Task.Use r access) }
@@ -45,7 +47,7 @@ impl Core {
     }
 
     /// Each object has one address, so that addresses are compared in place of objects.
-    fn same(&self, thread: u32, a: u8, b: u8) -> StepResult
+    pub(crate) fn same(&self, thread: u32, a: u8, b: u8) -> StepResult
         requires asks { MayMove (view self.now) thread (Op.Same a b) }
         requires first { call_of (view self.now) thread ≡ None }
         ensures { Moves (view self.now) (view self.now) thread (Op.Same a b) result }
@@ -58,7 +60,7 @@ impl Core {
     }
 
     /// No other thread sees a register, so that the copy needs no shared word.
-    fn copy(&mut self, thread: u32, dst: u8, src: u8) -> StepResult
+    pub(crate) fn copy(&mut self, thread: u32, dst: u8, src: u8) -> StepResult
         requires asks { MayMove (view self.old) thread (Op.Copy dst src) }
         requires first { call_of (view self.old) thread ≡ None }
         ensures { Moves (view self.old) (view self.new) thread (Op.Copy dst src) result }
@@ -69,7 +71,7 @@ impl Core {
     }
 
     /// The register holds nothing now. What it held stays where it is until a collection.
-    fn drop_register(&mut self, thread: u32, r: u8) -> StepResult
+    pub(crate) fn drop_register(&mut self, thread: u32, r: u8) -> StepResult
         requires asks { MayMove (view self.old) thread (Op.Drop r) }
         requires first { call_of (view self.old) thread ≡ None }
         ensures { Moves (view self.old) (view self.new) thread (Op.Drop r) result }

@@ -17,7 +17,7 @@ use Rattle.melt_safepoint.proofs.Modes.{goes_on}
 use Rattle.melt_safepoint.proofs.Counting.{Adds, counts_on}
 use Rattle.melt_safepoint.specs.declared.collector.Collector.{Collector}
 use Rattle.melt_safepoint.specs.Rows.{CollectorStands, Row}
-use Rattle.melt_step.specs.Going.{ComesToRest, Goes, KeepsGoing, MadeCall}
+use Rattle.melt_step.specs.Going.{ComesToRest, Goes, KeepsGoing, MadeCall, SomeGoes}
 use Rattle.melt_safepoint.specs.Collections.{MadeSoFar}
 use Rattle.melt_step.specs.Made.{MakesInUse}
 use Rattle.melt_safepoint.specs.Tables.{TakesTurn, ThreadStep, ThreadTold, TableStands, potential}
@@ -144,6 +144,17 @@ again_keeps shown old new n again quiet core collector every words is_told told 
           (counts_on script config old.states new.states n stands.counts
           (again.collected script config table.count));
     }
+
+-- what stood for some script stands on
+pub some_on : (finish : ℕ) (image : Option (List ℕ)) (old new : Row) → SomeGoes finish image old
+    → ((shown : Shown) → shown.end ≡ finish → shown.image ≡ image → KeepsGoing shown old new)
+    → SomeGoes finish image new
+some_on finish image old new some keeps = (
+  some.0,
+  some.1,
+  some.2,
+  (some.3.0, some.3.1, some.3.2, keeps some.0 some.1 some.2 some.3.0 some.3.1 some.3.2 some.3.3),
+)
 
 -- a run between two epochs stands as in one
 pub goes_from : {told : Bool} {script : Script} {config : Config} {shown : Shown} {run : Row}

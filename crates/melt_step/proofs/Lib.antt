@@ -1,3 +1,4 @@
+pub mod AtOnce
 pub mod Calling
 pub mod Choosing
 pub mod Epochs

@@ -1,9 +1,9 @@
 -- A run by the written order inside an epoch.
-use Rattle.std.specs.Prelude.{◌≡◌, ℕ, ◌<◌, ◌≤◌, ◌⊎◌, Bool, true, false, List, [], length, Option, None, Some, slice_set}
+use Rattle.std.specs.Prelude.{◌≡◌, ◌≢◌, ℕ, ◌<◌, ◌≤◌, ◌⊎◌, Bool, true, false, List, [], length, Option, None, Some, slice_set}
 use Rattle.melt_model.specs.declared.config.Config.{Config}
 use Rattle.melt_trace.specs.Script.{Script}
 use Rattle.melt_scion.specs.Heaps.{OnDisk}
-use Rattle.melt_core.specs.Views.{IsQuiet, View, view}
+use Rattle.melt_core.specs.Views.{IsQuiet, View, call_of, view}
 use Rattle.melt_safepoint.specs.Collections.{MadeSoFar}
 use Rattle.melt_safepoint.specs.Counts.{CountsCollections}
 use Rattle.melt_safepoint.specs.Endings.{HaveCuts}
@@ -13,6 +13,8 @@ use Rattle.melt_safepoint.specs.Rows.{AwaitsCall, CollectorStands, Row, RunStand
 use Rattle.melt_safepoint.specs.Shown.{Shown, Underlies}
 use Rattle.melt_safepoint.specs.Tables.{TableStands, potential}
 use Rattle.melt_model.specs.declared.operations.Op.{Op}
+use Rattle.melt_model.specs.declared.operations.Op.TheVariants.{Collect}
+use Rattle.melt_safepoint.specs.declared.thread.Mode.TheVariants.{Running}
 use Rattle.melt_safepoint.specs.Threads.{DueBy}
 use Rattle.melt_safepoint.specs.declared.thread.ThreadState.{ThreadState}
 use Rattle.melt_step.specs.Lone.{CalledAlone}
@@ -85,3 +87,10 @@ pub record MadeCall (shown : Shown) (old new : Row) (t : ℕ) : Type 0 where
 abbrev pub CallsFirst : Shown → Row → Row → ℕ → Option ℕ → Type 0
 CallsFirst shown old new t None = MadeCall shown old new t
 CallsFirst shown old new t (Some need) = LacksFirst shown t need old new
+
+-- The thread is to begin the call of this operation.
+pub record IsNextCall (v : View) (t : ℕ) (s : ThreadState) (o : Op) : Type 0 where
+  pub running : s.mode ≡ Running
+  pub next : s.op ≡ Some o
+  pub no_collect : o ≢ Collect
+  pub first : call_of v t ≡ None

@@ -11,11 +11,11 @@ ghost use Rattle.melt_safepoint.specs.Threads.{DueBy};
 ghost use Rattle.melt_step.specs.Lone.{IsAloneReady, CalledAlone};
 ghost use Rattle.melt_step.specs.Made.{MakesInUse};
 
-use crate::events::{answered, drop_if_ended};
+use crate::events::{answered, refused};
 use melt_core::{Core, StepResult};
 use melt_io::RecordReader;
 use melt_model::Op;
-use melt_safepoint::{ThreadState, mode_after, words_lacked};
+use melt_safepoint::{ThreadState, words_lacked};
 
 /// Makes the call of a thread alone, over a disk whose homes end before `end`. Answers the words that it lacked, if it
 /// was refused for want of room.
@@ -46,8 +46,7 @@ pub fn call_alone<R: RecordReader>(
             StepResult::Refused(refusal) => match words_lacked(refusal) {
                 Some(need) => return Some(need),
                 None => {
-                    state.mode = mode_after(refusal);
-                    drop_if_ended(core, state.mode, thread);
+                    refused(core, state, thread, refusal);
                     return None;
                 }
             },

@@ -13,14 +13,15 @@ ghost use Rattle.melt_safepoint.specs.Losses.{CountsLosses, losses};
 ghost use Rattle.melt_safepoint.specs.Passing.{NoneOwn, Resumed};
 ghost use Rattle.melt_safepoint.specs.Rows.{SomeAwaits, StandsBut, row_of};
 ghost use Rattle.melt_safepoint.specs.Shown.{Shown};
-ghost use Rattle.melt_safepoint.specs.Tables.{KnowsStop};
+ghost use Rattle.melt_safepoint.specs.Tables.{KnowsStop, potential};
 ghost use Rattle.melt_safepoint.specs.Threads.{AllWait};
 ghost use Rattle.melt_step.specs.Going.{CallsFirst, ComesToRest, IsNearer, KeepsGoing, SomeGoes};
 ghost use Rattle.melt_step.specs.Going.{core_view};
+ghost use Rattle.melt_step.specs.Turns.{GoesAt};
 
 use crate::alone::call_alone;
 use crate::collector::left_of;
-use crate::events::make_event;
+use crate::events::make_events;
 use crate::ordered::Ordered;
 use melt_core::Core;
 use melt_io::RecordReader;
@@ -80,6 +81,43 @@ pub fn give_up<'a>(run: Run<'a, Ordered<'a>>) -> Ended<'a>
     halt_run(left_of(None, rest), states, journal, Halt::DiskFault)
 }
 
+/// Makes the next event of a thread that can go on; or, where it goes on alone, its next call as far as that is made in
+/// one go. The homes on disk end before `end`.
+// (inlined, since one caller has threads that go on alone and the other has none)
+#[inline(always)]
+fn make_turn<R: RecordReader>(
+    run: &mut Run<'_, Ordered<'_>>,
+    thread: u32,
+    alone: bool,
+    end: u32,
+    reader: &mut R,
+)
+    requires stands { SomeGoes end (R.image reader.old) (row_of core_view run.old) }
+    requires stop { KnowsStop (view run.old.machine.core) run.old.states.items }
+    requires goes { GoesAt run.old.states.items thread }
+    ensures keeps { (shown : Shown) → shown.end ≡ end → shown.image ≡ R.image reader.old
+        → KeepsGoing shown (row_of core_view run.old) (row_of core_view run.new) }
+    ensures stop { KnowsStop (view run.new.machine.core) run.new.states.items }
+    ensures there { length run.new.states.items ≡ length run.old.states.items }
+    ensures nearer { IsNearer (row_of core_view run.old) (row_of core_view run.new) }
+    ensures less { to_do run.new.states.items ≤ to_do run.old.states.items }
+    ensures image { R.image reader.new ≡ R.image reader.old }
+    ensures lost { CountsLosses run.old.states.items run.new.states.items (R.faults reader.old)
+        (R.faults reader.new) }
+    ensures collector { run.new.collector ≡ run.old.collector }
+{
+    let state = &mut run.states[thread as usize];
+    make_events(
+        &mut run.machine.core,
+        state,
+        thread,
+        alone,
+        run.every,
+        end,
+        reader,
+    );
+}
+
 /// Makes the next event of the thread whose turn it is, and answers which one that is, if one can go on. The homes on
 /// disk end before `end`.
 pub fn take_turn<R: RecordReader>(
@@ -103,15 +141,34 @@ pub fn take_turn<R: RecordReader>(
     ensures collector { run.new.collector ≡ run.old.collector }
 {
     let machine = &mut run.machine;
-    let Some(thread) = machine.turns.next(machine.trace, &run.states) else {
-        return None;
-    };
-    let state = &mut run.states[thread as usize];
-    make_event(&mut run.machine.core, state, thread, run.every, end, reader);
+    let thread = machine.turns.next(machine.trace, &run.states)?;
+    make_turn(run, thread, false, end, reader);
     Some(thread)
 }
 
-/// Gives out events until no thread can go on.
+/// Gives all events to a thread, until it cannot go on. No other is to be able to.
+fn give_all<R: RecordReader>(run: &mut Run<'_, Ordered<'_>>, thread: u32, end: u32, reader: &mut R)
+    requires stands { SomeGoes end (R.image reader.old) (row_of core_view run.old) }
+    requires stop { KnowsStop (view run.old.machine.core) run.old.states.items }
+    requires there { thread < length run.old.states.items }
+    ensures keeps { (shown : Shown) → shown.end ≡ end → shown.image ≡ R.image reader.old
+        → KeepsGoing shown (row_of core_view run.old) (row_of core_view run.new) }
+    ensures stop { KnowsStop (view run.new.machine.core) run.new.states.items }
+    ensures nearer { to_do run.new.states.items ≤ to_do run.old.states.items
+        × potential run.new.states.items (view run.new.machine.core).calls
+        ≤ potential run.old.states.items (view run.old.machine.core).calls }
+    ensures image { R.image reader.new ≡ R.image reader.old }
+    ensures lost { CountsLosses run.old.states.items run.new.states.items (R.faults reader.old)
+        (R.faults reader.new) }
+    ensures collector { run.new.collector ≡ run.old.collector }
+{
+    while run.states[thread as usize].can_go() {
+        make_turn(run, thread, true, end, reader);
+    }
+}
+
+/// Gives out events until no thread can go on. A thread that takes two events one after the other may be the only one
+/// that still can, and then takes the others without a turn for each.
 fn give_events<R: RecordReader>(run: &mut Run<'_, Ordered<'_>>, end: u32, reader: &mut R)
     requires stands { SomeGoes end (R.image reader.old) (row_of core_view run.old) }
     requires stop { KnowsStop (view run.old.machine.core) run.old.states.items }
@@ -124,7 +181,14 @@ fn give_events<R: RecordReader>(run: &mut Run<'_, Ordered<'_>>, end: u32, reader
         (R.faults reader.new) }
     ensures collector { run.new.collector ≡ run.old.collector }
 {
-    while take_turn(run, end, reader).is_some() {}
+    let mut last = None;
+    while let Some(thread) = take_turn(run, end, reader) {
+        let machine = &run.machine;
+        if last == Some(thread) && machine.turns.gives_all(machine.trace, &run.states, thread) {
+            give_all(run, thread, end, reader);
+        }
+        last = Some(thread);
+    }
 }
 
 /// Makes the call of a thread alone. Answers the words that it lacked, if it was refused for want of room.

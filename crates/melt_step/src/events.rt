@@ -3,22 +3,23 @@
 //! A thread knows no more of its call than its mode: what the call has reached stands in the core. So one event asks
 //! the core once, and its answer is the next mode. A collection is asked for by the stop word alone, which makes every
 //! call that begins pause, and is made when all of them have.
-ghost use Rattle.std.specs.Prelude.{◌≡◌, ◌<◌, ◌≤◌, length, vec_capacity, Some, None, Bool, true};
+ghost use Rattle.std.specs.Prelude.{◌≡◌, ◌<◌, ◌≤◌, length, vec_capacity, Some, None, Bool, true, IfSome};
 ghost use Rattle.melt_scion.specs.Heaps.{OnDisk};
 ghost use Rattle.melt_core.specs.Views.{Standing, call_of, view};
 ghost use Rattle.melt_safepoint.specs.Losses.{CountsLoss};
 ghost use Rattle.melt_safepoint.specs.Threads.{DueBy, TakesReply};
-ghost use Rattle.melt_safepoint.specs.Modes.{MayGo};
+ghost use Rattle.melt_safepoint.specs.Modes.{MayGo, mode_for};
 ghost use Rattle.melt_step.specs.Made.{MakesInUse};
+ghost use Rattle.melt_step.specs.Going.{IsNextCall};
 ghost use Rattle.melt_safepoint.specs.Tables.{DropsIfEnded, IsReady, SetsStop, TakesTurn};
 
-use melt_core::{Core, StepResult};
+use melt_core::{Core, Refusal, StepResult};
 use melt_io::RecordReader;
 use melt_model::{Op, Reply};
 use melt_safepoint::{Mode, ThreadState, mode_after};
 
-/// Makes the next event of a thread that can go on, over a disk whose homes end before `end`.
-pub fn make_event<R: RecordReader>(
+/// Makes the next event of a thread that can go on.
+fn make_event<R: RecordReader>(
     core: &mut Core,
     state: &mut ThreadState<'_>,
     thread: u32,
@@ -43,10 +44,7 @@ pub fn make_event<R: RecordReader>(
         (Mode::Running, Some(op)) => match core.advance(thread, op, end, reader) {
             StepResult::Going => {}
             StepResult::Answered(reply) => answered(core, state, thread, reply, every),
-            StepResult::Refused(refusal) => {
-                state.mode = mode_after(refusal);
-                drop_if_ended(core, state.mode, thread);
-            }
+            StepResult::Refused(refusal) => refused(core, state, thread, refusal),
         },
         _ => {
             core.ask();
@@ -77,4 +75,61 @@ pub fn answered(core: &mut Core, state: &mut ThreadState<'_>, thread: u32, reply
 {
     state.take_reply(reply, every);
     drop_if_ended(core, state.mode, thread);
+}
+
+/// The call of a thread was refused.
+pub fn refused(core: &mut Core, state: &mut ThreadState<'_>, thread: u32, refusal: Refusal)
+    requires thread { thread < length (view core.old).held }
+    requires no_call { call_of (view core.old) thread ≡ None }
+    ensures waits { state.new ≡ record state.old { mode = mode_for refusal } }
+    ensures drops { DropsIfEnded (view core.old) (view core.new) thread (mode_for refusal) }
+{
+    state.mode = mode_after(refusal);
+    drop_if_ended(core, state.mode, thread);
+}
+
+/// The operation whose call a thread that goes on alone is to begin, if that is next.
+// (inlined, as it is asked before each event)
+#[inline(always)]
+fn next_call(core: &Core, state: &ThreadState<'_>, thread: u32, alone: bool) -> Option<Op>
+    requires { thread < length (view core.now).calls }
+    ensures { IfSome result (λ op. IsNextCall (view core.now) thread state.now op) }
+{
+    match (state.mode, state.op) {
+        (Mode::Running, Some(op)) if alone && op != Op::Collect && core.is_free(thread) => Some(op),
+        _ => None,
+    }
+}
+
+/// Makes the next event of a thread that can go on, over a disk whose homes end before `end`; or, where it goes on
+/// alone and begins a call, the events of that in one go, as far as that is quick.
+// (inlined for the same reason as `make_turn`)
+#[inline(always)]
+pub fn make_events<R: RecordReader>(
+    core: &mut Core,
+    state: &mut ThreadState<'_>,
+    thread: u32,
+    alone: bool,
+    every: u32,
+    end: u32,
+    reader: &mut R,
+)
+    requires ready { IsReady end (view core.old) thread state.old }
+    requires goes { MayGo state.old.mode }
+    ensures step { TakesTurn end (R.image reader.old) (view core.old) (view core.new) thread state.old state.new }
+    ensures stop { SetsStop (view core.old) (view core.new) state.new }
+    ensures due { DueBy every state.old state.new }
+    ensures image { R.image reader.new ≡ R.image reader.old }
+    ensures makes { MakesInUse end (R.image reader.old) (view core.old) (view core.new) }
+    ensures lost { CountsLoss state.old state.new (R.faults reader.old) (R.faults reader.new) }
+{
+    let Some(op) = next_call(core, state, thread, alone) else {
+        make_event(core, state, thread, every, end, reader);
+        return;
+    };
+    match core.call_at_once(thread, op) {
+        StepResult::Going => {}
+        StepResult::Answered(reply) => answered(core, state, thread, reply, every),
+        StepResult::Refused(refusal) => refused(core, state, thread, refusal),
+    }
 }

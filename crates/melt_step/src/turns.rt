@@ -3,7 +3,7 @@ ghost use Rattle.std.specs.Prelude.{◌≡◌, ◌↔◌, ℕ, ◌+◌, ◌<◌,
 ghost use Rattle.std.specs.Prelude.{IfNone};
 ghost use Rattle.melt_safepoint.specs.declared.thread.ThreadState.{ThreadState};
 ghost use Rattle.melt_safepoint.specs.Modes.{MayGo};
-ghost use Rattle.melt_step.specs.Turns.{GoesAt, InTurn, NoLine, NoTurn, NoneGoes, OfLine};
+ghost use Rattle.melt_step.specs.Turns.{GivesAll, GoesAt, InTurn, NoLine, NoTurn, NoneGoes, OfLine};
 
 use melt_safepoint::ThreadState;
 use melt_trace::Trace;
@@ -90,6 +90,22 @@ impl Turns {
         }
         self.turn = first + 1;
         Some(first)
+    }
+
+    /// Whether all further events are those of a thread, until it cannot go on: no line is left, and no other thread
+    /// can go on. While one goes on, none begins to.
+    pub fn gives_all(&self, trace: &Trace, states: &[ThreadState<'_>], thread: u32) -> bool
+        requires { length states.now ≤ 8 }
+        ensures { result ≡ true → GivesAll trace.now.orders states.now self.now thread }
+    {
+        if self.line < trace.orders() {
+            return false;
+        }
+        let count = states.len() as u32;
+        let Some(first) = first_from(states, 0, count) else {
+            return false;
+        };
+        first == thread && first_from(states, first + 1, count).is_none()
     }
 }
 

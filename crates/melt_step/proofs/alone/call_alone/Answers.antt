@@ -10,14 +10,13 @@ use Rattle.melt_core.specs.declared.answer.StepResult.{StepResult}
 use Rattle.melt_core.specs.declared.answer.StepResult.TheVariants.{Refused}
 use Rattle.melt_model.specs.declared.operations.Op.{Op}
 use Rattle.melt_scion.specs.Heaps.{OnDisk}
-use Rattle.melt_safepoint.specs.declared.thread.Mode.{Mode}
 use Rattle.melt_safepoint.specs.declared.thread.ThreadState.{ThreadState}
+use Rattle.melt_safepoint.specs.Modes.{mode_for}
 use Rattle.melt_safepoint.specs.Shown.{Underlies}
 use Rattle.melt_safepoint.proofs.Shown.{under_untold}
 use Rattle.melt_safepoint.proofs.Modes.{lacks_space}
 use Rattle.melt_step.specs.Lone.{CalledOver}
 use Rattle.melt_step.specs.Made.{MakesInUse}
-use Rattle.melt_safepoint.specs.Tables.{DropsIfEnded}
 use Rattle.melt_step.proofs.Calling.{KeepsOthers_both, goes_nearer, refused_call, thread_there}
 use Rattle.melt_step.proofs.LoneCalls.{call_asks, call_goes, call_lacks, call_lost, call_reads, call_told, few_still}
 use Rattle.melt_step.proofs.LoneCalls.{never_pauses}
@@ -104,15 +103,15 @@ returns-in-Some-clause-called g c told disk under stands =
     (view c.loop-reply.core) (view c.advance.new.self) c.args.thread c.args.op (Refused why)) space
     (c.in-Refused.ensures.advances.over disk under.ends)))
 
-pub drop_if_ended-requires-clause-thread : goal.drop_if_ended-requires-clause-thread
-drop_if_ended-requires-clause-thread g c =
+pub refused-requires-clause-thread : goal.refused-requires-clause-thread
+refused-requires-clause-thread g c =
     thread_there (view c.args.core.now) (view c.advance.new.self) c.args.thread
     (KeepsOthers_both (view c.args.core.now) (view c.loop-reply.core) (view c.advance.new.self) c.args.thread
     c.loop-reply.invariant.on.others
     (c.in-Refused.ensures.advances.over c.requires.ready.disk c.requires.ready.ends).others) c.requires.ready.thread
 
-pub drop_if_ended-requires-clause-no_call : goal.drop_if_ended-requires-clause-no_call
-drop_if_ended-requires-clause-no_call g c =
+pub refused-requires-clause-no_call : goal.refused-requires-clause-no_call
+refused-requires-clause-no_call g c =
     refused_call _ c.requires.ready.disk (view c.loop-reply.core) (view c.advance.new.self) c.args.thread c.args.op
     c.in-Refused.refusal (c.in-Refused.ensures.advances.over c.requires.ready.disk c.requires.ready.ends).outcome
 
@@ -128,19 +127,17 @@ returns-in-None-clause-called g c told disk under stands =
     let no_pause = never_pauses _ disk (view c.args.core.now) (view c.loop-reply.core) (view c.advance.new.self)
     c.args.thread c.args.op c.in-Refused.refusal c.requires.ready.some_forward c.loop-reply.invariant.on event.outcome
     (sym c.words_lacked.ensures ∙ c.in-None.is) in
-    subst (λ (s : ThreadState). CalledOver told disk (view c.args.core.now)
-    (view c.drop_if_ended.new.core) c.args.thread
-    c.args.state.now (record s { mode = c.mode_after-state.result }) c.args.op None) (sym c.loop-reply.invariant.state)
-    (subst (λ (m : Mode). CalledOver told disk (view c.args.core.now) (view c.drop_if_ended.new.core) c.args.thread
-    c.args.state.now (record c.args.state.now { mode = m }) c.args.op None) (sym c.mode_after-state.ensures)
+    subst (λ (after : ThreadState). CalledOver told disk (view c.args.core.now) (view c.refused.new.core) c.args.thread
+    c.args.state.now after c.args.op None) (sym c.refused.ensures.waits)
+    (subst (λ (s : ThreadState). CalledOver told disk (view c.args.core.now) (view c.refused.new.core) c.args.thread
+    c.args.state.now (record s { mode = mode_for c.in-Refused.refusal }) c.args.op None)
+    (sym c.loop-reply.invariant.state)
     (call_lost told (g.R.RecordReader.image c.loop-reply.reader) disk (view c.args.core.now) (view c.loop-reply.core)
-    (view c.advance.new.self) (view c.drop_if_ended.new.core) c.args.thread c.args.op c.args.state.now
+    (view c.advance.new.self) (view c.refused.new.core) c.args.thread c.args.op c.args.state.now
     c.in-Refused.refusal c.requires.ready.waits c.requires.ready.next no_pause c.loop-reply.invariant.on
     (call_reads told (g.R.RecordReader.image c.loop-reply.reader) c.args.end disk (view c.args.core.now)
     (view c.loop-reply.core) c.args.thread c.args.op c.in-Refused.refusal c.loop-reply.invariant.on seen
-    (c.loop-reply.invariant.stands told disk under stands) damage) event
-    (subst (λ (m : Mode). DropsIfEnded (view c.advance.new.self) (view c.drop_if_ended.new.core) c.args.thread m)
-    c.mode_after-state.ensures c.drop_if_ended.ensures)))
+    (c.loop-reply.invariant.stands told disk under stands) damage) event c.refused.ensures.drops))
 
 pub returns-in-Answered-clause-makes : goal.returns-in-Answered-clause-makes
 returns-in-Answered-clause-makes g c disk under stands past had =
@@ -156,7 +153,7 @@ returns-in-Some-clause-makes g c =
 
 pub returns-in-None-clause-makes : goal.returns-in-None-clause-makes
 returns-in-None-clause-makes g c disk under stands past had =
-    made_ended (view c.advance.new.self) (view c.drop_if_ended.new.core) c.args.thread c.mode_after-state.result
-    c.drop_if_ended.ensures past
+    made_ended (view c.advance.new.self) (view c.refused.new.core) c.args.thread (mode_for c.in-Refused.refusal)
+    c.refused.ensures.drops past
     (event_makes c.loop-reply.invariant.image c.loop-reply.invariant.makes (c.loop-reply.invariant.stands true)
     c.in-Refused.ensures.advances.over disk under stands past had)

@@ -1,5 +1,6 @@
 -- What stood at the start of the epoch stands on, over the same words, and nothing or less is to do.
-use Rattle.std.proofs.Common.{◌≡◌, ◌≤◌}
+use Rattle.std.proofs.Common.{◌≡◌, ◌<◌, ◌≤◌, length}
+use Rattle.std.specs.Prelude.{IfSome}
 use Rattle.melt_core.specs.Views.{view}
 use Rattle.melt_safepoint.specs.Shown.{Shown}
 use Rattle.melt_safepoint.specs.Losses.{CountsLosses}
@@ -9,11 +10,11 @@ use Rattle.melt_step.specs.Going.{KeepsGoing, core_view}
 use Rattle.melt_safepoint.specs.Tables.{KnowsStop, potential}
 use Rattle.melt_step.proofs.epoch.give_events.Given as goal
 
-abbrev pub decreases-loop : goal.decreases-loop
-decreases-loop g l = potential l.run.states.items (view l.run.machine.core).calls
+abbrev pub decreases-loop-thread : goal.decreases-loop-thread
+decreases-loop-thread g l = potential l.run.states.items (view l.run.machine.core).calls
 
-abbrev pub invariant-loop : goal.invariant-loop
-invariant-loop g l = record {
+abbrev pub invariant-loop-thread : goal.invariant-loop-thread
+invariant-loop-thread g l = record {
   keeps : (shown : Shown) → shown.end ≡ l.fn.end → shown.image ≡ g.R.RecordReader.image l.fn.reader
       → KeepsGoing shown (row_of core_view l.fn.run) (row_of core_view l.run);
   stop : KnowsStop (view l.run.machine.core) l.run.states.items;

@@ -6,10 +6,11 @@ use Rattle.melt_core.specs.declared.answer.Refusal.TheVariants.{Damaged}
 use Rattle.melt_core.specs.Views.{view}
 use Rattle.melt_core.specs.Advances.{IsDamage}
 use Rattle.melt_core.specs.declared.answer.StepResult.TheVariants.{Refused}
-use Rattle.melt_safepoint.specs.declared.thread.Mode.{Mode}
+use Rattle.melt_safepoint.specs.declared.thread.ThreadState.{ThreadState}
 use Rattle.melt_safepoint.specs.Losses.{CountsLoss}
 use Rattle.melt_safepoint.proofs.Losses.{counts_none, refused_counts, told_kept}
-use Rattle.melt_safepoint.specs.Tables.{DropsIfEnded, SetsStop, TakesTurn}
+use Rattle.melt_safepoint.specs.Tables.{SetsStop, TakesTurn}
+use Rattle.melt_safepoint.specs.Threads.{DueBy}
 use Rattle.melt_step.proofs.Calling.{begins_ready, goes_sets, goes_step, refused_call, refused_sets, refused_step}
 use Rattle.melt_step.proofs.Calling.{thread_there, told_sets, told_step, waits_step}
 use Rattle.melt_safepoint.proofs.WordsMade.{made_ended, made_stopped}
@@ -32,8 +33,8 @@ answered-requires g c = record {
   room = search rules;
 }
 
-pub drop_if_ended-requires : goal.drop_if_ended-requires
-drop_if_ended-requires g c = record {
+pub refused-requires : goal.refused-requires
+refused-requires g c = record {
   thread = thread_there (view c.args.core.now) (view c.advance.new.self) c.args.thread
       (c.in-Refused.ensures.advances.over c.requires.ready.disk c.requires.ready.ends).others c.requires.ready.thread;
   no_call =
@@ -83,40 +84,38 @@ returns-in-Answered g c = record {
 
 pub returns-in-Refused : goal.returns-in-Refused
 returns-in-Refused g c =
-    let drops = subst (λ (m : Mode). DropsIfEnded (view c.advance.new.self)
-    (view c.drop_if_ended.new.core) c.args.thread m)
-    c.mode_after-state.ensures c.drop_if_ended.ensures in
+    let drops = c.refused.ensures.drops in
     let damage : (damaged : Damage) → c.in-Refused.refusal ≡ Damaged damaged
     → IsDamage (g.R.RecordReader.image c.args.reader.now) c.args.end (view c.args.core.now) c.args.thread damaged =
     λ damaged is. c.in-Refused.ensures.damage damaged (ap Refused is) in
     record {
       step =
-          subst (λ (m : Mode). TakesTurn c.args.end (g.R.RecordReader.image c.args.reader.now) (view c.args.core.now)
-          (view c.drop_if_ended.new.core) c.args.thread c.args.state.now (record c.args.state.now { mode = m }))
-          (sym c.mode_after-state.ensures)
+          subst (TakesTurn c.args.end (g.R.RecordReader.image c.args.reader.now) (view c.args.core.now)
+          (view c.refused.new.core) c.args.thread c.args.state.now) (sym c.refused.ensures.waits)
           (λ told disk under stands.
           refused_step told (g.R.RecordReader.image c.args.reader.now) disk (view c.args.core.now)
-          (view c.advance.new.self) (view c.drop_if_ended.new.core) c.args.thread c.in-Running-Some.op
+          (view c.advance.new.self) (view c.refused.new.core) c.args.thread c.in-Running-Some.op
           c.args.state.now c.in-Refused.refusal (search rules) (search rules) (search rules)
           (begins_ready told (g.R.RecordReader.image c.args.reader.now) c.args.end disk (view c.args.core.now)
           c.args.thread c.in-Running-Some.op c.args.state.now c.in-Refused.refusal c.requires.ready (search rules)
           under stands damage)
           (c.in-Refused.ensures.advances.over disk under.ends) drops);
       stop =
-          subst (λ (m : Mode). SetsStop (view c.args.core.now) (view c.drop_if_ended.new.core)
-          (record c.args.state.now { mode = m })) (sym c.mode_after-state.ensures)
+          subst (SetsStop (view c.args.core.now) (view c.refused.new.core)) (sym c.refused.ensures.waits)
           (refused_sets _ c.requires.ready.disk (view c.args.core.now) (view c.advance.new.self)
-          (view c.drop_if_ended.new.core) c.args.thread c.in-Running-Some.op c.args.state.now c.in-Refused.refusal
+          (view c.refused.new.core) c.args.thread c.in-Running-Some.op c.args.state.now c.in-Refused.refusal
           (c.in-Refused.ensures.advances.over c.requires.ready.disk c.requires.ready.ends).outcome drops);
-      due = λ other. absurd (other refl);
+      due =
+          subst (DueBy c.args.every c.args.state.now) (sym c.refused.ensures.waits)
+          (λ other. absurd (other refl));
       image = search rules;
       makes = λ disk under stands past had.
-          made_ended (view c.advance.new.self) (view c.drop_if_ended.new.core) c.args.thread _ drops past
+          made_ended (view c.advance.new.self) (view c.refused.new.core) c.args.thread _ drops past
           ((c.in-Refused.ensures.advances.over disk under.ends).makes (under.tells refl) stands past had);
       lost =
-          subst (λ (m : Mode). CountsLoss c.args.state.now (record c.args.state.now { mode = m })
+          subst (λ (after : ThreadState). CountsLoss c.args.state.now after
           (g.R.RecordReader.faults c.args.reader.now) (g.R.RecordReader.faults c.advance.new.reader))
-          (sym c.mode_after-state.ensures)
+          (sym c.refused.ensures.waits)
           (refused_counts c.args.state.now c.in-Refused.refusal _ _ c.in-Refused.ensures.uses.fault
           c.in-Refused.ensures.uses.count);
     }

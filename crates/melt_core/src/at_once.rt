@@ -1,0 +1,152 @@
+//! A call in one go, for a thread that goes on alone.
+//!
+//! Its events are those of `advance`, one right after the other, and each is made by the same function. What is saved
+//! is the way between them: the stage that a call has reached is known where it was reached. A call that comes to a
+//! stage from which few calls go on is left there, in flight, for `advance`.
+ghost use Rattle.std.specs.Prelude.{◌≡◌, ◌↔◌, ◌<◌, length, IsTrue, Some, None};
+ghost use Rattle.melt_core.specs.Advances.{MayMove, MovesOn};
+ghost use Rattle.melt_core.specs.Stages.{task_of};
+ghost use Rattle.melt_core.specs.Views.{call_of, stage_of, view};
+
+use crate::answer::StepResult;
+use crate::call::{Access, Place, Stage, Task};
+use crate::machine::Core;
+use crate::make::Claim;
+use melt_model::{Op, Reply};
+use melt_word::Shape;
+
+impl Core {
+    /// The stage that the call of a thread has reached, if one is in flight.
+    fn stage(&self, thread: u32) -> Option<Stage>
+        requires { thread < length (view self.now).calls }
+        ensures { result ≡ stage_of (view self.now) thread }
+    {
+        match &self.rest.calls[thread as usize] {
+            Some(call) => Some(call.stage),
+            None => None,
+        }
+    }
+
+    /// Whether no call of a thread is in flight.
+    pub fn is_free(&self, thread: u32) -> bool
+        requires { thread < length (view self.now).calls }
+        ensures { IsTrue result ↔ call_of (view self.now) thread ≡ None }
+    {
+        self.rest.calls[thread as usize].is_none()
+    }
+
+    /// Uses a part of the object in a register.
+    // (inlined, since each caller has a part of one kind and needs no code for the others)
+    #[inline(always)]
+    fn use_at_once(&mut self, thread: u32, op: Op, r: u8, access: Access) -> StepResult
+        requires asks { MayMove (view self.old) thread op }
+        requires first { call_of (view self.old) thread ≡ None }
+        requires task { task_of op ≡ Some (Task.Use r access) }
+        ensures { MovesOn (view self.old) (view self.new) thread op result }
+    {
+        match self.poll_object(thread, op, r, access) {
+            StepResult::Going => {}
+            result => return result,
+        }
+        let Some((address, shape)) = self.find_part(thread, op, r, access) else {
+            return StepResult::Answered(Reply::Range);
+        };
+        self.after_head(thread, op, address, shape, access)
+    }
+
+    /// Makes an object, up to its last word.
+    fn make_at_once(&mut self, thread: u32, op: Op, shape: Shape, dst: u8) -> StepResult
+        requires asks { MayMove (view self.old) thread op }
+        requires first { call_of (view self.old) thread ≡ None }
+        requires task { task_of op ≡ Some (Task.Make dst shape) }
+        ensures { MovesOn (view self.old) (view self.new) thread op result }
+    {
+        match self.poll(thread, op, Task::Make { dst, shape }) {
+            StepResult::Going => {}
+            result => return result,
+        }
+        match self.claim(thread, op, shape, dst) {
+            StepResult::Going => {}
+            result => return result,
+        }
+        loop {
+            let Some(
+                Stage::Claimed {
+                    address,
+                    shape,
+                    stored,
+                    dst,
+                },
+            ) = self.stage(thread)
+            else {
+                return StepResult::Going;
+            };
+            let claim = Claim {
+                address,
+                shape,
+                stored,
+                dst,
+            };
+            match self.fill(thread, op, claim) {
+                StepResult::Going => {}
+                result => return result,
+            }
+        }
+    }
+
+    /// Loads a global.
+    fn load_global_at_once(&mut self, thread: u32, op: Op, dst: u8, g: u8) -> StepResult
+        requires asks { MayMove (view self.old) thread op }
+        requires first { call_of (view self.old) thread ≡ None }
+        requires task { task_of op ≡ Some (Task.LoadGlobal dst g) }
+        ensures { MovesOn (view self.old) (view self.new) thread op result }
+    {
+        match self.poll(thread, op, Task::LoadGlobal { dst, g }) {
+            StepResult::Going => self.look(thread, op, Place::Global { g }, dst),
+            result => result,
+        }
+    }
+
+    /// Stores into a global.
+    fn store_global_at_once(&mut self, thread: u32, op: Op, g: u8, src: u8) -> StepResult
+        requires asks { MayMove (view self.old) thread op }
+        requires first { call_of (view self.old) thread ≡ None }
+        requires task { task_of op ≡ Some (Task.StoreGlobal g src) }
+        ensures { MovesOn (view self.old) (view self.new) thread op result }
+    {
+        match self.poll(thread, op, Task::StoreGlobal { g, src }) {
+            StepResult::Going => self.store(thread, op, Place::Global { g }, src),
+            result => result,
+        }
+    }
+
+    /// Begins the call of an operation, and makes its events one right after the other: all of them, where the call
+    /// finds no word with a tag and lacks no words. It is `advance` as often as it takes, for a thread of which no call
+    /// is in flight, and while no other thread goes on. Where it answers `Going`, the call is in flight, and its other
+    /// events are to be made by `advance`. It uses no disk, and takes no memory.
+    pub fn call_at_once(&mut self, thread: u32, op: Op) -> StepResult
+        requires asks { MayMove (view self.old) thread op }
+        requires first { call_of (view self.old) thread ≡ None }
+        ensures { MovesOn (view self.old) (view self.new) thread op result }
+    {
+        match op {
+            Op::New { dst, refs, nums } => {
+                let shape = Shape { refs, nums };
+                self.make_at_once(thread, op, shape, dst)
+            }
+            Op::Load { dst, src, i } => self.use_at_once(thread, op, src, Access::Load { dst, i }),
+            Op::Store { obj, i, src } => {
+                self.use_at_once(thread, op, obj, Access::Store { i, src })
+            }
+            Op::Get { src, j } => self.use_at_once(thread, op, src, Access::Get { j }),
+            Op::Put { obj, j, v } => self.use_at_once(thread, op, obj, Access::Put { j, v }),
+            Op::GLoad { dst, g } => self.load_global_at_once(thread, op, dst, g),
+            Op::GStore { g, src } => self.store_global_at_once(thread, op, g, src),
+            Op::Same { a, b } => self.same(thread, a, b),
+            Op::Copy { dst, src } => self.copy(thread, dst, src),
+            Op::Drop { r } => self.drop_register(thread, r),
+            // (a collection is no call: the threads meet for it)
+            Op::Collect => unreachable!(),
+        }
+    }
+}

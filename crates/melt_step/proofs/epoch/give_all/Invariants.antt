@@ -1,0 +1,28 @@
+-- What stood at the beginning stands on, over the same words, and nothing or less is to do.
+use Rattle.std.proofs.Common.{◌≡◌, ◌≤◌, length}
+use Rattle.melt_core.specs.Views.{view}
+use Rattle.melt_safepoint.specs.Shown.{Shown}
+use Rattle.melt_safepoint.specs.Losses.{CountsLosses}
+use Rattle.melt_safepoint.specs.Epochs.{to_do}
+use Rattle.melt_safepoint.specs.Rows.{row_of}
+use Rattle.melt_step.specs.Going.{KeepsGoing, core_view}
+use Rattle.melt_safepoint.specs.Tables.{KnowsStop, potential}
+use Rattle.melt_step.proofs.epoch.give_all.Given as goal
+
+abbrev pub decreases-loop-run : goal.decreases-loop-run
+decreases-loop-run g l = potential l.run.states.items (view l.run.machine.core).calls
+
+abbrev pub invariant-loop-run : goal.invariant-loop-run
+invariant-loop-run g l = record {
+  keeps : (shown : Shown) → shown.end ≡ l.fn.end → shown.image ≡ g.R.RecordReader.image l.fn.reader
+      → KeepsGoing shown (row_of core_view l.fn.run) (row_of core_view l.run);
+  stop : KnowsStop (view l.run.machine.core) l.run.states.items;
+  there : length l.run.states.items ≡ length l.fn.run.states.items;
+  collector : l.run.collector ≡ l.fn.run.collector;
+  less : to_do l.run.states.items ≤ to_do l.fn.run.states.items;
+  nearer : potential l.run.states.items (view l.run.machine.core).calls
+      ≤ potential l.fn.run.states.items (view l.fn.run.machine.core).calls;
+  image : g.R.RecordReader.image l.reader ≡ g.R.RecordReader.image l.fn.reader;
+  lost : CountsLosses l.fn.run.states.items l.run.states.items (g.R.RecordReader.faults l.fn.reader)
+      (g.R.RecordReader.faults l.reader);
+}
