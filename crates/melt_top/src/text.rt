@@ -45,14 +45,14 @@ fn push_reply(out: &mut Vec<u8>, reply: Reply) -> Result<(), NoMemory>
     ensures { OnOk result (out.new.items ≡ out.old.items ++ reply_line reply) }
 {
     match reply {
-        Reply::Done => push_line(out, b"ok", &[]),
-        Reply::Null => push_line(out, b"null", &[]),
-        Reply::Ref => push_line(out, b"ref", &[]),
+        Reply::Done => Ok(out.extend_from_slice(b"ok\n")?),
+        Reply::Null => Ok(out.extend_from_slice(b"null\n")?),
+        Reply::Ref => Ok(out.extend_from_slice(b"ref\n")?),
         Reply::Num(number) => push_number_line(out, number),
-        Reply::Yes => push_line(out, b"yes", &[]),
-        Reply::No => push_line(out, b"no", &[]),
-        Reply::Nil => push_line(out, b"nil", &[]),
-        Reply::Range => push_line(out, b"range", &[]),
+        Reply::Yes => Ok(out.extend_from_slice(b"yes\n")?),
+        Reply::No => Ok(out.extend_from_slice(b"no\n")?),
+        Reply::Nil => Ok(out.extend_from_slice(b"nil\n")?),
+        Reply::Range => Ok(out.extend_from_slice(b"range\n")?),
     }
 }
 

@@ -1,10 +1,12 @@
 //! The whole program, over any source and any sink.
-ghost use Rattle.std.specs.Prelude.{◌≡◌, ◌⊎◌, Bool, true, map, string_bytes, IfOk, IsSome, OnErr};
+ghost use Rattle.std.specs.Prelude.{◌≡◌, ◌⊎◌, Bool, true, map, string_bytes, IfErr, IfOk, IsSome, Ok, OnErr};
 ghost use Rattle.melt_io.specs.Outside.{Rose};
 ghost use Rattle.melt_safepoint.specs.Run.{CountsFaults, HasRun};
 ghost use Rattle.melt_safepoint.specs.Shown.{shown_by};
 ghost use Rattle.melt_model.specs.Config.{InRanges};
 ghost use Rattle.melt_trace.specs.Grammar.{line};
+ghost use Rattle.melt_trace.specs.Refusal.{IsRefusedTrace};
+ghost use Rattle.melt_trace.specs.Language.{script_of};
 ghost use Rattle.melt_top.specs.Command.{HasRanges, meant};
 ghost use Rattle.melt_top.specs.Text.{refused_text};
 ghost use Rattle.melt_top.specs.Headline.{Due, InputDue, IsUsage, MadeNone, MadeTrace, ReadAFront, RunDue, TraceDue};
@@ -111,22 +113,30 @@ fn run_answer<X: Threads + Sync, D: StaleDisk, G: Gate + Sync>(
     })
 }
 
+/// Parses a text, and lets go of its memory: a run needs the trace alone.
+fn parse_text(alloc: Global, text: Vec<u8>) -> Result<Trace, ParseRefusal>
+    ensures found { IfOk result (λ trace. script_of text.items ≡ Ok trace) }
+    ensures refused { IfErr result (IsRefusedTrace text.items) }
+{
+    parse(alloc, &text)
+}
+
 /// What is due for the bytes of a trace.
 fn trace_answer<X: Threads + Sync, D: StaleDisk, G: Gate + Sync>(
     rt: &X,
     alloc: Global,
     way: Way,
     run: Run,
-    bytes: &[u8],
+    bytes: Vec<u8>,
     disk: &mut D,
     gate: &G,
 ) -> Result<Answer, NoMemory>
     requires { InRanges run.config }
-    ensures { IfOk result (λ answer. TraceDue way run bytes.now
+    ensures { IfOk result (λ answer. TraceDue way run bytes.items
         (disk_change D.image D.faults D.read_faults disk.old disk.new)
         answer.status answer.text.items) }
 {
-    match parse(alloc, bytes) {
+    match parse_text(alloc, bytes) {
         Ok(trace) => run_answer(rt, alloc, way, run, &trace, disk, gate),
         Err(ParseRefusal::Bad(error)) => Answer::refused(alloc, error),
         Err(ParseRefusal::NoMemory) => Err(NoMemory),
@@ -152,7 +162,7 @@ fn input_answer<X: Threads + Sync, S: Source, D: StaleDisk, G: Gate + Sync>(
         (change S.left S.faults input.old input.new) }
 {
     match read_all(alloc, input, MAX_BYTES) {
-        Ok(bytes) => trace_answer(rt, alloc, way, run, &bytes, disk, gate),
+        Ok(bytes) => trace_answer(rt, alloc, way, run, bytes, disk, gate),
         Err(ReadRefusal::Fault) => Answer::line(alloc, Status::ReadFault, b"error read", &[]),
         Err(ReadRefusal::TooLong) => Answer::refused(alloc, TraceError::too_long()),
         Err(ReadRefusal::NoMemory) => Err(NoMemory),
