@@ -67,7 +67,7 @@ module _ (phase : Phase) (maps : Maps) (s t : State) (f : ℕ → ℕ) (moves : 
       → name_after maps.address moves m.to ≡ maps.address m.from
   carried_name k m at =
       name_after-at maps.address moves k m at
-      (λ j x there same. (same_place s f moves t.free j k x m carries.found there at same).1)
+      (λ j x there same. (same_place j k carries.found there at same).1)
 
   -- names go with their objects
   pub carried_names : MovesNames maps (maps_after maps moves) f
@@ -126,8 +126,8 @@ module _ (phase : Phase) (maps : Maps) (s t : State) (f : ℕ → ℕ) (moves : 
         let one : x ≡ y = same_Some x y (sym first ∙ (ap (slice_get moves) is ∙ second)) in
         absurd (let to : x.to ≡ y.to = ap (λ (m : Relocation). m.to) one in omega arith)
     | inr other ↦ elim other [
-      | inl below ↦ omega (arith, place_behind s f moves t.free i j x y carries.found first second below)
-      | inr above ↦ absurd (omega (arith, place_behind s f moves t.free j i y x carries.found second first above))
+      | inl below ↦ omega (arith, place_behind i j carries.found first second below)
+      | inr above ↦ absurd (omega (arith, place_behind j i carries.found second first above))
     ]
   ]
 
@@ -183,8 +183,7 @@ module _ (phase : Phase) (maps : Maps) (s t : State) (f : ℕ → ℕ) (moves : 
   found_once a b some same =
       let x = goes s f moves t.free a carries.found some in
       let y = goes s f moves t.free b carries.found (λ nought. some (same ∙ nought)) in
-      let one = (same_place s f moves t.free x.index y.index x.move y.move carries.found x.is y.is
-      (sym x.to ∙ (same ∙ y.to))).1 in
+      let one = (same_place x.index y.index carries.found x.is y.is (sym x.to ∙ (same ∙ y.to))).1 in
       sym x.from ∙ (ap (λ (m : Relocation). m.from) one ∙ y.from)
 
   -- the first objects are those in registers, none of which has the stale bit
@@ -196,7 +195,7 @@ module _ (phase : Phase) (maps : Maps) (s t : State) (f : ℕ → ℕ) (moves : 
       λ nought. omega (arith, nought, holds.holds, first, x.from) in
       let m = carries.held.all holds.thread holds.register full in
       let from : m.1.from ≡ x.move.from = m.4 ∙ (holds.holds ∙ sym x.from) in
-      let one = (same_source s f moves t.free m.0 x.index m.1 x.move carries.found m.2 x.is from).0 in
+      let one = (same_source m.0 x.index carries.found m.2 x.is from).0 in
       let fresh : IsFresh s a = elim (formed.registers holds.thread holds.register) [
         | inl nought ↦ absurd (full nought)
         | inr held ↦ subst (IsFresh s) holds.holds held.1

@@ -63,13 +63,13 @@ none_behind maps s k formed above =
     none_of (maps.address k) (λ n named. let object = formed.words.objects k n named in
     let below : k + cost_of object.0.shape ≤ s.free = object.1.below in omega (arith, below, above))
 
-pub can_rename : (used size : ℕ) (pairs : NamePairs) (maps : Maps) (names : Option Names) (moves : List Relocation)
-    (numbers : List (Option ℕ)) → HasNames names pairs maps → NamesMade size names → NumbersAre names moves numbers
-    → used ≤ size → ((k : ℕ) → used < k → maps.address k ≡ None)
+pub can_rename : {used : ℕ} (size : ℕ) (pairs : NamePairs) (maps : Maps) (names : Option Names)
+    (moves : List Relocation) (numbers : List (Option ℕ)) → HasNames names pairs maps → NamesMade size names
+    → NumbersAre names moves numbers → used ≤ size → ((k : ℕ) → used < k → maps.address k ≡ None)
     → ((k : ℕ) (m : Relocation) → slice_get moves k ≡ Some m → (1 ≤ m.to) × (m.to ≤ used)) → PlacesApart moves
     → MayRename used names moves numbers
-can_rename used size pairs maps None moves numbers has made are fits behind places apart = apart
-can_rename used size pairs maps (Some names) moves numbers has made are fits behind places apart = record {
+can_rename size pairs maps None moves numbers has made are fits behind places apart = apart
+can_rename size pairs maps (Some names) moves numbers has made are fits behind places apart = record {
   room = omega (arith, made, fits);
   behind = λ k above. sym (has.0 k) ∙ behind k above;
   numbers_are = are;
@@ -81,9 +81,7 @@ can_rename used size pairs maps (Some names) moves numbers has made are fits beh
 moves_apart : {phase : Phase} (s : State) (names : Option Names) (copied : Copied) → IsCopied phase s names copied
     → PlacesApart copied.forwarding.moves.items
 moves_apart s names copied is i j m n here there same =
-    (same_place s (goes copied.forwarding) copied.forwarding.moves.items copied.forwarding.next i j m n is.holds here
-    there
-    same).0
+    (same_place i j is.holds here there same).0
 
 pub may_rename : (phase : Phase) (heap : Heap) (held : List Registers) (copied : Copied) → IsFormed heap held
     → CopiesHeap phase heap held copied
@@ -95,11 +93,9 @@ may_rename phase heap held copied formed copies =
     let moves = copied.forwarding.moves.items in
     let words = found_words s f moves copied.forwarding.next is.whole is.holds in
     let inside = is.whole.inside in
-    can_rename heap.space.used (length heap.space.list) heap.maps formed.maps heap.names moves copied.numbers.items
-    formed.names formed.made.names is.numbers
-    (omega (arith, inside))
-    (λ k above. none_behind formed.maps s k formed.formed (omega (arith, above)))
-    (λ k m at.
+    can_rename (length heap.space.list) heap.maps formed.maps heap.names moves copied.numbers.items formed.names
+    formed.made.names is.numbers (omega (arith, inside))
+    (λ k above. none_behind formed.maps s k formed.formed (omega (arith, above))) (λ k m at.
     let place = place_below s f moves copied.forwarding.next k m is.holds at in
     (place.0, (let below = place.1 in let behind = is.holds.behind in omega (arith, below, behind, words))))
     (moves_apart s heap.names copied is)
@@ -160,12 +156,12 @@ scion_moves f None = refl
 scion_moves f (Some pair) = refl
 
 -- the heap that was put back is a copy
-put_copy : (phase : Phase) (old new : Heap) (held after : List Registers) (disk : OnDisk) (copied : Copied)
+put_copy : {phase : Phase} {old new : Heap} {held after : List Registers} (disk : OnDisk) {copied : Copied}
     → IsSettled old → (is : IsCopied phase (state_of old held disk) old.names copied)
     → IsPutBack old new held after copied
     → IsCopy phase (state_of old held disk) (state_of new after disk) (goes copied.forwarding)
     copied.forwarding.moves.items is.front
-put_copy phase old new held after disk copied settled is put =
+put_copy {phase} {old} {new} {held} disk {copied} settled is put =
     let s : State = state_of old held disk in
     let f = goes copied.forwarding in
     let moves = copied.forwarding.moves.items in
@@ -203,17 +199,17 @@ pub record IsToldBy (journal : Journal) (phase : Phase) (copied : Copied) (used 
   pub rest : Journals journal phase used
 
 -- what was put back is a collection
-pub put_collects : (old new : Heap) (held after : List Registers) (copied : Copied) (phase : Phase) (journal : Journal)
+pub put_collects : {old new : Heap} {held after : List Registers} {copied : Copied} {phase : Phase} {journal : Journal}
     → IsCopying phase → IsSettled old → CopiesHeap phase old held copied → IsPutBack old new held after copied
     → IsToldBy journal phase copied new.space.used → Collects old held new after phase journal
-put_collects old new held after copied phase journal copying settled copies put told = record {
+put_collects {old} {new} {held} {after} {copied} {phase} {journal} copying settled copies put told = record {
   each = λ maps disk names formed.
       let s : State = state_of old held disk in
       let t : State = state_of new after disk in
       let f = goes copied.forwarding in
       let moves = copied.forwarding.moves.items in
       let is = copies.is maps disk formed in
-      let copy = put_copy phase old new held after disk copied settled is put in
+      let copy = put_copy disk settled is put in
       let carries = copy_carries phase maps s t f moves is.front is.whole copy formed copying in
       let live : journal.live ≡ words_in moves = told.rest.live_words ∙ (put.space.used ∙ is.size) in
       let held_is : journal.held ≡ words_in (take is.front moves) = told.held ∙ is.held_words in

@@ -115,10 +115,10 @@ pub unnamed_before : (name : ℕ → Option ℕ) (moves : List Relocation) (i : 
 unnamed_before name moves i m move = name_after-none name (take i moves) m.to (free_before moves i m move)
 
 -- one move more
-pub name_after_more : (name now new : ℕ → Option ℕ) (moves : List Relocation) (i n : ℕ) (m : Relocation)
+pub name_after_more : (name now new : ℕ → Option ℕ) {moves : List Relocation} {i n : ℕ} {m : Relocation}
     → IsMoveAt moves i m → n ≡ i + 1 → ((k : ℕ) → now k ≡ name_after name (take i moves) k) → new m.to ≡ name m.from
     → ((k : ℕ) → k ≢ m.to → new k ≡ now k) → (k : ℕ) → new k ≡ name_after name (take n moves) k
-name_after_more name now new moves i n m move next before here others k =
+name_after_more name now new {moves} {i} {n} {m} move next before here others k =
     let front : take n moves ≡ take i moves ++ m ∷ [] =
     ap (λ (count : ℕ). take count moves) next
     ∙ (take_more moves i m (slice_get_within moves i m move.at)

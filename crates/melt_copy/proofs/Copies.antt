@@ -38,10 +38,10 @@ slots_are space from refs nums object are = record {
 }
 
 -- the word of a slot, as a state has it
-pub object_slot : (space : SpaceWords) (s : State) (from refs nums : ℕ) (object : List ℕ) (i : ℕ)
+pub object_slot : {space : SpaceWords} (s : State) {from : ℕ} (refs nums : ℕ) {object : List ℕ} (i : ℕ)
     → ((k : ℕ) → s.word k ≡ word_at space k) → AreWords space from (2 + refs + nums) object → i < refs
     → slice_index (take (2 + refs - 2) (drop 2 object)) i ≡ s.word (from + 2 + i)
-object_slot space s from refs nums object i word are below =
+object_slot {space} s {from} refs nums {object} i word are below =
     slot_word space s from refs (take (2 + refs - 2) (drop 2 object)) i word (slots_are space from refs nums object are)
     below
 
@@ -58,19 +58,17 @@ word_in_at words n j zero is = absurd (omega (arith, is))
 word_in_at words n j (suc k) is = ap (slice_index words) (omega (arith, is))
 
 -- an object whose words were put behind those that were there
-pub object_copied : (phase : Phase) (held : Bool) (space : SpaceWords) (s : State) (forwarding : Forwarding) (f : ℕ → ℕ)
-    (m : Relocation) (object out first then_ last : List ℕ) (before header home : ℕ)
+pub object_copied : (phase : Phase) (held : Bool) {space : SpaceWords} {s : State} {forwarding : Forwarding} (f : ℕ → ℕ)
+    {m : Relocation} {object : List ℕ} (out : List ℕ) {first then_ last : List ℕ} {before : ℕ} (header : ℕ) {home : ℕ}
     → AreWords space m.from (cost_of m.shape) object → TracksOf space s forwarding m → m.to ≡ length out + 1
-    → before ≡ slice_index object 0
-    → ((h : Header) → IsHeader h → h.shape ≡ m.shape → before ≡ header_word h
-    → header ≡ header_word (header_after phase held h)) → home ≡ slice_index object 1
-    → first ≡ out ++ header ∷ home ∷ [] → Extends first then_ (length (take (2 + m.shape.refs - 2) (drop 2 object)))
-    → ((i : ℕ) → i < length (take (2 + m.shape.refs - 2) (drop 2 object))
-    → WordMoves phase f (slice_index (take (2 + m.shape.refs - 2) (drop 2 object)) i)
+    → before ≡ slice_index object 0 → ((h : Header) → IsHeader h → h.shape ≡ m.shape → before ≡ header_word h → header ≡
+    header_word (header_after phase held h)) → home ≡ slice_index object 1 → first ≡ out ++ header ∷ home ∷ []
+    → Extends first then_ (length (take (2 + m.shape.refs - 2) (drop 2 object))) → ((i : ℕ) → i < length (take (2 +
+    m.shape.refs - 2) (drop 2 object)) → WordMoves phase f (slice_index (take (2 + m.shape.refs - 2) (drop 2 object)) i)
     (slice_index then_ (length first + i))) → last ≡ then_ ++ drop (2 + m.shape.refs) object
     → ObjectMoves phase held f s (word_numbered last) m
-object_copied phase held space s forwarding f m object out first then_ last before header home are of to before_is
-    header_is home_is first_is extends moves last_is =
+object_copied phase held {space} {s} f {m} {object} out {first} {then_} {last} {before} header {home} are of to
+    before_is header_is home_is first_is extends moves last_is =
     let refs : ℕ = m.shape.refs in
     let nums : ℕ = m.shape.nums in
     let size : length object ≡ 2 + refs + nums = are.count_is in

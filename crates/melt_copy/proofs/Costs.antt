@@ -22,8 +22,7 @@ module _ (h : List Entry) (value : ℕ → ℕ → Value) (maps : Maps) (disk : 
   pub live_are_alive : IsCopying phase → disk.homes ≡ [] → Legal h (length old.globals)
       → CostsSum (words_of h) (Alive h value) journal.live
   live_are_alive copying none legal =
-      live_costs h value maps (state_of old held disk) placed phase has.after
-      (state_of new held_after disk) has.to has.home has.scion journal.live legal none
+      live_costs h value maps (state_of old held disk) placed legal none
       (λ a. none_leaves phase (state_of old held disk) a copying) has.collected has.live
 
   -- and held are those of what registers hold

@@ -54,7 +54,7 @@ module _ (phase : Phase) (maps : Maps) (s t : State) (f : ℕ → ℕ) (moves : 
   live_words formed = counts_words t (IsNamed (maps_after maps moves)) (words_in moves) (
       counts_moves (cost_at t) (IsNamed (maps_after maps moves)) (λ (m : Relocation). m.to) moves
       (λ i j a b first second before same. let one =
-      (same_place s f moves t.free i j a b carries.found first second same).0 in omega (arith, one, before))
+      (same_place i j carries.found first second same).0 in omega (arith, one, before))
       (λ k m at.
       let o = object_there phase maps s t f moves front carries k m at in
       (costs_at t).is m.to o.0 o.1.starts
@@ -72,7 +72,7 @@ module _ (phase : Phase) (maps : Maps) (s t : State) (f : ℕ → ℕ) (moves : 
       (λ i j a b first second before same.
       let x = (slice_get-take moves front i a first).1 in
       let y = (slice_get-take moves front j b second).1 in
-      let one = (same_source s f moves t.free i j a b carries.found x y same).0 in
+      let one = (same_source i j carries.found x y same).0 in
       omega (arith, one, before))
       (λ k m at.
       let is = carries.found.whole k m (slice_get-take moves front k m at).1 in

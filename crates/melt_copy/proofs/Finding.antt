@@ -31,11 +31,11 @@ in_front : (ms : List Relocation) (m : Relocation) (k : ℕ) (x : Relocation) �
 in_front ms m k x at = slice_get-append_left ms (m ∷ []) k (slice_get_within ms k x at) ∙ at
 
 -- an object that was not found before takes the next place
-pub relocates_push : (s : State) (f g : ℕ → ℕ) (moves : List Relocation) (free : ℕ) (m : Relocation) (header : Header)
-    → Relocates s f moves free → Reached s m.from → HeaderAt s m.from header → header.shape ≡ m.shape → m.to ≡ free
-    → f m.from ≡ 0 → g m.from ≡ free → ((a : ℕ) → a ≢ m.from → g a ≡ f a)
+pub relocates_push : {s : State} {f : ℕ → ℕ} (g : ℕ → ℕ) {moves : List Relocation} {free : ℕ} (m : Relocation)
+    {header : Header} → Relocates s f moves free → Reached s m.from → HeaderAt s m.from header → header.shape ≡ m.shape
+    → m.to ≡ free → f m.from ≡ 0 → g m.from ≡ free → ((a : ℕ) → a ≢ m.from → g a ≡ f a)
     → Relocates s g (moves ++ m ∷ []) (free + cost_of m.shape)
-relocates_push s f g moves free m header forwarding reached starts shape to unknown here others = record {
+relocates_push {s} {f} g {moves} m {header} forwarding reached starts shape to unknown here others = record {
   whole = λ k x at. elim (last_place moves m k x at) [
     | inl old ↦ forwarding.whole k x old.1
     | inr new ↦ subst (IsRelocation s) new.1
@@ -99,8 +99,8 @@ relocates_found space s forwarding address shape at unknown told =
     let same : shape ≡ header.shape = told header object.1.starts.in_range
     (sym (at.tracks.word address) ∙ object.1.starts.word) in
     let m : Relocation = record { from = address; to = forwarding.next; shape = shape } in
-    relocates_push s (goes forwarding) (slice_index (slice_set forwarding.addresses.items address forwarding.next))
-    forwarding.moves.items forwarding.next m header at.tracks.holds at.reached object.1.starts (sym same) refl unknown
+    relocates_push (slice_index (slice_set forwarding.addresses.items address forwarding.next)) m at.tracks.holds
+    at.reached object.1.starts (sym same) refl unknown
     (get_or-set_same forwarding.addresses.items address forwarding.next 0 (at_within space s forwarding address at).1)
     (λ a other. get_or-set_other forwarding.addresses.items address a forwarding.next 0 other)
 
@@ -146,10 +146,10 @@ tracks_found space s forwarding new address shape at unknown told forward moves 
   table = ap length forward ∙ (length-set forwarding.addresses.items address forwarding.next ∙ at.tracks.table);
 }
 
-pub find_only : (old new : List Relocation) (address to : ℕ) (shape : Shape)
+pub find_only : (old : List Relocation) {new : List Relocation} (address to : ℕ) (shape : Shape)
     → new ≡ old ++ (record { from = address; to = to; shape = shape }) ∷ [] → (k : ℕ) (m : Relocation)
     → slice_get new k ≡ Some m → (slice_get old k ≡ Some m) ⊎ (m.from ≡ address)
-find_only old new address to shape is k m at =
+find_only old address to shape is k m at =
     elim (last_place old (record { from = address; to = to; shape = shape }) k m
     (ap (λ (ms : List Relocation). slice_get ms k) (sym is) ∙ at)) [
       | inl before ↦ inl before.1

@@ -58,12 +58,12 @@ module _ (space : SpaceWords) (s : State) (forwarding : Forwarding) (m : Relocat
       (subst (λ (w : ℕ). RefersTo w address) (sym (is_word i below)) refers)
 
 -- what the slots of one object more refer to was found
-pub objects_more : (s : State) (a b : Forwarding) (n : ℕ) (m : Relocation) → Grows a b
+pub objects_more : (s : State) {a b : Forwarding} (n : ℕ) {m : Relocation} → Grows a b
     → slice_get a.moves.items n ≡ Some m
     → ((k : ℕ) (x : Relocation) → k < n → slice_get a.moves.items k ≡ Some x → FindsSlots s (goes a) x)
     → FindsSlots s (goes b) m → (k : ℕ) (x : Relocation) → k < n + 1 → slice_get b.moves.items k ≡ Some x
     → FindsSlots s (goes b) x
-objects_more s a b n m grows at before here k x =
+objects_more s {a} {b} n {m} grows at before here k x =
     below_more (λ (k : ℕ). slice_get b.moves.items k ≡ Some x → FindsSlots s (goes b) x) n
     (λ k below there i address slot refers.
     let length_is = slice_get_within a.moves.items n m at in

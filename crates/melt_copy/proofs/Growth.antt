@@ -66,11 +66,11 @@ word_in_before a b n zero extends below = refl
 word_in_before a b n (suc k) extends below = extends.before k (omega (arith, below))
 
 -- an object that was copied stays so
-pub ObjectMoves-more : {phase : Phase} {held : Bool} (a b : Forwarding) (s : State) (words more : List ℕ) (n : ℕ)
-    (m : Relocation) → Grows a b → Extends words more n → m.to + cost_of m.shape ≤ length words + 1
+pub ObjectMoves-more : {phase : Phase} {held : Bool} {a b : Forwarding} {s : State} {words more : List ℕ} {n : ℕ}
+    {m : Relocation} → Grows a b → Extends words more n → m.to + cost_of m.shape ≤ length words + 1
     → ObjectMoves phase held (goes a) s (word_numbered words) m
     → ObjectMoves phase held (goes b) s (word_numbered more) m
-ObjectMoves-more {phase} a b s words more n m grows extends within object = record {
+ObjectMoves-more {phase} {a} {b} {s} {words} {more} {n} {m} grows extends within object = record {
   header = λ header starts. word_in_before words more n m.to extends (omega (arith, within))
       ∙ object.header header starts;
   home = word_in_before words more n (m.to + 1) extends (omega (arith, within)) ∙ object.home;
@@ -109,11 +109,12 @@ Extends-push a b c n w extends is = record {
 }
 
 -- one word more that moved
-pub moves_push : {phase : Phase} (f g : Forwarding) (words a b c : List ℕ) (n w : ℕ) → Extends a b n → c ≡ b ++ w ∷ []
-    → Grows f g → ((i : ℕ) → i < n → WordMoves phase (goes f) (slice_index words i) (slice_index b (length a + i)))
+pub moves_push : {phase : Phase} {f g : Forwarding} (words : List ℕ) {a b c : List ℕ} {n w : ℕ} → Extends a b n
+    → c ≡ b ++ w ∷ [] → Grows f g
+    → ((i : ℕ) → i < n → WordMoves phase (goes f) (slice_index words i) (slice_index b (length a + i)))
     → WordMoves phase (goes g) (slice_index words n) w → (i : ℕ) → i < n + 1
     → WordMoves phase (goes g) (slice_index words i) (slice_index c (length a + i))
-moves_push {phase} f g words a b c n w extends is grows before here =
+moves_push {phase} {f} {g} words {a} {b} {c} {n} {w} extends is grows before here =
     below_more _ _
     (λ i below.
     let same : slice_index c (length a + i) ≡ slice_index b (length a + i) =

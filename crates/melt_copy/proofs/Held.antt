@@ -28,13 +28,12 @@ found_more a b register n grows before here =
     below_more (λ r. register r ≢ 0 → goes b (register r) ≢ 0) n
     (λ r below full. still_known a b (register r) grows (before r below full)) here
 
-pub each_more : (old a b : Forwarding) (register : ℕ → ℕ) (n address : ℕ)
-    → ((k : ℕ) (m : Relocation) → slice_get a.moves.items k ≡ Some m → (slice_get old.moves.items k ≡ Some m)
-    ⊎ ((r : ℕ) × (register r ≡ m.from)))
-    → ((k : ℕ) (m : Relocation) → slice_get b.moves.items k ≡ Some m → (slice_get a.moves.items k ≡ Some m)
-    ⊎ (m.from ≡ address)) → register n ≡ address → (k : ℕ) (m : Relocation) → slice_get b.moves.items k ≡ Some m
+pub each_more : (old a b : Forwarding) (register : ℕ → ℕ) (n : ℕ) {address : ℕ} → ((k : ℕ) (m : Relocation) → slice_get
+    a.moves.items k ≡ Some m → (slice_get old.moves.items k ≡ Some m) ⊎ ((r : ℕ) × (register r ≡ m.from))) → ((k : ℕ) (m
+    : Relocation) → slice_get b.moves.items k ≡ Some m → (slice_get a.moves.items k ≡ Some m) ⊎ (m.from ≡ address))
+    → register n ≡ address → (k : ℕ) (m : Relocation) → slice_get b.moves.items k ≡ Some m
     → (slice_get old.moves.items k ≡ Some m) ⊎ ((r : ℕ) × (register r ≡ m.from))
-each_more old a b register n address before only is k m at = elim (only k m at) [
+each_more old a b register n before only is k m at = elim (only k m at) [
   | inl there ↦ before k m there
   | inr new ↦ inr (n, is ∙ sym new)
 ]
@@ -47,15 +46,15 @@ pub record HoldsSoFar (space : SpaceWords) (old a : Forwarding) (register : ℕ 
   pub grows : Grows old a
   pub tracks : (s : State) → TracksHeld space s old register → Tracks space s a
 
-pub holds_found : (space : SpaceWords) (old a b : Forwarding) (register : ℕ → ℕ) (n : ℕ)
-    → HoldsSoFar space old a register n → register n ≢ 0 → (to : ℕ) → to ≢ 0 → goes b (register n) ≡ to → Grows a b
-    → ((k : ℕ) (m : Relocation) → slice_get b.moves.items k ≡ Some m → (slice_get a.moves.items k ≡ Some m)
-    ⊎ (m.from ≡ register n)) → ((s : State) → TracksAt space s a (register n) → Tracks space s b)
+pub holds_found : {space : SpaceWords} {old a b : Forwarding} {register : ℕ → ℕ} {n : ℕ}
+    → HoldsSoFar space old a register n → register n ≢ 0 → {to : ℕ} → to ≢ 0 → goes b (register n) ≡ to → Grows a b →
+    ((k : ℕ) (m : Relocation) → slice_get b.moves.items k ≡ Some m → (slice_get a.moves.items k ≡ Some m) ⊎ (m.from ≡
+    register n)) → ((s : State) → TracksAt space s a (register n) → Tracks space s b)
     → HoldsSoFar space old b register (n + 1)
-holds_found space old a b register n before full to there goes_there grows only tracks = record {
+holds_found {space} {old} {a} {b} {register} {n} before full there goes_there grows only tracks = record {
   all = found_more a b register n grows before.all
       (λ _ (nought : goes b (register n) ≡ 0). there (sym goes_there ∙ nought));
-  each = each_more old a b register n (register n) before.each only refl;
+  each = each_more old a b register n before.each only refl;
   grows = Grows-more old a b before.grows grows;
   tracks = λ s held. tracks s (tracks_register space s old a register n held (before.tracks s held) full);
 }
@@ -76,10 +75,10 @@ register_of [] t r thread below is = absurd (omega (arith, below))
 register_of (x ∷ held) zero r thread below is = ap (λ (y : Registers). slice_index y.regs r) (sym is)
 register_of (x ∷ held) (suc t) r thread below is = register_of held t r thread (omega (arith, below)) is
 
-pub tracks_thread : (space : SpaceWords) (s : State) (a b : Forwarding) (held : List Registers) (t : ℕ)
-    (thread : Registers) → t < length held → thread ≡ get_or held t thread → TracksThreads space s a held
+pub tracks_thread : {space : SpaceWords} {s : State} {a b : Forwarding} {held : List Registers} (t : ℕ)
+    {thread : Registers} → t < length held → thread ≡ get_or held t thread → TracksThreads space s a held
     → Tracks space s b → TracksHeld space s b (slice_index thread.regs)
-tracks_thread space s a b held t thread below is threads tracks = record {
+tracks_thread {s} {held} t {thread} below is threads tracks = record {
   tracks = tracks;
   reached = λ r full.
       let same : register_in held t r ≡ slice_index thread.regs r = register_of held t r thread below is in
@@ -87,11 +86,11 @@ tracks_thread space s a b held t thread below is threads tracks = record {
 }
 
 -- the registers of one thread more
-pub threads_more : (a b : Forwarding) (held : List Registers) (n : ℕ) (thread : Registers) → n < length held
+pub threads_more : {a b : Forwarding} (held : List Registers) (n : ℕ) {thread : Registers} → n < length held
     → thread ≡ get_or held n thread → Grows a b → FindsHeld a b (slice_index thread.regs)
     → ((t r : ℕ) → t < n → register_in held t r ≢ 0 → goes a (register_in held t r) ≢ 0) → (t r : ℕ) → t < n + 1
     → register_in held t r ≢ 0 → goes b (register_in held t r) ≢ 0
-threads_more a b held n thread below is grows finds before t r under =
+threads_more {a} {b} held n {thread} below is grows finds before t r under =
     below_more (λ (t : ℕ). register_in held t r ≢ 0 → goes b (register_in held t r) ≢ 0) n
     (λ t lower full. still_known a b (register_in held t r) grows (before t r lower full))
     (λ (full : register_in held n r ≢ 0).
@@ -100,13 +99,12 @@ threads_more a b held n thread below is grows finds before t r under =
     (finds.all r (λ (nought : slice_index thread.regs r ≡ 0). full (same ∙ nought))))
     t under
 
-pub each_thread_more : (old a b : Forwarding) (held : List Registers) (n : ℕ) (thread : Registers) → n < length held
-    → thread ≡ get_or held n thread → FindsHeld a b (slice_index thread.regs)
-    → ((k : ℕ) (m : Relocation) → slice_get a.moves.items k ≡ Some m → (slice_get old.moves.items k ≡ Some m)
-    ⊎ ((t : ℕ) × (r : ℕ) × (register_in held t r ≡ m.from))) → (k : ℕ) (m : Relocation)
-    → slice_get b.moves.items k ≡ Some m → (slice_get old.moves.items k ≡ Some m)
-    ⊎ ((t : ℕ) × (r : ℕ) × (register_in held t r ≡ m.from))
-each_thread_more old a b held n thread below is finds before k m at =
+pub each_thread_more : (old : Forwarding) {a b : Forwarding} (held : List Registers) (n : ℕ) {thread : Registers}
+    → n < length held → thread ≡ get_or held n thread → FindsHeld a b (slice_index thread.regs) → ((k : ℕ) (m :
+    Relocation) → slice_get a.moves.items k ≡ Some m → (slice_get old.moves.items k ≡ Some m) ⊎ ((t : ℕ) × (r : ℕ) ×
+    (register_in held t r ≡ m.from))) → (k : ℕ) (m : Relocation) → slice_get b.moves.items k ≡ Some m
+    → (slice_get old.moves.items k ≡ Some m) ⊎ ((t : ℕ) × (r : ℕ) × (register_in held t r ≡ m.from))
+each_thread_more old held n {thread} below is finds before k m at =
     elim (finds.each k m at) [
       | inl there ↦ before k m there
       | inr new ↦ inr (n, new.0, register_of held n new.0 thread below is ∙ new.1)

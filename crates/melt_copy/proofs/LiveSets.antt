@@ -37,17 +37,17 @@ module _ (heap : Heap) (held : List Registers) (disk : OnDisk) (live : LiveSet) 
     held_words = front_words heap held disk live second third last roots;
   }
 
-pub reaches : (old now : Heap) (held : List Registers) (same : old ≡ now) (live : LiveSet)
-    (front : FindsFront now held live) (words : List ℕ) (words_are : words ≡ old.globals) (second : Forwarding)
+pub reaches : {old now : Heap} (held : List Registers) (same : old ≡ now) (live : LiveSet)
+    (front : FindsFront now held live) {words : List ℕ} (words_are : words ≡ old.globals) {second : Forwarding}
     (finds_globals : (s : State) → TracksIn old.space s live.forwarding words → Tracks old.space s second)
-    (third last : Forwarding) → Grows live.forwarding second → FindsWords (goes second) words → Grows second third
+    {third last : Forwarding} → Grows live.forwarding second → FindsWords (goes second) words → Grows second third
     → FindsScions third old.scions
     → ((s : State) → TracksScions old.space s second old.scions → Tracks old.space s third) → Grows third last
     → ((s : State) → Tracks old.space s third → Tracks old.space s last)
     → ((s : State) → Tracks old.space s third → FindsAll s (goes last) last.moves.items)
     → ReachesLive now held (record live { forwarding = last })
-reaches old now held same live front words words_are second finds_globals third last grows globals grows_scions scions
-    finds_scions grows_last finds_rest slots =
+reaches {old} {now} held same live front {words} words_are {second} finds_globals {third} {last} grows globals
+    grows_scions scions finds_scions grows_last finds_rest slots =
     subst (λ (heap : Heap). ReachesLive heap held (record live { forwarding = last })) same (λ maps disk formed.
     let moved = finds_scions (state_of old held disk)
     (before_scions old now held same live front words words_are second finds_globals maps disk formed) in

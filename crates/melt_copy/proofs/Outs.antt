@@ -23,18 +23,17 @@ use Rattle.melt_copy.proofs.Roots.{FindsRoots, since_globals, front_held, front_
 use Rattle.melt_copy.proofs.Roots.{roots_found, before_scions}
 
 -- everything that can be reached was copied
-pub is_copied : (phase : Phase) (heap : Heap) (held : List Registers) (disk : OnDisk) (live : LiveSet)
-    (second third last : Forwarding) (none globals : List ℕ) (copied : Copied) → copied.forwarding ≡ last
+pub is_copied : {phase : Phase} {heap : Heap} (held : List Registers) (disk : OnDisk) {live : LiveSet}
+    {second third last : Forwarding} {none globals : List ℕ} (copied : Copied) → copied.forwarding ≡ last
     → copied.globals.items ≡ globals → copied.held ≡ live.held_words → none ≡ []
-    → FindsRoots heap (state_of heap held disk) live second third last
-    → Extends none globals (length heap.globals)
-    → ((g : ℕ) → g < length heap.globals
-    → WordMoves phase (goes second) (slice_index heap.globals g) (slice_index globals (length none + g)))
+    → FindsRoots heap (state_of heap held disk) live second third last → Extends none globals (length heap.globals) →
+    ((g : ℕ) → g < length heap.globals → WordMoves phase (goes second) (slice_index heap.globals g) (slice_index globals
+    (length none + g)))
     → HasCopied phase live.front heap.space (state_of heap held disk) last copied.words.items (length last.moves.items)
     → NumbersAre heap.names last.moves.items copied.numbers.items
     → IsCopied phase (state_of heap held disk) heap.names copied
-is_copied phase heap held disk live second third last none globals copied forwarding_is globals_is held_is empty
-    roots extends moves has numbers =
+is_copied {phase} {heap} held disk {live} {second} {third} {last} {none} {globals} copied forwarding_is globals_is
+    held_is empty roots extends moves has numbers =
     let s : State = state_of heap held disk in
     let n_zero : length none ≡ 0 = ap length empty in
     let whole_front : take (length last.moves.items) last.moves.items ≡ last.moves.items =
@@ -72,30 +71,26 @@ is_copied phase heap held disk live second third last none globals copied forwar
           (sym forwarding_is) numbers;
     }
 
-pub copies : (old now : Heap) (held : List Registers) (same : old ≡ now) (live : LiveSet)
-    (front : FindsFront now held live) (words : List ℕ) (words_are : words ≡ old.globals) (second : Forwarding)
+pub copies : {old now : Heap} (held : List Registers) (same : old ≡ now) {live : LiveSet}
+    (front : FindsFront now held live) {words : List ℕ} (words_are : words ≡ old.globals) {second : Forwarding}
     (finds_globals : (s : State) → TracksIn old.space s live.forwarding words → Tracks old.space s second)
-    (phase : Phase) (third last : Forwarding) (none globals : List ℕ) (copied : Copied) → Grows live.forwarding second
-    → none ≡ [] → Extends none globals (length words)
-    → ((g : ℕ) → g < length words
-    → WordMoves phase (goes second) (slice_index words g) (slice_index globals (length none + g)))
-    → Grows second third → FindsScions third old.scions
-    → ((s : State) → TracksScions old.space s second old.scions → Tracks old.space s third)
-    → Grows third last
-    → ((s : State) → Tracks old.space s third
-    → HasCopied phase live.front old.space s last copied.words.items (length last.moves.items))
-    → (moves : List Relocation) → moves ≡ last.moves.items → NumbersAre old.names moves copied.numbers.items
-    → copied.forwarding ≡ last → copied.globals.items ≡ globals → copied.held ≡ live.held_words
-    → copied.live.items ≡ old.scions.live → IsTable old.scions → CopiesHeap phase now held copied
-copies old now held same live front words words_are second finds_globals phase third last none globals copied grows
-    empty extends move grows_scions scions finds_scions grows_last has ms ms_is numbers forwarding_is globals_is held_is
-    live_is table =
+    {phase : Phase} {third last : Forwarding} {none globals : List ℕ} (copied : Copied) → Grows live.forwarding second
+    → none ≡ [] → Extends none globals (length words) → ((g : ℕ) → g < length words → WordMoves phase (goes second)
+    (slice_index words g) (slice_index globals (length none + g))) → Grows second third → FindsScions third old.scions
+    → ((s : State) → TracksScions old.space s second old.scions → Tracks old.space s third) → Grows third last → ((s :
+    State) → Tracks old.space s third → HasCopied phase live.front old.space s last copied.words.items (length
+    last.moves.items)) → {moves : List Relocation} → moves ≡ last.moves.items
+    → NumbersAre old.names moves copied.numbers.items → copied.forwarding ≡ last → copied.globals.items ≡ globals
+    → copied.held ≡ live.held_words → copied.live.items ≡ old.scions.live → IsTable old.scions
+    → CopiesHeap phase now held copied
+copies {old} {now} held same {live} front {words} words_are {second} finds_globals {phase} {third} {last} {none}
+    {globals} copied grows empty extends move grows_scions scions finds_scions grows_last has ms_is numbers
+    forwarding_is globals_is held_is live_is table =
     subst (λ (heap : Heap). CopiesHeap phase heap held copied) same (record {
       is = λ maps disk formed.
-          is_copied phase old held disk live second third last none globals copied forwarding_is globals_is held_is
-          empty (roots_found old now held same live front second third last grows grows_scions scions grows_last maps
-          disk formed)
-          (subst (λ (ws : List ℕ). Extends none globals (length ws)) words_are extends)
+          is_copied held disk copied forwarding_is globals_is held_is empty
+          (roots_found old now held same live front second third last grows grows_scions scions grows_last maps
+          disk formed) (subst (λ (ws : List ℕ). Extends none globals (length ws)) words_are extends)
           (subst (λ (ws : List ℕ). (g : ℕ) → g < length ws
           → WordMoves phase (goes second) (slice_index ws g) (slice_index globals (length none + g))) words_are move)
           (has (state_of old held disk) (finds_scions (state_of old held disk) (before_scions old now held same live

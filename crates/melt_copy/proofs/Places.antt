@@ -65,10 +65,10 @@ takes_word (x ∷ moves) at below =
     ]
 
 -- a later object lies behind an earlier one
-pub place_behind : (s : State) (f : ℕ → ℕ) (moves : List Relocation) (free : ℕ) (i j : ℕ) (a b : Relocation)
+pub place_behind : {s : State} {f : ℕ → ℕ} {moves : List Relocation} {free : ℕ} (i j : ℕ) {a b : Relocation}
     → Relocates s f moves free → slice_get moves i ≡ Some a → slice_get moves j ≡ Some b → i < j
     → a.to + cost_of a.shape ≤ b.to
-place_behind s f moves free i j a b forwarding first second before =
+place_behind {moves} i j {a} {b} forwarding first second before =
     omega (arith, forwarding.places i a first, forwarding.places j b second, words_in-before moves i j a first before)
 
 -- an object lies from word 1 on and below the end
@@ -80,24 +80,24 @@ place_below s f moves free k m forwarding at = (
 )
 
 -- two objects at one place are one
-pub same_place : (s : State) (f : ℕ → ℕ) (moves : List Relocation) (free : ℕ) (i j : ℕ) (a b : Relocation)
+pub same_place : {s : State} {f : ℕ → ℕ} {moves : List Relocation} {free : ℕ} (i j : ℕ) {a b : Relocation}
     → Relocates s f moves free → slice_get moves i ≡ Some a → slice_get moves j ≡ Some b → a.to ≡ b.to
     → (i ≡ j) × (a ≡ b)
-same_place s f moves free i j a b forwarding first second same =
+same_place {moves} i j {a} {b} forwarding first second same =
     elim (cases_order i j) [
       | inl is ↦ (is, same_Some a b (sym first ∙ (ap (slice_get moves) is ∙ second)))
       | inr other ↦ absurd (elim other [
-        | inl before ↦ omega (arith, place_behind s f moves free i j a b forwarding first second before)
-        | inr behind ↦ omega (arith, place_behind s f moves free j i b a forwarding second first behind)
+        | inl before ↦ omega (arith, place_behind i j forwarding first second before)
+        | inr behind ↦ omega (arith, place_behind j i forwarding second first behind)
       ])
     ]
 
 -- two moves from one address are one
-pub same_source : (s : State) (f : ℕ → ℕ) (moves : List Relocation) (free : ℕ) (i j : ℕ) (a b : Relocation)
+pub same_source : {s : State} {f : ℕ → ℕ} {moves : List Relocation} {free : ℕ} (i j : ℕ) {a b : Relocation}
     → Relocates s f moves free → slice_get moves i ≡ Some a → slice_get moves j ≡ Some b → a.from ≡ b.from
     → (i ≡ j) × (a ≡ b)
-same_source s f moves free i j a b forwarding first second same =
-    same_place s f moves free i j a b forwarding first second
+same_source {f} i j {a} {b} forwarding first second same =
+    same_place i j forwarding first second
     (sym (forwarding.found i a first) ∙ (ap f same ∙ forwarding.found j b second))
 
 -- the object of a move was found

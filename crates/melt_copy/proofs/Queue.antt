@@ -68,12 +68,12 @@ next_object space s forwarding done m tracks below is = record {
 }
 
 -- one object more was copied
-pub copied_more : (phase : Phase) (front : ℕ) (space : SpaceWords) (s : State) (a b : Forwarding) (words more : List ℕ)
-    (done : ℕ) (m : Relocation) → HasCopied phase front space s a words done → done < length a.moves.items
+pub copied_more : {phase : Phase} {front : ℕ} {space : SpaceWords} {s : State} {a b : Forwarding} {words more : List ℕ}
+    {done : ℕ} {m : Relocation} → HasCopied phase front space s a words done → done < length a.moves.items
     → m ≡ get_or a.moves.items done m → Grows a b → Tracks space s b → Extends words more (cost_of m.shape)
     → (m.to ≡ length words + 1 → ObjectMoves phase (nat_lt done front) (goes b) s (word_numbered more) m)
     → HasCopied phase front space s b more (done + 1)
-copied_more phase front space s a b words more done m copied below is grows tracks extends object =
+copied_more {phase} {front} {s} {a} {b} {more} {done} {m} copied below is grows tracks extends object =
     let at : slice_get a.moves.items done ≡ Some m =
     slice_get_read a.moves.items (length a.moves.items) done m refl below is in
     record {
@@ -95,7 +95,7 @@ copied_more phase front space s a b words more done m copied below is grows trac
                 let lower : k < done = omega (arith, under, other.1) in
                 let place = copied.tracks.holds.places k x before in
                 let fits = words_in-before a.moves.items k done x before lower in
-                ObjectMoves-more a b s words more (cost_of m.shape) x grows extends
-                (omega (arith, place, fits, copied.size)) (copied.objects k x lower before)
+                ObjectMoves-more grows extends (omega (arith, place, fits, copied.size))
+                (copied.objects k x lower before)
           ];
     }

@@ -39,9 +39,9 @@ keeps_none heap end image maps disk held is shows names formed = record {
 }
 
 -- and while one thing happens after the other
-pub keeps_both : (old now new : Heap) (end : ℕ) (before between after : Option (List ℕ))
+pub keeps_both : {old : Heap} (now new : Heap) (end : ℕ) (before between after : Option (List ℕ))
     → Keeps old now end before between → Keeps now new end between after → Keeps old new end before after
-keeps_both old now new end before between after first second maps disk held is shows names formed =
+keeps_both {old} now new end before between after first second maps disk held is shows names formed =
     let one : HasKept maps disk held old now between = first maps disk held is shows names formed in
     let two : HasKept maps (with_image disk one.image) held now new after =
     second maps (with_image disk one.image) held is one.shows one.names one.formed in
@@ -344,7 +344,7 @@ module _ (old now : Heap) (end : ℕ) (before between : Option (List ℕ)) (plac
       let one = live_more now new place home address settles in
       record {
         formed = formed_to now new place home address settles end within sends is;
-        keeps = keeps_both old now new end before between after so_far.keeps keeps;
+        keeps = keeps_both now new end before between after so_far.keeps keeps;
         settles = settles_more old now place so_far.settles new home address is.maps is.disk is.formed within sends
             settles;
         counts = omega (arith, counts, more);
@@ -364,10 +364,10 @@ rises_more more before now after rises one =
     (counted_more more before now after rises one ∙ ap (counted before) (add-one more))
 
 -- Heap and registers that were well formed are.
-pub kept_formed : (maps : Maps) (disk : OnDisk) (held : List Registers) (old new : Heap) (after : Option (List ℕ))
+pub kept_formed : {maps : Maps} {disk : OnDisk} {held : List Registers} {old new : Heap} {after : Option (List ℕ)}
     → (kept : HasKept maps disk held old new after) → Formed maps (state_of old held disk)
     → Formed maps (state_of new held (with_image disk kept.image))
-kept_formed maps disk held old new after kept formed = record {
+kept_formed {held} kept formed = record {
   words = kept.formed;
   registers = λ t r. kept.holds (register_in held t r) (formed.registers t r);
 }

@@ -133,10 +133,10 @@ module _ (maps : Maps) (heap : Heap) (held : List Registers) (disk : OnDisk) (pl
         same_shape it.reserved_for object.0.shape (sym it.shape_is ∙ also)
 
 -- So a write that failed leaves all that the heap stands for.
-pub keeps_failed : (heap : Heap) (end place home address : ℕ) (before after : Option (List ℕ))
+pub keeps_failed : (heap : Heap) (end place : ℕ) {home address : ℕ} (before after : Option (List ℕ))
     → place < length heap.forward → Sends (slice_index heap.forward place) home address
     → KeepsOthers before home 2 after → Keeps heap heap end before after
-keeps_failed heap end place home address before after within sends others maps disk held is shows names formed =
+keeps_failed heap end place {home} {address} before after within sends others maps disk held is shows names formed =
     let changes : ChangesTwo disk.image after home = changes_two before disk.image after home shows others in
     record {
       image = changes.image;
@@ -229,8 +229,7 @@ module _ (maps : Maps) (old new : Heap) (held : List Registers) (disk : OnDisk) 
       let it = stands maps old held disk place home address formed within sends in
       let at = object maps old held disk place home address formed within sends in
       let other : a ≢ address + 1 =
-      behind_header maps was a address n it.named.0 1 (address + 1) at.0 formed named it.named.1 at.1.starts
-      (omega arith) (omega arith) refl in
+      behind_header a 1 formed named it.named.1 at.1.starts (omega arith) (omega arith) refl in
       record { in_range = starts.in_range; word = settles.space.others a other ∙ starts.word }
 
   pub holds_more : (a : ℕ) → MayHold maps was a → MayHold maps is_now a
@@ -239,14 +238,14 @@ module _ (maps : Maps) (old new : Heap) (held : List Registers) (disk : OnDisk) 
       inr (holds.0, λ header starts. holds.1 header (header_was_there a holds.0.0 header holds.0.1 starts))
 
 -- The object is settled once its Stub stands.
-pub keeps_settled : (old new : Heap) (end place home address : ℕ) (z : Shape) (before after : Option (List ℕ))
+pub keeps_settled : {old new : Heap} (end : ℕ) {place home address : ℕ} (z : Shape) (before after : Option (List ℕ))
     → AreScionsFor (length old.space.list) old.scions → place < length old.forward
     → Sends (slice_index old.forward place) home address
     → ((header : Header) → IsHeader header → word_at old.space address ≡ header_word header → z ≡ header.shape)
     → (settles : SettlesAt old new place home address) → Writes before home (stub_words home z settles.scion) after
     → Keeps old new end before after
-keeps_settled old new end place home address z before after table within sends shape settles writes maps disk held is
-    shows names formed =
+keeps_settled {old} {new} end {place} {home} {address} z before after table within sends shape settles writes maps disk
+    held is shows names formed =
     let puts : PutsTwo disk.image after home (head_word 2 z home) settles.scion =
     puts_two before disk.image after home (head_word 2 z home) settles.scion shows writes in
     let changes : ChangesTwo disk.image after home = puts.changes in

@@ -41,7 +41,7 @@ sources_apart s f moves free whole forwarding i j a b first second before =
     let one = forwarding.whole i a first in
     let other = forwarding.whole j b second in
     elim (cases_order a.from b.from) [
-      | inl same ↦ absurd (omega (arith, (same_source s f moves free i j a b forwarding first second same).0))
+      | inl same ↦ absurd (omega (arith, (same_source i j forwarding first second same).0))
       | inr differ ↦ elim differ [
         | inl below ↦ inl (omega (
           arith,

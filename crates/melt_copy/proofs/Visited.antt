@@ -79,7 +79,7 @@ pub few_found : (s : State) (f : ℕ → ℕ) (moves : List Relocation) (free : 
     → CountsWords s (Reached s) total → words_in moves ≤ total
 few_found s f moves free holds =
     few_words s moves holds.whole (λ i j a b first second before same.
-    let one = (same_source s f moves free i j a b holds first second same).0 in omega (arith, one, before))
+    let one = (same_source i j holds first second same).0 in omega (arith, one, before))
 
 -- of a heap
 pub few_tracked : (heap : Heap) (held : List Registers) (disk : OnDisk) (forwarding : Forwarding) (total : ℕ)

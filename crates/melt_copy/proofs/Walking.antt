@@ -170,10 +170,9 @@ finds_all forwarding table live n is same whole finds k pair at =
     (ap (scion_at table) place.is ∙ at)
 
 -- a state in which the object of a scion is found
-pub tracks_scion : (space : SpaceWords) (s : State) (old new : Forwarding) (table : Scions) (k : ℕ) (pair : ℕ × ℕ)
-    → TracksScions space s old table → Tracks space s new → scion_at table k ≡ Some pair
-    → TracksAt space s new pair.1
-tracks_scion space s old new table k pair tracks now at = record { tracks = now; reached = tracks.reached k pair at }
+pub tracks_scion : {space : SpaceWords} {s : State} {old new : Forwarding} {table : Scions} (k : ℕ) {pair : ℕ × ℕ}
+    → TracksScions space s old table → Tracks space s new → scion_at table k ≡ Some pair → TracksAt space s new pair.1
+tracks_scion k {pair} tracks now at = record { tracks = now; reached = tracks.reached k pair at }
 
 -- What stands when the first scions of the list, so many of them, were passed.
 pub record IsFoundSoFar (space : SpaceWords) (old now : Forwarding) (table : Scions) (live : List ℕ)
@@ -182,17 +181,17 @@ pub record IsFoundSoFar (space : SpaceWords) (old now : Forwarding) (table : Sci
   pub grows : Grows old now
   pub tracks : (s : State) → TracksScions space s old table → Tracks space s now
 
-pub found_scion : (space : SpaceWords) (old a b : Forwarding) (table : Scions) (live : List ℕ) (n : ℕ) (pair : ℕ × ℕ)
-    → IsFoundSoFar space old a table live n → scion_at table (slice_index live n) ≡ Some pair
-    → (to : ℕ) → to ≢ 0 → goes b pair.1 ≡ to → Grows a b
-    → ((s : State) → TracksAt space s a pair.1 → Tracks space s b) → IsFoundSoFar space old b table live (n + 1)
-found_scion space old a b table live n pair before at to there goes_there grows tracks = record {
+pub found_scion : {space : SpaceWords} {old a b : Forwarding} {table : Scions} {live : List ℕ} {n : ℕ} {pair : ℕ × ℕ}
+    → IsFoundSoFar space old a table live n → scion_at table (slice_index live n) ≡ Some pair → {to : ℕ} → to ≢ 0
+    → goes b pair.1 ≡ to → Grows a b → ((s : State) → TracksAt space s a pair.1 → Tracks space s b)
+    → IsFoundSoFar space old b table live (n + 1)
+found_scion {old} {a} {b} {table} {live} {n} {pair} before at there goes_there grows tracks = record {
   finds = finds_more a b table live n grows before.finds (λ other is.
       let same : other ≡ pair = same_Some other pair (sym is ∙ at) in
       λ nought. there (sym goes_there ∙ (ap (λ (p : ℕ × ℕ). goes b p.1) (sym same) ∙ nought)));
   grows = Grows-more old a b before.grows grows;
   tracks = λ s scions. tracks s
-      (tracks_scion space s old a table (slice_index live n) pair scions (before.tracks s scions) at);
+      (tracks_scion (slice_index live n) scions (before.tracks s scions) at);
 }
 
 pub no_scion_found : (space : SpaceWords) (old now : Forwarding) (table : Scions) (live : List ℕ) (n : ℕ)

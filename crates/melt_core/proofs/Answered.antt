@@ -89,15 +89,13 @@ pub record Replies (disk : OnDisk) (v w : View) (t : ℕ) (o : Op) (reply : Repl
   pub room : Standing true disk v → HasRoomFor disk.end v o
   pub clean : LeavesClean disk v w t o (Answered reply)
 
-answered : (disk : OnDisk) (v w : View) (t : ℕ) (o : Op) (reply : Reply) (act : Option Act) → Asks disk v t o
+answered : {disk : OnDisk} {v w : View} {t : ℕ} {o : Op} {reply : Reply} {act : Option Act} → Asks disk v t o
     → Plain (Unit {0}) disk v w t (cleared_by (stage_of v t)) act None
-    → Applies (maps v) (maps w) (state disk v) (state disk w) (change_of (state disk v) (register_in v.held t)
-    (rest_of v t) (stage_of v t))
-    → Replies disk v w t o reply → AdvancesOver disk v w t o (Answered reply)
-answered disk v w t o reply act asks p applies replies =
-    advances_where (Unit {0}) disk v w t o (Answered reply) asks
-    (plain (Unit {0}) disk v w t (cleared_by (stage_of v t)) act None asks.thread p)
-    (ap (λ (x : View). x.capacity) p.moves) applies (record {
+    → Applies (maps v) (maps w) (state disk v) (state disk w)
+    (change_of (state disk v) (register_in v.held t) (rest_of v t) (stage_of v t)) → Replies disk v w t o reply
+    → AdvancesOver disk v w t o (Answered reply)
+answered {disk} {v} {w} {t} {o} {reply} {act} asks p applies replies =
+    advances_where (Answered reply) asks (plain asks.thread p) (ap (λ (x : View). x.capacity) p.moves) applies (record {
       last = replies.last;
       no_pause = replies.no_pause;
       call = call_here v w t None (ap (λ (x : View). x.calls) p.moves) (inside disk v t o asks);
@@ -168,19 +166,17 @@ pub record Over (disk : OnDisk) (v w : View) (t : ℕ) (o : Op) (stage : Stage) 
   pub room : HasRoomFor disk.end v o
   pub clean : LeavesClean disk v w t o (Answered reply)
 
-pub over_advances : (disk : OnDisk) (v w : View) (t : ℕ) (o : Op) (stage : Stage) (act : Option Act) (reply : Reply)
+pub over_advances : {disk : OnDisk} {v w : View} {t : ℕ} {o : Op} {stage : Stage} {act : Option Act} {reply : Reply}
     → Asks disk v t o → Over disk v w t o stage act reply → AdvancesOver disk v w t o (Answered reply)
-over_advances disk v w t o stage act reply asks is =
+over_advances {disk} {v} {w} {t} {o} {stage} {act} asks is =
     let ends : Ends disk v t o stage = is.ends in
-    answered disk v w t o reply act asks
-    (over_plain disk v w t (cleared_by (stage_of v t)) act
+    answered asks (over_plain disk v w t (cleared_by (stage_of v t)) act
     (λ told s. subst (λ (k : ℕ). Event told v.log (maps v) (maps w) (state disk v) (state disk w) no_region k act)
     (sym (ap cleared_by ends.at ∙ ends.clears)) (is.event told s))
     is.nothing is.moves is.words is.local (ap claimed_in (call_at disk v t o stage asks ends.at) ∙ ends.unclaimed)
     (λ need lacks. ends.no_lack need (subst (λ (g : Option Stage). Lacks g need) ends.at lacks)))
     (subst (λ (g : Option Stage). Applies (maps v) (maps w) (state disk v) (state disk w)
-    (change_of (state disk v) (register_in v.held t) (rest_of v t) g)) (sym ends.at) is.applies)
-    (record {
+    (change_of (state disk v) (register_in v.held t) (rest_of v t) g)) (sym ends.at) is.applies) (record {
       last = λ next goes. ends.last next
           (subst (λ (g : Option Stage). Next (maps v) (state disk v) (register_in v.held t) v.stop o g next) ends.at
           goes);
@@ -208,8 +204,7 @@ first_answered : (disk : OnDisk) (v : View) (held : List Registers) (t : ℕ) (o
 first_answered disk v held t o reply asks first is replies =
     let w : View = record v { held = held } in
     let none : stage_of v t ≡ None = ap stage_in first in
-    answered disk v w t o reply None asks
-    (subst (λ (g : Option Stage). Plain (Unit {0}) disk v w t (cleared_by g) None None) (sym none)
+    answered asks (subst (λ (g : Option Stage). Plain (Unit {0}) disk v w t (cleared_by g) None None) (sym none)
     (local_plain disk v held t first is))
     (subst (λ (g : Option Stage). Applies (maps v) (maps w) (state disk v) (state disk w)
     (change_of (state disk v) (register_in v.held t) (rest_of v t) g)) (sym none) (refl, same_behind disk v held))
@@ -247,8 +242,7 @@ copy_advances disk v t dst src address asks first is =
     (record {
       last = λ next. first_last disk v t (op.Copy dst src) next refl first;
       no_pause = first_no_pause v t (op.Copy dst src) refl first;
-      answers = λ told. copy_answers t v.log (values_of v t) dst src (held_value v.names address) reply.Done v.log
-          (values_of w t)
+      answers = λ told. copy_answers t (values_of v t) dst src
           (value_held v.names (registers_in v.held t) src ∙ ap (held_value v.names) (sym is)) refl
           (values_set v t dst address asks.thread) refl;
       registers = λ r other. register_other v t dst address r asks.thread other;
@@ -264,8 +258,7 @@ drop_advances disk v t r asks first =
     (local_set disk v t r 0 asks.stands asks.thread (inl refl)) (record {
       last = λ next. first_last disk v t (op.Drop r) next refl first;
       no_pause = first_no_pause v t (op.Drop r) refl first;
-      answers = λ told. drop_answers t v.log (values_of v t) r reply.Done v.log (values_of w t) refl
-          (values_set v t r 0 asks.thread) refl;
+      answers = λ told. drop_answers t (values_of v t) r refl (values_set v t r 0 asks.thread) refl;
       registers = λ k other. register_other v t r 0 k asks.thread other;
       room = λ told. tt;
       clean = λ place d loads there tagged. no_load (register_in v.held t) (op.Drop r) place d tt loads;
@@ -279,9 +272,8 @@ differ_advances disk v t a b asks first differ =
     first_answered disk v v.held t (op.Same a b) reply.No asks first (local_still disk v t s) (record {
       last = λ next. first_last disk v t (op.Same a b) next refl first;
       no_pause = first_no_pause v t (op.Same a b) refl first;
-      answers = λ told. differ_answers t v.log v.names (registers_in v.held t) (state disk v) a b reply.No v.log
-          (values_of v t) ((told.holds.tells refl).one_address) (s.registers t a)
-          (s.registers t b) differ refl refl refl;
+      answers = λ told. differ_answers t v.names (registers_in v.held t) (state disk v) a b
+          ((told.holds.tells refl).one_address) (s.registers t a) (s.registers t b) differ refl refl refl;
       registers = λ k other. refl;
       room = λ told. tt;
       clean = λ place d loads there tagged. no_load (register_in v.held t) (op.Same a b) place d tt loads;
@@ -339,8 +331,7 @@ nil_advances disk v t o r access asks first task none =
           let at : MustPause (length v.forward) (register_in v.held t) v.stop o None =
           subst (MustPause (length v.forward) (register_in v.held t) v.stop o) (ap stage_in first) is in
           has at.0.0 at.0.1;
-      answers = λ told. nil_answers t v.log (values_of v t) o reply.Nil v.log (values_of v t)
-          (holds_nil v.names (registers_in v.held t) o r access task none) refl refl refl;
+      answers = λ told. nil_answers t o (holds_nil v.names (registers_in v.held t) o r access task none) refl refl refl;
       registers = λ k other. refl;
       room = λ told. use_room disk.end v o r access task;
       clean = nil_clean disk v t o r access s task none;

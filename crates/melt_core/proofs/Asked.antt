@@ -99,11 +99,11 @@ read_fits s register o search shape Body next loads is =
 read_fits s register o search shape (Stub scion) next loads is = subst (Fits register o) (sym is.2) loads
 
 -- behind an event that goes on the call is one of its operation
-pub next_fits : (maps : Maps) (s : State) (register : ℕ → ℕ) (stop : Bool) (o : Op) (c : Option Call) (next : Stage)
+pub next_fits : (maps : Maps) (s : State) (register : ℕ → ℕ) (stop : Bool) (o : Op) {c : Option Call} (next : Stage)
     → Continues c o → ((d : Call) → c ≡ Some d → Fits register d.op d.stage)
     → Next maps s register stop o (stage_in c) next → Fits register o next
-next_fits maps s register stop o None next continued fits is = subst (Fits register o) (sym is.3) is.1
-next_fits maps s register stop o (Some c) next continued fits is =
+next_fits maps s register stop o {c = None} next continued fits is = subst (Fits register o) (sym is.3) is.1
+next_fits maps s register stop o {c = Some c} next continued fits is =
     next_fits_at maps s register stop o c.stage next
     (subst (λ (p : Op). Fits register p c.stage) (sym continued) (fits c refl)) is
   where

@@ -112,29 +112,29 @@ goes_there v w t o goes = inside goes.may.disk w t o goes.may.asks
 pub first_on : (v w : View) (t : ℕ) (o : Op) → MayMove v t o → Moves v w t o Going → GoesOn v w t o
 first_on v w t o may moves = record { on = one_event v w t o Going moves; may = may_on v w t o may moves }
 
-append : (more : ℕ) (v u w : View) (t : ℕ) (o : Op) (result : StepResult) → MovesBy more v u t o Going
+append : (more : ℕ) (v : View) {u w : View} {t : ℕ} {o : Op} {result : StepResult} → MovesBy more v u t o Going
     → Moves u w t o result → MovesBy (suc more) v w t o result
-append zero v u w t o result before moves = (u, before, moves)
-append (suc more) v u w t o result before moves =
-    (before.0, before.1, append more before.0 u w t o result before.2 moves)
+append zero v {u} before moves = (u, before, moves)
+append (suc more) v {u} before moves =
+    (before.0, before.1, append more before.0 before.2 moves)
 
 -- and behind one more
 pub next_on : (v u w : View) (t : ℕ) (o : Op) → GoesOn v u t o → Moves u w t o Going → GoesOn v w t o
 next_on v u w t o goes moves = record {
   on = record {
     more = suc goes.on.more;
-    moves = append goes.on.more v u w t o Going goes.on.moves moves;
+    moves = append goes.on.more v goes.on.moves moves;
     refused = λ why is. absurd (let wrong : Going ≡ Refused why = is in cc);
   };
   may = may_on u w t o goes.may moves;
 }
 
 -- Its last event, of those that are made in one go.
-pub last_on : (v u w : View) (t : ℕ) (o : Op) (result : StepResult) (stage : Stage) → GoesOn v u t o
+pub last_on : {v u w : View} {t : ℕ} {o : Op} {result : StepResult} {stage : Stage} → GoesOn v u t o
     → stage_of u t ≡ Some stage → GoesWell stage → Moves u w t o result → MovesOn v w t o result
-last_on v u w t o result stage goes is well moves = record {
+last_on {v} {u} {w} {t} {o} {stage} goes is well moves = record {
   more = suc goes.on.more;
-  moves = append goes.on.more v u w t o result goes.on.moves moves;
+  moves = append goes.on.more v goes.on.moves moves;
   refused = λ why refused. absurd (not_refused u w t o why stage goes.may is well
       (subst (λ (r : StepResult). Moves u w t o r) refused moves));
 }

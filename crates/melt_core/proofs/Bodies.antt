@@ -80,12 +80,12 @@ whole_copy m s t a rest stored has owns all changes = record {
 }
 
 -- A word of a copy behind its header was stored.
-pub copy_word_advances : (disk : OnDisk) (v : View) (space : SpaceWords) (t : ℕ) (o : Op) (a : Activation)
-    (stored word : ℕ) → Asks disk v t o → stage_of v t ≡ Some (Copying a stored) → stored + 1 < cost_of a.shape
+pub copy_word_advances : {disk : OnDisk} {v : View} {space : SpaceWords} {t : ℕ} {o : Op} {a : Activation}
+    {stored word : ℕ} → Asks disk v t o → stage_of v t ≡ Some (Copying a stored) → stored + 1 < cost_of a.shape
     → word ≡ copy_word a.search.home a.shape (rest_of v t) (stored + 1)
     → SetsWord v.space space (a.address + (stored + 1)) word
     → AdvancesOver disk v (retained v space t o (Copying a (stored + 1))) t o Going
-copy_word_advances disk v space t o a stored word asks at few is sets =
+copy_word_advances {disk} {v} {space} {t} {o} {a} {stored} asks at few is sets =
     let known = copying_known disk v t o a stored asks at in
     let place : ℕ = a.address + 1 + stored in
     let holds : ℕ → ℕ = copy_word a.search.home a.shape (rest_of v t) in
@@ -108,18 +108,17 @@ copy_word_advances disk v space t o a stored word asks at few is sets =
           let now = known_so told disk v t o (Copying a stored) asks at stands in (
             fetches_stays (maps v) (maps v) (state disk v) s 0 stands.holds.formed evolves told (rest_of v t) a.search
                 a.shape now.0,
-            stored_more (maps v) (state disk v) s (region a.address a.shape) holds stored place (holds (stored + 1))
-                now.1 owns (omega arith) refl few changes,
+            stored_more now.1 owns (omega arith) refl few changes,
           );
     } in
     store_advances disk storing
 
 -- The header of a copy was stored, and with it the whole copy.
-pub copy_header_advances : (disk : OnDisk) (v : View) (space : SpaceWords) (t : ℕ) (o : Op) (a : Activation)
-    (stored word : ℕ) → Asks disk v t o → stage_of v t ≡ Some (Copying a stored) → stored + 1 ≡ cost_of a.shape
+pub copy_header_advances : {disk : OnDisk} {v : View} {space : SpaceWords} {t : ℕ} {o : Op} {a : Activation}
+    {stored word : ℕ} → Asks disk v t o → stage_of v t ≡ Some (Copying a stored) → stored + 1 ≡ cost_of a.shape
     → word ≡ header_word (record { shape = a.shape; stale = false }) → SetsWord v.space space a.address word
     → AdvancesOver disk v (retained v space t o (Copied a)) t o Going
-copy_header_advances disk v space t o a stored word asks at all is sets =
+copy_header_advances {disk} {v} {space} {t} {o} {a} {stored} asks at all is sets =
     let known = copying_known disk v t o a stored asks at in
     let storing : Storing disk v space t a.address (fresh_header a.shape) o (Copying a stored) (Copied a) =
     record {

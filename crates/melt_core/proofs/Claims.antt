@@ -120,10 +120,10 @@ bounded_call words free stop calls t call within fewer (inr above) =
     inr (omega arith)
 
 -- a claim ended past the last word
-pub bounded_lacking : (words free need : ℕ) (stop : Bool) (calls : List (Option Call)) (t : ℕ) (call : Option Call)
-    → t < length calls → claims_in stop (call_in calls t) ≡ 1 → claims_in stop call ≡ 0 → need ≤ 126 →
-    BoundedBy words free stop calls → BoundedBy words (free + need) stop (slice_set calls t call)
-bounded_lacking words free need stop calls t call within was is small bounded =
+pub bounded_lacking : (words free : ℕ) {need : ℕ} (stop : Bool) (calls : List (Option Call)) (t : ℕ)
+    (call : Option Call) → t < length calls → claims_in stop (call_in calls t) ≡ 1 → claims_in stop call ≡ 0
+    → need ≤ 126 → BoundedBy words free stop calls → BoundedBy words (free + need) stop (slice_set calls t call)
+bounded_lacking words free stop calls t call within was is small bounded =
     let after = claims-set stop calls t call within in
     let same : length (slice_set calls t call) ≡ length calls = length-set calls t call in
     let few : claims stop calls ≤ length calls = claims_few stop calls in
@@ -152,10 +152,10 @@ claims_as stop next stage left is below =
     subst (λ (x : Stage). claims_left stop (Some x) ≤ left) (sym is) below
 
 -- behind a forwarding word, where the stages at which it may leave the call make no more
-claims_probes : (stop : Bool) (s : State) (search : Search) (empty another next : Stage) (left : ℕ) →
-    claims_left stop None ≤ left → claims_left stop (Some empty) ≤ left → claims_left stop (Some another) ≤ left →
-    Probes s search empty another next → claims_left stop (Some next) ≤ left
-claims_probes stop s search empty another next left at_found at_empty at_another is = elim is.1 [
+claims_probes : (stop : Bool) (s : State) (search : Search) (empty another next : Stage) {left : ℕ}
+    → claims_left stop None ≤ left → claims_left stop (Some empty) ≤ left → claims_left stop (Some another) ≤ left
+    → Probes s search empty another next → claims_left stop (Some next) ≤ left
+claims_probes stop s search empty another next {left} at_found at_empty at_another is = elim is.1 [
   | inl here ↦ claims_as stop next (reached search here.0) left here.2 at_found
   | inr other ↦ elim other [
     | inl none ↦ claims_as stop next empty left none.1 at_empty
@@ -189,11 +189,10 @@ claims_next maps s register stop o (Some (Copying a stored)) next is =
       | inr all ↦ claims_as stop next (Copied a) (claims_left stop None) (is.1 all) (omega arith)
     ]
 claims_next maps s register stop o (Some (Copied a)) next is =
-    claims_probes stop s a.search (reached a.search a.address) (Retrying (retried a)) next (claims_left stop None)
-    (omega arith) (omega arith) (omega arith) is
+    claims_probes stop s a.search (reached a.search a.address) (Retrying (retried a)) next (omega arith) (omega arith)
+    (omega arith) is
 claims_next maps s register stop o (Some (Retrying a)) next is =
-    claims_probes stop s a.search (Copied a) (Retrying (retried a)) next (claims_left stop None) (omega arith)
-    (omega arith) (omega arith) is
+    claims_probes stop s a.search (Copied a) (Retrying (retried a)) next (omega arith) (omega arith) (omega arith) is
 claims_next maps s register stop o (Some (LackingCopy search shape)) next is = absurd is
 
 -- the call is over, which did not lack words

@@ -52,9 +52,9 @@ claimed_after disk v w t call s within calls =
     ap (λ (cs : List (Option Call)). claimed cs + claimed_in (call_of v t)) calls ∙ claimed-set v.calls t call inside
 
 -- a call in this stage owns so many words
-pub claimed_at : (v : View) (t address stored dst : ℕ) (c : Call) (shape : Shape) → call_of v t ≡ Some c
+pub claimed_at : (v : View) (t : ℕ) {address stored dst : ℕ} {c : Call} {shape : Shape} → call_of v t ≡ Some c
     → c.stage ≡ Claimed address shape stored dst → claimed_in (call_of v t) ≡ cost_of shape
-claimed_at v t address stored dst c shape at stage = ap claimed_in at ∙ ap (λ (g : Stage). (region_of g).words) stage
+claimed_at v t at stage = ap claimed_in at ∙ ap (λ (g : Stage). (region_of g).words) stage
 
 -- whatever is in use was made
 pub in_use_made : (disk : OnDisk) (v : View) (n : ℕ) → Standing true disk v → InUse (maps v) n → n < makes v.log
@@ -131,10 +131,10 @@ owned_free disk v address n shape s owns b named same =
     let object = s.holds.formed.objects b n named in
     (owns.outside b n object.0 named object.1.starts).differ (omega arith) (omega arith) same
 
-region_free : (disk : OnDisk) (v : View) (t address stored dst n : ℕ) (c : Call) (shape : Shape) → Standing true disk v
-    → call_of v t ≡ Some c → c.stage ≡ Claimed address shape stored dst → (b : ℕ) → (maps v).address b ≡ Some n
-    → b ≡ address → ⊥
-region_free disk v t address stored dst n c shape s at stage =
+region_free : {disk : OnDisk} {v : View} (t : ℕ) {address stored dst n : ℕ} {c : Call} {shape : Shape}
+    → Standing true disk v → call_of v t ≡ Some c → c.stage ≡ Claimed address shape stored dst → (b : ℕ)
+    → (maps v).address b ≡ Some n → b ≡ address → ⊥
+region_free {disk} {v} t {address} {stored} {n} {c} {shape} s at stage =
     let flight : IsShape shape × HasStored (maps v) (state disk v) (region address shape) (λ k. 0) stored =
     subst (Known true (maps v) (state disk v) (rest_of v t)) stage (s.known t c at) in
     owned_free disk v address n shape s flight.1.owns
@@ -169,9 +169,9 @@ record Enters (disk : OnDisk) (v w : View) (t address n : ℕ) (shape : Shape) (
   calls : w.calls ≡ set v.calls t after
 
 -- a region becomes an object
-counts_entered : (disk : OnDisk) (v w : View) (t address n : ℕ) (shape : Shape) (after : Option Call)
+counts_entered : {disk : OnDisk} {v w : View} {t address n : ℕ} {shape : Shape} {after : Option Call}
     → (s : Standing true disk v) → t < length v.held → Enters disk v w t address n shape after s → Counts w
-counts_entered disk v w t address n shape after s within is =
+counts_entered {disk} {v} {w} {t} {address} {n} {shape} {after} s within is =
     let total : ℕ = (s.counts refl).in_use in
     let claims : claimed w.calls + claimed_in (call_of v t) ≡ claimed v.calls + claimed_in after =
     claimed_after disk v w t after s within is.calls in
@@ -190,21 +190,21 @@ counts_entered disk v w t address n shape after s within is =
     }
 
 -- that of an object that was made
-pub Counts_published : (disk : OnDisk) (v w : View) (t address stored dst : ℕ) (c : Call) (shape : Shape) (e : Entry)
-    → Standing true disk v
-    → t < length v.held → call_of v t ≡ Some c → c.stage ≡ Claimed address shape stored dst
-    → NameAppears (maps v) (maps w) address (makes v.log) → e.act ≡ Make shape.refs shape.nums → w.log ≡ v.log ++ e ∷ []
-    → w.free ≡ v.free → length w.space.list ≡ length v.space.list → w.calls ≡ set v.calls t None → Counts w
-Counts_published disk v w t address stored dst c shape e s within at stage named act log free words calls =
+pub Counts_published : {disk : OnDisk} {v : View} (w : View) (t : ℕ) {address stored dst : ℕ} {c : Call} {shape : Shape}
+    (e : Entry) → Standing true disk v → t < length v.held → call_of v t ≡ Some c
+    → c.stage ≡ Claimed address shape stored dst → NameAppears (maps v) (maps w) address (makes v.log)
+    → e.act ≡ Make shape.refs shape.nums → w.log ≡ v.log ++ e ∷ [] → w.free ≡ v.free
+    → length w.space.list ≡ length v.space.list → w.calls ≡ set v.calls t None → Counts w
+Counts_published {disk} {v} w t {shape} e s within at stage named act log free words calls =
     let h : List Entry = v.log ++ e ∷ [] in
-    counts_entered disk v w t address (makes v.log) shape None s within (record {
+    counts_entered s within (record {
       sum = subst (λ (k : List Entry). CostsSum (words_of k) (InUse (maps v)) (s.counts refl).in_use) (sym log)
           (in_use_later disk v e s);
       cost = ap (λ (k : List Entry). words_of k (makes v.log)) log ∙ new_words v.log e shape.refs shape.nums act;
       unused = λ is. let less : makes v.log < makes v.log = in_use_made disk v (makes v.log) s is in omega arith;
-      unnamed = λ b m. region_free disk v t address stored dst m c shape s at stage b;
+      unnamed = λ b m. region_free t {n = m} s at stage b;
       appears = named;
-      owned = claimed_at v t address stored dst c shape at stage;
+      owned = claimed_at v t at stage;
       owns = refl;
       free = free;
       words = words;
@@ -226,12 +226,12 @@ pub record Commits (disk : OnDisk) (v w : View) (t address n : ℕ) (shape : Sha
   pub calls : w.calls ≡ set v.calls t after
 
 -- that of one that came back: no address had its number before, or two would have it now
-pub Counts_committed : (disk : OnDisk) (v w : View) (t address n : ℕ) (shape : Shape) (after : Option Call)
+pub Counts_committed : {disk : OnDisk} {v w : View} {t address n : ℕ} {shape : Shape} {after : Option Call}
     → Standing true disk v → t < length v.held → Commits disk v w t address n shape after → Counts w
-Counts_committed disk v w t address n shape after s within is =
+Counts_committed {disk} {v} {address} {n} {shape} s within is =
     let unnamed : (b m : ℕ) → (maps v).address b ≡ Some m → b ≡ address → ⊥ =
     λ b m named. owned_free disk v address m shape s is.owns b named in
-    counts_entered disk v w t address n shape after s within (record {
+    counts_entered s within (record {
       sum = subst (λ (h : List Entry). CostsSum (words_of h) (InUse (maps v)) (s.counts refl).in_use) (sym is.log)
           (s.counts refl).adds_up;
       cost = ap (λ (z : Option ModelShape). option_map_or (λ (x : ModelShape). 2 + x.refs + x.nums) z 0)
@@ -250,15 +250,14 @@ Counts_committed disk v w t address n shape after s within is =
 
 -- what was made had room beside all that is alive: its region and the objects in use
 -- lie in the heap, the others on disk
-pub room_for : (disk : OnDisk) (v : View) (t address stored dst : ℕ) (c : Call) (shape : Shape) → Standing true disk v
-    → t < length v.held
-    → call_of v t ≡ Some c → c.stage ≡ Claimed address shape stored dst
+pub room_for : {disk : OnDisk} {v : View} (t : ℕ) {address stored dst : ℕ} {c : Call} {shape : Shape}
+    → Standing true disk v → t < length v.held → call_of v t ≡ Some c → c.stage ≡ Claimed address shape stored dst
     → HasRoom disk.end v (2 + shape.refs + shape.nums)
-room_for disk v t address stored dst c shape s within at stage =
+room_for {disk} {v} t {shape} s within at stage =
     let inside : t < length v.calls = let each : length v.calls ≡ length v.held = s.each in omega arith in
     let without : claimed (set v.calls t None) + claimed_in (call_of v t) ≡ claimed v.calls + 0 =
     claimed-set v.calls t None inside in
-    let owned : claimed_in (call_of v t) ≡ cost_of shape = claimed_at v t address stored dst c shape at stage in
+    let owned : claimed_in (call_of v t) ≡ cost_of shape = claimed_at v t at stage in
     let fits : (s.counts refl).in_use + claimed v.calls ≤ length v.space.list = (s.counts refl).within in
     let sum = alive_sum disk v s in
     let few : sum.0 + 1 ≤ (s.counts refl).in_use + disk.end =

@@ -271,9 +271,9 @@ stands_over disk other v ends s = record {
 }
 
 -- an event that needs the disk's words told where nothing has to be told for it
-pub weaker : (tells : Type 0) (disk : OnDisk) (v w : View) (t : ℕ) (o : Op) (result : StepResult)
+pub weaker : (tells : Type 0) {disk : OnDisk} {v w : View} {t : ℕ} {o : Op} {result : StepResult}
     → AdvancesOver disk v w t o result → AdvancesWhere tells disk v w t o result
-weaker tells disk v w t o result is = record {
+weaker tells {disk} {v} {w} {t} {o} {result} is = record {
   keeps = λ told tell stands. is.keeps told (λ same. tt) stands;
   changes = is.changes;
   evolves = is.evolves;
@@ -293,10 +293,10 @@ weaker tells disk v w t o result is = record {
         record { lost = is.lost; untold = λ tell. is.untold tt }
 
 -- an event over each disk over which the words are well formed is one over each that ends where one of them does
-pub moves_advance : (end : ℕ) (image : Option (List ℕ)) (v w : View) (t : ℕ) (o : Op) (result : StepResult)
+pub moves_advance : {end : ℕ} (image : Option (List ℕ)) {v w : View} {t : ℕ} {o : Op} {result : StepResult}
     → MayAdvance end v t o → Moves v w t o result → Advances end image v w t o result
-moves_advance end image v w t o result may moves = record {
-  over = λ disk ends. weaker (TellsDisk image disk) disk v w t o result
+moves_advance image {v} may moves = record {
+  over = λ disk ends. weaker (TellsDisk image disk)
       (moves.over disk (stands_over may.disk disk v (ends ∙ sym may.ends) may.asks.stands));
 }
 

@@ -93,7 +93,7 @@ pub lost_advances : (disk : OnDisk) {v : View} {t : ℕ} {o : Op} {a : Activatio
     → AdvancesOver disk v (with_call v t (Some (record { op = o; stage = reached a.search address }))) t o Going
 lost_advances disk {v} {t} {o} {a} address is sends =
     let next : Stage = reached a.search address in
-    goes_on (Unit {0}) disk v v.space v.records t o next is.asks (record {
+    goes_on v.space v.records is.asks (record {
       event = λ told s. subst (λ (k : ℕ). Event told v.log (maps v) (maps v) (state disk v) (state disk v) no_region k
           None) (sym (ap cleared_by is.at)) (quiet refl (same_words disk v));
       applies = subst (λ (g : Option Stage). Applies (maps v) (maps v) (state disk v) (state disk v)
@@ -225,9 +225,7 @@ won_counts disk {v} {names} {t} {o} {a} {number} won s =
     let keeps : Keeps true v.log v.log (maps v) (maps w) (state disk v) (state disk w) (region a.address a.shape) 0 =
     event_keeps true t v.log (maps v) (maps w) (state disk v) (state disk w) (region a.address a.shape) 0 None s.legal
     s.holds (won_event disk true won s) in
-    Counts_committed disk v w t a.address number a.shape (Some (record { op = o; stage = reached a.search a.address }))
-    s
-    won.is.asks.thread (record {
+    Counts_committed s won.is.asks.thread (record {
       tells = keeps.holds.tells refl;
       header = won_header disk won;
       log = refl;
@@ -286,21 +284,18 @@ won_advances disk {v} {names} {t} {o} {a} {number} won =
             (let e : after ≡ c = cc in e) (won_known disk told won stands);
         fits = λ c same. subst (λ (d : Call). Fits (register_in v.held t) d.op d.stage) (let e : after ≡ c = cc in e)
             (fits_at disk v t o (Copied a) asks won.is.at);
-        mine_is = others_apart disk v t o (Copied a) asks won.is.at;
+        mine_is = others_apart asks won.is.at;
         apart = λ c same u d differ other. subst (λ (x : Call). Apart (region_of x.stage) (region_of d.stage))
             (let e : after ≡ c = cc in e) (no_region_apart (region_of d.stage));
         counts = λ tells. won_counts disk won (as_told disk told v tells stands);
       };
     } in
-    advances disk v w t o Going asks made refl
-    (subst (λ (g : Option Stage). Applies (maps v) (maps w) (state disk v) (state disk w)
+    advances Going asks made refl (subst (λ (g : Option Stage). Applies (maps v) (maps w) (state disk v) (state disk w)
     (change_of (state disk v) (register_in v.held t) (rest_of v t) g)) (sym won.is.at) (
       λ none. (forward_changes disk v names t o a (copied_within disk won.is), (number, won.appears)),
       λ some. absurd (some won.empty),
-    ))
-    (goes disk v w t o stage asks next refl
-    (record { history = refl; registers = refl; values = values_stay disk v w t 0 s evolves refl }) refl)
-    tt
+    )) (goes disk v w t o stage asks next refl
+    (record { history = refl; registers = refl; values = values_stay disk v w t 0 s evolves refl }) refl) tt
 
 pub commit_advances : (disk : OnDisk) {v m : View} {t : ℕ} {o : Op} {a : Activation} → IsCopied disk v t o a
     → probed_word v a.search ≡ 0 → HasEntered v m a

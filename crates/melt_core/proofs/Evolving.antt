@@ -73,7 +73,7 @@ module _ (maps : Maps) (s : State) where
   behind_not_named : (b m q y : ℕ) (k : Header) → FormedWords maps s → PartAt maps s b m q y k → 1 ≤ q → NotNamed maps y
   behind_not_named b m q y k formed part behind a n named = λ same.
       let object = formed.objects a n named in
-      parts_differ maps s a b n m 0 q a y object.0 k formed (head_part maps s a n object.0 named object.1.starts) part
+      parts_differ maps s formed (head_part maps s a n object.0 named object.1.starts) part
       (λ (first : q ≡ 0). omega arith) (sym same)
 
   slot_not_named : (object i : ℕ) → FormedWords maps s → IsPlace maps s (Field object i) →
@@ -98,20 +98,19 @@ module _ (maps : Maps) (s : State) where
       let slot : i < p.header.shape.refs = slot_below b i place in
       let refs : o.header.shape.refs ≡ shape.refs = ap (λ (x : Shape). x.refs) o.shape_is in
       let below : j < o.header.shape.nums = omega (arith, is.below, ap (λ (x : Shape). x.nums) o.shape_is) in
-      slot_or_number maps s b object p.number o.number i j p.header o.header formed part
-      (number_part maps s object o.number j o.header o.named o.starts below) slot (omega arith)
+      slot_or_number maps s i j formed part (number_part maps s object o.number j o.header o.named o.starts below) slot
+      (omega arith)
 
   -- a word of a region is in no object
   owned_not_named : (r : Region) (at : ℕ) → FormedWords maps s → Owns maps s r → r.at ≤ at → at < r.at + r.words →
       NotNamed maps at
   owned_not_named r at formed owns from to a n named =
       let object = formed.objects a n named in
-      part_outside maps s r a n 0 a at object.0 owns (head_part maps s a n object.0 named object.1.starts) from to
+      part_outside maps s at owns (head_part maps s a n object.0 named object.1.starts) from to
 
   owned_no_slot : (r : Region) (at : ℕ) → Owns maps s r → r.at ≤ at → at < r.at + r.words → NoSlot maps s at
   owned_no_slot r at owns from to object i place =
-      part_outside maps s r object place.1.number (2 + i) (object + 2 + i) at place.1.header owns
-      (place_part object i place) from to
+      part_outside maps s at owns (place_part object i place) from to
 
 -- a word changes: no tag is put on a slot
 settles_word : (maps : Maps) (s t : State) (at word : ℕ) → WordChanges s t at word →
@@ -211,10 +210,9 @@ evolves_clear maps s t address n header formed named starts changes = record {
 }
 
 -- a region becomes an object
-evolves_enter : (maps new : Maps) (s t : State) (r : Region) (word n : ℕ) → FormedWords maps s → Owns maps s r →
-    0 < r.words →
-    WordChanges s t r.at word → NameAppears maps new r.at n → Evolves maps new s t 0
-evolves_enter maps new s t r word n formed owns some changes appears =
+evolves_enter : {maps new : Maps} {s t : State} {r : Region} {word n : ℕ} → FormedWords maps s → Owns maps s r
+    → 0 < r.words → WordChanges s t r.at word → NameAppears maps new r.at n → Evolves maps new s t 0
+evolves_enter {maps} {s} {t} {r} {word} formed owns some changes appears =
     let fresh : NotNamed maps r.at = owned_not_named maps s r r.at formed owns (omega arith) (omega arith) in
     let no_slot : NoSlot maps s r.at = owned_no_slot maps s r r.at owns (omega arith) (omega arith) in
     let word_only : Evolves maps maps s t 0 =
@@ -231,10 +229,10 @@ evolves_enter maps new s t r word n formed owns some changes appears =
     }
 
 -- a copy becomes an object: a forwarding word that was empty is filled
-evolves_commit : (told : Bool) (maps new : Maps) (s t : State) (home tried p n address : ℕ) (shape : Shape)
-    (rest : List ℕ) → FormedWords maps s → MayCommit told maps s home tried p n address shape rest →
-    ForwardChanges s t p (forward_word home address) → NameAppears maps new address n → Evolves maps new s t 0
-evolves_commit told maps new s t home tried p n address shape rest formed may changes appears =
+evolves_commit : {told : Bool} {maps new : Maps} {s t : State} {home tried p n address : ℕ} {shape : Shape}
+    {rest : List ℕ} → FormedWords maps s → MayCommit told maps s home tried p n address shape rest
+    → ForwardChanges s t p (forward_word home address) → NameAppears maps new address n → Evolves maps new s t 0
+evolves_commit {maps} {s} {t} {home} {address} {shape} formed may changes appears =
     let fresh : NotNamed maps address =
     owned_not_named maps s (region address shape) address formed may.copy.owns (omega arith) (omega arith) in
     record {
@@ -279,7 +277,7 @@ module _ (told : Bool) (h : List Entry) (maps new : Maps) (s t : State) where
       (λ b i place here tagged. owned_no_slot maps s r at owns from to b i place here) changes)
   evolves_event mine cleared act formed
       (Event.publishes address stored shape small stores all changes appears) =
-      evolves_enter maps new s t (region address shape) _ _ formed stores.owns (omega arith) changes appears
+      evolves_enter formed stores.owns (omega arith) changes appears
   evolves_event mine cleared act formed (Event.clears address header is named starts changes) =
       same_maps maps new s t address is
       (evolves_clear maps s t address named.0 header formed named.1 starts changes)
@@ -287,4 +285,4 @@ module _ (told : Bool) (h : List Entry) (maps new : Maps) (s t : State) where
       (Event.untags place at found target value is slot range was named fresh same last changes) =
       same_maps maps new s t 0 is (evolves_place maps s t place target formed slot changes)
   evolves_event mine cleared act formed (Event.commits home tried p n address shape rest may changes appears) =
-      evolves_commit told maps new s t home tried p n address shape rest formed may changes appears
+      evolves_commit formed may changes appears

@@ -56,11 +56,10 @@ abbrev pub gone_on : View → SpaceWords → List (List ℕ) → ℕ → Op → 
 gone_on v space records t o stage =
     with_call (record v { space = space; records = records }) t (Some (record { op = o; stage = stage }))
 
-pub goes_on : (tells : Type 0) (disk : OnDisk) (v : View) (space : SpaceWords) (records : List (List ℕ)) (t : ℕ)
-    (o : Op)
-    (stage : Stage) → Asks disk v t o → GoesOn tells disk v (gone_on v space records t o stage) t o stage
+pub goes_on : {tells : Type 0} {disk : OnDisk} {v : View} (space : SpaceWords) (records : List (List ℕ)) {t : ℕ}
+    {o : Op} {stage : Stage} → Asks disk v t o → GoesOn tells disk v (gone_on v space records t o stage) t o stage
     → AdvancesWhere tells disk v (gone_on v space records t o stage) t o Going
-goes_on tells disk v space records t o stage asks is =
+goes_on {tells} {disk} {v} space records {t} {o} {stage} asks is =
     let s : Standing false disk v = asks.stands in
     let after : Call = record { op = o; stage = stage } in
     let w : View = gone_on v space records t o stage in
@@ -78,28 +77,25 @@ goes_on tells disk v space records t o stage asks is =
           (let e : after ≡ c = cc in e)
           (is.known told tell stands);
       fits = λ c same. subst (λ (d : Call). Fits (register_in v.held t) d.op d.stage) (let e : after ≡ c = cc in e)
-          (next_fits (maps v) (state disk v) (register_in v.held t) v.stop o (call_of v t) stage asks.continued
+          (next_fits (maps v) (state disk v) (register_in v.held t) v.stop o stage asks.continued
           (λ d at. s.fits t d at) is.next);
       unclaimed = is.unclaimed;
       claims = claims_next (maps v) (state disk v) (register_in v.held t) v.stop o (stage_of v t) stage is.next;
     } in
-    advances_where tells disk v w t o Going asks
-    (plain tells disk v w t (cleared_by (stage_of v t)) None (Some after) asks.thread p) refl is.applies
+    advances_where Going asks (plain asks.thread p) refl is.applies
     (goes disk v w t o stage asks is.next refl (record { history = refl; registers = refl; values = refl }) refl) tt
 
 -- no word that threads share changes
-pub read_advances : (tells : Type 0) (disk : OnDisk) (v : View) (records : List (List ℕ)) (t : ℕ) (o : Op)
-    (stage : Stage)
-    → Asks disk v t o
+pub read_advances : (tells : Type 0) {disk : OnDisk} {v : View} (records : List (List ℕ)) {t : ℕ} {o : Op}
+    (stage : Stage) → Asks disk v t o
     → change_of (state disk v) (register_in v.held t) (rest_of v t) (stage_of v t) ≡ Nothing
     → KeepsRests v (record v { records = records }) t
-    → Next (maps v) (state disk v) (register_in v.held t) v.stop o (stage_of v t) stage
-    → ((told : Bool) → (told ≡ true → tells) → Standing told disk v
-    → Known told (maps v) (state disk v) (slice_index_or records t []) stage)
+    → Next (maps v) (state disk v) (register_in v.held t) v.stop o (stage_of v t) stage → ((told : Bool) → (told ≡ true
+    → tells) → Standing told disk v → Known told (maps v) (state disk v) (slice_index_or records t []) stage)
     → claimed_in (Some (record { op = o; stage = stage })) ≡ 0
     → AdvancesWhere tells disk v (gone_on v v.space records t o stage) t o Going
-read_advances tells disk v records t o stage asks still rests next known unclaimed =
-    goes_on tells disk v v.space records t o stage asks (record {
+read_advances tells {disk} {v} records {t} stage asks still rests next known unclaimed =
+    goes_on v.space records asks (record {
       event = λ told stands. subst (λ (k : ℕ). Event told v.log (maps v) (maps v) (state disk v) (state disk v)
           no_region k None)
           (sym (still_clears (state disk v) (register_in v.held t) (rest_of v t) (stage_of v t) still))
@@ -120,7 +116,7 @@ pub go_advances : (disk : OnDisk) (v : View) (t : ℕ) (o : Op) (stage : Stage) 
     → claimed_in (Some (record { op = o; stage = stage })) ≡ 0
     → AdvancesOver disk v (with_call v t (Some (record { op = o; stage = stage }))) t o Going
 go_advances disk v t o stage asks still next known unclaimed =
-    read_advances (Unit {0}) disk v v.records t o stage asks still (same_rests v v t refl) next
+    read_advances (Unit {0}) v.records stage asks still (same_rests v v t refl) next
     (λ told tell stands. known told stands) unclaimed
 
 -- the stop word was not set

@@ -55,8 +55,7 @@ module _ (told : Bool) (thread : ℕ) (h : List Entry) (maps : Maps) (s t : Stat
         (held_may maps s address holds.formed may);
     no_gaps = NoGaps_place s t place (4 * address) changes holds.no_gaps;
     tells = λ tell.
-        Tells_place h (with_entry thread h (Some (Write at value))) maps s t place at
-        (4 * address) value holds.formed is where_at changes
+        Tells_place t place holds.formed is where_at changes
         (write_entry h (entry thread (Write at value)) at value refl)
         (held_stands maps s address value holds.formed may (value_is tell)) (holds.tells tell);
   }
@@ -109,11 +108,9 @@ module _ (told : Bool) (thread : ℕ) (h : List Entry) (maps : Maps) (s t : Stat
         let where_at : SlotAt maps place at = (lasts tell).slot in
         Tells_reads h (with_entry thread h (Some (Read at value))) maps t
         (quiet_entry h (entry thread (Read at value)) refl)
-        (Tells_place h h maps s t place at (4 * target) (last h at) holds.formed is where_at changes
-        (unchanged h at (last h at) refl)
+        (Tells_place t place holds.formed is where_at changes (unchanged h at (last h at) refl)
         (untagged_stands maps s (word_in s place) target found (last h at) holds.formed named range was (same tell)
-        (place_stands h maps s place at (holds.tells tell) is where_at))
-        (holds.tells tell));
+        (place_stands h maps s place at (holds.tells tell) is where_at)) (holds.tells tell));
   }
 
 module _ (told : Bool) (thread : ℕ) (h : List Entry) (maps new : Maps) (s t : State) where

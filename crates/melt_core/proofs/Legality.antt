@@ -23,9 +23,9 @@ use Rattle.melt_core.specs.Known.{IsPlace}
 use Rattle.melt_core.proofs.Places.{place_is_slot, place_can_hold, place_base}
 
 -- a number word is a slot
-number_is_slot : (h : List Entry) (maps : Maps) (s : State) (object n j : ℕ) (shape : Shape) → Tells h maps s →
-    IsNumberWord maps s object shape n j → IsSlot h s.base.globals (slot.Cell n j)
-number_is_slot h maps s object n j shape tells is =
+number_is_slot : {h : List Entry} {maps : Maps} {s : State} {object n j : ℕ} {shape : Shape} → Tells h maps s
+    → IsNumberWord maps s object shape n j → IsSlot h s.base.globals (slot.Cell n j)
+number_is_slot {object} {n} {j} {shape} tells is =
     let o = is.object_is in
     let nums : o.header.shape.nums ≡ shape.nums = ap (λ (z : Shape). z.nums) o.shape_is in
     let under : j < shape.nums = is.below in
@@ -34,9 +34,9 @@ number_is_slot h maps s object n j shape tells is =
     (sym (tells.shapes object n o.header is.named o.starts)) below
 
 -- its word is its last value
-number_is_last : (h : List Entry) (maps : Maps) (s : State) (object n j : ℕ) (shape : Shape) → Tells h maps s →
-    IsNumberWord maps s object shape n j → Num (s.word (number_place object shape j)) ≡ last h (slot.Cell n j)
-number_is_last h maps s object n j shape tells is =
+number_is_last : {h : List Entry} {maps : Maps} {s : State} {object n j : ℕ} {shape : Shape} → Tells h maps s
+    → IsNumberWord maps s object shape n j → Num (s.word (number_place object shape j)) ≡ last h (slot.Cell n j)
+number_is_last {s} {object} {n} {j} {shape} tells is =
     let o = is.object_is in
     let nums : o.header.shape.nums ≡ shape.nums = ap (λ (z : Shape). z.nums) o.shape_is in
     let under : j < shape.nums = is.below in
@@ -86,18 +86,18 @@ module _ (told : Bool) (thread : ℕ) (h : List Entry) (maps new : Maps) (s t : 
       same_globals _ s t same.base
       (legal_read thread h maps s (legal tell) (holds.tells tell) (slot.Cell n j)
       (Num (s.word (number_place object shape j)))
-      (number_is_slot h maps s object n j shape (holds.tells tell) number)
-      (number_is_last h maps s object n j shape (holds.tells tell) number))
+      (number_is_slot (holds.tells tell) number)
+      (number_is_last (holds.tells tell) number))
   legal_event mine cleared act holds legal
       (Event.writes_place place at address value is slot where_at may value_is changes) tell =
       same_globals _ s t (place_base s t place (4 * address) changes)
       (legal_write thread h maps s (legal tell) (holds.tells tell) at value
       (place_is_slot h maps s place at (holds.tells tell) slot where_at)
-      (place_can_hold h maps s place at address value holds.formed (holds.tells tell) where_at (value_is tell)))
+      (place_can_hold place at address holds.formed (holds.tells tell) where_at (value_is tell)))
   legal_event mine cleared act holds legal (Event.writes_number object n j word shape is number changes) tell =
       same_globals _ s t changes.base
       (legal_write thread h maps s (legal tell) (holds.tells tell) (slot.Cell n j) (Num word)
-      (number_is_slot h maps s object n j shape (holds.tells tell) number) tt)
+      (number_is_slot (holds.tells tell) number) tt)
   legal_event mine cleared act holds legal (Event.claims words is moves) tell = same_globals h s t moves.base
       (legal tell)
   legal_event mine cleared act holds legal (Event.stores r at word is owns from below changes) tell =

@@ -86,33 +86,30 @@ one_place register o (Global g) (Global k) dst d first second = let e : op.GLoad
     sym (gload_is o dst g first) ∙ gload_is o d k second in let same : g ≡ k = cc in ap Global same
 
 -- the answer to a load, by its place
-read_answers : (disk : OnDisk) (v : View) (t : ℕ) (o : Op) (place : Place) (at : Slot) (dst address : ℕ)
-    → t < length v.held
-    → Standing true disk v → Finds disk v t o place dst address → SlotAt (maps v) place at
+read_answers : {disk : OnDisk} {v : View} {t : ℕ} {o : Op} (place : Place) (at : Slot) {dst address : ℕ}
+    → t < length v.held → Standing true disk v → Finds disk v t o place dst address → SlotAt (maps v) place at
     → Answers t v.log (values_of v t) o (found_in (held_value v.names address))
     (v.log ++ entry t (Read at (held_value v.names address)) ∷ []) (values_of (with_register v t dst address) t)
-read_answers disk v t o (Field object i) at dst address within told finds slot =
+read_answers {disk} {v} {t} {o} (Field object i) at {dst} {address} within told finds slot =
     subst (λ (q : Slot). Answers t v.log (values_of v t) o (found_in (held_value v.names address))
     (v.log ++ entry t (Read q (held_value v.names address)) ∷ []) (values_of (with_register v t dst address) t))
     (sym slot.2)
     (subst (λ (p : Op). Answers t v.log (values_of v t) p (found_in (held_value v.names address))
     (v.log ++ entry t (Read (slots.Field slot.0 i) (held_value v.names address)) ∷ [])
     (values_of (with_register v t dst address) t)) (sym (load_is o finds.loads.0 dst i finds.loads.1))
-    (load_answers t v.log (values_of v t) dst finds.loads.0 i slot.0 finds.there.0 (held_value v.names address)
-    (found_in (held_value v.names address)) _ _
+    (load_answers v.log (values_of v t) dst finds.loads.0 finds.there.0 (held_value v.names address)
     (value_named v t finds.loads.0 object slot.0 finds.loads.2 slot.1)
     (object_shape disk v object slot.0 finds.there.0 told finds.there.1 slot.1) finds.there.2 refl
     (values_set v t dst address within) refl))
-read_answers disk v t o (Global g) at dst address within told finds slot =
+read_answers {disk} {v} {t} {o} (Global g) at {dst} {address} within told finds slot =
     subst (λ (q : Slot). Answers t v.log (values_of v t) o (found_in (held_value v.names address))
     (v.log ++ entry t (Read q (held_value v.names address)) ∷ []) (values_of (with_register v t dst address) t))
     (sym slot)
     (subst (λ (p : Op). Answers t v.log (values_of v t) p (found_in (held_value v.names address))
     (v.log ++ entry t (Read (slots.Global g) (held_value v.names address)) ∷ [])
     (values_of (with_register v t dst address) t)) (sym (gload_is o dst g finds.loads))
-    (gload_answers t v.log (values_of v t) dst g (held_value v.names address) (found_in (held_value v.names address)) _
-    _
-    refl (values_set v t dst address within) refl))
+    (gload_answers t v.log (values_of v t) dst g (held_value v.names address) refl (values_set v t dst address within)
+    refl))
 
 sets_dst : (register : ℕ → ℕ) (o : Op) (place : Place) (dst : ℕ) → LoadsAt register o place dst → Sets o dst
 sets_dst register o (Field object i) dst loads =
@@ -139,15 +136,14 @@ record Reads (disk : OnDisk) (v m : View) (t : ℕ) (o : Op) (stage : Stage) (pl
       (change_of (state disk v) (register_in v.held t) (rest_of v t) (Some stage))
   pub clean : IsTagged (word_in (state disk m) place) → ⊥
 
-read_advances : (disk : OnDisk) (v : View) (space : SpaceWords) (globals : List ℕ) (t : ℕ) (o : Op) (stage : Stage)
-    (place : Place)
-    (at : Slot) (dst address : ℕ) → Asks disk v t o → Reads disk v (over v space globals) t o stage place at dst address
+read_advances : {disk : OnDisk} {v : View} (space : SpaceWords) (globals : List ℕ) {t : ℕ} {o : Op} {stage : Stage}
+    {place : Place} {at : Slot} {dst address : ℕ} → Asks disk v t o
+    → Reads disk v (over v space globals) t o stage place at dst address
     → AdvancesOver disk v (behind (over v space globals) t at dst address) t o
     (Answered (found_in (held_value v.names address)))
-read_advances disk v space globals t o stage place at dst address asks is =
+read_advances {disk} {v} space globals {t} {o} {place} {at} {dst} {address} asks is =
     let m : View = over v space globals in
-    over_advances disk v (behind m t at dst address) t o stage (Some (Read at (held_value v.names address)))
-    (found_in (held_value v.names address)) asks (record {
+    over_advances asks (record {
       ends = is.ends;
       event = is.event;
       applies = is.applies;
@@ -155,7 +151,7 @@ read_advances disk v space globals t o stage place at dst address asks is =
       moves = refl;
       words = is.words;
       local = local_set disk v t dst address asks.stands asks.thread is.finds.may_hold;
-      answers = λ told. read_answers disk v t o place at dst address asks.thread told is.finds is.is_slot;
+      answers = λ told. read_answers place at asks.thread told is.finds is.is_slot;
       registers = λ r other. register_other v t dst address r asks.thread
           (λ same. other (subst (Sets o) (sym same) (sets_dst (register_in v.held t) o place dst is.finds.loads)));
       room = load_room disk.end v (register_in v.held t) o place dst is.finds.loads;
@@ -205,10 +201,10 @@ finds_null disk v t o place dst s loads there holds = record {
   value = λ told at slot. null_value v (last v.log at) (value_there disk v place at Null told there slot holds);
 }
 
-pub finds_clean : (disk : OnDisk) (v : View) (t : ℕ) (o : Op) (place : Place) (dst a : ℕ) → Standing false disk v
+pub finds_clean : {disk : OnDisk} {v : View} (t : ℕ) (o : Op) (place : Place) (dst : ℕ) {a : ℕ} → Standing false disk v
     → LoadsAt (register_in v.held t) o place dst → IsPlace (maps v) (state disk v) place
     → HoldsRef (word_in (state disk v) place) (Clean a) → Finds disk v t o place dst a
-finds_clean disk v t o place dst a s loads there holds = record {
+finds_clean {disk} {v} t o place dst {a} s loads there holds = record {
   loads = loads;
   there = there;
   may_hold = inr (may_stand_there disk v place (Clean a) s there holds);
@@ -217,12 +213,12 @@ finds_clean disk v t o place dst a s loads there holds = record {
 }
 
 -- the event of a read that changes no word
-pub quiet_read : (disk : OnDisk) (told : Bool) (v : View) (t : ℕ) (o : Op) (place : Place) (at : Slot) (dst address : ℕ)
+pub quiet_read : {disk : OnDisk} {told : Bool} {v : View} {t : ℕ} {o : Op} {place : Place} (at : Slot) {dst address : ℕ}
     → Standing told disk v → Finds disk v t o place dst address → SlotAt (maps v) place at
     → (IsTagged (word_in (state disk v) place) → ⊥)
     → Event told v.log (maps v) (maps v) (state disk v) (state disk (behind v t at dst address)) no_region 0
     (Some (Read at (held_value v.names address)))
-quiet_read disk told v t o place at dst address s finds slot clean =
+quiet_read {disk} {v} {t} {place} at {dst} {address} s finds slot clean =
     reads_place place at (held_value v.names address) refl
     (same_behind disk v (behind v t at dst address).held) finds.there clean
     (λ is. record { slot = slot; last = finds.value (subst (λ (b : Bool). Standing b disk v) is s) at slot })
@@ -315,15 +311,14 @@ search_begins disk told v place home stands s there holds = record {
 }
 
 -- the stale bit of the object was cleared
-pub clear_advances : (disk : OnDisk) (v : View) (space : SpaceWords) (t : ℕ) (o : Op) (place : Place) (found : Ref)
-    (target dst word : ℕ)
-    (shape : Shape) → Asks disk v t o → stage_of v t ≡ Some (Looked place found target dst)
+pub clear_advances : {disk : OnDisk} {v : View} {space : SpaceWords} {t : ℕ} {o : Op} {place : Place} {found : Ref}
+    {target dst word : ℕ} (shape : Shape) → Asks disk v t o → stage_of v t ≡ Some (Looked place found target dst)
     → ((h : Header) → IsHeader h → word_at v.space target ≡ header_word h → shape ≡ h.shape)
     → word ≡ header_word (record { shape = shape; stale = false }) → SetsWord v.space space target word
-    → AdvancesOver disk v (with_call (record v { space = space }) t (Some
-    (record { op = o; stage = Cleared place found target dst })))
-    t o Going
-clear_advances disk v space t o place found target dst word shape asks at shaped is sets =
+    → AdvancesOver disk v
+    (with_call (record v { space = space }) t (Some (record { op = o; stage = Cleared place found target dst }))) t o
+    Going
+clear_advances {disk} {v} {space} {t} {o} {place} {found} {target} {dst} {word} shape asks at shaped is sets =
     let s : Standing false disk v = asks.stands in
     let stage : Stage = Looked place found target dst in
     let w : View = with_call (record v { space = space }) t (Some (record
@@ -345,7 +340,7 @@ clear_advances disk v space t o place found target dst word shape asks at shaped
     let evolves : Evolves (maps v) (maps w) (state disk v) (state disk w) target =
     evolves_event false v.log (maps v) (maps w) (state disk v) (state disk w) no_region target None s.holds.formed
     (event false) in
-    goes_on (Unit {0}) disk v space v.records t o (Cleared place found target dst) asks (record {
+    goes_on space v.records asks (record {
       event = λ told stands. subst (λ (k : ℕ). Event told v.log (maps v) (maps w) (state disk v) (state disk w)
           no_region k None)
           (sym (ap cleared_by at)) (event told);
@@ -373,12 +368,12 @@ clear_advances disk v space t o place found target dst word shape asks at shaped
     })
 
 -- the look found a reference with a tag
-tag_advances : (disk : OnDisk) (v : View) (t : ℕ) (o : Op) (place : Place) (dst : ℕ) (next : Stage) → Asks disk v t o
+tag_advances : {disk : OnDisk} {v : View} {t : ℕ} {o : Op} (place : Place) (dst : ℕ) (next : Stage) → Asks disk v t o
     → LooksFrom (stage_of v t) place dst → FindsTag (word_in (state disk v) place) place dst next
     → ((told : Bool) → Standing told disk v → Known told (maps v) (state disk v) (rest_of v t) next)
     → claimed_in (Some (record { op = o; stage = next })) ≡ 0
     → AdvancesOver disk v (with_call v t (Some (record { op = o; stage = next }))) t o Going
-tag_advances disk v t o place dst next asks looks finds known unclaimed =
+tag_advances {disk} {v} {t} {o} place dst next asks looks finds known unclaimed =
     let goes = look_next v t o place dst next looks finds in
     go_advances disk v t o next asks goes.0 goes.1 known unclaimed
   where
@@ -401,26 +396,30 @@ tag_advances disk v t o place dst next asks looks finds known unclaimed =
     )
 
 -- a stale address
-pub look_advances : (disk : OnDisk) (v : View) (t : ℕ) (o : Op) (place : Place) (target dst : ℕ) → Asks disk v t o
+pub look_advances : {disk : OnDisk} {v : View} {t : ℕ} {o : Op} (place : Place) {target : ℕ} (dst : ℕ) → Asks disk v t o
     → LooksFrom (stage_of v t) place dst → HoldsRef (word_in (state disk v) place) (Stale target)
     → AdvancesOver disk v (with_call v t (Some (record { op = o; stage = Looked place (Stale target) target dst }))) t o
     Going
-look_advances disk v t o place target dst asks looks holds =
+look_advances {disk} {v} {t} {o} place {target} dst asks looks holds =
     let looked : HasLooked (maps v) (state disk v) place (Stale target) =
     looked_known disk v place (Stale target) asks.stands (looks_at disk v t o place dst asks looks).1 holds tt in
-    tag_advances disk v t o place dst (Looked place (Stale target) target dst) asks looks
-    (inl (target, holds.is, refl)) (λ told s. (looked, record { named = looked.may_stand; same = λ tells. refl })) refl
+    tag_advances place dst (Looked place (Stale target) target dst) asks looks (inl (target, holds.is, refl))
+    (λ told s. (looked, record { named = looked.may_stand; same = λ tells. refl })) refl
 
 -- a home, whose object is searched for from here on
-pub home_advances : (disk : OnDisk) (v : View) (t : ℕ) (o : Op) (place : Place) (home dst : ℕ) → Asks disk v t o
+pub home_advances : {disk : OnDisk} {v : View} {t : ℕ} {o : Op} (place : Place) {home : ℕ} (dst : ℕ) → Asks disk v t o
     → LooksFrom (stage_of v t) place dst → HoldsRef (word_in (state disk v) place) (Disk home)
     → AdvancesOver disk v (with_call v t (Some (record {
       op = o;
-      stage = Searching (record { place = place; home = home; tried = 0; dst = dst });
+      stage = Searching (record {
+        place = place;
+        home = home;
+        tried = 0;
+        dst = dst;
+      });
     }))) t o Going
-home_advances disk v t o place home dst asks looks holds =
-    tag_advances disk v t o place dst (Searching (record { place = place; home = home; tried = 0; dst = dst })) asks
-    looks
+home_advances {disk} {v} {t} {o} place {home} dst asks looks holds =
+    tag_advances place dst (Searching (record { place = place; home = home; tried = 0; dst = dst })) asks looks
     (inr (home, holds.is, refl))
     (λ told s. search_begins disk told v place home asks.stands s (looks_at disk v t o place dst asks looks).1 holds)
     refl
@@ -432,20 +431,20 @@ looks_stage stage (Field object i) dst looks = (Headed object looks.0 (Load dst 
 looks_stage stage (Global g) dst looks = (Polled (LoadGlobal dst g), looks)
 
 -- a load was answered by its look
-pub look_reads : (disk : OnDisk) (v w : View) (t : ℕ) (o : Op) (place : Place) (dst address : ℕ) (result : StepResult)
+pub look_reads : {disk : OnDisk} {v w : View} {t : ℕ} {o : Op} {place : Place} {dst address : ℕ} {result : StepResult}
     → Asks disk v t o → LooksFrom (stage_of v t) place dst → Finds disk v t o place dst address
     → (IsTagged (word_in (state disk v) place) → ⊥) → HasRead v w t place dst address result
     → AdvancesOver disk v w t o result
-look_reads disk v w t o place dst address result asks looks finds clean read =
+look_reads {disk} {v} {w} {t} {o} {place} {dst} {address} asks looks finds clean read =
     let stage = look_stage disk v t o place dst asks.stands finds.there looks clean in
     subst (λ (r : StepResult). AdvancesOver disk v w t o r) (sym read.told)
     (subst (λ (x : View). AdvancesOver disk v x t o (Answered (found_in (held_value v.names address)))) (sym read.is)
-    (read_advances disk v v.space v.globals t o stage.0 place read.slot dst address asks (record {
+    (read_advances v.space v.globals asks (record {
       ends = stage.1;
       finds = finds;
       is_slot = read.is_slot;
       words = refl;
-      event = λ told s. quiet_read disk told v t o place read.slot dst address s finds read.is_slot clean;
+      event = λ told s. quiet_read read.slot s finds read.is_slot clean;
       applies = subst (Applies (maps v) (maps v) (state disk v) (state disk (behind v t read.slot dst address)))
           (sym stage.2)
           (refl, same_behind disk v (behind v t read.slot dst address).held);
@@ -487,13 +486,12 @@ pub untag_lost : (disk : OnDisk) {v w : View} {t : ℕ} {o : Op} {place : Place}
 untag_lost disk {v} {w} {t} {o} {place} {found} {target} {dst} {address} is finds clean read =
     subst (λ (r : StepResult). AdvancesOver disk v w t o r) (sym read.told)
     (subst (λ (x : View). AdvancesOver disk v x t o (Answered (found_in (held_value v.names address)))) (sym read.is)
-    (read_advances disk v v.space v.globals t o (Cleared place found target dst) place read.slot dst address is.asks
-    (record {
+    (read_advances v.space v.globals is.asks (record {
       ends = cleared_ends disk is;
       finds = finds;
       is_slot = read.is_slot;
       words = refl;
-      event = λ told s. quiet_read disk told v t o place read.slot dst address s finds read.is_slot clean;
+      event = λ told s. quiet_read read.slot s finds read.is_slot clean;
       applies = (
         refl,
         (
@@ -624,8 +622,7 @@ untag_won disk {v} {w} {t} {o} {place} {found} {target} {dst} space globals is t
     behind_changes disk v m t place read.slot dst target (ref_word (Clean target)) changes in
     subst (λ (r : StepResult). AdvancesOver disk v w t o r) (sym read.told)
     (subst (λ (y : View). AdvancesOver disk v y t o (Answered (found_in (held_value v.names target)))) (sym read.is)
-    (read_advances disk v space globals t o (Cleared place found target dst) place read.slot dst target is.asks
-    (record {
+    (read_advances space globals is.asks (record {
       ends = cleared_ends disk is;
       finds = untag_finds disk is tagged;
       is_slot = read.is_slot;

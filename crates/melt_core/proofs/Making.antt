@@ -251,8 +251,8 @@ claim_happens disk {v} {t} {need} {o} {shape} {before} {room} {none} {stage} tol
             around.small.nums in omega arith in
             bounded_is w (length v.space.list) (v.free + need) v.stop (set v.calls t (Some after)) refl
             refl refl refl
-            (bounded_lacking (length v.space.list) v.free need v.stop v.calls t (Some after)
-            (inside disk v t o asks) (ap (claims_left v.stop) around.at ∙ around.may_claim)
+            (bounded_lacking (length v.space.list) v.free v.stop v.calls t (Some after) (inside disk v t o asks)
+            (ap (claims_left v.stop) around.at ∙ around.may_claim)
             (ap (λ (g : Stage). claims_left v.stop (Some g)) (claim.lacks above) ∙ around.no_claim) few s.bounded)
         | inr below ↦ inl below
       ];
@@ -269,7 +269,7 @@ claim_happens disk {v} {t} {need} {o} {shape} {before} {room} {none} {stage} tol
                 moves))
           ]);
       fits = λ c is. subst (λ (d : Call). Fits (register_in v.held t) d.op d.stage) (let e : after ≡ c = cc in e)
-          (next_fits (maps v) (state disk v) (register_in v.held t) v.stop o (call_of v t) stage asks.continued
+          (next_fits (maps v) (state disk v) (register_in v.held t) v.stop o stage asks.continued
           (λ d is_d. s.fits t d is_d) (claim_next disk claim));
       mine_is = λ u d differ is. no_region_apart (region_of d.stage);
       apart = λ c is u d differ other. subst (λ (x : Call). Apart (region_of x.stage) (region_of d.stage))
@@ -310,33 +310,34 @@ claim_advances disk {v} {t} {need} {o} {shape} {before} {room} {none} {stage} cl
       after = Some after;
       happens = λ told stands. claim_happens disk told claim stands;
     } in
-    advances disk v w t o Going around.asks made refl
+    advances Going around.asks made refl
     (subst (λ (g : Option Stage). Applies (maps v) (maps w) (state disk v) (state disk w)
     (change_of (state disk v) (register_in v.held t) (rest_of v t) g)) (sym around.at)
     (subst (Applies (maps v) (maps w) (state disk v) (state disk w)) (sym around.change) (
       refl,
       claim_moves disk claim,
-    )))
-    (goes disk v w t o stage around.asks (claim_next disk claim) refl
-    (record { history = refl; registers = refl; values = refl }) refl)
-    tt
+    ))) (goes disk v w t o stage around.asks (claim_next disk claim) refl
+    (record { history = refl; registers = refl; values = refl }) refl) tt
 
 -- a call whose region is at a place
-claimed_known : (disk : OnDisk) (v : View) (t : ℕ) (o : Op) (address stored dst : ℕ) (shape : Shape) → Asks disk v t o
-    → stage_of v t ≡ Some (Claimed address shape stored dst) → IsShape shape
-    × HasStored (maps v) (state disk v) (region address shape) (λ k. 0) stored
-claimed_known disk v t o address stored dst shape asks at = known_at disk v t o (Claimed address shape stored dst) asks
+claimed_known : {disk : OnDisk} {v : View} {t : ℕ} {o : Op} {address stored dst : ℕ} {shape : Shape} → Asks disk v t o
+    → stage_of v t ≡ Some (Claimed address shape stored dst)
+    → IsShape shape × HasStored (maps v) (state disk v) (region address shape) (λ k. 0) stored
+claimed_known {disk} {v} {t} {o} {address} {stored} {dst} {shape} asks at =
+    known_at disk v t o (Claimed address shape stored dst) asks
     at
 
 -- A word behind the header was stored.
-pub store_zero_advances : (disk : OnDisk) (v : View) (space : SpaceWords) (t : ℕ) (o : Op) (address stored dst : ℕ)
-    (shape : Shape)
-    → Asks disk v t o → stage_of v t ≡ Some (Claimed address shape stored dst) → stored + 1 < cost_of shape
-    → SetsWord v.space space (address + 1 + stored) 0
-    → AdvancesOver disk v (with_call (record v { space = space }) t
-    (Some (record { op = o; stage = Claimed address shape (stored + 1) dst }))) t o Going
-store_zero_advances disk v space t o address stored dst shape asks at few sets =
-    let known = claimed_known disk v t o address stored dst shape asks at in
+pub store_zero_advances : {disk : OnDisk} {v : View} {space : SpaceWords} {t : ℕ} {o : Op} {address stored dst : ℕ}
+    {shape : Shape} → Asks disk v t o → stage_of v t ≡ Some (Claimed address shape stored dst)
+    → stored + 1 < cost_of shape → SetsWord v.space space (address + 1 + stored) 0
+    → AdvancesOver disk v (with_call (record v { space = space }) t (Some (record {
+      op = o;
+      stage = Claimed address
+          shape (stored + 1) dst;
+    }))) t o Going
+store_zero_advances {disk} {v} {space} {t} {o} {address} {stored} {dst} {shape} asks at few sets =
+    let known = claimed_known asks at in
     let storing : Storing disk v space t (address + 1 + stored) 0 o (Claimed address shape stored dst)
     (Claimed address shape (stored + 1) dst) =
     record {
@@ -353,8 +354,7 @@ store_zero_advances disk v space t o address stored dst shape asks at few sets =
       next = (few, refl);
       known = λ told stands s evolves owns changes. (
         known.0,
-        stored_more (maps v) (state disk v) s (region address shape) (λ k. 0) stored (address + 1 + stored) 0 known.1
-            owns (omega arith) refl few changes,
+        stored_more known.1 owns (omega arith) refl few changes,
       );
     } in
     store_advances disk storing
@@ -410,7 +410,7 @@ publish_advances disk {v} {space} {names} {t} {word} {o} {address} {stored} {dst
     let before : Call = record { op = o; stage = stage } in
     let w : View = published v space names t shape dst address in
     let within : t < length v.calls = inside disk v t o asks in
-    let known = claimed_known disk v t o address stored dst shape asks at in
+    let known = claimed_known asks at in
     let call : call_of v t ≡ Some before = call_at disk v t o stage asks at in
     let header : Header = record { shape = shape; stale = false } in
     let task : task_of o ≡ Some (Making dst shape) = fits_at disk v t o stage asks at in
@@ -465,10 +465,10 @@ publish_advances disk {v} {space} {names} {t} {word} {o} {address} {stored} {dst
             (s.registers t k));
         known = λ c none. absurd (cc);
         fits = λ c none. absurd (cc);
-        mine_is = others_apart disk v t o stage asks at;
+        mine_is = others_apart asks at;
         apart = λ c none. absurd (cc);
-        counts = λ x. Counts_published disk v w t address stored dst before shape (entry t (Make shape.refs shape.nums))
-            (as_told disk told v x stands) asks.thread call refl named refl refl refl made_it.sets.size refl;
+        counts = λ x. Counts_published w t (entry t (Make shape.refs shape.nums)) (as_told disk told v x stands)
+            asks.thread call refl named refl refl refl made_it.sets.size refl;
       };
     } in
     let stay : (u : ℕ) → held_values names (registers_in v.held u) ≡ values_of v u =
@@ -477,13 +477,12 @@ publish_advances disk {v} {space} {names} {t} {word} {o} {address} {stored} {dst
     (region address shape) 0
     (Some (Make shape.refs shape.nums)) s.holds.formed
     (publishes address stored shape known.0 known.1 all (changed v.held) named)) refl in
-    advances disk v w t o (Answered reply.Done) asks made refl
+    advances (Answered reply.Done) asks made refl
     (subst (λ (g : Option Stage). Applies (maps v) (maps w) (state disk v) (state disk w)
     (change_of (state disk v) (register_in v.held t) (rest_of v t) g)) (sym at)
     (subst (λ (b : Bool). Applies (maps v) (maps w) (state disk v) (state disk w)
     (if b then Publish address shape else Word (address + 1 + stored) 0))
-    (sym (eq-eqb (stored + 1) (cost_of shape) all)) (changes, (v.made, appears))))
-    (record {
+    (sym (eq-eqb (stored + 1) (cost_of shape) all)) (changes, (v.made, appears)))) (record {
       last = λ next goes. let more : (stored + 1 < cost_of shape) × (next ≡ Claimed address shape (stored + 1) dst) =
           subst (λ (g : Option Stage). Next (maps v) (state disk v) (register_in v.held t) v.stop o g next) at goes in
           let few : stored + 1 < cost_of shape = more.0 in omega arith;
@@ -491,7 +490,7 @@ publish_advances disk {v} {space} {names} {t} {word} {o} {address} {stored} {dst
       call = call_here v w t None refl within;
       answers = λ told. subst (λ (p : Op). Answers t v.log (values_of v t) p reply.Done w.log (values_of w t))
           (sym same)
-          (new_answers t v.log (values_of v t) dst shape.refs shape.nums reply.Done _ _ refl
+          (new_answers t v.log (values_of v t) dst shape.refs shape.nums refl
           (values_set (record v { names = names }) t dst address asks.thread
           ∙ (ap (λ (vs : List Value). set vs dst (held_value names address)) (stay t)
           ∙ ap (set (values_of v t) dst) object)) refl);
@@ -500,9 +499,8 @@ publish_advances disk {v} {space} {names} {t} {word} {o} {address} {stored} {dst
           (λ e. other (subst (λ (p : Op). Sets p r) (sym same) e));
       stop = refl;
       room = λ told. subst (HasRoomFor disk.end v) (sym same)
-          (room_for disk v t address stored dst before shape told asks.thread call refl);
-    })
-    (λ place d loads there tagged. no_load (register_in v.held t) o place d (subst LoadsNothing (sym task) tt) loads)
+          (room_for t told asks.thread call refl);
+    }) (λ place d loads there tagged. no_load (register_in v.held t) o place d (subst LoadsNothing (sym task) tt) loads)
 
 -- no more objects were made than the history has entries
 cons_fewer : {Y : Type 0} (o : Option Y) (ys : List Y) → length (cons_option o ys) ≤ length ys + 1

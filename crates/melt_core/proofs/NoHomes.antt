@@ -16,9 +16,9 @@ use Rattle.melt_core.specs.Advances.{AdvancesWhere, AdvancesOver, StepOutcome}
 use Rattle.melt_core.specs.Views.{View, Standing, maps, state, rest_of, call_of, stage_in}
 
 -- an event that needs the disk's words told, where they are
-pub as_told_by : (tells : Type 0) (disk : OnDisk) (v w : View) (t : ℕ) (o : Op) (result : StepResult) → tells
+pub as_told_by : {tells : Type 0} {disk : OnDisk} {v w : View} {t : ℕ} {o : Op} {result : StepResult} → tells
     → AdvancesWhere tells disk v w t o result → AdvancesOver disk v w t o result
-as_told_by tells disk v w t o result tell is = record {
+as_told_by {tells} {disk} {v} {w} {t} {o} {result} tell is = record {
   keeps = λ told free stands. is.keeps told (λ same. tell) stands;
   changes = is.changes;
   evolves = is.evolves;

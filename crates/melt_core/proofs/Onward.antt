@@ -47,27 +47,27 @@ own_over : (v w : View) (t : ℕ) → call_of w t ≡ None → KeepsOwn v w t �
 own_over v w t over own =
     record { call = over; history = let same : length w.log ≡ length v.log = ap length own.history in omega arith }
 
-refused_over : (tells : Type 0) (disk : OnDisk) (v w : View) (t : ℕ) (o : Op) (why : Refusal)
+refused_over : (tells : Type 0) (disk : OnDisk) {v : View} (w : View) (t : ℕ) (o : Op) (why : Refusal)
     → StepOutcome tells disk v w t o (Refused why) → IsOver v w t
-refused_over tells disk v w t o (refusal.Pause Asked) is =
+refused_over tells disk {v} w t o (refusal.Pause Asked) is =
     subst (λ (x : View). IsOver v x t) (sym is.same) (record { call = is.first; history = omega arith })
-refused_over tells disk v w t o (refusal.Pause (Space need)) is = own_over v w t is.call is.own
-refused_over tells disk v w t o (refusal.Pause Forward) is = own_over v w t is.call is.own
-refused_over tells disk v w t o refusal.DiskFault is = own_over v w t is.1.call is.1.own
-refused_over tells disk v w t o (refusal.Damaged damaged) is = own_over v w t is.lost.call is.lost.own
+refused_over tells disk {v} w t o (refusal.Pause (Space need)) is = own_over v w t is.call is.own
+refused_over tells disk {v} w t o (refusal.Pause Forward) is = own_over v w t is.call is.own
+refused_over tells disk {v} w t o refusal.DiskFault is = own_over v w t is.1.call is.1.own
+refused_over tells disk {v} w t o (refusal.Damaged damaged) is = own_over v w t is.lost.call is.lost.own
 
 -- an event that does not leave the call going ends it
-pub event_over : (tells : Type 0) (disk : OnDisk) (v w : View) (t : ℕ) (o : Op) (result : StepResult)
+pub event_over : (tells : Type 0) (disk : OnDisk) {v : View} (w : View) (t : ℕ) (o : Op) (result : StepResult)
     → (result ≡ Going → ⊥) → StepOutcome tells disk v w t o result → IsOver v w t
-event_over tells disk v w t o Going ends is = absurd (ends refl)
-event_over tells disk v w t o (Answered reply) ends is =
+event_over tells disk {v} w t o Going ends is = absurd (ends refl)
+event_over tells disk {v} w t o (Answered reply) ends is =
     record { call = is.call; history = entry_longer t v.log w.log is.history.0 is.history.1 }
-event_over tells disk v w t o (Refused why) ends is = refused_over tells disk v w t o why is
+event_over tells disk {v} w t o (Refused why) ends is = refused_over tells disk w t o why is
 
 -- an event after which the call goes on
-pub going : (tells : Type 0) (disk : OnDisk) (v w : View) (t : ℕ) (o : Op) (result : StepResult) → result ≡ Going
+pub going : (tells : Type 0) (disk : OnDisk) (v w : View) (t : ℕ) (o : Op) {result : StepResult} → result ≡ Going
     → StepOutcome tells disk v w t o result → Goes disk v w t o
-going tells disk v w t o result is outcome = subst (StepOutcome tells disk v w t o) is outcome
+going tells disk v w t o is outcome = subst (StepOutcome tells disk v w t o) is outcome
 
 pub going_continues : (disk : OnDisk) (v w : View) (t : ℕ) (o : Op) → Goes disk v w t o → Continues (call_of w t) o
 going_continues disk v w t o is = subst (λ (c : Option Call). Continues c o) (sym is.call) refl
@@ -88,16 +88,16 @@ over_leaves : (v w : View) (t : ℕ) (o : Op) → IsOver v w t → Leaves v w t 
 over_leaves v w t o over =
     record { continues = subst (λ (c : Option Call). Continues c o) (sym over.call) tt; history = over.history }
 
-leaves : (tells : Type 0) (disk : OnDisk) (v w : View) (t : ℕ) (o : Op) (result : StepResult)
+leaves : (tells : Type 0) (disk : OnDisk) {v : View} (w : View) (t : ℕ) (o : Op) (result : StepResult)
     → StepOutcome tells disk v w t o result → Leaves v w t o
-leaves tells disk v w t o Going is = record {
+leaves tells disk {v} w t o Going is = record {
   continues = going_continues disk v w t o is;
   history = let same : length w.log ≡ length v.log = ap length is.own.history in omega arith;
 }
-leaves tells disk v w t o (Answered reply) is =
-    over_leaves v w t o (event_over tells disk v w t o (Answered reply) (λ e. absurd (cc)) is)
-leaves tells disk v w t o (Refused why) is =
-    over_leaves v w t o (event_over tells disk v w t o (Refused why) (λ e. absurd (cc)) is)
+leaves tells disk {v} w t o (Answered reply) is =
+    over_leaves v w t o (event_over tells disk w t o (Answered reply) (λ e. absurd (cc)) is)
+leaves tells disk {v} w t o (Refused why) is =
+    over_leaves v w t o (event_over tells disk w t o (Refused why) (λ e. absurd (cc)) is)
 
 -- The words stand after some events, each call in flight is of the operation, the history has at most so many entries
 -- more, and all else that a call needs is as before.
@@ -110,11 +110,10 @@ pub record Onward (disk : OnDisk) (u w : View) (o : Op) (entries : ℕ) : Type 0
   pub history : length w.log ≤ length u.log + entries
 
 -- so it is after one event more
-pub onward_event : (tells : Type 0) (disk : OnDisk) (u v w : View) (t : ℕ) (o : Op) (entries : ℕ) (result : StepResult)
-    → AdvancesWhere tells disk v w t o result
-    → Onward disk u v o entries → Onward disk u w o (entries + 1)
-onward_event tells disk u v w t o entries result event before =
-    let left : Leaves v w t o = leaves tells disk v w t o result event.outcome in
+pub onward_event : {tells : Type 0} {disk : OnDisk} {u v w : View} {t : ℕ} {o : Op} {entries : ℕ} {result : StepResult}
+    → AdvancesWhere tells disk v w t o result → Onward disk u v o entries → Onward disk u w o (entries + 1)
+onward_event {tells} {disk} {v} {w} {t} {o} {result} event before =
+    let left : Leaves v w t o = leaves tells disk w t o result event.outcome in
     record {
       stands = event.keeps false (λ (told : false ≡ true). absurd (cc)) before.stands;
       globals = event.others.globals ∙ before.globals;

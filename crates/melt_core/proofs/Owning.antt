@@ -17,7 +17,7 @@ use Rattle.melt_scion.proofs.Parts.{head_part, part_outside}
 use Rattle.melt_core.specs.declared.call.Place.{Place}
 use Rattle.melt_core.specs.declared.call.Place.TheVariants.{Field, Global}
 use Rattle.melt_core.specs.Known.{IsPlace, region, Evolves, RegionStays}
-use Rattle.melt_core.specs.Events.{PlaceChanges, number_place, Event}
+use Rattle.melt_core.specs.Events.{PlaceChanges, Event}
 use Rattle.melt_core.proofs.Staying.{headers_were}
 use Rattle.melt_core.proofs.Evolving.{place_part, number_word_part, evolves_event}
 
@@ -60,20 +60,18 @@ in_first a b at k apart from to from_b to_b = λ same.
     grind arith
 
 -- where a place changes, the words of a region stay
-place_outside : (maps : Maps) (s t : State) (r : Region) (place : Place) (word : ℕ) → Owns maps s r →
-    IsPlace maps s place → PlaceChanges s t place word →
-    (k : ℕ) → r.at ≤ k → k < r.at + r.words → t.word k ≡ s.word k
-place_outside maps s t r (Field object i) word owns is changes k from to =
-    changes.others k (λ same. part_outside maps s r object is.1.number (2 + i) (object + 2 + i) k is.1.header owns
-    (place_part maps s object i is) from to (sym same))
-place_outside maps s t r (Global g) word owns is changes k from to = changes.word_stays k
+place_outside : {maps : Maps} {s : State} (t : State) {r : Region} (place : Place) (word : ℕ) → Owns maps s r
+    → IsPlace maps s place → PlaceChanges s t place word → (k : ℕ) → r.at ≤ k → k < r.at + r.words → t.word k ≡ s.word k
+place_outside {maps} {s} t (Field object i) word owns is changes k from to =
+    changes.others k (λ same. part_outside maps s k owns (place_part maps s object i is) from to (sym same))
+place_outside {maps} {s} t (Global g) word owns is changes k from to = changes.word_stays k
 
 -- the object that a region becomes is the one object that is new, and apart from the regions of others
-entered_apart : (maps new : Maps) (s t : State) (mine r : Region) (shape : Shape) (n : ℕ) →
-    mine.words ≡ cost_of shape → Apart mine r → IsShape shape →
-    t.word mine.at ≡ header_word (record { shape = shape; stale = false }) → NameAppears maps new mine.at n →
-    (b m : ℕ) (header : Header) → new.address b ≡ Some m → HeaderAt t b header → OldOrApart maps b m header r
-entered_apart maps new s t mine r shape n words apart small here appears b m header named starts =
+entered_apart : {maps new : Maps} (s : State) {t : State} {mine r : Region} {shape : Shape} {n : ℕ}
+    → mine.words ≡ cost_of shape → Apart mine r → IsShape shape
+    → t.word mine.at ≡ header_word (record { shape = shape; stale = false }) → NameAppears maps new mine.at n
+    → (b m : ℕ) (header : Header) → new.address b ≡ Some m → HeaderAt t b header → OldOrApart maps b m header r
+entered_apart s {t} {mine} {r} {shape} words apart small here appears b m header named starts =
     elim (eqb_tells b mine.at) [
       | inl same ↦
           let entered : Header = record { shape = shape; stale = false } in
@@ -97,12 +95,12 @@ module _ (told : Bool) (h : List Entry) (maps new : Maps) (s t : State) where
   words_event mine cleared act r owns apart (Event.reads_number object n j shape is same word) k from to = same.word k
   words_event mine cleared act r owns apart
       (Event.writes_place place at address value is slot where_at may value_is changes) k from to =
-      place_outside maps s t r place (4 * address) owns slot changes k from to
+      place_outside t place (4 * address) owns slot changes k from to
   words_event mine cleared act r owns apart
       (Event.writes_number object n j word shape is number changes) k from to =
       let o = number.object_is in
-      changes.others k (λ same. part_outside maps s r object o.number (2 + shape.refs + j) (number_place object shape j)
-      k o.header owns (number_word_part maps s object n j shape number) from to (sym same))
+      changes.others k (λ same. part_outside maps s k owns (number_word_part maps s object n j shape number) from to
+      (sym same))
   words_event mine cleared act r owns apart (Event.claims words is moves) k from to = moves.word k
   words_event mine cleared act r owns apart (Event.stores own at word is owned first last changes) k from to =
       changes.others k (in_first own r at k apart first last from to)
@@ -110,11 +108,11 @@ module _ (told : Bool) (h : List Entry) (maps new : Maps) (s t : State) where
       (Event.publishes address stored shape small stores all changes appears) k from to =
       changes.others k (in_first (region address shape) r address k apart (omega arith) (omega arith) from to)
   words_event mine cleared act r owns apart (Event.clears address header is named starts changes) k from to =
-      changes.others k (λ same. part_outside maps s r address named.0 0 address k header owns
-      (head_part maps s address named.0 header named.1 starts) from to (sym same))
+      changes.others k (λ same. part_outside maps s k owns (head_part maps s address named.0 header named.1 starts) from
+      to (sym same))
   words_event mine cleared act r owns apart
       (Event.untags place at found target value is slot range was named fresh same last changes) k from to =
-      place_outside maps s t r place (4 * target) owns slot changes k from to
+      place_outside t place (4 * target) owns slot changes k from to
   words_event mine cleared act r owns apart
       (Event.commits home tried p n address shape rest may changes appears) k from to = changes.word_stays k
 
@@ -124,25 +122,23 @@ module _ (told : Bool) (h : List Entry) (maps new : Maps) (s t : State) where
   no_new r is b n header named starts = inl (ap (λ (m : Maps). m.address b) (sym is) ∙ named)
 
   -- no event puts an object into a region of another thread
-  new_event : (mine : Region) (cleared : ℕ) (act : Option Act) (r : Region) → Apart mine r →
-      Event told h maps new s t mine cleared act →
-      (b n : ℕ) (header : Header) → new.address b ≡ Some n → HeaderAt t b header → OldOrApart maps b n header r
-  new_event mine cleared act r apart (Event.quiet is same) = no_new r is
-  new_event mine cleared act r apart (Event.reads_place place at value is same slot clean last) = no_new r is
-  new_event mine cleared act r apart (Event.reads_number object n j shape is same word) = no_new r is
-  new_event mine cleared act r apart
-      (Event.writes_place place at address value is slot where_at may value_is changes) = no_new r is
-  new_event mine cleared act r apart (Event.writes_number object n j word shape is number changes) = no_new r is
-  new_event mine cleared act r apart (Event.claims words is moves) = no_new r is
-  new_event mine cleared act r apart (Event.stores own at word is owned first last changes) = no_new r is
-  new_event mine cleared act r apart
-      (Event.publishes address stored shape small stores all changes appears) =
-      entered_apart maps new s t (region address shape) r shape _ refl apart small changes.here appears
-  new_event mine cleared act r apart (Event.clears address header is named starts changes) = no_new r is
-  new_event mine cleared act r apart
-      (Event.untags place at found target value is slot range was named fresh same last changes) = no_new r is
-  new_event mine cleared act r apart (Event.commits home tried p n address shape rest may changes appears) =
-      entered_apart maps new s t (region address shape) r shape n refl apart may.body.head.small
+  new_event : {mine : Region} {cleared : ℕ} {act : Option Act} {r : Region} → Apart mine r
+      → Event told h maps new s t mine cleared act → (b n : ℕ) (header : Header) → new.address b ≡ Some n
+      → HeaderAt t b header → OldOrApart maps b n header r
+  new_event {r} apart (Event.quiet is same) = no_new r is
+  new_event {r} apart (Event.reads_place place at value is same slot clean last) = no_new r is
+  new_event {r} apart (Event.reads_number object n j shape is same word) = no_new r is
+  new_event {r} apart (Event.writes_place place at address value is slot where_at may value_is changes) = no_new r is
+  new_event {r} apart (Event.writes_number object n j word shape is number changes) = no_new r is
+  new_event {r} apart (Event.claims words is moves) = no_new r is
+  new_event {r} apart (Event.stores own at word is owned first last changes) = no_new r is
+  new_event {r} apart (Event.publishes address stored shape small stores all changes appears) =
+      entered_apart s {t = t} refl apart small changes.here appears
+  new_event {r} apart (Event.clears address header is named starts changes) = no_new r is
+  new_event {r} apart (Event.untags place at found target value is slot range was named fresh same last changes) =
+      no_new r is
+  new_event {r} apart (Event.commits home tried p n address shape rest may changes appears) =
+      entered_apart s {t = t} refl apart may.body.head.small
       (changes.word_stays address ∙ copy_header maps s address home shape rest may.copy) appears
 
   -- each event leaves to other threads what they own
@@ -151,4 +147,4 @@ module _ (told : Bool) (h : List Entry) (maps new : Maps) (s t : State) where
   regions_event mine cleared act formed event r owns apart =
       region_stays maps new s t cleared r formed
       (evolves_event told h maps new s t mine cleared act formed event) owns
-      (words_event mine cleared act r owns apart event) (new_event mine cleared act r apart event)
+      (words_event mine cleared act r owns apart event) (new_event apart event)

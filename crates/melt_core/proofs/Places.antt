@@ -123,11 +123,11 @@ held_is_reference h maps s (suc a) v formed tells is =
     named_is_reference (Some n) is below = subst (IsReference h) (let e : Ref n ≡ v = cc in e) (below n refl)
 
 -- and may be written to the slot of a place
-pub place_can_hold : (h : List Entry) (maps : Maps) (s : State) (place : Place) (at : Slot) (a : ℕ) (v : Value) →
-    FormedWords maps s → Tells h maps s → SlotAt maps place at → value_at maps a ≡ Some v → CanHold h at v
-place_can_hold h maps s (Field object i) at a v formed tells where_at is =
+pub place_can_hold : {h : List Entry} {maps : Maps} {s : State} (place : Place) (at : Slot) (a : ℕ) {v : Value}
+    → FormedWords maps s → Tells h maps s → SlotAt maps place at → value_at maps a ≡ Some v → CanHold h at v
+place_can_hold {h} {maps} {s} (Field object i) at a {v} formed tells where_at is =
     subst (λ (x : Slot). CanHold h x v) (sym where_at.2) (held_is_reference h maps s a v formed tells is)
-place_can_hold h maps s (Global g) at a v formed tells where_at is =
+place_can_hold {h} {maps} {s} (Global g) at a {v} formed tells where_at is =
     subst (λ (x : Slot). CanHold h x v) (sym where_at) (held_is_reference h maps s a v formed tells is)
 
 -- the words stay well formed
@@ -150,14 +150,15 @@ NoGaps_place s t (Field object i) word changes gaps = NoGaps_stays s t changes.b
 NoGaps_place s t (Global g) word changes gaps = NoGaps_stays s t changes.base changes.forward gaps
 
 -- the words tell the later history
-pub Tells_place : (before after : List Entry) (maps : Maps) (s t : State) (place : Place) (at : Slot) (word : ℕ)
-    (v : Value) → FormedWords maps s → IsPlace maps s place → SlotAt maps place at → PlaceChanges s t place word →
-    ValueChanges before after at v → Stands maps word v → Tells before maps s → Tells after maps t
-Tells_place before after maps s t (Field object i) at word v formed is where_at changes values stands tells =
+pub Tells_place : {before after : List Entry} {maps : Maps} {s : State} (t : State) (place : Place) {at : Slot}
+    {word : ℕ} {v : Value} → FormedWords maps s → IsPlace maps s place → SlotAt maps place at
+    → PlaceChanges s t place word → ValueChanges before after at v → Stands maps word v → Tells before maps s
+    → Tells after maps t
+Tells_place {before} {after} {maps} {s} t (Field object i) {word} {v} formed is where_at changes values stands tells =
     let o = is.1 in
     Tells_slot maps s t object where_at.0 i word o.header formed where_at.1 o.starts
     (below_refs i o.header.shape is.0 o.shape_is is.2) changes before after v
     (subst (λ (x : Slot). ValueChanges before after x v) where_at.2 values) stands tells
-Tells_place before after maps s t (Global g) at word v formed is where_at changes values stands tells =
+Tells_place {before} {after} {maps} {s} t (Global g) {word} {v} formed is where_at changes values stands tells =
     Tells_global maps s t g word changes before after v
     (subst (λ (x : Slot). ValueChanges before after x v) where_at values) stands tells

@@ -88,10 +88,9 @@ unclaimed_region (Copied a) none = absurd (omega arith)
 unclaimed_region (Retrying a) none = absurd (omega arith)
 unclaimed_region (LackingCopy search shape) none = refl
 
-plain_claims : (tells : Type 0) (disk : OnDisk) (v w : View) (t cleared : ℕ) (act : Option Act) (after : Option Call)
-    → Plain tells disk v w t cleared act after
-    → Claims v w t after
-plain_claims tells disk v w t cleared act after p = record {
+plain_claims : {tells : Type 0} {disk : OnDisk} {v w : View} {t cleared : ℕ} {act : Option Act} {after : Option Call}
+    → Plain tells disk v w t cleared act after → Claims v w t after
+plain_claims {v} {w} p = record {
   names = ap (λ (x : View). x.names) p.moves;
   words = p.words;
   calls = ap (λ (x : View). x.calls) p.moves;
@@ -100,23 +99,22 @@ plain_claims tells disk v w t cleared act after p = record {
   within = inl (omega (arith, p.unclaimed));
 }
 
-counts_plain : (tells : Type 0) (disk : OnDisk) (v w : View) (t cleared : ℕ) (act : Option Act) (after : Option Call)
-    → Standing true disk v
-    → t < length v.held → Plain tells disk v w t cleared act after → Counts w
-counts_plain tells disk v w t cleared None after s within p =
+counts_plain : {tells : Type 0} {disk : OnDisk} {v w : View} {t cleared : ℕ} (act : Option Act) {after : Option Call}
+    → Standing true disk v → t < length v.held → Plain tells disk v w t cleared act after → Counts w
+counts_plain {disk} {v} {w} {t} None {after} s within p =
     Counts_same disk v w t after s within (ap (λ (x : View). x.log) p.moves)
-    (plain_claims tells disk v w t cleared None after p)
-counts_plain tells disk v w t cleared (Some act) after s within p =
+    (plain_claims p)
+counts_plain {disk} {v} {w} {t} (Some act) {after} s within p =
     Counts_entry disk v w t after (entry t act) s within (ap (λ (x : View). x.log) p.moves)
-    (plain_claims tells disk v w t cleared (Some act) after p)
+    (plain_claims p)
 
 -- where it is told, it is told so
 pub as_told : (disk : OnDisk) (told : Bool) (v : View) → told ≡ true → Standing told disk v → Standing true disk v
 as_told disk told v is s = subst (λ (b : Bool). Standing b disk v) is s
 
-pub plain : (tells : Type 0) (disk : OnDisk) (v w : View) (t cleared : ℕ) (act : Option Act) (after : Option Call)
+pub plain : {tells : Type 0} {disk : OnDisk} {v w : View} {t cleared : ℕ} {act : Option Act} {after : Option Call}
     → t < length v.held → Plain tells disk v w t cleared act after → MadeWhere tells disk v w t cleared
-plain tells disk v w t cleared act after within p = record {
+plain {disk} {v} {w} {t} {cleared} {act} {after} within p = record {
   mine = no_region;
   act = act;
   after = after;
@@ -154,6 +152,6 @@ plain tells disk v w t cleared act after within p = record {
             subst (λ (r : Region). Apart r (region_of d.stage))
             (sym (unclaimed_region c.stage (sym (ap claimed_in is) ∙ p.unclaimed)))
             (no_region_apart (region_of d.stage));
-        counts = λ is. counts_plain tells disk v w t cleared act after (as_told disk told v is s) within p;
+        counts = λ is. counts_plain act (as_told disk told v is s) within p;
       };
 }

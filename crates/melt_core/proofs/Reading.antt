@@ -43,10 +43,10 @@ use Rattle.melt_core.proofs.Tasks.{LoadsNothing, get_is, no_load}
 past : (i n : ℕ) → (i < n → ⊥) → n ≤ i
 past i n lacks = elim (cases_lt i n) [ inl below ↦ absurd (lacks below) | inr above ↦ above ]
 
-lacks_by : (rs : List Value) (src r n i bound : ℕ) (access same : Access) (z : Shape) → src ≡ r → access ≡ same
+lacks_by : (rs : List Value) {src r n : ℕ} (i bound : ℕ) {access same : Access} (z : Shape) → src ≡ r → access ≡ same
     → value_in rs r ≡ Object n → (HasPart access z → ⊥) → (i < bound → HasPart same z)
     → (value_in rs src ≡ Object n) × (bound ≤ i)
-lacks_by rs src r n i bound access same z register is value lacks has = (
+lacks_by rs i bound z register is value lacks has = (
   ap (value_in rs) register ∙ value,
   past i bound (λ below. lacks (subst (λ (a : Access). HasPart a z) (sym is) (has below))),
 )
@@ -55,13 +55,15 @@ lacks_part : (rs : List Value) (o : Op) (r n : ℕ) (access : Access) (z : Shape
     → value_in rs r ≡ Object n → (HasPart access z → ⊥) → LacksPart rs o n z
 lacks_part rs (op.New dst refs nums) r n access z is value lacks = absurd (cc)
 lacks_part rs (op.Load dst src i) r n access z is value lacks =
-    lacks_by rs src r n i z.refs access (Load dst i) z (cc) (cc) value lacks (λ below. below)
+    lacks_by rs {src = src} {r = r} i z.refs {access = access} {same = Load dst i} z (cc) (cc) value lacks
+    (λ below. below)
 lacks_part rs (op.Store obj i src) r n access z is value lacks =
-    lacks_by rs obj r n i z.refs access (Store i src) z (cc) (cc) value lacks (λ below. below)
+    lacks_by rs {src = obj} {r = r} i z.refs {access = access} {same = Store i src} z (cc) (cc) value lacks
+    (λ below. below)
 lacks_part rs (op.Get src j) r n access z is value lacks =
-    lacks_by rs src r n j z.nums access (Get j) z (cc) (cc) value lacks (λ below. below)
+    lacks_by rs {src = src} {r = r} j z.nums {access = access} {same = Get j} z (cc) (cc) value lacks (λ below. below)
 lacks_part rs (op.Put obj j v) r n access z is value lacks =
-    lacks_by rs obj r n j z.nums access (Put j v) z (cc) (cc) value lacks (λ below. below)
+    lacks_by rs {src = obj} {r = r} j z.nums {access = access} {same = Put j v} z (cc) (cc) value lacks (λ below. below)
 lacks_part rs (op.GLoad dst g) r n access z is value lacks = absurd (cc)
 lacks_part rs (op.GStore g src) r n access z is value lacks = absurd (cc)
 lacks_part rs o r n access z is value lacks = absurd (cc)
@@ -73,14 +75,14 @@ one_shape disk v address y z first second =
     sym first.shape_is ∙ (ap (λ (h : Header). h.shape)
     (one_header (state disk v) address first.header second.header first.starts second.starts) ∙ second.shape_is)
 
-pub range_advances : (disk : OnDisk) (v : View) (t : ℕ) (o : Op) (r : ℕ) (access : Access) (shape : Shape)
-    → Asks disk v t o
-    → stage_of v t ≡ Some (Polled (Use r access)) → IsObjectAt (maps v) (state disk v) (register_in v.held t r) shape
-    → (HasPart access shape → ⊥) → AdvancesOver disk v (with_call v t None) t o (Answered reply.Range)
-range_advances disk v t o r access shape asks at object lacks =
+pub range_advances : {disk : OnDisk} {v : View} {t : ℕ} {o : Op} {r : ℕ} {access : Access} {shape : Shape}
+    → Asks disk v t o → stage_of v t ≡ Some (Polled (Use r access))
+    → IsObjectAt (maps v) (state disk v) (register_in v.held t r) shape → (HasPart access shape → ⊥)
+    → AdvancesOver disk v (with_call v t None) t o (Answered reply.Range)
+range_advances {disk} {v} {t} {o} {r} {access} {shape} asks at object lacks =
     let stage : Stage = Polled (Use r access) in
     let task : task_of o ≡ Some (Use r access) = (fits_at disk v t o stage asks at).0 in
-    over_advances disk v (with_call v t None) t o stage None reply.Range asks (record {
+    over_advances asks (record {
       ends = ends_at disk v t o stage at tt
           (λ next goes. lacks
           (subst (HasPart access) (one_shape disk v (register_in v.held t r) goes.0 shape goes.1 object) goes.2));
@@ -90,7 +92,7 @@ range_advances disk v t o r access shape asks at object lacks =
       moves = refl;
       words = refl;
       local = local_still disk v t asks.stands;
-      answers = λ told. range_answers t v.log (values_of v t) o object.number shape reply.Range v.log (values_of v t)
+      answers = λ told. range_answers t o object.number shape
           (lacks_part (values_of v t) o r object.number access shape task
           (value_named v t r (register_in v.held t r) object.number refl object.named) lacks)
           (object_shape disk v (register_in v.held t r) object.number shape told object object.named) refl refl refl;
@@ -115,19 +117,18 @@ range_advances disk v t o r access shape asks at object lacks =
     range_clean v t o r access shape task object lacks (Global g) dst loads there tagged = absurd (cc)
 
 -- a number word of an object was read
-pub get_advances : (disk : OnDisk) (v : View) (t : ℕ) (o : Op) (address j n number : ℕ) (shape : Shape)
-    → Asks disk v t o
-    → stage_of v t ≡ Some (Headed address shape (Get j)) → (maps v).address address ≡ Some n
+pub get_advances : {disk : OnDisk} {v : View} {t : ℕ} {o : Op} {address j n number : ℕ} {shape : Shape}
+    → Asks disk v t o → stage_of v t ≡ Some (Headed address shape (Get j)) → (maps v).address address ≡ Some n
     → number ≡ (state disk v).word (number_place address shape j)
     → AdvancesOver disk v (with_call (noted v (entry t (Read (slots.Cell n j) (Num number)))) t None) t o
     (Answered (reply.Num number))
-get_advances disk v t o address j n number shape asks at named is =
+get_advances {disk} {v} {t} {o} {address} {j} {n} {number} {shape} asks at named is =
     let stage : Stage = Headed address shape (Get j) in
     let act : Act = Read (slots.Cell n j) (Num number) in
     let w : View = with_call (noted v (entry t act)) t None in
     let fits : Fits (register_in v.held t) o stage = fits_at disk v t o stage asks at in
     let object : IsObjectAt (maps v) (state disk v) address shape = known_at disk v t o stage asks at in
-    over_advances disk v w t o stage (Some act) (reply.Num number) asks (record {
+    over_advances asks (record {
       ends = ends_at disk v t o stage at tt (λ next goes. goes);
       event = λ told s. subst (λ (x : ℕ). Event told v.log (maps v) (maps v) (state disk v) (state disk v) no_region 0
           (Some (Read (slots.Cell n j) (Num x)))) (sym is)
@@ -140,10 +141,8 @@ get_advances disk v t o address j n number shape asks at named is =
       local = local_still disk v t asks.stands;
       answers = λ told. subst (λ (p : Op). Answers t v.log (values_of v t) p (reply.Num number) w.log (values_of v t))
           (sym (get_is o fits.0 j fits.1))
-          (get_answers t v.log (values_of v t) fits.0 j n number shape (reply.Num number) w.log (values_of v t)
-          (value_named v t fits.0 address n fits.2 named) (object_shape disk v address n shape told object named) fits.3
-          refl
-          refl refl);
+          (get_answers t v.log fits.0 j number shape (value_named v t fits.0 address n fits.2 named)
+          (object_shape disk v address n shape told object named) fits.3 refl refl refl);
       registers = λ k other. refl;
       room = use_room disk.end v o fits.0 (Get j) fits.1;
       clean = λ place dst loads there tagged. no_load (register_in v.held t) o place dst
@@ -151,12 +150,11 @@ get_advances disk v t o address j n number shape asks at named is =
     })
 
 -- the object whose header was read
-pub head_object : (disk : OnDisk) (v : View) (t : ℕ) (o : Op) (r address : ℕ) (access : Access) (shape : Shape)
-    → Asks disk v t o
-    → stage_of v t ≡ Some (Polled (Use r access)) → address ≡ register_in v.held t r
+pub head_object : {disk : OnDisk} {v : View} {t : ℕ} {o : Op} {r address : ℕ} {access : Access} (shape : Shape)
+    → Asks disk v t o → stage_of v t ≡ Some (Polled (Use r access)) → address ≡ register_in v.held t r
     → ((h : Header) → IsHeader h → word_at v.space address ≡ header_word h → shape ≡ h.shape)
     → IsObjectAt (maps v) (state disk v) address shape
-head_object disk v t o r address access shape asks at is shaped =
+head_object {disk} {v} {t} {o} {r} {address} {access} shape asks at is shaped =
     let fits : Fits (register_in v.held t) o (Polled (Use r access)) = fits_at disk v t o (Polled (Use r access)) asks
     at in
     let held = object_held disk v t r asks.stands fits.1 in
@@ -165,12 +163,11 @@ head_object disk v t o r address access shape asks at is shaped =
     shaped
 
 -- the call goes on, and has read the header
-pub head_advances : (disk : OnDisk) (v : View) (t : ℕ) (o : Op) (r address : ℕ) (access : Access) (shape : Shape)
-    → Asks disk v t o
-    → stage_of v t ≡ Some (Polled (Use r access)) → address ≡ register_in v.held t r
+pub head_advances : {disk : OnDisk} {v : View} {t : ℕ} {o : Op} {r address : ℕ} {access : Access} {shape : Shape}
+    → Asks disk v t o → stage_of v t ≡ Some (Polled (Use r access)) → address ≡ register_in v.held t r
     → IsObjectAt (maps v) (state disk v) address shape → HasPart access shape
     → AdvancesOver disk v (with_call v t (Some (record { op = o; stage = Headed address shape access }))) t o Going
-head_advances disk v t o r address access shape asks at is object part =
+head_advances {disk} {v} {t} {o} {address} {access} {shape} asks at is object part =
     go_advances disk v t o (Headed address shape access) asks
     (subst (λ (g : Option Stage). change_of (state disk v) (register_in v.held t) (rest_of v t) g ≡ Nothing) (sym at)
     refl)

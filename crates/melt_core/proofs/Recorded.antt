@@ -60,13 +60,13 @@ ok_of (Ok a) P is same none = is
 ok_of (Err e) P is same none = absurd (cc)
 
 -- a stage behind a head is one behind some head that was read
-pub behind_ok : (v : View) (search : Search) (end first second : ℕ) (result : Result Stage Damaged) (head : Head)
+pub behind_ok : (v : View) (search : Search) {end first second : ℕ} (result : Result Stage Damaged) {head : Head}
     → IsHead search.home end first second head
     → ((disk : OnDisk) → IfOk result (ReadAs (state disk v) search head.shape head.kind))
-    → IfOk result (λ stage. (h : Head) × IsHead search.home end first second h
-    × ((disk : OnDisk) → ReadAs (state disk v) search h.shape h.kind stage))
-behind_ok v search end first second (Ok stage) head read is = (head, read, is)
-behind_ok v search end first second (Err damaged) head read is = tt
+    → IfOk result (λ stage. (h : Head) × IsHead search.home end first second h × ((disk : OnDisk) → ReadAs (state disk
+    v) search h.shape h.kind stage))
+behind_ok v search (Ok stage) {head} read is = (head, read, is)
+behind_ok v search (Err damaged) {head} read is = tt
 
 pub behind_err : {A E : Type 0} {P Q : E → Type 0} (result : Result A E) → ((e : E) → P e → Q e) → IfErr result P
     → IfErr result Q
@@ -132,10 +132,10 @@ lost disk v t home o asks from = record {
 }
 
 -- a call ends without an answer, and no word changes
-lose_advances : (tells : Type 0) (disk : OnDisk) (v : View) (t home : ℕ) (o : Op) (why : Refusal) → Asks disk v t o
+lose_advances : (tells : Type 0) {disk : OnDisk} {v : View} {t home : ℕ} {o : Op} (why : Refusal) → Asks disk v t o
     → FromDisk disk v t home → Refuses tells disk v (with_call v t None) t o why
     → AdvancesWhere tells disk v (with_call v t None) t o (Refused why)
-lose_advances tells disk v t home o why asks from refuses =
+lose_advances tells {disk} {v} {t} why asks from refuses =
     let w : View = with_call v t None in
     let cleared : ℕ = cleared_by (stage_of v t) in
     let p : Plain tells disk v w t cleared None None = record {
@@ -155,15 +155,15 @@ lose_advances tells disk v t home o why asks from refuses =
       unclaimed = refl;
       claims = claims_ends v.stop (stage_of v t) from.no_lack;
     } in
-    advances_where tells disk v w t o (Refused why) asks (plain tells disk v w t cleared None None asks.thread p) refl
-    (subst (Applies (maps v) (maps w) (state disk v) (state disk w)) (sym from.still) (refl, same_words disk v))
-    refuses tt
+    advances_where (Refused why) asks (plain asks.thread p) refl
+    (subst (Applies (maps v) (maps w) (state disk v) (state disk w)) (sym from.still) (refl, same_words disk v)) refuses
+    tt
 
 -- the head that was read is that on disk
-head_stands : (disk : OnDisk) (v : View) (home end first second : ℕ) (head : Head) → disk.end ≡ end
+head_stands : (disk : OnDisk) (v : View) {home end first second : ℕ} {head : Head} → disk.end ≡ end
     → IsHead home end first second head → first ≡ disk.image home → second ≡ disk.image (home + 1)
     → HeadIs (state disk v).base home head
-head_stands disk v home end first second head ends is same_first same_second =
+head_stands disk v {home} {end} {first} {head} ends is same_first same_second =
     subst (λ (e : ℕ). IsHead home e (disk.image home) (disk.image (home + 1)) head) (sym ends)
     (subst (λ (a : ℕ). IsHead home end a (disk.image (home + 1)) head) same_first
     (subst (λ (b : ℕ). IsHead home end first b head) same_second is))
@@ -206,7 +206,7 @@ module _ (end : ℕ) (image : Option (List ℕ)) (v : View) (t : ℕ) (o : Op) (
     stands_told : (head : Head) → IsHead search.home end first second head → TellsDisk image disk
         → HeadIs (state disk v).base search.home head
     stands_told head read tells =
-        head_stands disk v search.home end first second head ends read (first_told tells) (second_told tells)
+        head_stands disk v ends read (first_told tells) (second_told tells)
 
     has_head : (told : Bool) → (told ≡ true → TellsDisk image disk) → Standing told disk v → (shape : Shape)
         → IsHead search.home end first second (record { shape = shape; kind = Body })
@@ -300,7 +300,7 @@ module _ (end : ℕ) (image : Option (List ℕ)) (v : View) (t : ℕ) (o : Op) (
       → Advances end image v (with_call v t (Some (record { op = o; stage = stage }))) t o Going
   head_advances head stage read goes = record {
     over = λ disk ends.
-        read_advances (TellsDisk image disk) disk v v.records t o stage (asks_here disk ends)
+        read_advances (TellsDisk image disk) v.records stage (asks_here disk ends)
         (from_missed disk v t search is.at).still (same_rests v v t refl)
         (subst (λ (g : Option Stage). Next (maps v) (state disk v) (register_in v.held t) v.stop o g stage) (sym is.at)
         (head.shape, head.kind, goes disk))
@@ -320,9 +320,7 @@ module _ (end : ℕ) (image : Option (List ℕ)) (v : View) (t : ℕ) (o : Op) (
     over = λ disk ends.
         let from : FromDisk disk v t damaged.home =
         subst (FromDisk disk v t) (sym (damage_home damaged breaks)) (from_missed disk v t search is.at) in
-        lose_advances (TellsDisk image disk) disk v t damaged.home o (refusal.Damaged damaged) (asks_here disk ends)
-        from
-        (record {
+        lose_advances (TellsDisk image disk) (refusal.Damaged damaged) (asks_here disk ends) from (record {
           lost = lost disk v t damaged.home o (asks_here disk ends) from;
           untold = λ tells stands. head_sound disk ends damaged breaks tells stands;
         });
@@ -338,12 +336,12 @@ module _ (end : ℕ) (image : Option (List ℕ)) (v : View) (t : ℕ) (o : Op) (
   }
 
 -- behind a head at most one read is left
-pub head_uses : (disk : OnDisk) (v w : View) (t : ℕ) (o : Op) (search : Search) (stage : Stage) (head : Head)
+pub head_uses : {disk : OnDisk} {v w : View} {t : ℕ} {o : Op} {search : Search} (stage : Stage) (head : Head)
     {faults faults_after reads reads_after_it : ℕ} → Asks disk v t o → stage_of v t ≡ Some (Missed search)
     → w ≡ with_call v t (Some (record { op = o; stage = stage }))
     → ReadAs (state disk v) search head.shape head.kind stage → faults ≤ faults_after → reads_after_it ≤ reads + 1
     → Uses v w t Going faults faults_after reads reads_after_it
-head_uses disk v w t o search stage head asks at moves goes count one =
+head_uses {disk} {v} {w} {t} {o} {search} stage head asks at moves goes count one =
     let call : Call = record { op = o; stage = stage } in
     let behind : reads_left (stage_of w t) ≡ reads_left (Some stage) =
     ap (λ (c : Option Call). reads_left (stage_in c))
@@ -364,18 +362,18 @@ missed_fault end image v t o search may at = record {
   over = λ disk ends.
       let asks : Asks disk v t o = asks_on end v t o may disk ends in
       let from : FromDisk disk v t search.home = from_missed disk v t search at in
-      lose_advances (TellsDisk image disk) disk v t search.home o refusal.DiskFault asks from
+      lose_advances (TellsDisk image disk) refusal.DiskFault asks from
       (search.home, lost disk v t search.home o asks from);
 }
 
-pub head_fault : (end : ℕ) (image : Option (List ℕ)) (v : View) (t : ℕ) (o : Op) (search : Search) (shape : Shape)
+pub head_fault : {end : ℕ} (image : Option (List ℕ)) {v : View} {t : ℕ} {o : Op} {search : Search} {shape : Shape}
     → MayAdvance end v t o → stage_of v t ≡ Some (HeadRead search shape)
     → Advances end image v (with_call v t None) t o (Refused refusal.DiskFault)
-head_fault end image v t o search shape may at = record {
+head_fault {end} image {v} {t} {o} {search} {shape} may at = record {
   over = λ disk ends.
       let asks : Asks disk v t o = asks_on end v t o may disk ends in
       let from : FromDisk disk v t search.home = from_head disk v t search shape at in
-      lose_advances (TellsDisk image disk) disk v t search.home o refusal.DiskFault asks from
+      lose_advances (TellsDisk image disk) refusal.DiskFault asks from
       (search.home, lost disk v t search.home o asks from);
 }
 
@@ -405,24 +403,25 @@ buffer_size end v t o buffer may is =
     ap length (is ∙ get_or_default v.records t buffer [] (omega arith)) ∙ s.rests t within
 
 -- so the words that are read are a front of it
-pub front_size : (end : ℕ) (v : View) (t : ℕ) (o : Op) (search : Search) (shape : Shape) (buffer : List ℕ) (k : ℕ)
+pub front_size : {end : ℕ} {v : View} {t : ℕ} {o : Op} {search : Search} {shape : Shape} {buffer : List ℕ} {k : ℕ}
     → MayAdvance end v t o → stage_of v t ≡ Some (HeadRead search shape) → buffer ≡ get_or v.records t buffer
     → k ≡ shape.refs + shape.nums → length (take k buffer) ≡ k
-front_size end v t o search shape buffer k may at is same =
+front_size {end} {v} {t} {o} {search} {shape} {buffer} {k} may at is same =
     length-take-le k buffer
     (omega (arith, same, rest_small end v t o search shape may at, buffer_size end v t o buffer may is))
 
 -- and where the read did not fail, those of the Body
-pub rest_read : (end : ℕ) (image : Option (List ℕ)) (v : View) (t : ℕ) (o : Op) (search : Search) (shape : Shape)
-    (buffer words : List ℕ) (k : ℕ) {A E : Type 0} (result : Result A E) {failed : Bool} → MayAdvance end v t o
-    → stage_of v t ≡ Some (HeadRead search shape) → buffer ≡ get_or v.records t buffer → k ≡ shape.refs + shape.nums
+pub rest_read : {end : ℕ} (image : Option (List ℕ)) {v : View} {t : ℕ} {o : Op} {search : Search} {shape : Shape}
+    {buffer : List ℕ} (words : List ℕ) {k : ℕ} {A E : Type 0} (result : Result A E) {failed : Bool}
+    → MayAdvance end v t o → stage_of v t ≡ Some (HeadRead search shape) → buffer ≡ get_or v.records t buffer
+    → k ≡ shape.refs + shape.nums
     → OnOk result (IfSome image (λ told. words ≡ words_at told (search.home + 2) (length (take k buffer))))
     → is_err result ≡ failed → failed ≡ false → ReadsRest end image v t o search shape words
-rest_read end image v t o search shape buffer words k result may at is same read none runs = record {
+rest_read image {search} {buffer} words {k} result may at is same read none runs = record {
   may = may;
   at = at;
   read = subst (λ (n : ℕ). IfSome image (λ told. words ≡ words_at told (search.home + 2) n))
-      (front_size end v t o search shape buffer k may at is same ∙ same)
+      (front_size may at is same ∙ same)
       (ok_of result (IfSome image (λ told. words ≡ words_at told (search.home + 2) (length (take k buffer)))) read none
       runs);
 }
@@ -514,15 +513,13 @@ module _ (end : ℕ) (image : Option (List ℕ)) (v : View) (t : ℕ) (o : Op) (
         let asks : Asks disk v t o = asks_so disk ends in
         let each : length v.records ≡ length v.held = asks.stands.buffers in
         let within : t < length v.held = asks.thread in
-        read_advances (TellsDisk image disk) disk v (set v.records t written) t o (BodyRead search shape) asks
-        (from_head disk v t search shape is.at).still
-        (rest_kept disk v t written asks.stands within begins.size)
+        read_advances (TellsDisk image disk) (set v.records t written) (BodyRead search shape) asks
+        (from_head disk v t search shape is.at).still (rest_kept disk v t written asks.stands within begins.size)
         (subst (λ (g : Option Stage). Next (maps v) (state disk v) (register_in v.held t) v.stop o g
         (BodyRead search shape)) (sym is.at) refl)
         (λ told tell stands. subst (λ (rest : List ℕ). Known told (maps v) (state disk v) rest (BodyRead search shape))
         (sym (get_or-set_same v.records t written [] (omega arith)))
-        (known_whole disk ends told tell stands written begins slots))
-        refl;
+        (known_whole disk ends told tell stands written begins slots)) refl;
   }
 
   -- or it ends there
@@ -533,7 +530,7 @@ module _ (end : ℕ) (image : Option (List ℕ)) (v : View) (t : ℕ) (o : Op) (
         let asks : Asks disk v t o = asks_so disk ends in
         let from : FromDisk disk v t damaged.home =
         subst (FromDisk disk v t) (sym bad.home_is) (from_head disk v t search shape is.at) in
-        lose_advances (TellsDisk image disk) disk v t damaged.home o (refusal.Damaged damaged) asks from (record {
+        lose_advances (TellsDisk image disk) (refusal.Damaged damaged) asks from (record {
           lost = lost disk v t damaged.home o asks from;
           untold = λ tells stands. rest_sound disk ends damaged bad tells stands;
         });

@@ -49,5 +49,5 @@ pause_advances disk v t o pause asks still pauses =
             (record { names = refl; words = refl; calls = refl; below = omega arith; within = inl (omega arith) });
       };
     } in
-    advances disk v w t o (Refused (Pause pause)) asks made refl
+    advances (Refused (Pause pause)) asks made refl
     (subst (Applies (maps v) (maps w) (state disk v) (state disk w)) (sym still) (refl, same_words disk v)) pauses tt

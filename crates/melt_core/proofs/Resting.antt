@@ -230,11 +230,11 @@ new_view space words globals forward threads capacity = record {
   stop = false;
 }
 
-stands_new : (told : Bool) (space : SpaceWords) (words globals forward threads capacity : ℕ) → length space.list ≡ words
-    → space.used ≡ 0 → words < 2 ^ 30 → threads ≤ 8 → Standing told no_homes_on
-    (new_view space words globals forward threads capacity)
+stands_new : (told : Bool) (space : SpaceWords) {words : ℕ} (globals forward threads capacity : ℕ)
+    → length space.list ≡ words → space.used ≡ 0 → words < 2 ^ 30 → threads ≤ 8
+    → Standing told no_homes_on (new_view space words globals forward threads capacity)
 unfolding new_view
-stands_new told space words globals forward threads capacity size unused small few =
+stands_new told space {words} globals forward threads capacity size unused small few =
     let v : View = new_view space words globals forward threads capacity in
     let still : IsQuiet v = λ t. get_or_replicate threads t None in
     let gone : (t : ℕ) (c : Call) → call_of v t ≡ Some c → ⊥ =
@@ -281,18 +281,17 @@ stands_new told space words globals forward threads capacity size unused small f
     }
 
 -- before the first event
-pub start_at_rest : (told : Bool) (words globals forward threads entries : ℕ) (heap : Heap) (rest : Rest)
+pub start_at_rest : (told : Bool) {words globals forward threads entries : ℕ} {heap : Heap} {rest : Rest}
     → words < 2 ^ 30 → threads ≤ 8 → IsNewHeap words globals forward true heap → IsNewRest threads entries rest
     → AtRest told no_homes_on heap rest
 unfolding new_view
-start_at_rest told words globals forward threads entries heap rest small few is_new is_rest =
+start_at_rest told {words} {globals} {forward} {threads} {heap} {rest} small few is_new is_rest =
     let same : new_view heap.space words globals forward threads (vec_capacity rest.log) ≡ view (core_of heap rest) = cc
     in
     record {
       stands = subst (Standing told no_homes_on) same
-          (stands_new told heap.space words globals forward threads (vec_capacity rest.log) is_new.space.size
-          is_new.space.used
-          small few);
+          (stands_new told heap.space globals forward threads (vec_capacity rest.log) is_new.space.size
+          is_new.space.used small few);
       quiet = λ t. ap (λ (calls : List (Option Call)). get_or calls t None) is_rest.calls
           ∙ get_or_replicate threads t None;
     }

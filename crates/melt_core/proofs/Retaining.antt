@@ -27,10 +27,10 @@ use Rattle.melt_core.proofs.Staying.{hold_stays}
 use Rattle.melt_core.proofs.Words.{same_words}
 
 -- the words of others are apart from those of the call
-pub others_apart : (disk : OnDisk) (v : View) (t : ℕ) (o : Op) (stage : Stage) → Asks disk v t o
-    → stage_of v t ≡ Some stage
-    → (u : ℕ) (d : Call) → u ≢ t → call_of v u ≡ Some d → Apart (region_of stage) (region_of d.stage)
-others_apart disk v t o stage asks at u d differ is =
+pub others_apart : {disk : OnDisk} {v : View} {t : ℕ} {o : Op} {stage : Stage} → Asks disk v t o
+    → stage_of v t ≡ Some stage → (u : ℕ) (d : Call) → u ≢ t → call_of v u ≡ Some d
+    → Apart (region_of stage) (region_of d.stage)
+others_apart {disk} {v} {t} {o} {stage} asks at u d differ is =
     asks.stands.apart t u (record { op = o; stage = stage }) d (λ same. differ (sym same))
     (call_at disk v t o stage asks at) is
 
@@ -54,10 +54,10 @@ pub record Retains (disk : OnDisk) (v : View) (space : SpaceWords) (t : ℕ) (o 
   pub known : (told : Bool) → Standing told disk v
       → Known told (maps v) (state disk (retained v space t o after)) (rest_of v t) after
 
-pub retains : (disk : OnDisk) (v : View) (space : SpaceWords) (t : ℕ) (o : Op) (before after : Stage) (mine : Region)
+pub retains : {disk : OnDisk} {v : View} {space : SpaceWords} {t : ℕ} {o : Op} {before after : Stage} {mine : Region}
     → Asks disk v t o → Retains disk v space t o before after mine
     → AdvancesOver disk v (retained v space t o after) t o Going
-retains disk v space t o before after mine asks is =
+retains {disk} {v} {space} {t} {o} {before} {after} {mine} asks is =
     let s : Standing false disk v = asks.stands in
     let call : Call = record { op = o; stage = after } in
     let w : View = retained v space t o after in
@@ -71,7 +71,7 @@ retains disk v space t o before after mine asks is =
     let claimed : claimed_in (Some call) ≡ claimed_in (call_of v t) =
     ap (λ (r : Region). r.words) is.keeps ∙ sym (ap claimed_in (call_at disk v t o before asks is.at)) in
     let apart : (u : ℕ) (d : Call) → u ≢ t → call_of v u ≡ Some d → Apart (region_of before) (region_of d.stage) =
-    others_apart disk v t o before asks is.at in
+    others_apart asks is.at in
     let made : Made disk v w t (cleared_by (stage_of v t)) = record {
       mine = mine;
       act = None;
@@ -90,7 +90,7 @@ retains disk v space t o before after mine asks is =
         known = λ c same. subst (λ (d : Call). Known told (maps w) (state disk w) (rest_of v t) d.stage)
             (let e : call ≡ c = cc in e) (is.known told stands);
         fits = λ c same. subst (λ (d : Call). Fits (register_in v.held t) d.op d.stage) (let e : call ≡ c = cc in e)
-            (next_fits (maps v) (state disk v) (register_in v.held t) v.stop o (call_of v t) after asks.continued
+            (next_fits (maps v) (state disk v) (register_in v.held t) v.stop o after asks.continued
             (λ d there. s.fits t d there) next);
         mine_is = λ u d differ other. elim is.mine_is [
           | inl none ↦ subst (λ (r : Region). Apart r (region_of d.stage)) (sym none)
@@ -110,11 +110,9 @@ retains disk v space t o before after mine asks is =
             });
       };
     } in
-    advances disk v w t o Going asks made refl
-    (subst (λ (g : Option Stage). Applies (maps v) (maps w) (state disk v) (state disk w)
+    advances Going asks made refl (subst (λ (g : Option Stage). Applies (maps v) (maps w) (state disk v) (state disk w)
     (change_of (state disk v) (register_in v.held t) (rest_of v t) g)) (sym is.at) is.applies)
-    (goes disk v w t o after asks next refl (record { history = refl; registers = refl; values = refl }) refl)
-    tt
+    (goes disk v w t o after asks next refl (record { history = refl; registers = refl; values = refl }) refl) tt
 
 -- no word that threads share changes
 pub still_retains : (disk : OnDisk) (v : View) (t : ℕ) (o : Op) (before after : Stage) → Asks disk v t o
@@ -125,7 +123,7 @@ pub still_retains : (disk : OnDisk) (v : View) (t : ℕ) (o : Op) (before after 
     → ((told : Bool) → Standing told disk v → Known told (maps v) (state disk v) (rest_of v t) after)
     → AdvancesOver disk v (with_call v t (Some (record { op = o; stage = after }))) t o Going
 still_retains disk v t o before after asks at keeps no_clear applies next known =
-    retains disk v v.space t o before after no_region asks (record {
+    retains asks (record {
       at = at;
       keeps = keeps;
       mine_is = inl refl;

@@ -30,7 +30,7 @@ use Rattle.melt_core.specs.Stages.{LoadsAt}
 use Rattle.melt_core.specs.Advances.{InBounds, Sets}
 use Rattle.melt_core.specs.Views.{View, Standing, maps, stage_of, state, values_of, registers_in, held_value}
 use Rattle.melt_core.specs.StaleBits.{Passed, HasNoBit, Watched, sight}
-use Rattle.melt_core.proofs.Answers.{part_there, shape_of}
+use Rattle.melt_core.proofs.Answers.{part_there}
 use Rattle.melt_core.proofs.Objects.{object_shape, value_named}
 use Rattle.melt_core.proofs.Tasks.{load_is, gload_is}
 use Rattle.melt_core.proofs.Values.{value_held}
@@ -151,11 +151,11 @@ held_object disk v t r n s is =
     ]
 
 -- The object that the entry of an answered call gives is in a register after the event, so it has no stale bit.
-pub given_held : (disk : OnDisk) (v w : View) (t globals n : ℕ) (o : Op) (r : Reply) (act : Act) → Standing true disk w
-    → InBounds globals o → length (registers_in v.held t) ≡ 16
+pub given_held : {disk : OnDisk} (v : View) {w : View} {t : ℕ} (globals : ℕ) {n : ℕ} {o : Op} {r : Reply} {act : Act}
+    → Standing true disk w → InBounds globals o → length (registers_in v.held t) ≡ 16
     → (is : Answers t v.log (values_of v t) o r w.log (values_of w t))
     → (does v.log (values_of v t) o is.value).act ≡ Some act → given v.log act ≡ Some (Ref n) → Holding w n
-given_held disk v w t globals n o r act s bounds sixteen is does_it gives_it =
+given_held {disk} v {w} {t} globals {n} {o} {act} s bounds sixteen is does_it gives_it =
     let rs : List Value = values_of v t in
     let d : Deed = does v.log rs o is.value in
     let value : is.value ≡ Ref n =
@@ -170,10 +170,10 @@ given_held disk v w t globals n o r act s bounds sixteen is does_it gives_it =
     ∙ (get_or-set_same rs set.0 is.value Nil within ∙ value))
 
 -- the entry of a load reads the slot of its place
-loads_read : (disk : OnDisk) (v : View) (t : ℕ) (o : Op) (place : Place) (dst : ℕ) (at : Slot) (x : Value)
+loads_read : {disk : OnDisk} {v : View} (t : ℕ) (o : Op) (place : Place) (dst : ℕ) (at : Slot) (x : Value)
     → Standing true disk v → LoadsAt (register_in v.held t) o place dst → IsPlace (maps v) (state disk v) place
     → SlotAt (maps v) place at → (does v.log (values_of v t) o x).act ≡ Some (Read at x)
-loads_read disk v t o (Field object i) dst at x s loads there is =
+loads_read {disk} {v} t o (Field object i) dst at x s loads there is =
     let rs : List Value = values_of v t in
     let reads : ℕ → Deed = λ m. record {
       act = Some (Read (slot.Field m i) x);
@@ -181,26 +181,24 @@ loads_read disk v t o (Field object i) dst at x s loads there is =
       registers = slice_set rs dst x;
     } in
     let part : on_part (λ (z : Shape). z.refs) v.log rs (value_in rs loads.0) i reads ≡ reads is.0 =
-    part_there (λ (z : Shape). z.refs) v.log rs (value_in rs loads.0) is.0 i (shape_of there.0) reads
-    (value_named v t loads.0 object is.0 loads.2 is.1) (object_shape disk v object is.0 there.0 s there.1 is.1)
-    there.2 in
+    part_there (λ (z : Shape). z.refs) v.log rs i reads (value_named v t loads.0 object is.0 loads.2 is.1)
+    (object_shape disk v object is.0 there.0 s there.1 is.1) there.2 in
     ap (λ (p : Op). (does v.log rs p x).act) (load_is o loads.0 dst i loads.1)
     ∙ (ap (λ (d : Deed). d.act) part ∙ ap (λ (y : Slot). Some (Read y x)) (sym is.2))
-loads_read disk v t o (Global g) dst at x s loads there is =
+loads_read {disk} {v} t o (Global g) dst at x s loads there is =
     ap (λ (p : Op). (does v.log (values_of v t) p x).act) (gload_is o dst g loads)
     ∙ ap (λ (y : Slot). Some (Read y x)) (sym is)
 
-pub load_passes : (disk : OnDisk) (v w : View) (q t target dst n : ℕ) (o : Op) (r : Reply) (place : Place)
-    (found : words.Ref) → Standing true disk v → HasLooked (maps v) (state disk v) place found
+pub load_passes : {disk : OnDisk} {v : View} (w : View) {q t target : ℕ} (dst : ℕ) {n : ℕ} {o : Op} {r : Reply}
+    {place : Place} {found : words.Ref} → Standing true disk v → HasLooked (maps v) (state disk v) place found
     → Leads true (maps v) found target → LoadsAt (register_in v.held t) o place dst
     → Answers t v.log (values_of v t) o r w.log (values_of w t)
     → Watched q (sight v) t (record { place = place; found = found }) → (maps v).address target ≡ Some n
     → Passed w.log q n
-load_passes disk v w q t target dst n o r place found s looked leads loads is watched named =
+load_passes {v} w {q} {t} {target} dst {n} {o} {place} s looked leads loads is watched named =
     let act : (does v.log (values_of v t) o is.value).act ≡ Some (Read watched.slot is.value) =
-    loads_read disk v t o place dst watched.slot is.value s loads looked.at watched.at in
+    loads_read t o place dst watched.slot is.value s loads looked.at watched.at in
     let log : w.log ≡ v.log ++ entry t (Read watched.slot is.value) ∷ [] =
     is.history ∙ ap (with_entry t v.log) act in
     subst (λ (h : List Entry). Passed h q n) (sym log)
-    (look_passes q t target n (sight v) (record { place = place; found = found }) is.value (leads.same refl) named
-    watched)
+    (look_passes target is.value (leads.same refl) named watched)

@@ -117,7 +117,7 @@ module _ (disk : OnDisk) (u v w : View) (t : ℕ) (o : Op) (result : StepResult)
     look_begins look at word still =
         let kept : Applies (maps v) (maps w) (state disk v) (state disk w) Nothing =
         subst (Applies (maps v) (maps w) (state disk v) (state disk w)) (still (rest_of v t)) is.changes in
-        watch_begins w.log (maps w) (state disk w) (stage_of w) (length u.log) t look (later.holds.tells refl)
+        watch_begins (stage_of w) (length u.log) t look (later.holds.tells refl)
         (known_look true (maps w) (state disk w) (rest_of w t) goes.stage look at known_next)
         (same_word look.place kept.1 ∙ word) log_stays
 
@@ -127,8 +127,8 @@ module _ (disk : OnDisk) (u v w : View) (t : ℕ) (o : Op) (result : StepResult)
         subst (λ (g : Option Look). IfSome g (Watched (length u.log) (sight w) t)) (sym nothing) tt
     look_later (same kept) =
         subst (λ (g : Option Look). IfSome g (Watched (length u.log) (sight w) t)) (sym kept)
-        (look_stays (length u.log) t t None (sight v) (sight w) (look_of (stage_of v t)) goes.own.history
-        is.evolves.names is.evolves.homes (inr refl) (tied.watched t))
+        (look_stays (length u.log) t t (sight v) (sight w) (look_of (stage_of v t)) goes.own.history is.evolves.names
+        is.evolves.homes (inr refl) (tied.watched t))
     look_later (looks look at word still) =
         subst (λ (g : Option Look). IfSome g (Watched (length u.log) (sight w) t)) (sym at)
         (look_begins look at word still)
@@ -149,7 +149,7 @@ module _ (disk : OnDisk) (u v w : View) (t : ℕ) (o : Op) (result : StepResult)
           goes.next));
       appears = λ a n at named.
           let waits : pending (Some goes.stage) ≡ Some a =
-          goes_appears (maps v) (state disk v) (register_in v.held t) v.stop o (stage_of v t) goes.stage a goes.next
+          goes_appears (maps v) (state disk v) (register_in v.held t) v.stop o (stage_of v t) goes.stage goes.next
           at in (
             goes_fresh a n waits named,
             inr (record {
@@ -160,10 +160,10 @@ module _ (disk : OnDisk) (u v w : View) (t : ℕ) (o : Op) (result : StepResult)
             }),
           );
       clears = λ a some clears. ap pending at_next
-          ∙ goes_clears (maps v) (state disk v) (register_in v.held t) v.stop o (stage_of v t) goes.stage a goes.next
-          some clears;
+          ∙ goes_clears (maps v) (state disk v) (register_in v.held t) v.stop o (stage_of v t) goes.stage goes.next some
+          clears;
       exchanges = λ a n waits named. absurd (goes_not_pending (maps v) (state disk v) (register_in v.held t) v.stop o
-          (stage_of v t) goes.stage a goes.next waits);
+          (stage_of v t) goes.stage goes.next waits);
       gives = λ n x has gives. absurd (cc);
     }
 
@@ -205,8 +205,7 @@ module _ (disk : OnDisk) (u v w : View) (t : ℕ) (o : Op) (result : StepResult)
 
     holds : (n : ℕ) (x : Act) → (does v.log (values_of v t) o answers.value).act ≡ Some x
         → given v.log x ≡ Some (value.Ref n) → Holding w n
-    holds n x has gives = given_held disk v w t (length v.globals) n o reply x later asks.bounds sixteen answers has
-        gives
+    holds n x has gives = given_held v (length v.globals) later asks.bounds sixteen answers has gives
 
     -- the object that was published is the one that the entry made
     publishes : (address stored dst a n : ℕ) (shape : Shape)
@@ -278,8 +277,7 @@ module _ (disk : OnDisk) (u v w : View) (t : ℕ) (o : Op) (result : StepResult)
         known_so true disk v t o stage asks at.3 s in
         let watched : Watched (length u.log) (sight v) t (record { place = at.0; found = at.1 }) =
         subst (λ (g : Option Stage). IfSome (look_of g) (Watched (length u.log) (sight v) t)) at.3 (tied.watched t) in
-        load_passes disk v w (length u.log) t a at.2 n o reply at.0 at.1 s known.0 known.1
-        (fits_at disk v t o stage asks at.3) answers watched named
+        load_passes w at.2 s known.0 known.1 (fits_at disk v t o stage asks at.3) answers watched named
 
     is_answered : Outcomes disk (length u.log) t (does v.log (values_of v t) o answers.value).act v w
     is_answered = record {
@@ -295,18 +293,17 @@ module _ (disk : OnDisk) (u v w : View) (t : ℕ) (o : Op) (result : StepResult)
     answered = tied_by (does v.log (values_of v t) o answers.value).act tied is_answered
 
 -- by its outcome
-event_tied : (disk : OnDisk) (u v w : View) (t : ℕ) (o : Op) (result : StepResult) → Standing true disk v
+event_tied : {disk : OnDisk} (u : View) {v w : View} {t : ℕ} {o : Op} (result : StepResult) → Standing true disk v
     → Asks disk v t o → HasRegisters v t → AdvancesOver disk v w t o result → TiedTo u v → TiedTo u w
-event_tied disk u v w t o Going s asks sixteen is tied =
+event_tied {disk} u {v} {w} {t} {o} Going s asks sixteen is tied =
     tied_by disk u v w t o Going s is None tied (goes_on disk u v w t o Going s is tied is.outcome)
-event_tied disk u v w t o (Answered reply) s asks sixteen is tied =
+event_tied {disk} u {v} {w} {t} {o} (Answered reply) s asks sixteen is tied =
     answered disk u v w t o (Answered reply) s is reply asks sixteen tied is.outcome
-event_tied disk u v w t o (Refused r) s asks sixteen is tied =
+event_tied {disk} u {v} {w} {t} {o} (Refused r) s asks sixteen is tied =
     tied_by disk u v w t o (Refused r) s is None tied (refuses disk u v w t o (Refused r) s is r is.outcome)
 
 pub advances_tied : (u : View) (image : Option (List ℕ)) (disk : OnDisk) (v w : View) (t : ℕ) (o : Op)
     (result : StepResult) → Standing true disk v → MayMove v t o → HasRegisters v t → TellsDisk image disk
     → AdvancesWhere (TellsDisk image disk) disk v w t o result → TiedTo u v → TiedTo u w
 advances_tied u image disk v w t o result s may sixteen told is tied =
-    event_tied disk u v w t o result s (asks_over v t o may disk (stands_untold true disk v s)) sixteen
-    (as_told_by (TellsDisk image disk) disk v w t o result told is) tied
+    event_tied u result s (asks_over v t o may disk (stands_untold true disk v s)) sixteen (as_told_by told is) tied

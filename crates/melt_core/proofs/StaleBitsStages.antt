@@ -37,19 +37,19 @@ AppearsAt s stage a = ⊥
 same_name : (maps new : Maps) (a n : ℕ) → new ≡ maps → new.address a ≡ Some n → maps.address a ≡ Some n
 same_name maps new a n same named = subst (λ (m : Maps). m.address a ≡ Some n) same named
 
-applied_name : (maps new : Maps) (s t : State) (c : Change) (a n : ℕ) → Applies maps new s t c
+applied_name : (maps new : Maps) (s t : State) (c : Change) (a : ℕ) {n : ℕ} → Applies maps new s t c
     → new.address a ≡ Some n → (maps.address a ≡ Some n) ⊎ Appears s c a
-applied_name maps new s t Nothing a n is named = inl (same_name maps new a n is.0 named)
-applied_name maps new s t (Word at word) a n is named = inl (same_name maps new a n is.0 named)
-applied_name maps new s t (SetGlobal g word) a n is named = inl (same_name maps new a n is.0 named)
-applied_name maps new s t (Free free) a n is named = inl (same_name maps new a n is.0 named)
-applied_name maps new s t (Clear address) a n is named = inl (same_name maps new a n is.0 named)
-applied_name maps new s t (Untag place found target) a n is named = inl (same_name maps new a n is.0 named)
-applied_name maps new s t (Publish address shape) a n is named = elim (eqb_tells a address) [
+applied_name maps new s t Nothing a {n} is named = inl (same_name maps new a n is.0 named)
+applied_name maps new s t (Word at word) a {n} is named = inl (same_name maps new a n is.0 named)
+applied_name maps new s t (SetGlobal g word) a {n} is named = inl (same_name maps new a n is.0 named)
+applied_name maps new s t (Free free) a {n} is named = inl (same_name maps new a n is.0 named)
+applied_name maps new s t (Clear address) a {n} is named = inl (same_name maps new a n is.0 named)
+applied_name maps new s t (Untag place found target) a {n} is named = inl (same_name maps new a n is.0 named)
+applied_name maps new s t (Publish address shape) a {n} is named = elim (eqb_tells a address) [
   | inl here ↦ inr here.1
   | inr other ↦ inl (sym (is.1.1.others a other.1) ∙ named)
 ]
-applied_name maps new s t (Commit x) a n is named = elim (eqb_tells (next_forward s x.search) 0) [
+applied_name maps new s t (Commit x) a {n} is named = elim (eqb_tells (next_forward s x.search) 0) [
   | inr filled ↦ inl (same_name maps new a n (is.1 filled.1).0 named)
   | inl empty ↦ elim (eqb_tells a x.address) [
     | inl here ↦ inr (empty.1, here.1)
@@ -104,7 +104,7 @@ module _ (s : State) (register : ℕ → ℕ) (rest : List ℕ) where
       → Applies maps new s t (change_of s register rest stage) → new.address a ≡ Some n
       → (maps.address a ≡ Some n) ⊎ AppearsAt s stage a
   named_before maps new t stage a n is named =
-      elim (applied_name maps new s t (change_of s register rest stage) a n is named) [
+      elim (applied_name maps new s t (change_of s register rest stage) a is named) [
         | inl old ↦ inl old
         | inr appears ↦ inr (appears_at stage a appears)
       ]
@@ -118,27 +118,26 @@ filled word home address sends empty =
 
 -- A call that goes on is about to read the slot of the object that it brought into use,
 pub goes_appears : (maps : Maps) (s : State) (register : ℕ → ℕ) (stop : Bool) (o : Op) (stage : Option Stage)
-    (next : Stage) (a : ℕ) → Next maps s register stop o stage next → AppearsAt s stage a
-    → pending (Some next) ≡ Some a
-goes_appears maps s register stop o None next a is at = absurd at
-goes_appears maps s register stop o (Some (Claimed address shape stored dst)) next a is at =
+    (next : Stage) {a : ℕ} → Next maps s register stop o stage next → AppearsAt s stage a → pending (Some next) ≡ Some a
+goes_appears maps s register stop o None next is at = absurd at
+goes_appears maps s register stop o (Some (Claimed address shape stored dst)) next is at =
     absurd (let more : stored + 1 < cost_of shape = is.0 in omega (arith, more, at.0))
-goes_appears maps s register stop o (Some (Copied x)) next a is at = elim is.1 [
+goes_appears maps s register stop o (Some (Copied x)) next is at = elim is.1 [
   | inl here ↦ absurd (filled (next_forward s x.search) x.search.home here.0 here.1 at.0)
   | inr other ↦ elim other [
     | inl none ↦ ap (λ (g : Stage). pending (Some g)) none.1 ∙ ap Some (sym at.1)
     | inr sent ↦ absurd (filled (next_forward s x.search) sent.0.0 sent.0.1 sent.0.3 at.0)
   ]
 ]
-goes_appears maps s register stop o stage next a is at = absurd at
+goes_appears maps s register stop o stage next is at = absurd at
 
 -- and that of the object that it cleared,
 pub goes_clears : (maps : Maps) (s : State) (register : ℕ → ℕ) (stop : Bool) (o : Op) (stage : Option Stage)
-    (next : Stage) (a : ℕ) → Next maps s register stop o stage next → a ≢ 0 → cleared_by stage ≡ a
+    (next : Stage) {a : ℕ} → Next maps s register stop o stage next → a ≢ 0 → cleared_by stage ≡ a
     → pending (Some next) ≡ Some a
-goes_clears maps s register stop o (Some (Looked place found target dst)) next a is some clears =
+goes_clears maps s register stop o (Some (Looked place found target dst)) next is some clears =
     ap (λ (g : Stage). pending (Some g)) is ∙ ap Some clears
-goes_clears maps s register stop o stage next a is some clears = absurd (some (sym clears))
+goes_clears maps s register stop o stage next is some clears = absurd (some (sym clears))
 
 -- by the last event of the call.
 pub pending_is : (stage : Option Stage) (a : ℕ) → pending stage ≡ Some a
@@ -148,8 +147,8 @@ pending_is (Some (Cleared place found target dst)) a is =
 pending_is stage a is = absurd (cc)
 
 pub goes_not_pending : (maps : Maps) (s : State) (register : ℕ → ℕ) (stop : Bool) (o : Op) (stage : Option Stage)
-    (next : Stage) (a : ℕ) → Next maps s register stop o stage next → pending stage ≡ Some a → ⊥
-goes_not_pending maps s register stop o stage next a is waits =
+    (next : Stage) {a : ℕ} → Next maps s register stop o stage next → pending stage ≡ Some a → ⊥
+goes_not_pending maps s register stop o stage next {a} is waits =
     let at = pending_is stage a waits in
     subst (λ (g : Option Stage). Next maps s register stop o g next) at.3 is
 

@@ -91,11 +91,11 @@ module _ (old new : Maps) (names : (a n : ℕ) → old.address a ≡ Some n → 
   value_stays homes (Disk home) v is = ap (option_map value.Ref) (homes home) ∙ is
 
 -- no entry of the thread came in between
-behind_stays : (t x k moment : ℕ) (h : List Entry) (act : Option Act) (e : Entry) → (x ≢ t) ⊎ (act ≡ None)
+behind_stays : (t : ℕ) {x : ℕ} (k moment : ℕ) (h : List Entry) (act : Option Act) {e : Entry} → (x ≢ t) ⊎ (act ≡ None)
     → ((j : ℕ) (y : Entry) → slice_get h j ≡ Some y → y.thread ≡ x → j < moment)
     → slice_get (with_entry t h act) k ≡ Some e → e.thread ≡ x → k < moment
-behind_stays t x k moment h None e other behind at own = behind k e at own
-behind_stays t x k moment h (Some act) e other behind at own = elim (last_place h (entry t act) k e at) [
+behind_stays t k moment h None {e} other behind at own = behind k e at own
+behind_stays t k moment h (Some act) {e} other behind at own = elim (last_place h (entry t act) k e at) [
   | inl old ↦ behind k e old.1 own
   | inr new ↦ elim other [
     | inl differs ↦ absurd (differs (sym own ∙ sym (ap (λ (y : Entry). y.thread) new.1)))
@@ -109,11 +109,11 @@ taken_stays t moment h None to = refl
 taken_stays t moment h (Some act) to = take-append-le moment h (entry t act ∷ []) to
 
 -- what was watched for a thread stays so, where the thread has no entry
-watched_stays : (q t x : ℕ) (act : Option Act) (s w : Sight) (look : Look) → w.log ≡ with_entry t s.log act
-    → ((a n : ℕ) → s.maps.address a ≡ Some n → w.maps.address a ≡ Some n)
+watched_stays : {q : ℕ} (t : ℕ) {x : ℕ} (act : Option Act) {s : Sight} (w : Sight) {look : Look}
+    → w.log ≡ with_entry t s.log act → ((a n : ℕ) → s.maps.address a ≡ Some n → w.maps.address a ≡ Some n)
     → ((home : ℕ) → w.maps.home home ≡ s.maps.home home) → (x ≢ t) ⊎ (act ≡ None) → Watched q s x look
     → Watched q w x look
-watched_stays q t x act s w look log names homes other is =
+watched_stays t act {s} w {look} log names homes other is =
     let to : is.moment ≤ length s.log = is.to in
     record {
       number = is.number;
@@ -123,19 +123,19 @@ watched_stays q t x act s w look log names homes other is =
       moment = is.moment;
       from = is.from;
       to = omega (arith, to, longer t s.log act, ap length log);
-      behind = λ k e at own. behind_stays t x k is.moment s.log act e other is.behind
+      behind = λ k e at own. behind_stays t k is.moment s.log act other is.behind
           (subst (λ (h : List Entry). slice_get h k ≡ Some e) log at) own;
       held = ap (λ (h : List Entry). last (take is.moment h) is.slot) log
           ∙ (ap (λ (h : List Entry). last h is.slot) (taken_stays t is.moment s.log act to) ∙ is.held);
     }
 
-pub look_stays : (q t x : ℕ) (act : Option Act) (s w : Sight) (look : Option Look) → w.log ≡ with_entry t s.log act
+pub look_stays : (q t x : ℕ) {act : Option Act} (s w : Sight) (look : Option Look) → w.log ≡ with_entry t s.log act
     → ((a n : ℕ) → s.maps.address a ≡ Some n → w.maps.address a ≡ Some n)
     → ((home : ℕ) → w.maps.home home ≡ s.maps.home home) → (x ≢ t) ⊎ (act ≡ None) → IfSome look (Watched q s x)
     → IfSome look (Watched q w x)
-look_stays q t x act s w None log names homes other is = tt
-look_stays q t x act s w (Some look) log names homes other is =
-    watched_stays q t x act s w look log names homes other is
+look_stays q t x {act} s w None log names homes other is = tt
+look_stays q t x {act} s w (Some look) log names homes other is =
+    watched_stays t act w log names homes other is
 
 module _ (t : ℕ) (act : Option Act) (u s w : Sight) (touches : Touches (length u.log) t act s w) (tied : Tied u s) where
   grown : (n : ℕ) → Passed s.log (length u.log) n → Passed w.log (length u.log) n
@@ -149,7 +149,7 @@ module _ (t : ℕ) (act : Option Act) (u s w : Sight) (touches : Touches (length
     | inr other ↦
         let stage = touches.others x other.1 in
         subst (λ (g : Option Look). IfSome g (Watched (length u.log) w x)) (ap look_of (sym stage))
-        (look_stays (length u.log) t x act s w (look_of (s.stage x)) touches.log touches.names touches.homes
+        (look_stays (length u.log) t x {act = act} s w (look_of (s.stage x)) touches.log touches.names touches.homes
         (inl other.1) (tied.watched x))
   ]
 

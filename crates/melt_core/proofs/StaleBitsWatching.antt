@@ -49,10 +49,10 @@ tag_object m (word.Stale a) v tag is = named_object (m.address a) v is
 tag_object m (word.Disk home) v tag is = named_object (m.home home) v is
 
 -- So a call that finds one watches the object from then on.
-pub watch_begins : (h : List Entry) (m : Maps) (s : State) (stage : ℕ → Option Stage) (q t : ℕ) (look : Look)
+pub watch_begins : {h : List Entry} {m : Maps} {s : State} (stage : ℕ → Option Stage) (q t : ℕ) (look : Look)
     → Tells h m s → HasLooked m s look.place look.found → word_in s look.place ≡ ref_word look.found → q ≤ length h
     → Watched q (sight_of h m s stage) t look
-watch_begins h m s stage q t look tells looked word_is since =
+watch_begins {h} {m} {s} stage q t look tells looked word_is since =
     let at = place_slot m s look.place looked.at in
     let value : value_of m look.found ≡ Some (last h at.0) =
     found_stands h m s look.place at.0 look.found tells looked.at at.1 looked.in_range word_is in
@@ -90,10 +90,10 @@ read_passes q t s look x w =
     })
 
 -- which is the object at the address to which the reference leads
-pub look_passes : (q t target n : ℕ) (s : Sight) (look : Look) (x : Value)
+pub look_passes : {q t : ℕ} (target : ℕ) {n : ℕ} {s : Sight} {look : Look} (x : Value)
     → value_of s.maps look.found ≡ value_of s.maps (word.Clean target) → s.maps.address target ≡ Some n
     → (w : Watched q s t look) → Passed (s.log ++ entry t (Read w.slot x) ∷ []) q n
-look_passes q t target n s look x leads named w =
+look_passes {q} {t} target {n} {s} {look} x leads named w =
     let stands : value_of s.maps look.found ≡ Some (Ref n) = leads ∙ ap (option_map Ref) named in
     let value : Ref w.number ≡ Ref n = same_Some (Ref w.number) (Ref n) (sym w.stands_for ∙ stands) in
     let same : w.number ≡ n = cc in

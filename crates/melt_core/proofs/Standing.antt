@@ -124,9 +124,9 @@ call_there v w t u call sets differ = ap (λ (cs : List (Option Call)). get_or c
     ∙ get_or-set_other v.calls t u call None differ
 
 -- behind such an event all stands
-pub stands_behind : (disk : OnDisk) (told : Bool) (v w : View) (t : ℕ) (mine : Region) (cleared : ℕ) (act : Option Act)
-    (after : Option Call) → Standing told disk v → Happens disk told v w t mine cleared act after → Standing told disk w
-stands_behind disk told v w t mine cleared act after s e =
+pub stands_behind : {disk : OnDisk} {told : Bool} {v w : View} {t : ℕ} {mine : Region} {cleared : ℕ} {act : Option Act}
+    {after : Option Call} → Standing told disk v → Happens disk told v w t mine cleared act after → Standing told disk w
+stands_behind {disk} {told} {v} {w} {t} {mine} {cleared} {act} {after} s e =
     let keeps : Keeps told v.log (with_entry t v.log act) (maps v) (maps w) (state disk v) (state disk w) mine cleared =
     event_keeps told t v.log (maps v) (maps w) (state disk v) (state disk w) mine cleared act s.legal s.holds e.event in
     let evolves : Evolves (maps v) (maps w) (state disk v) (state disk w) cleared = keeps.evolves in
@@ -214,13 +214,13 @@ values_stay disk v w u cleared s evolves same =
     (held_value v.names (register_in v.held u r)) (may_value v.names (state disk v) (register_in v.held u r) (may r)))))
 
 -- One event was made.
-pub advances_where : (tells : Type 0) (disk : OnDisk) (v w : View) (t : ℕ) (o : Op) (result : StepResult)
+pub advances_where : {tells : Type 0} {disk : OnDisk} {v w : View} {t : ℕ} {o : Op} (result : StepResult)
     → (asks : Asks disk v t o) → (made : MadeWhere tells disk v w t (cleared_by (stage_of v t)))
     → w.capacity ≡ v.capacity
-    → Applies (maps v) (maps w) (state disk v) (state disk w) (change_of (state disk v) (register_in v.held t)
-    (rest_of v t) (stage_of v t))
+    → Applies (maps v) (maps w) (state disk v) (state disk w)
+    (change_of (state disk v) (register_in v.held t) (rest_of v t) (stage_of v t))
     → StepOutcome tells disk v w t o result → LeavesClean disk v w t o result → AdvancesWhere tells disk v w t o result
-advances_where tells disk v w t o result asks made capacity applies outcome clean =
+advances_where {disk} {v} {w} {t} result asks made capacity applies outcome clean =
     let s : Standing false disk v = asks.stands in
     let cleared : ℕ = cleared_by (stage_of v t) in
     let h : Happens disk false v w t made.mine cleared made.act made.after =
@@ -230,8 +230,7 @@ advances_where tells disk v w t o result asks made capacity applies outcome clea
     s.holds
     h.event).evolves in
     record {
-      keeps = λ told tell stands. stands_behind disk told v w t made.mine cleared made.act made.after stands
-          (made.happens told tell stands);
+      keeps = λ told tell stands. stands_behind stands (made.happens told tell stands);
       changes = applies;
       evolves = evolves;
       others = record {
@@ -250,20 +249,18 @@ advances_where tells disk v w t o result asks made capacity applies outcome clea
       makes = λ tell stands.
           let e : Happens disk true v w t made.mine cleared made.act made.after =
           made.happens true (λ is. tell) stands in
-          keeps_made disk v w t made.mine cleared made.act stands (e.counts refl) evolves.names e.kept.log e.event;
+          keeps_made t stands (e.counts refl) evolves.names e.kept.log e.event;
     }
 
-pub advances : (disk : OnDisk) (v w : View) (t : ℕ) (o : Op) (result : StepResult) → (asks : Asks disk v t o)
+pub advances : {disk : OnDisk} {v w : View} {t : ℕ} {o : Op} (result : StepResult) → (asks : Asks disk v t o)
     → (made : Made disk v w t (cleared_by (stage_of v t))) → w.capacity ≡ v.capacity
-    → Applies (maps v) (maps w) (state disk v) (state disk w) (change_of (state disk v) (register_in v.held t)
-    (rest_of v t) (stage_of v t))
+    → Applies (maps v) (maps w) (state disk v) (state disk w)
+    (change_of (state disk v) (register_in v.held t) (rest_of v t) (stage_of v t))
     → StepOutcome (Unit {0}) disk v w t o result → LeavesClean disk v w t o result → AdvancesOver disk v w t o result
-advances disk v w t o result asks made capacity applies outcome clean =
-    advances_where (Unit {0}) disk v w t o result asks
-    (record {
+advances result asks made capacity applies outcome clean =
+    advances_where result asks (record {
       mine = made.mine;
       act = made.act;
       after = made.after;
       happens = λ told tell stands. made.happens told stands;
-    })
-    capacity applies outcome clean
+    }) capacity applies outcome clean

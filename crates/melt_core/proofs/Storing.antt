@@ -63,11 +63,10 @@ none_stored m s address shape holds owns = record {
 }
 
 -- and now one more is
-pub stored_more : (m : Maps) (s t : State) (r : Region) (holds : ℕ → ℕ) (stored at word : ℕ)
-    → HasStored m s r holds stored
-    → Owns m t r → at ≡ r.at + (stored + 1) → word ≡ holds (stored + 1) → stored + 1 < r.words
-    → WordChanges s t at word → HasStored m t r holds (stored + 1)
-stored_more m s t r holds stored at word has owns place is few changes = record {
+pub stored_more : {m : Maps} {s t : State} {r : Region} {holds : ℕ → ℕ} {stored at word : ℕ}
+    → HasStored m s r holds stored → Owns m t r → at ≡ r.at + (stored + 1) → word ≡ holds (stored + 1)
+    → stored + 1 < r.words → WordChanges s t at word → HasStored m t r holds (stored + 1)
+stored_more {t} {r} {holds} {stored} {at} {word} has owns place is few changes = record {
   owns = owns;
   few = few;
   are = λ k one up_to. elim (cases_eq k (stored + 1)) [
@@ -111,7 +110,7 @@ store_advances disk {v} {space} {t} {place} {word} {o} {before} {after} is =
     let evolves : Evolves (maps v) (maps w) (state disk v) (state disk w) 0 =
     evolves_event false v.log (maps v) (maps w) (state disk v) (state disk w) mine 0 None s.holds.formed
     (event false) in
-    retains disk v space t o before after mine is.asks (record {
+    retains is.asks (record {
       at = is.at;
       keeps = is.keeps;
       mine_is = inr refl;

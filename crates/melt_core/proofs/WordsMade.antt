@@ -150,12 +150,11 @@ module _ (disk : OnDisk) (v w : View) (t : ℕ) (s : Standing true disk v) (now 
       grows_same (v.log ++ e ∷ []) (omega (arith, one, made_more v.log (e ∷ []))) log (in_use_later disk v e s)
 
 -- whatever an event makes comes into use
-pub keeps_made : (disk : OnDisk) (v w : View) (t : ℕ) (mine : Region) (cleared : ℕ) (act : Option Act)
-    → Standing true disk v → Counts w
-    → ((a n : ℕ) → (maps v).address a ≡ Some n → (maps w).address a ≡ Some n)
-    → w.log ≡ with_entry t v.log act
-    → Event true v.log (maps v) (maps w) (state disk v) (state disk w) mine cleared act → KeepsMade v w
-keeps_made disk v w t mine cleared act s now stay log event past had =
+pub keeps_made : {disk : OnDisk} {v w : View} (t : ℕ) {mine : Region} {cleared : ℕ} {act : Option Act}
+    → Standing true disk v → Counts w → ((a n : ℕ) → (maps v).address a ≡ Some n → (maps w).address a ≡ Some n)
+    → w.log ≡ with_entry t v.log act → Event true v.log (maps v) (maps w) (state disk v) (state disk w) mine cleared act
+    → KeepsMade v w
+keeps_made {disk} {v} {w} t {mine} {cleared} {act} s now stay log event past had =
     let named : Named v.log (maps w) act =
     named_event true v.log (maps v) (maps w) (state disk v) (state disk w) mine cleared act event in
     let same : had.in_use ≡ (s.counts refl).in_use =

@@ -57,12 +57,11 @@ record Writes (disk : OnDisk) (v w : View) (t : ℕ) (o : Op) (stage : Stage) (a
   pub room : HasRoomFor disk.end v o
   pub loads_none : (place : Place) (dst : ℕ) → LoadsAt (register_in v.held t) o place dst → ⊥
 
-write_advances : (disk : OnDisk) (v : View) (space : SpaceWords) (globals : List ℕ) (t : ℕ) (o : Op) (stage : Stage)
-    (act : Act)
-    → Asks disk v t o → Writes disk v (written v space globals t act) t o stage act
+write_advances : {disk : OnDisk} {v : View} (space : SpaceWords) (globals : List ℕ) {t : ℕ} {o : Op} {stage : Stage}
+    {act : Act} → Asks disk v t o → Writes disk v (written v space globals t act) t o stage act
     → AdvancesOver disk v (written v space globals t act) t o (Answered reply.Done)
-write_advances disk v space globals t o stage act asks is =
-    over_advances disk v (written v space globals t act) t o stage (Some act) reply.Done asks (record {
+write_advances {disk} {v} space globals {t} asks is =
+    over_advances asks (record {
       ends = is.ends;
       event = is.event;
       applies = is.applies;
@@ -98,16 +97,16 @@ store_words : (disk : OnDisk) (v : View) (space : SpaceWords) (globals : List �
 store_words disk v space globals (Field object i) word changes = ap (λ (b : Base). b.size) changes.base
 store_words disk v space globals (Global g) word changes = ap (λ (b : Base). b.size) changes.base
 
-pub store_advances : (disk : OnDisk) (v : View) (space : SpaceWords) (globals : List ℕ) (t : ℕ) (o : Op) (place : Place)
-    (at : Slot)
-    (src address : ℕ) → Asks disk v t o → StoresFrom (stage_of v t) place src → address ≡ register_in v.held t src
-    → SlotAt (maps v) place at → PlaceChanges (state disk v) (state disk (over v space globals)) place (4 * address)
+pub store_advances : {disk : OnDisk} {v : View} (space : SpaceWords) (globals : List ℕ) {t : ℕ} {o : Op} (place : Place)
+    (at : Slot) (src : ℕ) {address : ℕ} → Asks disk v t o → StoresFrom (stage_of v t) place src
+    → address ≡ register_in v.held t src → SlotAt (maps v) place at
+    → PlaceChanges (state disk v) (state disk (over v space globals)) place (4 * address)
     → AdvancesOver disk v (written v space globals t (Write at (held_value v.names address))) t o (Answered reply.Done)
-store_advances disk v space globals t o (Field object i) at src address asks stores is slot changes =
+store_advances {disk} {v} space globals {t} {o} (Field object i) at src {address} asks stores is slot changes =
     let stage : Stage = Headed object stores.0 (Store i src) in
     let fits : Fits (register_in v.held t) o stage = fits_at disk v t o stage asks stores.1 in
     let known : IsObjectAt (maps v) (state disk v) object stores.0 = known_at disk v t o stage asks stores.1 in
-    write_advances disk v space globals t o stage (Write at (held_value v.names address)) asks (record {
+    write_advances space globals asks (record {
       ends = ends_at disk v t o stage stores.1 tt (λ next goes. goes);
       nothing = refl;
       words = store_words disk v space globals (Field object i) (4 * address) changes;
@@ -124,8 +123,7 @@ store_advances disk v space globals t o (Field object i) at src address asks sto
       answers = λ told. subst (λ (p : Op). Answers t v.log (values_of v t) p reply.Done
           (v.log ++ entry t (Write at (held_value v.names address)) ∷ []) (values_of v t))
           (sym (store_is o fits.0 i src fits.1))
-          (store_answers t v.log (values_of v t) fits.0 i src slot.0 stores.0 (held_value v.names address) reply.Done
-          _ _ (value_named v t fits.0 object slot.0 fits.2 slot.1)
+          (store_answers t v.log fits.0 i src stores.0 (value_named v t fits.0 object slot.0 fits.2 slot.1)
           (object_shape disk v object slot.0 stores.0 told known slot.1) fits.3
           (value_held v.names (registers_in v.held t) src ∙ ap (held_value v.names) (sym is)) refl refl
           (ap (λ (q : Slot). v.log ++ entry t (Write q (held_value v.names address)) ∷ []) slot.2));
@@ -133,11 +131,11 @@ store_advances disk v space globals t o (Field object i) at src address asks sto
       loads_none = λ place dst loads. no_load (register_in v.held t) o place dst
           (subst LoadsNothing (sym fits.1) tt) loads;
     })
-store_advances disk v space globals t o (Global g) at src address asks stores is slot changes =
+store_advances {disk} {v} space globals {t} {o} (Global g) at src {address} asks stores is slot changes =
     let stage : Stage = Polled (StoreGlobal g src) in
     let fits : Fits (register_in v.held t) o stage = fits_at disk v t o stage asks stores in
     let same : o ≡ op.GStore g src = gstore_is o g src fits.0 in
-    write_advances disk v space globals t o stage (Write at (held_value v.names address)) asks (record {
+    write_advances space globals asks (record {
       ends = ends_at disk v t o stage stores tt (λ next goes. goes);
       nothing = refl;
       words = store_words disk v space globals (Global g) (4 * address) changes;
@@ -154,7 +152,7 @@ store_advances disk v space globals t o (Global g) at src address asks stores is
       );
       answers = λ told. subst (λ (p : Op). Answers t v.log (values_of v t) p reply.Done
           (v.log ++ entry t (Write at (held_value v.names address)) ∷ []) (values_of v t)) (sym same)
-          (gstore_answers t v.log (values_of v t) g src (held_value v.names address) reply.Done _ _
+          (gstore_answers t v.log g src
           (value_held v.names (registers_in v.held t) src ∙ ap (held_value v.names) (sym is)) refl refl
           (ap (λ (q : Slot). v.log ++ entry t (Write q (held_value v.names address)) ∷ []) slot));
       room = subst (HasRoomFor disk.end v) (sym same) tt;
@@ -163,12 +161,11 @@ store_advances disk v space globals t o (Global g) at src address asks stores is
     })
 
 -- a number word was written
-pub put_advances : (disk : OnDisk) (v : View) (space : SpaceWords) (t : ℕ) (o : Op) (address j n number place : ℕ)
-    (shape : Shape)
-    → Asks disk v t o → stage_of v t ≡ Some (Headed address shape (Put j number)) → (maps v).address address ≡ Some n
-    → place ≡ number_place address shape j → SetsWord v.space space place number
+pub put_advances : {disk : OnDisk} {v : View} {space : SpaceWords} {t : ℕ} {o : Op} {address j n number place : ℕ}
+    {shape : Shape} → Asks disk v t o → stage_of v t ≡ Some (Headed address shape (Put j number))
+    → (maps v).address address ≡ Some n → place ≡ number_place address shape j → SetsWord v.space space place number
     → AdvancesOver disk v (written v space v.globals t (Write (slots.Cell n j) (Num number))) t o (Answered reply.Done)
-put_advances disk v space t o address j n number place shape asks at named is sets =
+put_advances {disk} {v} {space} {t} {o} {address} {j} {n} {number} {place} {shape} asks at named is sets =
     let stage : Stage = Headed address shape (Put j number) in
     let fits : Fits (register_in v.held t) o stage = fits_at disk v t o stage asks at in
     let known : IsObjectAt (maps v) (state disk v) address shape = known_at disk v t o stage asks at in
@@ -176,7 +173,7 @@ put_advances disk v space t o address j n number place shape asks at named is se
     let changes : WordChanges (state disk v) (state disk w) (number_place address shape j) number =
     subst (λ (k : ℕ). WordChanges (state disk v) (state disk w) k number) is
     (word_set disk v space v.held place number sets) in
-    write_advances disk v space v.globals t o stage (Write (slots.Cell n j) (Num number)) asks (record {
+    write_advances space v.globals asks (record {
       ends = ends_at disk v t o stage at tt (λ next goes. goes);
       nothing = refl;
       words = sets.size;
@@ -186,10 +183,8 @@ put_advances disk v space t o address j n number place shape asks at named is se
       answers = λ told. subst (λ (p : Op). Answers t v.log (values_of v t) p reply.Done
           (v.log ++ entry t (Write (slots.Cell n j) (Num number)) ∷ []) (values_of v t))
           (sym (put_is o fits.0 j number fits.1))
-          (put_answers t v.log (values_of v t) fits.0 j number n shape reply.Done _ _
-          (value_named v t fits.0 address n fits.2 named) (object_shape disk v address n shape told known named) fits.3
-          refl
-          refl refl);
+          (put_answers t v.log fits.0 j number shape (value_named v t fits.0 address n fits.2 named)
+          (object_shape disk v address n shape told known named) fits.3 refl refl refl);
       room = use_room disk.end v o fits.0 (Put j number) fits.1;
       loads_none = λ place dst loads. no_load (register_in v.held t) o place dst
           (subst LoadsNothing (sym fits.1) tt) loads;

@@ -91,6 +91,5 @@ module _ {R : Type 0} (m : Mutator R) (seat : Seat ℕ View) (is : Some seat ≡
   pub is_asked : (new : Seat ℕ View) → Asks (knows_of seat) (knows_of new) → IsAsked m (record m { seat = Some new })
   is_asked new asks = (
     refl,
-    λ s t at_s at_t. by_seats HasAsked seat new s t m.seat (Some new) is refl at_s at_t
-        (asks_has (knows_of seat) (knows_of new) asks),
+    λ s t at_s at_t. by_seats HasAsked is refl at_s at_t (asks_has (knows_of seat) (knows_of new) asks),
   )

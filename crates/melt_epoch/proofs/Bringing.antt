@@ -47,18 +47,17 @@ pub of_disk : (words : EpochWords) (heap : Heap) (image : Option (List ℕ)) (en
 of_disk words heap image end fits tells = record { ends = sym fits.ends; tells = tells }
 
 -- no record is damaged where the epoch is told
-pub unread_lost : (words : EpochWords) (heap : Heap) (image : Option (List ℕ)) (end home before after : ℕ)
-    (why : Refusal) → Fits words heap end
-    → (words.start.began.told ≡ true → image ≡ Some words.start.began.image)
+pub unread_lost : {words : EpochWords} {heap : Heap} (image : Option (List ℕ)) {end : ℕ} (home before after : ℕ)
+    (why : Refusal) → Fits words heap end → (words.start.began.told ≡ true → image ≡ Some words.start.began.image)
     → (words.start.began.told ≡ true → HasRecord (base_at words.start.began) home)
     → IsUnread image heap.scions end home before after why
     → IsLost words.start.began.told image heap.scions end home before after why
-unread_lost words heap image end home before after refusal.DiskFault fits tells has rose = rose
-unread_lost words heap image end home before after (refusal.Damaged damaged) fits tells has bad = (
+unread_lost {words} {heap} image {end} home before after refusal.DiskFault fits tells has rose = rose
+unread_lost {words} {heap} image {end} home before after (refusal.Damaged damaged) fits tells has bad = (
   bad.breaks,
   λ told. bad.untold words.start.began (of_disk words heap image end fits tells) (sym fits.scions) told (has told),
 )
-unread_lost words heap image end home before after (refusal.Pause pause) fits tells has none = none
+unread_lost {words} {heap} image {end} home before after (refusal.Pause pause) fits tells has none = none
 
 -- what is known behind a search was known before
 home_has_here : (v w : View) (home : ℕ) (z : Shape) (u : View) → w.began ≡ v.began → HomeHas w u.seen home z
@@ -69,23 +68,23 @@ home_has_here v w home z u began has told =
       λ n at. had.1 n (ap (λ (b : Began). named b.maps.homes home) began ∙ at),
     )
 
-pub lacks_on : (v w u : View) (search : Search) (tried m n k : ℕ) (why : Refusal) → m + n ≤ k → Toward v w 0 0 m
-    → LacksRoom w u (tried_to search tried) n why → LacksRoom v u search k why
-lacks_on v w u search tried m n k why le toward lacks = record {
+pub lacks_on : {v w u : View} (search : Search) (tried : ℕ) {m n : ℕ} (k : ℕ) {why : Refusal} → m + n ≤ k
+    → Toward v w 0 0 m → LacksRoom w u (tried_to search tried) n why → LacksRoom v u search k why
+lacks_on {v} {w} {u} search tried k le toward lacks = record {
   shape = lacks.shape;
   small = lacks.small;
   object = home_has_here v w search.home lacks.shape u toward.counts.began lacks.object;
   is = lacks.is;
   sees = toward.on u.seen lacks.sees;
-  lacked = toward_lacked v w u (cost_of lacks.shape) m n k le toward lacks.lacked;
+  lacked = toward_lacked k le toward lacks.lacked;
   over = lacks.over;
 }
 
 -- the Body that was fetched
-pub body_of : (image : Option (List ℕ)) (scions : Scions) (end home before after : ℕ) (found : Fetched) (z : Shape)
-    (rest : List ℕ) → found ≡ fetched.Body z rest → Fetches image scions end home before after (Ok found)
+pub body_of : {image : Option (List ℕ)} (scions : Scions) {end : ℕ} (home before after : ℕ) {found : Fetched}
+    (z : Shape) (rest : List ℕ) → found ≡ fetched.Body z rest → Fetches image scions end home before after (Ok found)
     → BodyFetched image end home z rest
-body_of image scions end home before after found z rest is fetches =
+body_of {image} scions {end} home before after z rest is fetches =
     subst (λ (f : Fetched). Fetches image scions end home before after (Ok f)) is fetches
 
 -- a Stub leads to the object
@@ -94,42 +93,39 @@ pub stub_brings : (v w : View) (search : Search) (target most : ℕ) → 1 ≤ m
 stub_brings v w search target most some_ clears = record {
   words = 0;
   wins = 0;
-  goes = toward_goes v v w 0 0 0 most (in_use_at search target) some_ (toward_itself v) clears;
+  goes = toward_goes most some_ (toward_itself v) clears;
   claims = inl (refl, refl);
 }
 
 -- or a copy does
 pub copies_miss : (told : Bool) (image : Option (List ℕ)) (scions : Scions) (end before after : ℕ) (v w : View)
-    (search : Search) (z : Shape) (forwards : ℕ) (result : Result ℕ Refusal) → IsShape z → forwards ≡ v.began.forwards
+    (search : Search) {z : Shape} {forwards : ℕ} (result : Result ℕ Refusal) → IsShape z → forwards ≡ v.began.forwards
     → Copies v w search z forwards result
     → Misses told image scions end before after v w search (128 + 2 * (forwards - search.tried)) result
-copies_miss told image scions end before after v w search z forwards (Ok address) small same copied = record {
+copies_miss told image scions end before after v w search {z} {forwards} (Ok address) small same copied = record {
   words = cost_of z;
   wins = copied.wins;
-  goes = goes_then v v w (cost_of z) copied.wins 0 (cost_of z + 1 + 2 * (forwards - search.tried))
-      (128 + 2 * (forwards - search.tried)) (in_use_at search address)
-      (let refs = small.refs in let nums = small.nums in omega arith) (toward_itself v) copied.goes;
+  goes = goes_then (128 + 2 * (forwards - search.tried)) (let refs = small.refs in let nums = small.nums in omega arith)
+      (toward_itself v) copied.goes;
   claims = inr (z, refl, copied.one, copied.object);
 }
-copies_miss told image scions end before after v w search z forwards (Err why) small same (inl full) =
+copies_miss told image scions end before after v w search {z} {forwards} (Err why) small same (inl full) =
     inl (inl (record {
       words = cost_of z;
-      full = toward_full v v w 0 (cost_of z) (cost_of z) 0 (cost_of z + 2 + 2 * (forwards - search.tried))
-          (128 + 2 * (forwards - search.tried)) why (omega arith)
+      full = toward_full (128 + 2 * (forwards - search.tried)) (omega arith)
           (let refs = small.refs in let nums = small.nums in omega arith) (toward_itself v) full.full;
       read = let all = full.read in omega arith;
       claims = inr (z, refl, full.object);
     }))
-copies_miss told image scions end before after v w search z forwards (Err why) small same (inr lacks) =
-    inl (inr (lacks_on v v w search search.tried 0 2 (128 + 2 * (forwards - search.tried)) why (omega arith)
-    (toward_itself v) lacks))
+copies_miss told image scions end before after v w search {z} {forwards} (Err why) small same (inr lacks) =
+    inl (inr (lacks_on search search.tried (128 + 2 * (forwards - search.tried)) (omega arith) (toward_itself v) lacks))
 
-pub paused_on : (v w u : View) (search : Search) (tried m n k : ℕ) (why : Refusal) → m + n ≤ k → Toward v w 0 0 m
-    → search.tried ≤ tried → v.steps + (tried - search.tried) ≤ w.steps
+pub paused_on : {v w : View} (u : View) (search : Search) (tried : ℕ) {m : ℕ} (n k : ℕ) (why : Refusal) → m + n ≤ k
+    → Toward v w 0 0 m → search.tried ≤ tried → v.steps + (tried - search.tried) ≤ w.steps
     → LacksEither w u (tried_to search tried) n why → LacksEither v u search k why
-paused_on v w u search tried m n k why le toward from read (inl found) = inl (record {
+paused_on {v} {w} u search tried n k why le toward from read (inl found) = inl (record {
   words = found.words;
-  full = toward_full v w u 0 found.words found.words m n k why (omega arith) le toward found.full;
+  full = toward_full k (omega arith) le toward found.full;
   read =
       let began = ap (λ (b : Began). b.forwards) toward.counts.began in
       let all = found.read in
@@ -143,15 +139,15 @@ paused_on v w u search tried m n k why le toward from read (inl found) = inl (re
     )
   ];
 })
-paused_on v w u search tried m n k why le toward from read (inr lacks) =
-    inr (lacks_on v w u search tried m n k why le toward lacks)
+paused_on {v} {w} u search tried n k why le toward from read (inr lacks) =
+    inr (lacks_on search tried k le toward lacks)
 
-pub brought_on : (v w u : View) (search : Search) (tried m n k address : ℕ) → m + n ≤ k → Toward v w 0 0 m
-    → Brought w u (tried_to search tried) n address → Brought v u search k address
-brought_on v w u search tried m n k address le toward brought = record {
+pub brought_on : {v w u : View} (search : Search) (tried : ℕ) {m n : ℕ} (k : ℕ) {address : ℕ} → m + n ≤ k
+    → Toward v w 0 0 m → Brought w u (tried_to search tried) n address → Brought v u search k address
+brought_on {v} {w} {u} search tried k le toward brought = record {
   words = brought.words;
   wins = brought.wins;
-  goes = goes_then v w u brought.words brought.wins m n k (in_use_at search address) le toward brought.goes;
+  goes = goes_then k le toward brought.goes;
   claims = elim brought.claims [
     | inl none ↦ inl none
     | inr some_ ↦ inr (
@@ -165,13 +161,12 @@ brought_on v w u search tried m n k address le toward brought = record {
 
 -- all forwarding words send other homes than that of a search
 pub sought_full : (told : Bool) (image : Option (List ℕ)) (scions : Scions) (end before after : ℕ) (v w : View)
-    (search : Search) (forwards : ℕ) (why : Refusal) → search.tried ≡ 0 → forwards ≡ v.began.forwards
+    (search : Search) {forwards : ℕ} (why : Refusal) → search.tried ≡ 0 → forwards ≡ v.began.forwards
     → Seeks v w search forwards (Err why)
     → Brings told image scions end before after v w search (2 * forwards + 130) (Err why)
-sought_full told image scions end before after v w search forwards why first same full = inl (inl (record {
+sought_full told image scions end before after v w search {forwards} why first same full = inl (inl (record {
   words = 0;
-  full = toward_full v v w 0 0 0 0 (forwards + 1 - search.tried) (2 * forwards + 130) why (omega arith) (omega arith)
-      (toward_itself v) full.0;
+  full = toward_full (2 * forwards + 130) (omega arith) (omega arith) (toward_itself v) full.0;
   read = let all = full.1 in omega arith;
   claims = inl refl;
 }))
@@ -199,11 +194,10 @@ missed_brings told image scions end before after v w u search missed forwards re
         (128 + 2 * (forwards - missed.tried)) result
         → Brings told image scions end before after v u search (2 * forwards + 130) result
     brings (Ok address) brought =
-        brought_on v w u search missed.tried (missed.tried + 1 - search.tried) (128 + 2 * (forwards - missed.tried))
-        (2 * forwards + 130) address few toward brought
+        brought_on search missed.tried (2 * forwards + 130) few toward brought
     brings (Err why) (inl paused) =
-        inl (paused_on v w u search missed.tried (missed.tried + 1 - search.tried) (128 + 2 * (forwards - missed.tried))
-        (2 * forwards + 130) why few toward seeks.1 (let read = seeks.4 in let from = seeks.1 in omega arith) paused)
+        inl (paused_on u search missed.tried (128 + 2 * (forwards - missed.tried)) (2 * forwards + 130) why few toward
+        seeks.1 (let read = seeks.4 in let from = seeks.1 in omega arith) paused)
     brings (Err why) (inr lost) = inr (
       subst (λ (x : View). Stays v x (2 * forwards + 130)) (sym lost.0) (record {
         sees = seeks.0.sees;

@@ -19,7 +19,7 @@ use Rattle.melt_rule.specs.declared.view.Doing.TheVariants.{Copied, Copying}
 use Rattle.melt_rule.specs.declared.view.View.{View}
 use Rattle.melt_epoch.proofs.Following.{sees_on, shape_stays}
 use Rattle.melt_epoch.proofs.Toward.{Toward, goes_toward, toward_both, toward_full, toward_on, toward_then}
-use Rattle.melt_epoch.specs.Bringing.{Copies, IsFilled, LacksRoom, SettlesCopy, in_use_at}
+use Rattle.melt_epoch.specs.Bringing.{Copies, IsFilled, LacksRoom, SettlesCopy}
 use Rattle.melt_record.specs.declared.head.Kind.TheVariants.{Body}
 use Rattle.melt_scion.specs.Placed.{HeadIs}
 use Rattle.melt_rule.specs.Shown.{base_at}
@@ -114,13 +114,12 @@ module _ (v w u x y : View) (search : Search) (z : Shape) (rest : List ℕ) (add
   behind_claim : Toward w x 0 0 (cost_of z)
   behind_claim =
       let all = filled.all in
-      toward_on w u x 0 0 filled.stored (cost_of z) (Copied copy) (omega arith)
-      (goes_toward w u 0 0 filled.stored (Copying copy filled.stored) filled.goes) heads
+      toward_on (cost_of z) (omega arith) (goes_toward w u 0 0 filled.stored (Copying copy filled.stored) filled.goes)
+      heads
 
   to_copy : Toward v x (cost_of z) 0 (cost_of z + 1)
   to_copy =
-      toward_both v w x (cost_of z) 0 1 (cost_of z) (cost_of z + 1) (omega arith)
-      (claimed_toward v w search z rest address claims) behind_claim
+      toward_both (cost_of z + 1) (omega arith) (claimed_toward v w search z rest address claims) behind_claim
 
   shape_here : Sees x y.seen → HomeHas v y.seen search.home z
   shape_here sees =
@@ -132,12 +131,10 @@ module _ (v w u x y : View) (search : Search) (z : Shape) (rest : List ℕ) (add
     wins = settled.wins;
     one = settled.one;
     object = shape_here settled.goes.sees;
-    goes = toward_then v x y (cost_of z) settled.wins (cost_of z + 1) (2 * (forwards - search.tried))
-        (cost_of z + 1 + 2 * (forwards - search.tried)) (in_use_at search found) (omega arith) to_copy settled.goes;
+    goes = toward_then (cost_of z + 1 + 2 * (forwards - search.tried)) (omega arith) to_copy settled.goes;
   }
   copy_settles (Err refusal) full = inl (record {
     object = shape_here full.0.sees;
-    full = toward_full v x y (cost_of z) 0 (cost_of z) (cost_of z + 1) (2 * (forwards - search.tried) + 1)
-        (cost_of z + 2 + 2 * (forwards - search.tried)) refusal (omega arith) (omega arith) to_copy full.0;
+    full = toward_full (cost_of z + 2 + 2 * (forwards - search.tried)) (omega arith) (omega arith) to_copy full.0;
     read = let before = to_copy.counts.counted in let all = full.1 in omega arith;
   })

@@ -125,10 +125,10 @@ head_broken image scions end home damaged bad =
     }))
 
 -- or a Stub that names no scion of the home
-pub stub_dead : (image : Option (List ℕ)) (scions : Scions) (end home scion : ℕ) (z : Shape) (damaged : Damaged)
+pub stub_dead : {image : Option (List ℕ)} {scions : Scions} {end home scion : ℕ} (z : Shape) {damaged : Damaged}
     → HeadRead image end home (record { shape = z; kind = Stub scion }) → IsDead scions home scion damaged
     → IsDamaged image scions end home damaged
-stub_dead image scions end home scion z damaged head dead =
+stub_dead {image} {scions} {end} {home} {scion} z {damaged} head dead =
     is_damaged image scions end home damaged (inl (record {
       words = head.words;
       read = head.read;
@@ -164,15 +164,15 @@ head_unread image scions end home before after (refusal.Damaged damaged) bad =
 head_unread image scions end home before after (refusal.Pause pause) none = none
 
 -- or a head, and not the words behind it
-pub rest_unread : (image : Option (List ℕ)) (scions : Scions) (end home before between after : ℕ) (z : Shape)
+pub rest_unread : {image : Option (List ℕ)} (scions : Scions) {end home : ℕ} (before between after : ℕ) (z : Shape)
     (refusal : Refusal) → before ≤ between → between ≤ after
     → HeadRead image end home (record { shape = z; kind = Body })
     → ReadsRest image end home z between after (Err refusal) → IsUnread image scions end home before after refusal
-rest_unread image scions end home before between after z refusal.DiskFault first more head rose =
+rest_unread {image} scions {end} {home} before between after z refusal.DiskFault first more head rose =
     rose_before before between after first more rose
-rest_unread image scions end home before between after z (refusal.Damaged damaged) first more head bad =
+rest_unread {image} scions {end} {home} before between after z (refusal.Damaged damaged) first more head bad =
     rest_broken image scions end home z damaged head bad
-rest_unread image scions end home before between after z (refusal.Pause pause) first more head none = none
+rest_unread {image} scions {end} {home} before between after z (refusal.Pause pause) first more head none = none
 
 -- a head of this kind
 pub head_of_kind : (image : Option (List ℕ)) (end home : ℕ) (head : Head) (kind : Kind) → head.kind ≡ kind

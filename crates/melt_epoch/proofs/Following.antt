@@ -62,9 +62,9 @@ behind_counts v h known doing more = record {
   counted = omega arith;
 }
 
-pub counts_on : (v w u : View) (a b c d m n : ℕ) → Counts v w a b m → Counts w u c d n
+pub counts_on : {v w u : View} {a b c d m n : ℕ} → Counts v w a b m → Counts w u c d n
     → Counts v u (a + c) (b + d) (m + n)
-counts_on v w u a b c d m n first more = record {
+counts_on first more = record {
   thread = more.thread ∙ first.thread;
   parts = more.parts ∙ first.parts;
   away = more.away ∙ first.away;
@@ -162,13 +162,13 @@ adds_on v w h act first thread began more =
     }
 
 -- a step without an entry
-pub reach_way : (v w u : View) (a b most : ℕ) (doing : Option Doing) → Way v w a b most → Reaches w u doing
+pub reach_way : {v w u : View} {a b most : ℕ} {doing : Option Doing} → Way v w a b most → Reaches w u doing
     → Way v u a b (most + 1)
-reach_way v w u a b most doing way step = record {
+reach_way {v} {w} {u} {a} {b} {most} {doing} way step = record {
   sees = sees_on v w u.seen way.sees way.counts.thread way.counts.began step.sees;
   counts = subst (λ (c : ℕ). Counts v u c b (most + 1)) (let e : a + 0 ≡ a = omega arith in e)
       (subst (λ (d : ℕ). Counts v u (a + 0) d (most + 1)) (let e : b + 0 ≡ b = omega arith in e)
-      (counts_on v w u a b 0 0 most 1 way.counts (step_counts w u w.known doing (λ x n has. has) step.is)));
+      (counts_on way.counts (step_counts w u w.known doing (λ x n has. has) step.is)));
 }
 
 -- What a call adds is seen soundly.

@@ -65,22 +65,23 @@ seated_set words m r address value seated few below names = record {
 }
 
 -- nothing else of a mutator changes where a register holds what a call found
-pub holds_only : {R : Type 0} (m n : Mutator R) (seat : Option (Seat ℕ View)) (reader : Option R) (dst address : ℕ)
-    (value : Value) → n ≡ with_reference (record m { seat = seat; reader = reader }) dst address value
+pub holds_only : {R : Type 0} (m : Mutator R) {n : Mutator R} (seat : Option (Seat ℕ View)) (reader : Option R)
+    (dst address : ℕ) (value : Value) → n ≡ with_reference (record m { seat = seat; reader = reader }) dst address value
     → n ≡ with_reference (record m { seat = n.seat; reader = n.reader }) dst address value
-holds_only {R} m n seat reader dst address value is =
+holds_only {R} m seat reader dst address value is =
     subst (λ (x : Mutator R). x ≡ with_reference (record m { seat = x.seat; reader = x.reader }) dst address value)
     (sym is)
     refl
 
-pub holds_found : {R : Type 0} (m n : Mutator R) (seat : Option (Seat ℕ View)) (reader : Option R) (dst address : ℕ)
-    (value : Value) (r : Reply) → n ≡ with_reference (record m { seat = seat; reader = reader }) dst address value
-    → (address ≡ 0 → r ≡ reply.Null) → (address ≢ 0 → r ≡ reply.Ref) → HoldsOnly m n dst (Ok r)
-holds_found m n seat reader dst address value r is null some_ = elim (cases_eq address 0) [
+pub holds_found : {R : Type 0} (m : Mutator R) {n : Mutator R} (seat : Option (Seat ℕ View)) (reader : Option R)
+    (dst : ℕ) {address : ℕ} (value : Value) (r : Reply)
+    → n ≡ with_reference (record m { seat = seat; reader = reader }) dst address value → (address ≡ 0 → r ≡ reply.Null)
+    → (address ≢ 0 → r ≡ reply.Ref) → HoldsOnly m n dst (Ok r)
+holds_found m {n} seat reader dst {address} value r is null some_ = elim (cases_eq address 0) [
   | inl none ↦ subst (λ (x : Reply). HoldsOnly m n dst (Ok x)) (sym (null none))
-      (address, value, holds_only m n seat reader dst address value is)
+      (address, value, holds_only m seat reader dst address value is)
   | inr object ↦ subst (λ (x : Reply). HoldsOnly m n dst (Ok x)) (sym (some_ object))
-      (address, value, holds_only m n seat reader dst address value is)
+      (address, value, holds_only m seat reader dst address value is)
 ]
 
 -- equal addresses stand for equal values
@@ -121,7 +122,5 @@ pub same_answers : (t : ℕ) (h : List Entry) (rs : List Value) (a b : ℕ) (equ
     → value_eq (value_in rs a) (value_in rs b) ≡ equal
     → Answers t h rs (op.Same a b) (if equal then reply.Yes else reply.No) h rs
 same_answers t h rs a b equal is =
-    Answers_by t h rs (op.Same a b) Nil (unchanged rs (if equal then reply.Yes else reply.No))
-    (if equal then reply.Yes else reply.No) h rs
-    (ap (λ (x : Bool). unchanged rs (if x then reply.Yes else reply.No)) is)
-    refl refl refl refl
+    Answers_by t h rs (op.Same a b) (ap (λ (x : Bool). unchanged rs (if x then reply.Yes else reply.No)) is) refl refl
+    refl refl

@@ -16,11 +16,10 @@ all_words space words are =
     ∙ ap (word_at space) (let next : 1 + i ≡ suc i = omega arith in next))
 
 -- one word more was put back
-pub put_more : (old new : SpaceWords) (words : List ℕ) (from k word : ℕ) → SetsWord old new (k + 1) word
-    → word ≡ slice_index words (from + k)
-    → ((i : ℕ) → i < k → slice_index old.list i ≡ slice_index words (from + i))
+pub put_more : {old new : SpaceWords} (words : List ℕ) (from k : ℕ) {word : ℕ} → SetsWord old new (k + 1) word
+    → word ≡ slice_index words (from + k) → ((i : ℕ) → i < k → slice_index old.list i ≡ slice_index words (from + i))
     → (i : ℕ) → i < k + 1 → slice_index new.list i ≡ slice_index words (from + i)
-put_more old new words from k word sets is stood i below =
+put_more {old} {new} words from k {word} sets is stood i below =
     let next : k + 1 ≡ suc k = omega arith in
     let here : SetsWord old new (suc k) word = subst (λ (n : ℕ). SetsWord old new n word) next sets in
     elim (cases_eq i k) [

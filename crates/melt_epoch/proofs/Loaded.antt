@@ -64,9 +64,8 @@ module _ {R : Type 0} (words : EpochWords) (m : Mutator R) (seated : IsSeated wo
       → IsSeated words (with_reference (record m { seat = Some new; reader = reader }) dst address
       (last_given (knows_of new).seen))
   loaded_seated s most dst address loads few below =
-      seated_held words (record m { reader = reader }) (seated_reader words m reader seated) seat is new loads.words
-      loads.wins most dst address (last_given (knows_of new).seen) idle loads.counts few below
-      (subst (Names (knows_of new).known address)
+      seated_held words (record m { reader = reader }) (seated_reader words m reader seated) seat is dst address
+      (last_given (knows_of new).seen) idle loads.counts few below (subst (Names (knows_of new).known address)
       (sym (value_read (knows_of seat) (knows_of new) s most address loads)) loads.names)
 
   pub refused_seated : (told : Bool) (image : Option (List ℕ)) (scions : Scions) (end before after : ℕ) (s : Slot)
@@ -93,9 +92,9 @@ module _ {R : Type 0} (words : EpochWords) (m : Mutator R) (seated : IsSeated wo
       idle counts.thread counts.parts counts.away counts.known
 
 -- nothing was in the register
-pub nil_read : (v w : View) (rs : List Value) (dst src i most : ℕ) → w ≡ v → Sees v v.seen → value_in rs src ≡ Nil
+pub nil_read : {v w : View} (rs : List Value) (dst src i most : ℕ) → w ≡ v → Sees v v.seen → value_in rs src ≡ Nil
     → HasRead v w rs rs dst src i most reply.Nil
-nil_read v w rs dst src i most same sound nothing =
+nil_read {v} rs dst src i most same sound nothing =
     subst (λ (x : View). HasRead v x rs rs dst src i most reply.Nil) (sym same)
     (let plain = nil_plain v rs (Load dst src i) most sound nothing in
     record {
@@ -107,14 +106,14 @@ nil_read v w rs dst src i most same sound nothing =
     })
 
 -- the object lacks the slot
-pub range_read : (v w : View) (rs : List Value) (dst src i n most : ℕ) → value_in rs src ≡ Ref n
+pub range_read : {v w : View} (rs : List Value) (dst src : ℕ) {i n most : ℕ} → value_in rs src ≡ Ref n
     → LacksSlot v w n i most → HasRead v w rs rs dst src i most reply.Range
-range_read v w rs dst src i n most is lacks =
+range_read {v} {w} rs dst src {i} {n} {most} is lacks =
     let way : Way v w 0 0 most = record { sees = lacks.stays.sees; counts = lacks.stays.counts } in
     record {
-      replies = way_replies v w 0 0 most rs (Load dst src i) reply.Range way
-          (λ told. range_answers v.thread w.seen rs (Load dst src i) n lacks.z reply.Range w.seen rs (is, lacks.few)
-          (lacks.shaped told) refl refl refl);
+      replies = way_replies rs (Load dst src i) reply.Range way
+          (λ told. range_answers v.thread (Load dst src i) n lacks.z (is, lacks.few) (lacks.shaped told) refl refl
+          refl);
       words = 0;
       wins = 0;
       counts = lacks.stays.counts;
@@ -122,16 +121,15 @@ range_read v w rs dst src i n most is lacks =
     }
 
 -- or has it
-pub slot_read : (v w : View) (old new : List Value) (dst src i n most address : ℕ) (r : Reply)
-    → value_in old src ≡ Ref n
-    → (from : LoadsFrom v w n i most address) → found from.loads.value ≡ r → new ≡ set old dst from.loads.value
-    → HasRead v w old new dst src i most r
-slot_read v w old new dst src i n most address r is from told_ values =
+pub slot_read : {v w : View} (old : List Value) {new : List Value} (dst src : ℕ) {i n most address : ℕ} {r : Reply}
+    → value_in old src ≡ Ref n → (from : LoadsFrom v w n i most address) → found from.loads.value ≡ r
+    → new ≡ set old dst from.loads.value → HasRead v w old new dst src i most r
+slot_read {v} {w} old {new} dst src {i} {n} {r} is from told_ values =
     let loads = from.loads in
     record {
-      replies = adds_replies v w (Read (slot.Field n i) loads.value) old new (Load dst src i) r loads.adds
-          (λ told. load_answers v.thread (v.seen ++ loads.adds.between) old dst src i n from.z loads.value r _ new is
-          (from.shaped told) from.below told_ values refl);
+      replies = adds_replies w old new (Load dst src i) r loads.adds
+          (λ told. load_answers (v.seen ++ loads.adds.between) old dst src from.z loads.value is (from.shaped told)
+          from.below told_ values refl);
       words = loads.words;
       wins = loads.wins;
       counts = loads.counts;

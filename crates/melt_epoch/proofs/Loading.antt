@@ -43,7 +43,7 @@ use Rattle.melt_epoch.proofs.Following.{step_counts}
 use Rattle.melt_epoch.proofs.Plainly.{Opened, asked_plain, headed_way}
 use Rattle.melt_epoch.proofs.Toward.{Toward, goes_then, toward_counts, toward_full, toward_itself, toward_lacked}
 use Rattle.melt_epoch.proofs.Toward.{toward_on}
-use Rattle.melt_epoch.specs.Bringing.{Brings, Brought, in_use_at}
+use Rattle.melt_epoch.specs.Bringing.{Brings, Brought}
 use Rattle.melt_epoch.specs.Calls.{Counts}
 use Rattle.melt_epoch.specs.Epochs.{Fits}
 use Rattle.melt_epoch.specs.Loading.{HeldHas, IsBefore, LoadAsked, LoadRefused, Loads, LoadsFrom, LoadsGlobal}
@@ -72,11 +72,11 @@ begins_adds u h act adds = (
 )
 
 -- an entry behind a way
-loads_behind : (v u x : View) (s : Slot) (words wins m most address : ℕ) → m + 1 ≤ most → Sees v u.seen
+loads_behind : {v u x : View} {s : Slot} {words wins m : ℕ} (most : ℕ) {address : ℕ} → m + 1 ≤ most → Sees v u.seen
     → Counts v u words wins m → Reads u x s address
     → ((words ≡ 0) × (wins ≡ 0)) ⊎ ((z : Shape) × (words ≡ cost_of z) × (wins ≤ 1) × HeldHas v x s z)
     → Loads v x s most address
-loads_behind v u x s words wins m most address le sees counts reads claims = record {
+loads_behind {v} {u} {x} {s} {words} {wins} {m} most le sees counts reads claims = record {
   value = reads.value;
   adds = adds_on v u x.seen (Read s reads.value) sees counts.thread counts.began reads.adds;
   names = reads.names;
@@ -85,7 +85,7 @@ loads_behind v u x s words wins m most address le sees counts reads claims = rec
   counts = subst (λ (c : ℕ). Counts v x c wins most) (let e : words + 0 ≡ words = omega arith in e)
       (subst (λ (d : ℕ). Counts v x (words + 0) d most) (let e : wins + 0 ≡ wins = omega arith in e)
       (counts_most v x (words + 0) (wins + 0) (m + 1) most le
-      (counts_on v u x words wins 0 0 m 1 counts (step_counts u x x.known None reads.more reads.is))));
+      (counts_on counts (step_counts u x x.known None reads.more reads.is))));
   claims = claims;
   over = ap (λ (y : View). y.doing) reads.is;
 }
@@ -118,24 +118,24 @@ loads_most v w s m most address le loads = record {
 }
 
 -- or it found an object, whose stale bit was cleared
-pub stale_loads : (v w u x : View) (s : Slot) (looked cleared : Doing) (most address : ℕ) → 3 ≤ most
+pub stale_loads : {v w u x : View} {s : Slot} {looked cleared : Doing} (most : ℕ) {address : ℕ} → 3 ≤ most
     → Reaches v w (Some looked) → Reaches w u (Some cleared) → Reads u x s address → Loads v x s most address
-stale_loads v w u x s looked cleared most address few looks clears reads =
-    let first : Toward v w 0 0 1 = toward_on v v w 0 0 0 1 looked (omega arith) (toward_itself v) looks in
-    let then_ : Toward v u 0 0 2 = toward_on v w u 0 0 1 2 cleared (omega arith) first clears in
-    loads_behind v u x s 0 0 2 most address few (first.on u.seen clears.sees) then_.counts reads (inl (refl, refl))
+stale_loads {v} {w} {u} most few looks clears reads =
+    let first : Toward v w 0 0 1 = toward_on 1 (omega arith) (toward_itself v) looks in
+    let then_ : Toward v u 0 0 2 = toward_on 2 (omega arith) first clears in
+    loads_behind most few (first.on u.seen clears.sees) then_.counts reads (inl (refl, refl))
 
-pub stale_slot : (v w u : View) (place : Place) (s : Slot) (looked cleared : Doing) → Reaches v w (Some looked)
+pub stale_slot : {v w u : View} (place : Place) (s : Slot) {looked cleared : Doing} → Reaches v w (Some looked)
     → Reaches w u (Some cleared) → KnownSlot v.known place s → KnownSlot u.known place s
-stale_slot v w u place s looked cleared looks clears =
+stale_slot {v} {u} place s looks clears =
     slot_more v.known u.known place s
     (λ a n has. subst (λ (y : View). Has y.known a n) (sym clears.is)
     (subst (λ (y : View). Has y.known a n) (sym looks.is) has))
 
 -- the object that a home stands for was in the slot
-held_has : (v w x : View) (s : Slot) (place : Place) (home : ℕ) (z : Shape) → Finds v w s place home
+held_has : {v w : View} (x : View) {s : Slot} {place : Place} {home : ℕ} (z : Shape) → Finds v w s place home
     → w.began ≡ v.began → Begins w.seen x.seen → HomeHas w x.seen home z → HeldHas v x s z
-held_has v w x s place home z finds began begins has told =
+held_has {w} x {home} z finds began begins has told =
     let held = finds.held told in
     let had = has (ap (λ (b : Began). b.told) began ∙ told) in
     record {
@@ -153,7 +153,7 @@ held_has v w x s place home z finds began begins has told =
 module _ (v w : View) (s : Slot) (place : Place) (home : ℕ) (finds : Finds v w s place home) where
   looked_toward : Toward v w 0 0 1
   looked_toward =
-      toward_on v v w 0 0 0 1 (Searching (search_for place home)) (omega arith) (toward_itself v) finds.reaches
+      toward_on 1 (omega arith) (toward_itself v) finds.reaches
 
   pub home_slot : (u : View) (n target : ℕ) → Brought w u (search_for place home) n target → KnownSlot v.known place s
       → KnownSlot u.known place s
@@ -166,18 +166,16 @@ module _ (v w : View) (s : Slot) (place : Place) (home : ℕ) (finds : Finds v w
       → Brought w u (search_for place home) n target
       → Reads u x s address → Loads v x s most address
   home_loads u x n most target address few brought reads =
-      let goes = goes_then v w u brought.words brought.wins 1 n (n + 1) (in_use_at (search_for place home) target)
-      (omega arith) looked_toward brought.goes in
+      let goes = goes_then (n + 1) (omega arith) looked_toward brought.goes in
       let last_ : Begins u.seen x.seen = begins_adds u x.seen (Read s reads.value) reads.adds in
       let all : Begins w.seen x.seen = begins_then w.seen u.seen x.seen brought.goes.sees.begins last_ in
-      loads_behind v u x s brought.words brought.wins (n + 1) most address (omega arith) goes.sees goes.counts reads
-      (elim brought.claims [
+      loads_behind most (omega arith) goes.sees goes.counts reads (elim brought.claims [
         | inl none ↦ inl none
         | inr some_ ↦ inr (
           some_.0,
           some_.1,
           some_.2,
-          held_has v w x s place home some_.0 finds looked_toward.counts.began all
+          held_has x some_.0 finds looked_toward.counts.began all
               (home_has_on w w u.seen x.seen home some_.0 refl last_ some_.3),
         )
       ])
@@ -189,8 +187,7 @@ module _ (v w : View) (s : Slot) (place : Place) (home : ℕ) (finds : Finds v w
         → Resolves told image scions end before after v u s most (Err why)
     home_refused u n most why below few (inl (inl found)) = inl (record {
       words = found.words;
-      full = toward_full v w u 0 found.words found.words 1 n most why (omega arith) (omega arith)
-          looked_toward found.full;
+      full = toward_full most (omega arith) (omega arith) looked_toward found.full;
       read =
           let began = ap (λ (b : Began). b.forwards) looked_toward.counts.began in
           let look = ap (λ (x : View). x.steps) finds.reaches.is in
@@ -201,17 +198,17 @@ module _ (v w : View) (s : Slot) (place : Place) (home : ℕ) (finds : Finds v w
         | inr some_ ↦ inr (
           some_.0,
           some_.1,
-          held_has v w u s place home some_.0 finds looked_toward.counts.began found.full.sees.begins some_.2,
+          held_has u some_.0 finds looked_toward.counts.began found.full.sees.begins some_.2,
         )
       ];
     })
     home_refused u n most why below few (inl (inr lacks)) = inr (inl (record {
       shape = lacks.shape;
       small = lacks.small;
-      held = held_has v w u s place home lacks.shape finds looked_toward.counts.began lacks.sees.begins lacks.object;
+      held = held_has u lacks.shape finds looked_toward.counts.began lacks.sees.begins lacks.object;
       is = lacks.is;
       sees = looked_toward.on u.seen lacks.sees;
-      lacked = toward_lacked v w u (cost_of lacks.shape) 1 n most (omega arith) looked_toward lacks.lacked;
+      lacked = toward_lacked most (omega arith) looked_toward lacks.lacked;
       over = lacks.over;
     }))
     home_refused u n most why below few (inr lost) = inr (inr (record {
@@ -221,7 +218,7 @@ module _ (v w : View) (s : Slot) (place : Place) (home : ℕ) (finds : Finds v w
         sees = looked_toward.on u.seen lost.0.sees;
         counts = subst (λ (c : ℕ). Counts v u c 0 most) (let e : 0 + 0 ≡ 0 = omega arith in e)
             (subst (λ (d : ℕ). Counts v u (0 + 0) d most) (let e : 0 + 0 ≡ 0 = omega arith in e)
-            (toward_counts v w u 0 0 0 0 1 n most (omega arith) looked_toward lost.0.counts));
+            (toward_counts most (omega arith) looked_toward lost.0.counts));
         goes_on = lost.0.goes_on;
       };
       lost = lost.1;
@@ -263,7 +260,7 @@ module _ (v u x : View) (s : Slot) (m n k : ℕ) (le : m + n ≤ k) (way : Way v
   counts_all a b counts =
       subst (λ (c : ℕ). Counts v x c b k) (let e : 0 + a ≡ a = omega arith in e)
       (subst (λ (d : ℕ). Counts v x (0 + a) d k) (let e : 0 + b ≡ b = omega arith in e)
-      (toward_counts v u x 0 0 a b m n k le toward_way counts))
+      (toward_counts k le toward_way counts))
 
   pub loads_on : (address : ℕ) → Loads u x s n address → Loads v x s k address
   loads_on address loads = record {
@@ -285,7 +282,7 @@ module _ (v u x : View) (s : Slot) (m n k : ℕ) (le : m + n ≤ k) (way : Way v
         → LoadRefused told image scions end before after v x s k why
     refused_on why (inl full) = inl (record {
       words = full.words;
-      full = toward_full v u x 0 full.words full.words m n k why (omega arith) le toward_way full.full;
+      full = toward_full k (omega arith) le toward_way full.full;
       read =
           let began = ap (λ (b : Began). b.forwards) way.counts.began in
           let before = way.counts.counted in
@@ -302,7 +299,7 @@ module _ (v u x : View) (s : Slot) (m n k : ℕ) (le : m + n ≤ k) (way : Way v
       held = held_on lacks.shape lacks.held;
       is = lacks.is;
       sees = toward_way.on x.seen lacks.sees;
-      lacked = toward_lacked v u x (cost_of lacks.shape) m n k le toward_way lacks.lacked;
+      lacked = toward_lacked k le toward_way lacks.lacked;
       over = lacks.over;
     }))
     refused_on why (inr (inr lost)) = inr (inr (record {
@@ -347,13 +344,13 @@ asked_load v w k some_ polls = record {
 }
 
 -- what a global was read as
-pub global_loads : (told : Bool) (image : Option (List ℕ)) (scions : Scions) (end before after : ℕ) (v u x : View)
-    (g m n k : ℕ) (result : Result ℕ Refusal) → m + n ≤ k → Way v u 0 0 m
+pub global_loads : (told : Bool) (image : Option (List ℕ)) (scions : Scions) (end before after : ℕ) {v u : View}
+    (x : View) (g : ℕ) {m : ℕ} (n : ℕ) {k : ℕ} (result : Result ℕ Refusal) → m + n ≤ k → Way v u 0 0 m
     → Resolves told image scions end before after u x (slot.Global g) n result
     → LoadsGlobal told image scions end before after v x g k result
-global_loads told image scions end before after v u x g m n k (Ok address) le way loads =
+global_loads told image scions end before after {v} {u} x g {m} n {k} (Ok address) le way loads =
     loads_on v u x (slot.Global g) m n k le way address loads
-global_loads told image scions end before after v u x g m n k (Err why) le way refused =
+global_loads told image scions end before after {v} {u} x g {m} n {k} (Err why) le way refused =
     inr (refused_on v u x (slot.Global g) m n k le way told image scions end before after why refused)
 
 -- a home that a call found lies before the end of the disk
@@ -364,20 +361,21 @@ home_before words seat search is_seat at =
     subst (FitsIn (knows_of seat).began) at is_seat.within.doing in
     subst (λ (b : Began). search.home < b.end) is_seat.began fits.before
 
-pub found_before : (words : EpochWords) (v : View) (seat : Seat ℕ View) (s : Slot) (place : Place) (found : word.Ref)
-    (heap : Heap) (end : ℕ) → Fits words heap end → IsSeat words seat → Looks v (knows_of seat) s place found
+pub found_before : {words : EpochWords} (v : View) {seat : Seat ℕ View} (s : Slot) (place : Place) (found : word.Ref)
+    {heap : Heap} {end : ℕ} → Fits words heap end → IsSeat words seat → Looks v (knows_of seat) s place found
     → IsBefore end found
-found_before words v seat s place Null heap end fits is_seat looks = tt
-found_before words v seat s place (Clean address) heap end fits is_seat looks = tt
-found_before words v seat s place (Stale address) heap end fits is_seat looks = tt
-found_before words v seat s place (Disk home) heap end fits is_seat finds =
+found_before {words} v {seat} s place Null fits is_seat looks = tt
+found_before {words} v {seat} s place (Clean address) fits is_seat looks = tt
+found_before {words} v {seat} s place (Stale address) fits is_seat looks = tt
+found_before {words} v {seat} s place (Disk home) fits is_seat finds =
     subst (λ (e : ℕ). home < e) (sym fits.ends)
     (home_before words seat (search_for place home) is_seat (ap (λ (x : View). x.doing) finds.reaches.is))
 
 -- a shape that was loaded before an entry stood before it
-shaped_before : (v u x : View) (act : Act) (n : ℕ) (z : History) (all : Adds v x.seen act) (last_ : Adds u x.seen act)
-    → u.thread ≡ v.thread → shape u.seen n ≡ Some z → shape (v.seen ++ all.between) n ≡ Some z
-shaped_before v u x act n z all last_ thread at =
+shaped_before : {v u : View} (x : View) {act : Act} (n : ℕ) {z : History} (all : Adds v x.seen act)
+    (last_ : Adds u x.seen act) → u.thread ≡ v.thread → shape u.seen n ≡ Some z
+    → shape (v.seen ++ all.between) n ≡ Some z
+shaped_before {v} {u} x {act} n {z} all last_ thread at =
     shape_stays u.seen (v.seen ++ all.between) last_.between n z
     (append_cancel_right (u.seen ++ last_.between) (v.seen ++ all.between) (entry v.thread act ∷ [])
     (ap (λ (t : ℕ). (u.seen ++ last_.between) ++ entry t act ∷ []) (sym thread) ∙ (sym last_.seen ∙ all.seen)))
@@ -412,9 +410,7 @@ module _ {v w u : View} {address : ℕ} {z : Shape} {value : Value} (h : Opened 
         z = z;
         below = below;
         loads = all;
-        shaped = λ told. shaped_before v u x (Read (slot.Field h.object i) loads.value) h.object
-            (record { refs = z.refs; nums = z.nums })
-            all.adds loads.adds opened_way.counts.thread (shaped_here told);
+        shaped = λ told. shaped_before x h.object all.adds loads.adds opened_way.counts.thread (shaped_here told);
       }
 
   module _ (told : Bool) (image : Option (List ℕ)) (scions : Scions) (end before after : ℕ) where

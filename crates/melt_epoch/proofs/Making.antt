@@ -16,7 +16,7 @@ use Rattle.melt_rule.specs.Tells.{Adds, HasAll, Polls, Reaches, Sees, Stops, vie
 use Rattle.melt_rule.specs.declared.began.Began.{Began}
 use Rattle.melt_rule.specs.declared.began.Pair.{Pair}
 use Rattle.melt_rule.specs.declared.view.Doing.{Doing}
-use Rattle.melt_rule.specs.declared.view.Doing.TheVariants.{Claimed, Polled}
+use Rattle.melt_rule.specs.declared.view.Doing.TheVariants.{Claimed}
 use Rattle.melt_rule.specs.declared.view.View.{View}
 use Rattle.melt_epoch.proofs.Following.{Way, adds_on, counts_on, first_on, idle_way, no_counts, reach_way, sees_on}
 use Rattle.melt_epoch.proofs.Following.{sound_sees, step_counts}
@@ -34,7 +34,7 @@ fills_more v w u address k fills step z is =
     let goes = fills z is in
     let reaches = step z goes.at in
     let way : Way v w 0 0 k = record { sees = goes.sees; counts = goes.counts } in
-    let more = reach_way v w u 0 0 k (Some (Claimed address z (k + 1))) way reaches in
+    let more = reach_way way reaches in
     record { sees = more.sees; counts = more.counts; at = ap (λ (x : View). x.doing) reaches.is }
 
 -- behind a claim that fits
@@ -59,24 +59,24 @@ claimed_counts v h doing cost = record {
 pub claimed_way : (v w u : View) (address cost : ℕ) → Sees v v.seen → Polls v w false → Claims w u address cost
     → Way v u cost 0 2
 claimed_way v w u address cost sound polls claims =
-    let way = reach_way v v w 0 0 0 (Some Polled) (idle_way v sound) polls.0 in
+    let way = reach_way (idle_way v sound) polls.0 in
     let step : Counts w u cost 0 1 = subst (λ (x : View). Counts w x cost 0 1) (sym claims.is)
     (claimed_counts w u.seen (Some (Claimed address claims.shape 0)) cost) in
     record {
       sees = sees_on v w u.seen way.sees way.counts.thread way.counts.began claims.sees;
       counts = subst (λ (c : ℕ). Counts v u c 0 2) (let e : 0 + cost ≡ cost = omega arith in e)
-          (counts_on v w u 0 0 cost 0 1 1 way.counts step);
+          (counts_on way.counts step);
     }
 
 -- behind its stores and the store of the header
-pub made_it : (v w u x y : View) (address : ℕ) (z : Shape) (claims : Claims w u address (cost_of z)) → Sees v v.seen
-    → Polls v w false → FillsRegion u x address (cost_of z - 1) → Publishes x y address z → 1 ≤ cost_of z
-    → Made v y z address
-made_it v w u x y address z claims sound polls fills publishes some_ =
+pub made_it : {v w u : View} (x y : View) {address : ℕ} (z : Shape) (claims : Claims w u address (cost_of z))
+    → Sees v v.seen → Polls v w false → FillsRegion u x address (cost_of z - 1) → Publishes x y address z
+    → 1 ≤ cost_of z → Made v y z address
+made_it {v} {w} {u} x y {address} z claims sound polls fills publishes some_ =
     let before = claimed_way v w u address (cost_of z) sound polls claims in
     let goes = fills claims.shape (ap (λ (k : View). k.doing) claims.is) in
     let sees : Sees v x.seen = sees_on v u x.seen before.sees before.counts.thread before.counts.began goes.sees in
-    let counts = counts_on v u x (cost_of z) 0 0 0 2 (cost_of z - 1) before.counts goes.counts in
+    let counts = counts_on before.counts goes.counts in
     let act = Make z.refs z.nums in
     let adds : Adds v y.seen act = adds_on v x y.seen act sees counts.thread counts.began publishes.adds in
     let pair : ℕ → Pair = λ n. record { address = address; object = n } in
@@ -94,7 +94,7 @@ made_it v w u x y address z claims sound polls fills publishes some_ =
     record {
       adds = adds;
       counts = made_counts v y (cost_of z) some_
-          (counts_on v x y (cost_of z + 0) (0 + 0) 0 0 (2 + (cost_of z - 1)) 1 counts last);
+          (counts_on counts last);
       names = subst (λ (h : List Entry). Has y.known address (made h)) front here;
     }
   where
@@ -120,7 +120,7 @@ made_it v w u x y address z claims sound polls fills publishes some_ =
 pub lacked_it : (v w u x : View) (z : Shape) → Sees v v.seen → Polls v w false → Lacks w u (cost_of z) → Stops u x
     → LacksRoom v x z (Pause (Space (cost_of z)))
 lacked_it v w u x z sound polls lacks stops =
-    let way = reach_way v v w 0 0 0 (Some Polled) (idle_way v sound) polls.0 in
+    let way = reach_way (idle_way v sound) polls.0 in
     let first = way.counts in
     let sees_u : Sees v u.seen = sees_on v w u.seen way.sees first.thread first.began lacks.sees in
     let thread_u : u.thread ≡ v.thread = ap (λ (k : View). k.thread) lacks.is ∙ first.thread in
@@ -175,7 +175,7 @@ lacked_it v w u x z sound polls lacks stops =
 pub stopped_sees : (v w u x : View) (cost : ℕ) → Sees v v.seen → Polls v w false → Lacks w u cost → Stops u x
     → Sees x x.seen
 stopped_sees v w u x cost sound polls lacks stops =
-    let way = reach_way v v w 0 0 0 (Some Polled) (idle_way v sound) polls.0 in
+    let way = reach_way (idle_way v sound) polls.0 in
     let thread_u : u.thread ≡ v.thread = ap (λ (k : View). k.thread) lacks.is ∙ way.counts.thread in
     let began_u : u.began ≡ v.began = ap (λ (k : View). k.began) lacks.is ∙ way.counts.began in
     let sees_u : Sees v u.seen = sees_on v w u.seen way.sees way.counts.thread way.counts.began lacks.sees in

@@ -57,10 +57,10 @@ module _ {M : Type 0} where
   set_half f (y ∷ l) (suc k) d x below is = ap (λ (z : List M). f y ∷ z) (set_half f l k d x (omega arith) is)
 
   -- what holds from the i-th on before the k-th, and of x, holds of it too where x stands there
-  pub one_more : (P : M → Type 0) (l : List M) (low k : ℕ) (x : M) → k < length l
-      → ((i : ℕ) (d : M) → low ≤ i → i < k → P (get_or l i d)) → P x
-      → (i : ℕ) (d : M) → low ≤ i → i < k + 1 → P (get_or (set l k x) i d)
-  one_more P l low k x there below here i d from to = elim (cases_eq i k) [
+  pub one_more : (P : M → Type 0) (l : List M) {low : ℕ} (k : ℕ) (x : M) → k < length l
+      → ((i : ℕ) (d : M) → low ≤ i → i < k → P (get_or l i d)) → P x → (i : ℕ) (d : M) → low ≤ i → i < k + 1
+      → P (get_or (set l k x) i d)
+  one_more P l k x there below here i d from to = elim (cases_eq i k) [
     | inl same ↦ subst P (sym (ap (λ (j : ℕ). get_or (set l k x) j d) same ∙ get_set_here l k d x there)) here
     | inr other ↦ subst P (sym (get_set_else l k i d x other)) (below i d from (omega arith))
   ]

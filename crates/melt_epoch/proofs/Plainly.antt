@@ -22,7 +22,7 @@ use Rattle.melt_rule.specs.Rule.{Has}
 use Rattle.melt_rule.specs.Seats.{EpochWords, IsSeat, SpeaksOf, knows_of}
 use Rattle.melt_rule.specs.Tells.{Adds, Ends, HasAll, Heads, Names, Polls, Sees, view_behind}
 use Rattle.melt_rule.specs.declared.began.Began.{Began}
-use Rattle.melt_rule.specs.declared.view.Doing.TheVariants.{Headed, Polled}
+use Rattle.melt_rule.specs.declared.view.Doing.TheVariants.{Headed}
 use Rattle.melt_rule.specs.declared.view.View.{View}
 use Rattle.melt_epoch.proofs.Following.{Way, adds_on, between_own, idle_seat, idle_way, counts_most, counts_on}
 use Rattle.melt_epoch.proofs.Following.{reach_way}
@@ -44,9 +44,9 @@ held_nothing words seat address value idle (inr object) is =
     let first = (idle.is_seat.within.known address object.0 object.2).0 in absurd (omega arith)
 
 -- answered without an entry, behind a way
-pub way_replies : (v w : View) (a b most : ℕ) (rs : List Value) (o : Op) (r : Reply) → Way v w a b most
+pub way_replies : {v w : View} {a b most : ℕ} (rs : List Value) (o : Op) (r : Reply) → Way v w a b most
     → (v.began.told ≡ true → Answers v.thread w.seen rs o r w.seen rs) → Replies v w rs rs o r
-way_replies v w a b most rs o r way answers = record {
+way_replies {v} {w} rs o r way answers = record {
   between = way.sees.begins.0;
   answers = λ told. subst (λ (h : List Entry). Answers v.thread h rs o r w.seen rs) (sym way.sees.begins.1)
       (answers told);
@@ -57,10 +57,10 @@ way_replies v w a b most rs o r way answers = record {
 }
 
 -- and with one
-pub adds_replies : (v w : View) (act : Act) (old new : List Value) (o : Op) (r : Reply) (adds : Adds v w.seen act)
-    → (v.began.told ≡ true → Answers v.thread (v.seen ++ adds.between) old o r
-    ((v.seen ++ adds.between) ++ entry v.thread act ∷ []) new) → Replies v w old new o r
-adds_replies v w act old new o r adds answers = record {
+pub adds_replies : {v : View} (w : View) {act : Act} (old new : List Value) (o : Op) (r : Reply)
+    (adds : Adds v w.seen act) → (v.began.told ≡ true → Answers v.thread (v.seen ++ adds.between) old o r ((v.seen ++
+    adds.between) ++ entry v.thread act ∷ []) new) → Replies v w old new o r
+adds_replies {v} w {act} old new o r adds answers = record {
   between = adds.between;
   answers = λ told. subst (λ (h : List Entry). Answers v.thread (v.seen ++ adds.between) old o r h new) (sym adds.seen)
       (answers told);
@@ -80,8 +80,7 @@ pub nil_plain : (v : View) (rs : List Value) (o : Op) (most : ℕ) → Sees v v.
 nil_plain v rs o most sound nothing =
     let way = idle_way v sound in
     record {
-      comes = way_replies v v 0 0 0 rs o reply.Nil way
-          (λ told. nil_answers v.thread v.seen rs o reply.Nil v.seen rs nothing refl refl refl);
+      comes = way_replies rs o reply.Nil way (λ told. nil_answers v.thread o nothing refl refl refl);
       counts = counts_most v v 0 0 0 most (omega arith) way.counts;
       refused = tt;
     }
@@ -123,29 +122,26 @@ asked_idle words v seat is_seat polls =
 pub headed_way : (v w u : View) (address n : ℕ) (z : word.Shape) → Sees v v.seen → Polls v w false
     → Heads w u address n z → Way v u 0 0 2
 headed_way v w u address n z sound polls heads =
-    reach_way v w u 0 0 1 (Some (Headed address z))
-    (reach_way v v w 0 0 0 (Some Polled) (idle_way v sound) polls.0)
-    heads.reaches
+    reach_way (reach_way (idle_way v sound) polls.0) heads.reaches
 
 -- the object lacks the part
-pub range_plain : (v w u : View) (rs : List Value) (o : Op) (most address n : ℕ) (z : word.Shape) → 2 ≤ most
+pub range_plain : {v w u : View} (rs : List Value) (o : Op) (most : ℕ) {address n : ℕ} {z : word.Shape} → 2 ≤ most
     → Sees v v.seen → Polls v w false → Heads w u address n z → LacksPart rs o n z
     → Plain v u rs rs o most (Ok reply.Range)
-range_plain v w u rs o most address n z many sound polls heads lacks =
+range_plain {v} {w} {u} rs o most {address} {n} {z} many sound polls heads lacks =
     let way = headed_way v w u address n z sound polls heads in
     let began : w.began ≡ v.began = ap (λ (x : View). x.began) polls.0.is in
     record {
-      comes = way_replies v u 0 0 2 rs o reply.Range way
-          (λ told. range_answers v.thread u.seen rs o n z reply.Range u.seen rs lacks
-          (heads.shaped (ap (λ (b : Began). b.told) began ∙ told))
-          refl refl refl);
+      comes = way_replies rs o reply.Range way
+          (λ told. range_answers v.thread o n z lacks (heads.shaped (ap (λ (b : Began). b.told) began ∙ told)) refl refl
+          refl);
       counts = counts_most v u 0 0 2 most many way.counts;
       refused = tt;
     }
 
-pub headed_idle : (words : EpochWords) (v w : View) (seat : Seat ℕ View) (address n : ℕ) (z : word.Shape)
+pub headed_idle : {words : EpochWords} {v w : View} {seat : Seat ℕ View} {address n : ℕ} {z : word.Shape}
     → Sees v v.seen → Polls v w false → Heads w (knows_of seat) address n z → IsSeat words seat → IsIdle words seat
-headed_idle words v w seat address n z sound polls heads is_seat =
+headed_idle {words} {v} {w} {seat} {address} {n} {z} sound polls heads is_seat =
     let way = headed_way v w (knows_of seat) address n z sound polls heads in
     idle_seat words v seat (Some (Headed address z)) is_seat (ap (λ (x : View). x.doing) heads.reaches.is) refl
     (sound_sees v (knows_of seat) way.sees way.counts.began)
@@ -157,15 +153,15 @@ pub record EndsBehind (v x : View) (act : Act) (n : ℕ) (z : word.Shape) : Type
   pub counts : Counts v x 0 0 3
   pub shaped : v.began.told ≡ true → shape (v.seen ++ adds.between) n ≡ Some (shape_of z)
 
-pub ends_behind : (v w u x : View) (act : Act) (address n : ℕ) (z : word.Shape) → Sees v v.seen → Polls v w false
+pub ends_behind : {v w u x : View} {act : Act} {address n : ℕ} {z : word.Shape} → Sees v v.seen → Polls v w false
     → Heads w u address n z → Ends u x act → EndsBehind v x act n z
-ends_behind v w u x act address n z sound polls heads ends =
+ends_behind {v} {w} {u} {x} {act} {address} {n} {z} sound polls heads ends =
     let way = headed_way v w u address n z sound polls heads in
     let began : w.began ≡ v.began = ap (λ (y : View). y.began) polls.0.is in
     let adds : Adds v x.seen act = adds_on v u x.seen act way.sees way.counts.thread way.counts.began ends.adds in
     record {
       adds = adds;
-      counts = counts_on v u x 0 0 0 0 2 1 way.counts (step_counts u x u.known None (λ a m has. has) ends.is);
+      counts = counts_on way.counts (step_counts u x u.known None (λ a m has. has) ends.is);
       shaped = λ told. shape_stays u.seen (v.seen ++ adds.between) ends.adds.between n (shape_of z)
           (append_cancel_right (u.seen ++ ends.adds.between) (v.seen ++ adds.between) (entry v.thread act ∷ [])
           (ap (λ (t : ℕ). (u.seen ++ ends.adds.between) ++ entry t act ∷ []) (sym way.counts.thread)
@@ -177,9 +173,9 @@ ends_behind v w u x act address n z sound polls heads ends =
 pub ends_polled : (v w x : View) (act : Act) → Sees v v.seen → Polls v w false → Ends w x act
     → Adds v x.seen act × Counts v x 0 0 2
 ends_polled v w x act sound polls ends =
-    let way = reach_way v v w 0 0 0 (Some Polled) (idle_way v sound) polls.0 in (
+    let way = reach_way (idle_way v sound) polls.0 in (
       adds_on v w x.seen act way.sees way.counts.thread way.counts.began ends.adds,
-      counts_on v w x 0 0 0 0 1 1 way.counts (step_counts w x w.known None (λ a m has. has) ends.is),
+      counts_on way.counts (step_counts w x w.known None (λ a m has. has) ends.is),
     )
 
 pub ended_idle : (words : EpochWords) (v u : View) (seat : Seat ℕ View) (act : Act) → Adds v (knows_of seat).seen act
@@ -193,9 +189,9 @@ ended_idle words v u seat act adds counts ends is_seat =
 pub polled_knows : (v w : View) (a n : ℕ) → Polls v w false → Has v.known a n → Has w.known a n
 polled_knows v w a n polls has = subst (λ (x : View). Has x.known a n) (sym polls.0.is) has
 
-pub headed_knows : (v w u : View) (a n address m : ℕ) (z : word.Shape) → Polls v w false → Heads w u address m z
-    → Has v.known a n → Has u.known a n
-headed_knows v w u a n address m z polls heads has =
+pub headed_knows : (v : View) {w u : View} (a n : ℕ) {address m : ℕ} {z : word.Shape} → Polls v w false
+    → Heads w u address m z → Has v.known a n → Has u.known a n
+headed_knows v {w} a n polls heads has =
     subst (λ (x : View). Has x.known a n) (sym heads.reaches.is) (polled_knows v w a n polls has)
 
 -- What a call knows of the object in a register, behind the load of its header.
@@ -208,15 +204,14 @@ pub record Opened (v w u : View) (address : ℕ) (z : word.Shape) (value : Value
   pub known : Has u.known address object
   pub more : HasAll v.known u.known
 
-pub opened : (words : EpochWords) (seat : Seat ℕ View) (w u : View) (address : ℕ) (z : word.Shape) (value : Value)
-    → IsIdle words seat → Names (knows_of seat).known address value → (address ≡ 0 → ⊥)
-    → Polls (knows_of seat) w false → ((n : ℕ) → Has w.known address n → Heads w u address n z)
-    → Opened (knows_of seat) w u address z value
-opened words seat w u address z value idle names some_ polls loads =
+pub opened : {words : EpochWords} {seat : Seat ℕ View} (w u : View) (address : ℕ) (z : word.Shape) (value : Value)
+    → IsIdle words seat → Names (knows_of seat).known address value → (address ≡ 0 → ⊥) → Polls (knows_of seat) w false
+    → ((n : ℕ) → Has w.known address n → Heads w u address n z) → Opened (knows_of seat) w u address z value
+opened {words} {seat} w u address z value idle names some_ polls loads =
     let v = knows_of seat in
     let found = held_object words seat address value idle names some_ in
     let heads = loads found.0 (polled_knows v w address found.0 polls found.2) in
-    let more : HasAll v.known u.known = λ a n has. headed_knows v w u a n address found.0 z polls heads has in
+    let more : HasAll v.known u.known = λ a n has. headed_knows v a n polls heads has in
     record {
       object = found.0;
       is = found.1;
@@ -232,7 +227,7 @@ module _ {v w u : View} {address : ℕ} {z : word.Shape} {value : Value} where
   pub opened_range : (rs : List Value) (o : Op) (most : ℕ) (h : Opened v w u address z value) → 2 ≤ most
       → LacksPart rs o h.object z → Plain v u rs rs o most (Ok reply.Range)
   opened_range rs o most h many lacks =
-      range_plain v w u rs o most address h.object z many h.sound h.polls h.heads lacks
+      range_plain rs o most many h.sound h.polls h.heads lacks
 
   -- the call may speak of it
   pub opened_speaks : (P : word.Shape → Type 0) → Opened v w u address z value → P z → SpeaksOf u address P
@@ -241,7 +236,7 @@ module _ {v w u : View} {address : ℕ} {z : word.Shape} {value : Value} where
   -- and then ends with an entry
   pub opened_ends : (x : View) (act : Act) (h : Opened v w u address z value) → Ends u x act
       → EndsBehind v x act h.object z
-  opened_ends x act h ends = ends_behind v w u x act address h.object z h.sound h.polls h.heads ends
+  opened_ends x act h ends = ends_behind h.sound h.polls h.heads ends
 
   pub opened_ended : (words : EpochWords) (seat : Seat ℕ View) (act : Act) → Opened v w u address z value
       → Ends u (knows_of seat) act → IsSeat words seat → IsIdle words seat
@@ -252,4 +247,4 @@ module _ {v w u : View} {address : ℕ} {z : word.Shape} {value : Value} where
 pub opened_idle : {v w : View} {address : ℕ} {z : word.Shape} {value : Value} (words : EpochWords) (seat : Seat ℕ View)
     → Opened v w (knows_of seat) address z value → IsSeat words seat → IsIdle words seat
 opened_idle {v} {w} {address} {z} words seat h is_seat =
-    headed_idle words v w seat address h.object z h.sound h.polls h.heads is_seat
+    headed_idle h.sound h.polls h.heads is_seat

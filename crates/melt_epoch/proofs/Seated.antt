@@ -45,10 +45,10 @@ stand_set known regs values r address value has_value has_reg stand names q = el
 ]
 
 -- what is so of two seats is so of those that a mutator has before and behind
-pub by_seats : (P : View → View → Type 0) (seat new s t : Seat ℕ View) (before after : Option (Seat ℕ View))
+pub by_seats : (P : View → View → Type 0) {seat new s t : Seat ℕ View} {before after : Option (Seat ℕ View)}
     → Some seat ≡ before → after ≡ Some new → before ≡ Some s → after ≡ Some t → P (knows_of seat) (knows_of new)
     → P (knows_of s) (knows_of t)
-by_seats P seat new s t before after is there at_s at_t holds =
+by_seats P {seat} {new} {s} {t} is there at_s at_t holds =
     let one : seat ≡ s = let both : Some seat ≡ Some s = is ∙ at_s in cc in
     let two : new ≡ t = let both : Some new ≡ Some t = sym there ∙ at_t in cc in
     subst (λ (x : Seat ℕ View). P (knows_of x) (knows_of t)) one
@@ -89,11 +89,11 @@ module _ {R : Type 0} (words : EpochWords) (m : Mutator R) (seated : IsSeated wo
       seated_by new idle counts.thread counts.parts counts.away counts.known
 
   -- and behind one that lets a register hold what it found
-  pub seated_held : (new : Seat ℕ View) (claimed wins most r address : ℕ) (value : Value) → IsIdle words new
+  pub seated_held : {new : Seat ℕ View} {claimed wins most : ℕ} (r address : ℕ) (value : Value) → IsIdle words new
       → Counts (knows_of seat) (knows_of new) claimed wins most → length m.registers.regs ≡ 16 → r < 16
       → Names (knows_of new).known address value
       → IsSeated words (with_reference (record m { seat = Some new }) r address value)
-  seated_held new claimed wins most r address value idle counts few below names = record {
+  seated_held {new} r address value idle counts few below names = record {
     seat = new;
     there = refl;
     idle = idle;
@@ -114,6 +114,5 @@ module _ {R : Type 0} (words : EpochWords) (m : Mutator R) (seated : IsSeated wo
       → IsPlain m (record m { seat = Some new }) o most result
   plain_again new o most result plain = (
     refl,
-    λ s t at_s at_t. by_seats (λ (v w : View). Plain v w m.values m.values o most result) seat new s t
-        m.seat (Some new) is refl at_s at_t plain,
+    λ s t at_s at_t. by_seats (λ (v w : View). Plain v w m.values m.values o most result) is refl at_s at_t plain,
   )

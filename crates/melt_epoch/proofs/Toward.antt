@@ -30,36 +30,36 @@ toward_itself v = record { on = λ h sees. sees; counts = no_counts v }
 pub toward_most : (v w : View) (a b m n : ℕ) → m ≤ n → Toward v w a b m → Toward v w a b n
 toward_most v w a b m n le toward = record { on = toward.on; counts = counts_most v w a b m n le toward.counts }
 
-pub toward_counts : (v w u : View) (a b c d m n k : ℕ) → m + n ≤ k → Toward v w a b m → Counts w u c d n
+pub toward_counts : {v w u : View} {a b c d m n : ℕ} (k : ℕ) → m + n ≤ k → Toward v w a b m → Counts w u c d n
     → Counts v u (a + c) (b + d) k
-toward_counts v w u a b c d m n k le toward counts =
-    counts_most v u (a + c) (b + d) (m + n) k le (counts_on v w u a b c d m n toward.counts counts)
+toward_counts {v} {u} {a} {b} {c} {d} {m} {n} k le toward counts =
+    counts_most v u (a + c) (b + d) (m + n) k le (counts_on toward.counts counts)
 
 -- the counts of a step that claims and wins nothing
-toward_step : (v w u : View) (a b m k : ℕ) → m + 1 ≤ k → Toward v w a b m → Counts w u 0 0 1 → Counts v u a b k
-toward_step v w u a b m k le toward counts =
+toward_step : {v w u : View} {a b m : ℕ} (k : ℕ) → m + 1 ≤ k → Toward v w a b m → Counts w u 0 0 1 → Counts v u a b k
+toward_step {v} {u} {a} {b} k le toward counts =
     subst (λ (c : ℕ). Counts v u c b k) (let e : a + 0 ≡ a = omega arith in e)
     (subst (λ (d : ℕ). Counts v u (a + 0) d k) (let e : b + 0 ≡ b = omega arith in e)
-    (toward_counts v w u a b 0 0 m 1 k le toward counts))
+    (toward_counts k le toward counts))
 
 pub toward_sees : (v w u : View) (a b m : ℕ) → Toward v w a b m → Sees w u.seen → Sees v u.seen
 toward_sees v w u a b m toward sees = toward.on u.seen sees
 
 -- one step more, without an entry
-pub toward_on : (v w u : View) (a b m k : ℕ) (doing : Doing) → m + 1 ≤ k → Toward v w a b m
+pub toward_on : {v w u : View} {a b m : ℕ} (k : ℕ) {doing : Doing} → m + 1 ≤ k → Toward v w a b m
     → Reaches w u (Some doing) → Toward v u a b k
-toward_on v w u a b m k doing le toward step =
+toward_on {w} {u} k {doing} le toward step =
     let counts = step_counts w u w.known (Some doing) (λ x n has. has) step.is in
     record {
       on = λ h sees. toward.on h (sees_on w u h step.sees counts.thread counts.began sees);
-      counts = toward_step v w u a b m k le toward counts;
+      counts = toward_step k le toward counts;
     }
 
-pub toward_goes : (v w u : View) (a b m k : ℕ) (doing : Doing) → m + 1 ≤ k → Toward v w a b m
+pub toward_goes : {v w u : View} {a b m : ℕ} (k : ℕ) {doing : Doing} → m + 1 ≤ k → Toward v w a b m
     → Reaches w u (Some doing) → Goes v u a b k doing
-toward_goes v w u a b m k doing le toward step = record {
+toward_goes {u} k {doing} le toward step = record {
   sees = toward.on u.seen step.sees;
-  counts = (toward_on v w u a b m k doing le toward step).counts;
+  counts = (toward_on k le toward step).counts;
   at = ap (λ (x : View). x.doing) step.is;
 }
 
@@ -85,9 +85,9 @@ toward_filled v w u a m k le toward fills =
     }
 
 -- a copy became the object of its home
-pub toward_wins : (v w u : View) (a m k : ℕ) (activation : Activation) → m + 1 ≤ k → Toward v w a 0 m
+pub toward_wins : {v w u : View} {a m : ℕ} (k : ℕ) {activation : Activation} → m + 1 ≤ k → Toward v w a 0 m
     → Wins w u activation → Goes v u a 1 k (in_use_at activation.search activation.address)
-toward_wins v w u a m k activation le toward wins =
+toward_wins {w} {u} k {activation} le toward wins =
     let is = wins.is in
     let so = toward.counts in
     record {
@@ -125,27 +125,28 @@ goes_toward v w a b m doing goes = record {
   counts = goes.counts;
 }
 
-pub toward_both : (v w u : View) (a b m n k : ℕ) → m + n ≤ k → Toward v w a b m → Toward w u 0 0 n → Toward v u a b k
-toward_both v w u a b m n k le first more = record {
+pub toward_both : {v w u : View} {a b m n : ℕ} (k : ℕ) → m + n ≤ k → Toward v w a b m → Toward w u 0 0 n
+    → Toward v u a b k
+toward_both {v} {u} {a} {b} k le first more = record {
   on = λ h sees. first.on h (more.on h sees);
   counts = subst (λ (c : ℕ). Counts v u c b k) (let e : a + 0 ≡ a = omega arith in e)
       (subst (λ (d : ℕ). Counts v u (a + 0) d k) (let e : b + 0 ≡ b = omega arith in e)
-      (toward_counts v w u a b 0 0 m n k le first more.counts));
+      (toward_counts k le first more.counts));
 }
 
-pub toward_then : (v w u : View) (a b m n k : ℕ) (doing : Doing) → m + n ≤ k → Toward v w a 0 m → Goes w u 0 b n doing
-    → Goes v u a b k doing
-toward_then v w u a b m n k doing le toward goes = record {
+pub toward_then : {v w u : View} {a b m n : ℕ} (k : ℕ) {doing : Doing} → m + n ≤ k → Toward v w a 0 m
+    → Goes w u 0 b n doing → Goes v u a b k doing
+toward_then {v} {u} {a} {b} k le toward goes = record {
   sees = toward.on u.seen goes.sees;
   counts = subst (λ (c : ℕ). Counts v u c b k) (let e : a + 0 ≡ a = omega arith in e)
       (subst (λ (d : ℕ). Counts v u (a + 0) d k) (let e : 0 + b ≡ b = omega arith in e)
-      (toward_counts v w u a 0 0 b m n k le toward goes.counts));
+      (toward_counts k le toward goes.counts));
   at = goes.at;
 }
 
-pub toward_full : (v w u : View) (a c all m n k : ℕ) (refusal : Refusal) → a + c ≡ all → m + n ≤ k → Toward v w a 0 m
-    → IsFull w u c n refusal → IsFull v u all k refusal
-toward_full v w u a c all m n k refusal sum le toward full =
+pub toward_full : {v w u : View} {a c all m n : ℕ} (k : ℕ) {refusal : Refusal} → a + c ≡ all → m + n ≤ k
+    → Toward v w a 0 m → IsFull w u c n refusal → IsFull v u all k refusal
+toward_full {u} k sum le toward full =
     let more = full.filled in
     let so = toward.counts in
     record {
@@ -169,19 +170,19 @@ toward_full v w u a c all m n k refusal sum le toward full =
       over = full.over;
     }
 
-pub goes_then : (v w u : View) (a b m n k : ℕ) (doing : Doing) → m + n ≤ k → Toward v w 0 0 m → Goes w u a b n doing
-    → Goes v u a b k doing
-goes_then v w u a b m n k doing le toward goes = record {
+pub goes_then : {v w u : View} {a b m n : ℕ} (k : ℕ) {doing : Doing} → m + n ≤ k → Toward v w 0 0 m
+    → Goes w u a b n doing → Goes v u a b k doing
+goes_then {v} {u} {a} {b} k le toward goes = record {
   sees = toward.on u.seen goes.sees;
   counts = subst (λ (c : ℕ). Counts v u c b k) (let e : 0 + a ≡ a = omega arith in e)
       (subst (λ (d : ℕ). Counts v u (0 + a) d k) (let e : 0 + b ≡ b = omega arith in e)
-      (toward_counts v w u 0 0 a b m n k le toward goes.counts));
+      (toward_counts k le toward goes.counts));
   at = goes.at;
 }
 
-pub toward_lacked : (v w u : View) (need m n k : ℕ) → m + n ≤ k → Toward v w 0 0 m → Lacked w u need n
+pub toward_lacked : {v w u : View} {need m n : ℕ} (k : ℕ) → m + n ≤ k → Toward v w 0 0 m → Lacked w u need n
     → Lacked v u need k
-toward_lacked v w u need m n k le toward more =
+toward_lacked {v} {w} {m} k le toward more =
     let so = toward.counts in
     record {
       thread = more.thread ∙ so.thread;

@@ -31,11 +31,10 @@ next_state_is seed n state word next e f =
     ap (λ p. p.1) e ∙ ap (λ (s : ℕ). (mix_u64 s).1) f ∙ ap (state_behind seed) on
 
 -- the lines of one more round
-pub round_written : (start : List Item) (first : List Op) (round : ℕ → List Op) (k : ℕ) (new old : List Item)
-    (ops : List Op)
-    → new ≡ old ++ map item.Op ops → ops ≡ round k → old ≡ start ++ map item.Op (first ++ rounds round k)
-    → new ≡ start ++ map item.Op (first ++ rounds round (k + 1))
-round_written start first round k new old ops e f g =
+pub round_written : (start : List Item) (first : List Op) (round : ℕ → List Op) (k : ℕ) {new old : List Item}
+    {ops : List Op} → new ≡ old ++ map item.Op ops → ops ≡ round k
+    → old ≡ start ++ map item.Op (first ++ rounds round k) → new ≡ start ++ map item.Op (first ++ rounds round (k + 1))
+round_written start first round k {new} {old} {ops} e f g =
     behind start new old (first ++ rounds round k) ops e g
     ∙ ap (λ (more : List Op). start ++ map item.Op ((first ++ rounds round k) ++ more)) f
     ∙ ap (λ (all : List Op). start ++ map item.Op all)

@@ -78,11 +78,11 @@ writes-behind old mid new at [] second one two =
 writes-behind old mid new at (byte ∷ bytes) second one two = Writes-append old mid new at (byte ∷ bytes) second one two
 
 -- the words up to `end`, behind those up to `done`
-pub writes-run : (old mid new : Option (List ℕ)) (at : ℕ) (words : List ℕ) (done end : ℕ) → done < end
+pub writes-run : (old mid new : Option (List ℕ)) (at : ℕ) (words : List ℕ) {done : ℕ} (end : ℕ) → done < end
     → end ≤ length words → WritesSoFar old (8 * at) (word_bytes (take done words)) mid
     → Writes mid (8 * (at + done)) (word_bytes (take (end - done) (drop done words))) new
     → WritesSoFar old (8 * at) (word_bytes (take end words)) new
-writes-run old mid new at words done end more fits one two =
+writes-run old mid new at words {done} end more fits one two =
     let first : List ℕ = word_bytes (take done words) in
     let second : List ℕ = word_bytes (take (end - done) (drop done words)) in
     let len : length first ≡ 8 * done = length-word_bytes (take done words)
@@ -100,9 +100,9 @@ writes-run old mid new at words done end more fits one two =
     writes-so_far old new (8 * at) (word_bytes (take end words)) (omega arith)
     (subst P whole (writes-behind old mid new (8 * at) first second one there))
 
-SameOutside-append : (old mid new : List ℕ) (at m n all : ℕ) → m + n ≤ all → SameOutside old at m mid
+SameOutside-append : {old mid new : List ℕ} {at m n : ℕ} (all : ℕ) → m + n ≤ all → SameOutside old at m mid
     → SameOutside mid (at + m) n new → SameOutside old at all new
-SameOutside-append old mid new at m n all fits one two = record {
+SameOutside-append all fits one two = record {
   before = λ k h. two.before k (omega arith) ∙ one.before k h;
   behind = λ k h. two.behind k (omega arith) ∙ one.behind k (omega arith);
 }
@@ -111,21 +111,21 @@ SameOutside-nothing : (old : List ℕ) (at : ℕ) → SameOutside old at 0 old
 SameOutside-nothing old at = record { before = λ k h. refl; behind = λ k h. refl }
 
 -- a piece that was written, and one behind it of which the writing failed
-keeps-behind : (old mid new : Option (List ℕ)) (at : ℕ) (first : List ℕ) (n all : ℕ) → length first + n ≤ all
+keeps-behind : (old mid new : Option (List ℕ)) (at : ℕ) (first : List ℕ) (n : ℕ) {all : ℕ} → length first + n ≤ all
     → WritesSoFar old at first mid → KeepsOthers mid (at + length first) n new → KeepsOthers old at all new
-keeps-behind None None None at first n all fits one two = tt
-keeps-behind None None (Some new) at first n all fits one two = elim two [ ]
-keeps-behind None (Some mid) new at [] n all fits one two = cc
-keeps-behind None (Some mid) new at (byte ∷ first) n all fits one two = elim one [ ]
-keeps-behind (Some old) None new at [] n all fits one two = cc
-keeps-behind (Some old) None new at (byte ∷ first) n all fits one two = elim one [ ]
-keeps-behind (Some old) (Some mid) None at first n all fits one two = elim two [ ]
-keeps-behind (Some old) (Some mid) (Some new) at [] n all fits one two =
+keeps-behind None None None at first n {all} fits one two = tt
+keeps-behind None None (Some new) at first n {all} fits one two = elim two [ ]
+keeps-behind None (Some mid) new at [] n {all} fits one two = cc
+keeps-behind None (Some mid) new at (byte ∷ first) n {all} fits one two = elim one [ ]
+keeps-behind (Some old) None new at [] n {all} fits one two = cc
+keeps-behind (Some old) None new at (byte ∷ first) n {all} fits one two = elim one [ ]
+keeps-behind (Some old) (Some mid) None at first n {all} fits one two = elim two [ ]
+keeps-behind (Some old) (Some mid) (Some new) at [] n {all} fits one two =
     let same : mid ≡ old = cc in
-    SameOutside-append old mid new at 0 n all fits (rw same (SameOutside-nothing old at)) two
-keeps-behind (Some old) (Some mid) (Some new) at (byte ∷ first) n all fits one two =
+    SameOutside-append all fits (rw same (SameOutside-nothing old at)) two
+keeps-behind (Some old) (Some mid) (Some new) at (byte ∷ first) n {all} fits one two =
     let written : SameOutside old at (length (byte ∷ first)) mid = rw one (with_words-outside old at (byte ∷ first)) in
-    SameOutside-append old mid new at (length (byte ∷ first)) n all fits written two
+    SameOutside-append all fits written two
 
 -- a run that failed behind the words up to `done`
 pub keeps-run : (old mid new : Option (List ℕ)) (at : ℕ) (words : List ℕ) (done n : ℕ) → done + n ≤ length words
@@ -137,15 +137,15 @@ keeps-run old mid new at words done n fits one two =
     ∙ ap (λ n. 8 * n) (length-take-le done words (omega arith)) in
     let place : 8 * (at + done) ≡ 8 * at + length first = omega arith in
     let P : ℕ → Type 0 = λ at. KeepsOthers mid at (8 * n) new in
-    keeps-behind old mid new (8 * at) first (8 * n) (8 * length words) (omega arith) one (subst P place two)
+    keeps-behind old mid new (8 * at) first (8 * n) (omega arith) one (subst P place two)
 
 -- n bytes more, behind the first `filled`
-pub reads-on : (told : Option (List ℕ)) (bytes buf behind : List ℕ) (at filled n : ℕ) → filled ≤ length bytes
-    → n ≤ length buf → IfSome told (λ all. take filled bytes ≡ take filled (drop at all))
+pub reads-on : (told : Option (List ℕ)) (bytes buf behind : List ℕ) (at : ℕ) {filled : ℕ} (n : ℕ)
+    → filled ≤ length bytes → n ≤ length buf → IfSome told (λ all. take filled bytes ≡ take filled (drop at all))
     → IfSome told (λ all. take n buf ≡ take n (drop (at + filled) all))
     → IfSome told (λ all. take (filled + n) (take filled bytes ++ (buf ++ behind)) ≡ take (filled + n) (drop at all))
-reads-on None bytes buf behind at filled n within fits one two = tt
-reads-on (Some all) bytes buf behind at filled n within fits one two =
+reads-on None bytes buf behind at {filled} n within fits one two = tt
+reads-on (Some all) bytes buf behind at {filled} n within fits one two =
     let len : length (take filled bytes) ≡ filled = length-take-le filled bytes within in
     let next : drop (at + filled) all ≡ drop filled (drop at all) = sym (drop-drop filled at all) in
     ap (λ m. take (m + n) (take filled bytes ++ (buf ++ behind))) (sym len)
@@ -174,13 +174,13 @@ words_in_bytes-filled there k n z fits len ended =
           ∙ ap (λ bytes. words_in_bytes k bytes) whole
     ]
 
-pub reads-filled : (told : Option (List ℕ)) (at : ℕ) (bytes zeros words : List ℕ) (n z k : ℕ) → n ≤ length bytes
-    → length bytes ≡ 8 * k → IfSome told (λ all. take n bytes ≡ take n (drop at all))
+pub reads-filled : (told : Option (List ℕ)) (at : ℕ) (bytes : List ℕ) {zeros words : List ℕ} (n z k : ℕ)
+    → n ≤ length bytes → length bytes ≡ 8 * k → IfSome told (λ all. take n bytes ≡ take n (drop at all))
     → (n < length bytes → IfSome told (λ all. length all ≤ at + n)) → zeros ≡ replicate z 0
     → words ≡ words_in_bytes k (take n bytes ++ (zeros ++ drop (length bytes - n) (drop n bytes)))
     → IfSome told (λ all. words ≡ words_in_bytes k (drop at all))
-reads-filled None at bytes zeros words n z k fits len taken ended zero e = tt
-reads-filled (Some all) at bytes zeros words n z k fits len taken ended zero e =
+reads-filled None at bytes {zeros} n z k fits len taken ended zero e = tt
+reads-filled (Some all) at bytes {zeros} n z k fits len taken ended zero e =
     let there : List ℕ = drop at all in
     let behind : List ℕ = drop (length bytes - n) (drop n bytes) in
     let nothing : behind ≡ [] = drop_all (length bytes - n) (drop n bytes) (omega (arith, length-drop n bytes)) in
@@ -193,13 +193,13 @@ reads-filled (Some all) at bytes zeros words n z k fits len taken ended zero e =
     omega (arith, length-drop at all))
 
 -- the words up to `end`, behind those up to `done`
-pub reads-more : (told : Option (List ℕ)) (at : ℕ) (words run behind : List ℕ) (done end : ℕ) → done ≤ end
+pub reads-more : (told : Option (List ℕ)) (at : ℕ) (words run behind : List ℕ) {done : ℕ} (end : ℕ) → done ≤ end
     → done ≤ length words → length run ≡ end - done
     → IfSome told (λ all. take done words ≡ words_in_bytes done (drop (8 * at) all))
     → IfSome told (λ all. run ≡ words_in_bytes (length run) (drop (8 * (at + done)) all))
     → IfSome told (λ all. take end (take done words ++ (run ++ behind)) ≡ words_in_bytes end (drop (8 * at) all))
-reads-more None at words run behind done end h within len one two = tt
-reads-more (Some all) at words run behind done end h within len one two =
+reads-more None at words run behind {done} end h within len one two = tt
+reads-more (Some all) at words run behind {done} end h within len one two =
     let there : List ℕ = drop (8 * at) all in
     let front : length (take done words) ≡ done = length-take-le done words within in
     let count : done + length run ≡ end = omega arith in

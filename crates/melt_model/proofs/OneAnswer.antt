@@ -23,12 +23,12 @@ answered_more h a o ops replies d is takes =
     subst P (sym is) here
 
 -- an operation that got its reply, and the thread behind it
-pub answered_drop : (h : List Entry) (a : Thread) (ops : List Op) (replies : List Reply) (k : ℕ) (o : Op) (r : Reply)
-    (d : Deed) (left : List ℕ) → k < length ops → k < length replies → o ≡ get_or ops k o → d ≡ deed h a o
+pub answered_drop : (h : List Entry) (a : Thread) (ops : List Op) (replies : List Reply) (k : ℕ) {o : Op} (r : Reply)
+    {d : Deed} {left : List ℕ} → k < length ops → k < length replies → o ≡ get_or ops k o → d ≡ deed h a o
     → d.reply ≡ get_or replies k r → Takes h d.act a.places → left ≡ places_left d.act a.places
     → Answered h a (drop k ops) (drop k replies)
     ↔ Answered h (record { registers = d.registers; places = left }) (drop (k + 1) ops) (drop (k + 1) replies)
-answered_drop h a ops replies k o r d left in_ops in_replies op_is is told takes left_is =
+answered_drop h a ops replies k {o} r {d} {left} in_ops in_replies op_is is told takes left_is =
     let P : List Op → List Reply → List ℕ → Type 0 = λ os rs ps. Answered h a os rs
     ↔ Answered h (record { registers = d.registers; places = ps }) (drop (k + 1) ops) (drop (k + 1) replies) in
     subst (λ (os : List Op). P os (drop k replies) left) (sym (drop_more ops k o o in_ops op_is))

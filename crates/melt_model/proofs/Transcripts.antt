@@ -226,13 +226,14 @@ given_at-seam : (h : List Entry) (e : Entry) → given_at (h ++ e ∷ []) (lengt
 given_at-seam h e = rw (slice_get-append_seam, take-append_seam)
 
 -- one operation more, whose entry is the new last one of the history
-pub Stands_entry : (h : List Entry) (t : ℕ) (ops : List Op) (replies : List Reply) (registers : List Value) (o : Op)
+pub Stands_entry : {h : List Entry} {t : ℕ} {ops : List Op} {replies : List Reply} {registers : List Value} (o : Op)
     (e : Entry) → Stands h t ops replies registers → e.thread ≡ t
     → (does h registers o (unwrap_or (given h e.act) Nil)).act ≡ Some e.act
     → HoldReferences (h ++ e ∷ []) (does h registers o (unwrap_or (given h e.act) Nil)).registers
-    → Stands (h ++ e ∷ []) t (ops ++ o ∷ []) (replies ++ (does h registers o (unwrap_or (given h e.act) Nil)).reply
-    ∷ []) (does h registers o (unwrap_or (given h e.act) Nil)).registers
-Stands_entry h t ops replies registers o e stands is act references =
+    → Stands (h ++ e ∷ []) t (ops ++ o ∷ [])
+    (replies ++ (does h registers o (unwrap_or (given h e.act) Nil)).reply ∷ [])
+    (does h registers o (unwrap_or (given h e.act) Nil)).registers
+Stands_entry {h} {t} {ops} {replies} {registers} o e stands is act references =
     let k : List Entry = h ++ e ∷ [] in
     let d : Deed = does h registers o (unwrap_or (given h e.act) Nil) in
     let b : Thread = record { registers = registers; places = length h ∷ [] } in

@@ -105,10 +105,10 @@ module _ (old new : Heap) (is : IsAsBefore old new) where
   }
 
   -- what was made of the one was made of the other
-  pub moved_same : (maps : Maps) (disk : OnDisk) (last : Heap) (held after : List Registers) (end : ℕ)
-      (told : Option (List ℕ)) (journal : Journal) → HasMoved maps disk new last held after end told journal
+  pub moved_same : {maps : Maps} {disk : OnDisk} {last : Heap} {held after : List Registers} {end : ℕ}
+      {told : Option (List ℕ)} {journal : Journal} → HasMoved maps disk new last held after end told journal
       → HasMoved maps disk old last held after end told journal
-  moved_same maps disk last held after end told journal has =
+  moved_same {maps} {disk} {last} {held} {after} {journal} has =
       let same = state_same held disk in
       record {
         after = has.after;

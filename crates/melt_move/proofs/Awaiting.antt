@@ -222,8 +222,7 @@ module _ (heap : Heap) (held : List Registers) (disk : OnDisk) (decision : Decis
               let given : x.given ≡ y.given =
               same_Some x.given y.given (sym x.is ∙ (ap (slice_get decision.homes.given.items) same ∙ y.is)) in
               let from : m.from ≡ n.from = sym x.from ∙ (ap (λ (g : Given). g.from) given ∙ y.from) in
-              absurd (differ (same_source s (goes decision.choice.stay) moves decision.choice.stay.next i j m n
-              decided.choice.stay at also from).0)
+              absurd (differ (same_source i j decided.choice.stay at also from).0)
           | inr (inl less) ↦
               inl (let order = given_order s decision decided.homes some_first x.index y.index
               x.given y.given x.is y.is less in
@@ -247,11 +246,9 @@ module _ (heap : Heap) (held : List Registers) (disk : OnDisk) (decision : Decis
           let all = stand.size in
           (place.0, (let below = place.1 in omega (arith, below, size, inside, words, all)));
       apart = λ i j m n at also less.
-          place_behind s (goes decision.choice.stay) moves decision.choice.stay.next i j m n
-          decided.choice.stay at also less;
+          place_behind i j decided.choice.stay at also less;
       once = λ i j m n at also same.
-          (same_source s (goes decision.choice.stay) moves decision.choice.stay.next i j m n
-          decided.choice.stay at also same).0;
+          (same_source i j decided.choice.stay at also same).0;
       old_homes = λ k m at. elim (decided.old_homes m.from (stays_reached k m at)) [
         | inl none ↦ inl (put_home k m at ∙ none)
         | inr old ↦ inr (old.0, old.1, put_names k m old.0 old.1 at old.2, kept_live k m old.0 old.1 at old.2)
@@ -284,11 +281,9 @@ names_may_go heap held disk decision decided maps formed made names numbers are 
     let moves = decision.choice.stay.moves.items in
     let inside = decided.seen.whole.inside in
     let words = stays_within heap held disk decision decided in
-    can_rename heap.space.used (length heap.space.list) heap.maps maps heap.names moves numbers names made.names are
-    (omega (arith, inside))
-    (λ k above. none_behind maps s k formed (omega (arith, above)))
-    (λ k m at.
+    can_rename (length heap.space.list) heap.maps maps heap.names moves numbers names made.names are
+    (omega (arith, inside)) (λ k above. none_behind maps s k formed (omega (arith, above))) (λ k m at.
     let place = place_below s (goes decision.choice.stay) moves decision.choice.stay.next k m stay at in
     (place.0, (let below = place.1 in let behind = stay.behind in omega (arith, below, behind, words))))
     (λ i j m n here there same.
-    (same_place s (goes decision.choice.stay) moves decision.choice.stay.next i j m n stay here there same).0)
+    (same_place i j stay here there same).0)

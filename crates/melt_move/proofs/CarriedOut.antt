@@ -23,7 +23,7 @@ use Rattle.melt_scion.specs.Heaps.{OnDisk, HasNames, IsSettled, TablesMade, Show
 use Rattle.melt_scion.specs.declared.registers.Registers.{Registers}
 use Rattle.melt_scion.specs.declared.heap.Heap.{Heap}
 use Rattle.melt_copy.specs.declared.forwarding.Relocation.{Relocation}
-use Rattle.melt_copy.specs.Tracking.{goes, word_numbered}
+use Rattle.melt_copy.specs.Tracking.{word_numbered}
 use Rattle.melt_copy.proofs.Places.{place_behind, same_place}
 use Rattle.melt_move.specs.declared.choice.Departure.{Departure}
 use Rattle.melt_move.specs.declared.commit.Copied.{Copied}
@@ -73,14 +73,10 @@ module _ (maps : Maps) (heap : Heap) (held : List Registers) (disk : OnDisk) (de
             let to_is : n.to ≡ m.to = ap (λ (x : Relocation). x.to) one in
             some (ap (given_home decision.homes) one ∙ home (omega (arith, same, to_is)))
         | inr (inl less) ↦
-            let apart = place_behind s (goes decision.choice.stay) moves decision.choice.stay.next j k n m
-            decided.choice.stay
-            other there less in
+            let apart = place_behind j k decided.choice.stay other there less in
             omega (arith, apart, same, from)
         | inr (inr less) ↦
-            let apart = place_behind s (goes decision.choice.stay) moves decision.choice.stay.next k j m n
-            decided.choice.stay
-            there other less in
+            let apart = place_behind k j decided.choice.stay there other less in
             omega (arith, apart, same, to)
       ])
       ∙ put_word heap held disk decision decided maps formed made freed frees mid after copied stand put at
@@ -267,9 +263,8 @@ module _ (maps : Maps) (heap : Heap) (held : List Registers) (disk : OnDisk) (de
     pub carries_out : (told : Option (List ℕ)) → Shows told stubs_image → HasMaps heap maps
         → CarriesOut maps disk heap new held after decision end told
     carries_out told shows names =
-        let out = names_out decision.homes moves maps heap.names put.named mid.names heap.maps put.named_maps mid.maps
-        (λ i j m n here there same. (same_place s (goes decision.choice.stay) moves decision.choice.stay.next i j m n
-        decided.choice.stay here there same).0) names put.homes put.names in
+        let out = names_out heap.names put.named mid.names heap.maps put.named_maps mid.maps
+        (λ i j m n here there same. (same_place i j decided.choice.stay here there same).0) names put.homes put.names in
         record {
           image = stubs_image;
           shows = shows;

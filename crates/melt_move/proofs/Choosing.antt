@@ -114,8 +114,8 @@ push_found space s a b address (m ∷ n ∷ rest) tracks moves only known fresh 
       | inl old ↦ absurd (not_behind a.moves.items (length a.moves.items + 1) n (omega arith) old)
       | inr new ↦ new
     ] in
-    let same = same_source s (goes b) b.moves.items b.next (length a.moves.items) (length a.moves.items + 1) m n
-    tracks.holds at behind (first ∙ sym second) in
+    let same = same_source (length a.moves.items) (length a.moves.items + 1) tracks.holds at behind
+    (first ∙ sym second) in
     absurd (omega (arith, same.0))
 
 module _ (space : SpaceWords) (s : State) (live : LiveSet) (seen : IsSeen space s) (is : IsLiveSet s live) where
@@ -128,8 +128,7 @@ module _ (space : SpaceWords) (s : State) (live : LiveSet) (seen : IsSeen space 
   not_before : (count : ℕ) (m : Relocation) → slice_get live.forwarding.moves.items count ≡ Some m
       → WasFound live count m.from → ⊥
   not_before count m at found =
-      let same = same_source s (goes live.forwarding) live.forwarding.moves.items live.forwarding.next found.index count
-      found.move m is.found found.is at found.from in
+      let same = same_source found.index count is.found found.is at found.from in
       let below = found.below in omega (arith, below, same.0)
 
   -- the first ones are in registers
@@ -147,8 +146,7 @@ module _ (space : SpaceWords) (s : State) (live : LiveSet) (seen : IsSeen space 
       let full : s.register holds.thread holds.register ≢ 0 = λ none. let here = holds.holds in
       omega (arith, none, here, first) in
       let there = is.held.all holds.thread holds.register full in
-      let same = same_source s (goes live.forwarding) live.forwarding.moves.items live.forwarding.next there.0 k
-      there.1 m is.found there.2 at (there.4 ∙ holds.holds) in
+      let same = same_source there.0 k is.found there.2 at (there.4 ∙ holds.holds) in
       let before = there.3 in omega (arith, before, behind, same.0)
 
   -- nobody was decided on
@@ -384,8 +382,7 @@ module _ (space : SpaceWords) (s : State) (live : LiveSet) (seen : IsSeen space 
           sym (chosen.tracks.holds.found m.0 m.1 m.2) ∙ ap (goes stay) m.3 in
           let second : n.1.to ≡ goes stay b =
           sym (chosen.tracks.holds.found n.0 n.1 n.2) ∙ ap (goes stay) n.3 in
-          let one = same_place s (goes stay) stay.moves.items stay.next m.0 n.0 m.1 n.1 chosen.tracks.holds m.2 n.2
-          (first ∙ (same ∙ sym second)) in
+          let one = same_place m.0 n.0 chosen.tracks.holds m.2 n.2 (first ∙ (same ∙ sym second)) in
           sym m.3 ∙ (ap (λ (x : Relocation). x.from) one.1 ∙ n.3);
       nothing = elim (cases_eq (goes stay 0) 0) [
         | inl none ↦ none

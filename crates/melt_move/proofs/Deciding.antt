@@ -74,17 +74,13 @@ pub seen_live : (heap : Heap) (held : List Registers) (disk : OnDisk) (live : Li
     → IsLiveSet (state_of heap held disk) live → IsSeen heap.space (state_of heap held disk)
 seen_live heap held disk live is = record { whole = is.whole; word = λ k. refl; size = refl; free = refl }
 
-pub is_decision : (maps : Maps) (heap : Heap) (held : List Registers) (disk : OnDisk) (live : LiveSet) (choice : Choice)
-    (homes : NewHomes) → IsSettled heap → Formed maps (state_of heap held disk)
+pub is_decision : {maps : Maps} (heap : Heap) (held : List Registers) (disk : OnDisk) {live : LiveSet} {choice : Choice}
+    {homes : NewHomes} → IsSettled heap → Formed maps (state_of heap held disk)
     → IsLiveSet (state_of heap held disk) live → IsChoice (state_of heap held disk) live choice
     → GivesNew (state_of heap held disk) homes → homes.first ≡ disk.end
-    → IsDecision heap.space (state_of heap held disk) (record {
-      choice = choice;
-      homes = homes;
-      front = live.front;
-      held_words = live.held_words;
-    })
-is_decision maps heap held disk live choice homes settled formed is chosen gives first = record {
+    → IsDecision heap.space (state_of heap held disk)
+    (record { choice = choice; homes = homes; front = live.front; held_words = live.held_words })
+is_decision {maps} heap held disk {live} {choice} {homes} settled formed is chosen gives first = record {
   seen = seen_live heap held disk live is;
   live = live;
   front = refl;

@@ -140,13 +140,12 @@ slots_are space d object slots refs rest cut same slot = λ i below.
     (slot i (omega (arith, below, size)))
 
 -- the slots as the Body has them
-pub slots_encode : (space : SpaceWords) (s : State) (decision : Decision) (d : Departure)
-    (object slots refs : List ℕ) → IsCut space d object slots
-    → Departs space s decision d → length refs ≡ length (take d.shape.refs slots)
-    → ((i : ℕ) → i < length (take d.shape.refs slots)
-    → BecomesHome s decision (slice_index (take d.shape.refs slots) i) (slice_index refs i))
+pub slots_encode : {space : SpaceWords} {s : State} {decision : Decision} {d : Departure} {object slots : List ℕ}
+    (refs : List ℕ) → IsCut space d object slots → Departs space s decision d
+    → length refs ≡ length (take d.shape.refs slots) → ((i : ℕ) → i < length (take d.shape.refs slots) → BecomesHome s
+    decision (slice_index (take d.shape.refs slots) i) (slice_index refs i))
     → EncodesSlots s decision d (refs ++ drop d.shape.refs slots)
-slots_encode space s decision d object slots refs cut departs same becomes =
+slots_encode {space} {s} {decision} {d} {object} {slots} refs cut departs same becomes =
     let n : ℕ = d.shape.refs in
     let size = refs_size space d object slots cut in
     let all = slots_size space d object slots cut in

@@ -195,9 +195,9 @@ gives_nobody word P homes nobody = record {
 }
 
 -- first some are, then others
-pub gives_then : (word : ℕ → ℕ) (P Q R : ℕ → Type 0) (a b c : NewHomes) → GivesTo word P a b → GivesTo word Q b c
+pub gives_then : {word : ℕ → ℕ} (P Q R : ℕ → Type 0) {a b c : NewHomes} → GivesTo word P a b → GivesTo word Q b c
     → ((x : ℕ) → R x → P x ⊎ Q x) → ((x : ℕ) → P x → R x) → ((x : ℕ) → Q x → R x) → GivesTo word R a c
-gives_then word P Q R a b c one two split left right = record {
+gives_then P Q R one two split left right = record {
   all = λ x offered none. elim (split x offered) [
     | inl before ↦ two.keeps x (one.all x before none)
     | inr after ↦ two.all x after none
@@ -214,8 +214,8 @@ gives_then word P Q R a b c one two split left right = record {
 gives_as : (word : ℕ → ℕ) (P R : ℕ → Type 0) (a b : NewHomes) → GivesTo word P a b → ((x : ℕ) → R x → P x)
     → ((x : ℕ) → P x → R x) → GivesTo word R a b
 gives_as word P R a b gives from to =
-    gives_then word P (λ x. ⊥) R a b b gives (gives_nobody word (λ x. ⊥) b (λ x none. none))
-    (λ x is. inl (from x is)) to (λ x none. absurd none)
+    gives_then P (λ x. ⊥) R gives (gives_nobody word (λ x. ⊥) b (λ x none. none)) (λ x is. inl (from x is)) to
+    (λ x none. absurd none)
 
 -- nobody has a new home
 pub given_start : (space : SpaceWords) (s : State) (giving : Giving) → IsSeen space s
@@ -243,10 +243,10 @@ given_start space s giving seen offsets nobody counts need =
     ]
 
 -- where nobody had a new home, it is the first objects that leave that have one
-pub only_leaving : (space : SpaceWords) (s : State) (word : ℕ → ℕ) (leaving : List Departure) (k : ℕ) (a : Giving)
-    (b : NewHomes) → HasGiven space s a → a.homes.given.items ≡ [] → GivesTo word (IsAmong leaving k) a.homes b
+pub only_leaving : {space : SpaceWords} {s : State} {word : ℕ → ℕ} (leaving : List Departure) (k : ℕ) {a : Giving}
+    {b : NewHomes} → HasGiven space s a → a.homes.given.items ≡ [] → GivesTo word (IsAmong leaving k) a.homes b
     → (x : ℕ) → offset_at b x ≢ 0 → IsAmong leaving k x
-only_leaving space s word leaving k a b has nobody gives x some = elim (gives.only x some) [
+only_leaving leaving k {a} has nobody gives x some = elim (gives.only x some) [
   | inl before ↦ let g = has.only x before in absurd (none_there a.homes.given.items g.0 g.1 nobody g.2)
   | inr among ↦ among
 ]
@@ -263,24 +263,23 @@ module _ (s : State) (choice : Choice) (chosen : WasChosen s choice) (k : ℕ) (
   leaving_not_yet space word old now has nobody gives = elim (cases_eq (offset_at now.homes d.from) 0) [
     | inl none ↦ none
     | inr some ↦
-        let among = only_leaving space s word choice.leaving.items k old now.homes has nobody gives d.from some in
+        let among = only_leaving choice.leaving.items k has nobody gives d.from some in
         let same = chosen.1.leave.once among.0 k among.1 d among.3 at among.4 in
         let below = among.2 in
         absurd (omega (arith, same, below))
   ]
 
-pub leaving_more : (word : ℕ → ℕ) (leaving : List Departure) (k : ℕ) (d : Departure) (a b c : NewHomes)
+pub leaving_more : {word : ℕ → ℕ} (leaving : List Departure) (k : ℕ) {d : Departure} {a b : NewHomes} (c : NewHomes)
     → slice_get leaving k ≡ Some d → GivesTo word (IsAmong leaving k) a b → GivesTo word (λ x. x ≡ d.from) b c
     → GivesTo word (IsAmong leaving (k + 1)) a c
-leaving_more word leaving k d a b c at before gives =
-    gives_then word (IsAmong leaving k) (λ x. x ≡ d.from) (IsAmong leaving (k + 1)) a b c before gives
+leaving_more leaving k {d} c at before gives =
+    gives_then (IsAmong leaving k) (λ x. x ≡ d.from) (IsAmong leaving (k + 1)) before gives
     (λ x among. elim (cases_eq among.0 k) [
       | inl same ↦
           let one : among.1 ≡ d = same_Some among.1 d (sym among.3 ∙ (ap (slice_get leaving) same ∙ at)) in
           inr (sym among.4 ∙ ap (λ (e : Departure). e.from) one)
       | inr other ↦ let below = among.2 in inl (among.0, among.1, omega (arith, below, other), among.3, among.4)
-    ])
-    (λ x among. let below = among.2 in (among.0, among.1, omega (arith, below), among.3, among.4))
+    ]) (λ x among. let below = among.2 in (among.0, among.1, omega (arith, below), among.3, among.4))
     (λ x same. (k, d, omega arith, at, sym same))
 
 -- the objects that stay and have a mark
@@ -313,8 +312,7 @@ module _ (s : State) (choice : Choice) (chosen : WasChosen s choice) (marks : Li
           (chosen.1.chooses.stay m.from (place_found s (goes choice.stay) choice.stay.moves.items choice.stay.next k m
           chosen.1.stay at)).1 (subst (Leaves Move s) among.4 goes_away)
       | inr among ↦
-          let same = same_source s (goes choice.stay) choice.stay.moves.items choice.stay.next among.1.0 k among.1.1 m
-          chosen.1.stay among.1.3 at among.1.4 in
+          let same = same_source among.1.0 k chosen.1.stay among.1.3 at among.1.4 in
           let below = among.1.2 in
           omega (arith, same.0, below)
     ])
@@ -342,10 +340,8 @@ module _ (word : ℕ → ℕ) (moves : List Relocation) (marks : List Bool) wher
       → GivesTo word (IsAmongMarked moves marks k) a b → GivesTo word (λ x. x ≡ m.from) b c
       → GivesTo word (IsAmongMarked moves marks (k + 1)) a c
   named_more k m a b c at marked before gives =
-      gives_then word (IsAmongMarked moves marks k) (λ x. x ≡ m.from) (IsAmongMarked moves marks (k + 1)) a b c before
-      gives
-      (λ x among. elim (next_marked k m x at among) [ inl old ↦ inl old | inr new ↦ inr new.1 ])
-      (was_marked k)
+      gives_then (IsAmongMarked moves marks k) (λ x. x ≡ m.from) (IsAmongMarked moves marks (k + 1)) before gives
+      (λ x among. elim (next_marked k m x at among) [ inl old ↦ inl old | inr new ↦ inr new.1 ]) (was_marked k)
       (λ x same. (subst (IsMarked marks) (sym same) marked, (k, m, omega arith, at, sym same)))
 
   pub named_none : (k : ℕ) (m : Relocation) (a b : NewHomes) → slice_get moves k ≡ Some m → (IsMarked marks m.from → ⊥)
@@ -360,12 +356,12 @@ module _ (word : ℕ → ℕ) (moves : List Relocation) (marks : List Bool) wher
       (λ x among. let below = among.1.2 in omega (arith, below))
 
 -- the homes, when all were offered one who are to have one
-pub gives_new : (space : SpaceWords) (s : State) (choice : Choice) (marks : List Bool) (a b : NewHomes) (c : Giving)
+pub gives_new : {space : SpaceWords} {s : State} {choice : Choice} {marks : List Bool} {a b : NewHomes} {c : Giving}
     → HasGiven space s c → WasChosen s choice → HasMarks s marks
     → GivesTo (word_at space) (IsAmong choice.leaving.items (length choice.leaving.items)) a b
     → GivesTo (word_at space) (IsAmongMarked choice.stay.moves.items marks (length choice.stay.moves.items)) b c.homes
     → GivesNew s c.homes
-gives_new space s choice marks a b c has chosen has_marks first second = record {
+gives_new {space} {s} {choice} {c} has chosen has_marks first second = record {
   each = has.each;
   all = λ x wants.
       let none : word_at space (x + 1) ≡ 0 = sym (has.seen.word (x + 1)) ∙ wants.had_none in

@@ -40,27 +40,26 @@ object_sources space s decision m object are of =
       decided = of.decided;
       room = of.room;
       references = λ i below. subst IsRefWord
-          (sym (object_slot space s m.from m.shape.refs m.shape.nums object i seen.word are (within i below)))
+          (sym (object_slot s m.shape.refs m.shape.nums i seen.word are (within i below)))
           (seen.whole.slots m.from i move.header move.reached move.starts (in_header i (within i below)));
       reached = λ i at below refers. in_slot m.from i at move.header move.reached move.starts
           (in_header i (within i below))
           (subst (λ (w : ℕ). RefersTo w at)
-          (object_slot space s m.from m.shape.refs m.shape.nums object i seen.word are (within i below)) refers);
+          (object_slot s m.shape.refs m.shape.nums i seen.word are (within i below)) refers);
     }
 
 -- an object whose words were put behind those that were there
-pub object_stays : (held : Bool) (space : SpaceWords) (s : State) (decision : Decision) (m : Relocation)
-    (object out first then_ last : List ℕ) (before header home : ℕ) → AreWords space m.from (cost_of m.shape) object
-    → Stays space s decision m → m.to ≡ length out + 1 → before ≡ slice_index object 0
-    → ((h : Header) → IsHeader h → h.shape ≡ m.shape → before ≡ header_word h
-    → header ≡ header_word (header_after Move held h)) → home ≡ slice_index object 1
-    → first ≡ out ++ header ∷ home ∷ [] → Extends first then_ (length (take (2 + m.shape.refs - 2) (drop 2 object)))
-    → ((i : ℕ) → i < length (take (2 + m.shape.refs - 2) (drop 2 object))
-    → StaysAs s decision (slice_index (take (2 + m.shape.refs - 2) (drop 2 object)) i)
-    (slice_index then_ (length first + i))) → last ≡ then_ ++ drop (2 + m.shape.refs) object
+pub object_stays : (held : Bool) {space : SpaceWords} {s : State} {decision : Decision} {m : Relocation}
+    {object : List ℕ} (out : List ℕ) {first then_ last : List ℕ} {before : ℕ} (header : ℕ) {home : ℕ}
+    → AreWords space m.from (cost_of m.shape) object → Stays space s decision m → m.to ≡ length out + 1
+    → before ≡ slice_index object 0 → ((h : Header) → IsHeader h → h.shape ≡ m.shape → before ≡ header_word h → header ≡
+    header_word (header_after Move held h)) → home ≡ slice_index object 1 → first ≡ out ++ header ∷ home ∷ []
+    → Extends first then_ (length (take (2 + m.shape.refs - 2) (drop 2 object))) → ((i : ℕ) → i < length (take (2 +
+    m.shape.refs - 2) (drop 2 object)) → StaysAs s decision (slice_index (take (2 + m.shape.refs - 2) (drop 2 object))
+    i) (slice_index then_ (length first + i))) → last ≡ then_ ++ drop (2 + m.shape.refs) object
     → ObjectStays s decision held (word_numbered last) m
-object_stays held space s decision m object out first then_ last before header home are of to before_is header_is
-    home_is first_is extends stay last_is =
+object_stays held {s} {decision} {m} {object} out {first} {then_} {last} {before} header {home} are of to before_is
+    header_is home_is first_is extends stay last_is =
     let refs : ℕ = m.shape.refs in
     let nums : ℕ = m.shape.nums in
     let word = of.decided.seen.word in
@@ -95,7 +94,7 @@ object_stays held space s decision m object out first then_ last before header h
           sum)) in
           subst (StaysAs s decision (s.word (m.from + 2 + i))) (sym place)
           (subst (λ (w : ℕ). StaysAs s decision w (slice_index then_ (length first + i)))
-          (object_slot space s m.from refs nums object i word are below) (stay i (omega (arith, below, slots))));
+          (object_slot s refs nums i word are below) (stay i (omega (arith, below, slots))));
       numbers = λ j below.
           word_in_at last (length out) (2 + refs + j) (m.to + 2 + refs + j) (omega (arith, to))
           ∙ (ap (slice_index last) (let sum : length out + (2 + refs + j) ≡ length then_
@@ -108,10 +107,10 @@ object_stays held space s decision m object out first then_ last before header h
     }
 
 -- an object that was put there stands where more words are put behind it
-stands_on : (s : State) (decision : Decision) (held : Bool) (words more : List ℕ) (n : ℕ) (m : Relocation)
+stands_on : {s : State} {decision : Decision} {held : Bool} {words more : List ℕ} {n : ℕ} {m : Relocation}
     → Extends words more n → m.to + cost_of m.shape ≤ length words + 1
     → ObjectStays s decision held (word_numbered words) m → ObjectStays s decision held (word_numbered more) m
-stands_on s decision held words more n m extends within object = record {
+stands_on {s} {decision} {words} {more} {n} {m} extends within object = record {
   header = λ header starts. word_in_before words more n m.to extends (omega (arith, within))
       ∙ object.header header starts;
   home = word_in_before words more n (m.to + 1) extends (omega (arith, within)) ∙ object.home;
@@ -129,12 +128,12 @@ pub record StandSoFar (s : State) (decision : Decision) (words : List ℕ) (coun
       → ObjectStays s decision (nat_lt k decision.front) (word_numbered words) m
 
 -- one object more
-pub stand_more : (space : SpaceWords) (s : State) (decision : Decision) (words more : List ℕ) (count : ℕ)
-    (m : Relocation) → Stays space s decision m → StandSoFar s decision words count
+pub stand_more : {space : SpaceWords} {s : State} {decision : Decision} {words more : List ℕ} {count : ℕ}
+    {m : Relocation} → Stays space s decision m → StandSoFar s decision words count
     → slice_get decision.choice.stay.moves.items count ≡ Some m → Extends words more (cost_of m.shape)
     → (m.to ≡ length words + 1 → ObjectStays s decision (nat_lt count decision.front) (word_numbered more) m)
     → StandSoFar s decision more (count + 1)
-stand_more space s decision words more count m stays before at extends object =
+stand_more {s} {decision} {more} {count} {m} stays before at extends object =
     let moves : List Relocation = decision.choice.stay.moves.items in
     let stay = stays.decided.choice.stay in
     record {
@@ -149,8 +148,7 @@ stand_more space s decision words more count m stays before at extends object =
             let lower : k < count = omega (arith, under, other.1) in
             let place = stay.places k x there in
             let fits = words_in-before moves k count x there lower in
-            stands_on s decision (nat_lt k decision.front) words more (cost_of m.shape) x extends
-            (omega (arith, place, fits, before.size)) (before.objects k x lower there)
+            stands_on extends (omega (arith, place, fits, before.size)) (before.objects k x lower there)
       ];
     }
 

@@ -71,10 +71,10 @@ source_at space s decision words i sources below = record {
 }
 
 -- one word more, in a relation to that which it comes from
-pub related_push : (R : ℕ → ℕ → Type 0) (words a b c : List ℕ) (n w : ℕ) → Extends a b n → c ≡ b ++ w ∷ []
-    → ((i : ℕ) → i < n → R (slice_index words i) (slice_index b (length a + i))) → R (slice_index words n) w
-    → (i : ℕ) → i < n + 1 → R (slice_index words i) (slice_index c (length a + i))
-related_push R words a b c n w extends is before here =
+pub related_push : (R : ℕ → ℕ → Type 0) (words : List ℕ) {a b c : List ℕ} {n : ℕ} (w : ℕ) → Extends a b n
+    → c ≡ b ++ w ∷ [] → ((i : ℕ) → i < n → R (slice_index words i) (slice_index b (length a + i)))
+    → R (slice_index words n) w → (i : ℕ) → i < n + 1 → R (slice_index words i) (slice_index c (length a + i))
+related_push R words {a} {b} {c} {n} w extends is before here =
     below_more _ _
     (λ i below.
     let same : slice_index c (length a + i) ≡ slice_index b (length a + i) =

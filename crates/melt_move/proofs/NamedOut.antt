@@ -30,11 +30,11 @@ given_same homes number other old before new numbers olds is = record {
   others = λ home free. is.others home free ∙ sym (olds home);
 }
 
-pub names_out : (homes : NewHomes) (moves : List Relocation) (maps : Maps) (old mid final : Option Names)
+pub names_out : {homes : NewHomes} {moves : List Relocation} {maps : Maps} (old mid final : Option Names)
     (pairs mid_pairs final_pairs : NamePairs) → PlacesApart moves → HasNames old pairs maps
     → NamesHomesOf homes old pairs mid mid_pairs → AreRenamed mid mid_pairs final final_pairs moves
     → NamesOut homes moves maps final final_pairs
-names_out homes moves maps None None final pairs mid_pairs final_pairs apart has is renamed =
+names_out {homes} {moves} {maps} None None final pairs mid_pairs final_pairs apart has is renamed =
     let between : Maps = record { address = maps.address; home = named mid_pairs.homes } in
     let had : HasNames None mid_pairs between = (
       λ a. has.0 a ∙ ap (λ (p : List (ℕ × ℕ)). named p a) (sym is.1),
@@ -48,7 +48,7 @@ names_out homes moves maps None None final pairs mid_pairs final_pairs apart has
           (named mid_pairs.homes)
           has.0 has.1 is.0;
     }
-names_out homes moves maps (Some old) (Some mid) final pairs mid_pairs final_pairs apart has is renamed =
+names_out {homes} {moves} {maps} (Some old) (Some mid) final pairs mid_pairs final_pairs apart has is renamed =
     let between : Maps = record { address = maps.address; home = home_name mid.homes } in
     let had : HasNames (Some mid) mid_pairs between = (
       λ a. has.0 a ∙ ap (λ (p : List (Option ℕ)). name_at p a) (sym is.1),
@@ -62,5 +62,5 @@ names_out homes moves maps (Some old) (Some mid) final pairs mid_pairs final_pai
           (home_name mid.homes)
           has.0 has.1 is.0;
     }
-names_out homes moves maps None (Some mid) final pairs mid_pairs final_pairs apart has is renamed = absurd is
-names_out homes moves maps (Some old) None final pairs mid_pairs final_pairs apart has is renamed = absurd is
+names_out {homes} {moves} {maps} None (Some mid) final pairs mid_pairs final_pairs apart has is renamed = absurd is
+names_out {homes} {moves} {maps} (Some old) None final pairs mid_pairs final_pairs apart has is renamed = absurd is

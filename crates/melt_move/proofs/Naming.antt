@@ -50,12 +50,11 @@ pub record NamesFirst (homes : NewHomes) (count : ℕ) (number old new : ℕ →
       → new home ≡ old home
 
 -- one home more, where its object has a number
-pub names_more : (homes : NewHomes) (count m : ℕ) (g : Given) (found : Option ℕ)
-    (number old before after : ℕ → Option ℕ) → slice_get homes.given.items count ≡ Some g
-    → NamesFirst homes count number old before → found ≡ number g.from → found ≡ Some m
-    → after (home_at homes count) ≡ Some m
+pub names_more : {homes : NewHomes} {count m : ℕ} {g : Given} {found : Option ℕ} {number old before : ℕ → Option ℕ}
+    (after : ℕ → Option ℕ) → slice_get homes.given.items count ≡ Some g → NamesFirst homes count number old before
+    → found ≡ number g.from → found ≡ Some m → after (home_at homes count) ≡ Some m
     → ((q : ℕ) → q ≢ home_at homes count → after q ≡ before q) → NamesFirst homes (count + 1) number old after
-names_more homes count m g found number old before after at names found_is some here others = record {
+names_more {homes} {count} {m} {g} {number} after at names found_is some here others = record {
   each = λ k n x below there numbered. elim (cases_eq k count) [
     | inl same ↦
         let both : Some x ≡ Some g = sym there ∙ (ap (slice_get homes.given.items) same ∙ at) in
@@ -74,10 +73,10 @@ names_more homes count m g found number old before after at names found_is some 
 }
 
 -- and where it has none
-pub names_same : (homes : NewHomes) (count : ℕ) (g : Given) (found : Option ℕ) (number old now : ℕ → Option ℕ)
+pub names_same : {homes : NewHomes} {count : ℕ} {g : Given} {found : Option ℕ} {number old now : ℕ → Option ℕ}
     → slice_get homes.given.items count ≡ Some g → NamesFirst homes count number old now → found ≡ number g.from
     → found ≡ None → NamesFirst homes (count + 1) number old now
-names_same homes count g found number old now at names found_is none = record {
+names_same {homes} {count} {g} {number} at names found_is none = record {
   each = λ k n x below there numbered. elim (cases_eq k count) [
     | inl same ↦
         let both : Some x ≡ Some g = sym there ∙ (ap (slice_get homes.given.items) same ∙ at) in
@@ -126,21 +125,21 @@ behind : (home cost : ℕ) (g : Given) (given : List Given) (k : ℕ) → cost �
     → home + cost + need_for (take k given) ≡ home + need_for (take (suc k) (g ∷ given))
 behind home cost g given k is = omega (arith, is, need-cons g (take k given))
 
-pairs_each : (addresses : List (ℕ × ℕ)) (home : ℕ) (given : List Given) (pairs : List (ℕ × ℕ)) (k n : ℕ) (g : Given)
-    → slice_get given k ≡ Some g → named addresses g.from ≡ Some n
+pairs_each : (addresses : List (ℕ × ℕ)) (home : ℕ) (given : List Given) (pairs : List (ℕ × ℕ)) (k : ℕ) {n : ℕ}
+    {g : Given} → slice_get given k ≡ Some g → named addresses g.from ≡ Some n
     → named (given_pairs addresses home given pairs) (home + need_for (take k given)) ≡ Some n
-pairs_each addresses home [] pairs k n g at is = absurd (cc)
-pairs_each addresses home (x ∷ given) pairs zero n g at is =
+pairs_each addresses home [] pairs k {n} {g} at is = absurd (cc)
+pairs_each addresses home (x ∷ given) pairs zero {n} {g} at is =
     let one : x ≡ g = same_Some x g at in
     hit home (home + need_for []) n (named addresses x.from)
     (given_pairs addresses (home + cost_of x.shape) given pairs) (omega arith)
     (ap (λ (y : Given). named addresses y.from) one ∙ is)
-pairs_each addresses home (x ∷ given) pairs (suc k) n g at is =
+pairs_each addresses home (x ∷ given) pairs (suc k) {n} {g} at is =
     let q : ℕ = home + need_for (take (suc k) (x ∷ given)) in
     let next = behind home (cost_of x.shape) x given k refl in
     let rest : List (ℕ × ℕ) = given_pairs addresses (home + cost_of x.shape) given pairs in
     passed home q (named addresses x.from) rest (omega (arith, need-cons x (take k given)))
-    ∙ (ap (named rest) (sym next) ∙ pairs_each addresses (home + cost_of x.shape) given pairs k n g at is)
+    ∙ (ap (named rest) (sym next) ∙ pairs_each addresses (home + cost_of x.shape) given pairs k at is)
 
 pairs_others : (addresses : List (ℕ × ℕ)) (home : ℕ) (given : List Given) (pairs : List (ℕ × ℕ)) (q : ℕ)
     → ((k : ℕ) (g : Given) → slice_get given k ≡ Some g → q ≢ home + need_for (take k given))
@@ -156,7 +155,7 @@ pairs_others addresses home (x ∷ given) pairs q free =
 pub pairs_given : (old : NamePairs) (homes : NewHomes)
     → NamesGiven homes (named old.addresses) (named old.homes) (named (given_names old homes).homes)
 pairs_given old homes = record {
-  each = λ k n g. pairs_each old.addresses homes.first homes.given.items old.homes k n g;
+  each = λ k n g. pairs_each old.addresses homes.first homes.given.items old.homes k {n = n} {g = g};
   others = λ home. pairs_others old.addresses homes.first homes.given.items old.homes home;
 }
 

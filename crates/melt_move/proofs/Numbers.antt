@@ -113,7 +113,7 @@ module _ (s : State) (decision : Decision) (gives : GivesNew s decision.homes) (
         let f = goes decision.choice.stay in
         counts_those (λ a. WantsHome s a × (f a ≢ 0)) (filter has_new moves) (record {
           differ = differ_kept has_new moves (λ i j a b at also less same.
-              let one = (same_source s f moves decision.choice.stay.next i j a b choice.stay at also same).0 in
+              let one = (same_source i j choice.stay at also same).0 in
               omega (arith, one, less));
           there = λ n wanted.
               let g = goes_to s f moves decision.choice.stay.next n choice.stay wanted.1 in

@@ -123,7 +123,7 @@ module _ (heap : Heap) (held : List Registers) (end : ℕ) (formed : IsFormedOn 
         end_is = formed.end_is;
         names = kept.names;
         made = settles.tables formed.made;
-        formed = kept_formed formed.maps disk held heap mid between kept there;
+        formed = kept_formed kept there;
       }
 
 -- The places of the filled words, in ascending order.
@@ -295,9 +295,9 @@ module _ (maps : Maps) (heap : Heap) (held : List Registers) (disk : OnDisk)
       omega (arith, few, small)
 
 -- A copying collection leaves heap and registers well formed, over the disk as it was.
-pub formed_copied : (old new : Heap) (held after : List Registers) (end : ℕ) (phase : Phase) (journal : Journal)
+pub formed_copied : {old new : Heap} {held after : List Registers} {end : ℕ} {phase : Phase} {journal : Journal}
     → IsFormedOn old held end → Collects old held new after phase journal → IsFormedOn new after end
-formed_copied old new held after end phase journal formed collects =
+formed_copied {old} {new} {held} {after} {phase} {journal} formed collects =
     let has : HasCollected formed.maps formed.disk old new held after phase journal =
     collects.each formed.maps formed.disk formed.names formed.formed in
     record {
@@ -310,10 +310,10 @@ formed_copied old new held after end phase journal formed collects =
     }
 
 -- And so does a Move, over the disk with the new homes.
-pub formed_moved : (old new : Heap) (held after : List Registers) (end end_after : ℕ)
-    (told told_after : Option (List ℕ)) (journal : Journal) → IsFormedOn old held end
+pub formed_moved : {old new : Heap} {held after : List Registers} {end end_after : ℕ}
+    {told told_after : Option (List ℕ)} {journal : Journal} → IsFormedOn old held end
     → Moves old new held after end end_after told told_after journal → IsFormedOn new after end_after
-formed_moved old new held after end end_after told told_after journal formed moves =
+formed_moved {old} {new} {held} {after} {end_after} {told} {told_after} {journal} formed moves =
     let image = shown told in
     let disk : OnDisk = with_image formed.disk image.0 in
     let has : HasMoved formed.maps disk old new held after end_after told_after journal =
@@ -329,27 +329,26 @@ formed_moved old new held after end end_after told told_after journal formed mov
     }
 
 -- what stands behind a refusal of the collection of a settled heap
-pub refused_settled : {Disk : Type 0} → (image : Disk → Option (List ℕ)) → (writes : Disk → ℕ) → (phase : Phase)
-    → (old : Heap) → (held after : List Registers) → (disk disk_after : Stale Disk) → (refusal : MoveRefusal)
+pub refused_settled : {Disk : Type 0} → {image : Disk → Option (List ℕ)} → {writes : Disk → ℕ} → {phase : Phase}
+    → {old : Heap} → {held after : List Registers} → {disk disk_after : Stale Disk} → (refusal : MoveRefusal)
     → IsRefusedSettled image writes phase old held after disk disk_after refusal
     → IsRefusedPlanned image writes phase old held after disk disk_after refusal
-refused_settled image writes phase old held after disk disk_after (NoMemory back) is = is
-refused_settled image writes phase old held after disk disk_after (DiskFull back full) is = is
-refused_settled image writes phase old held after disk disk_after DiskFault is = inr is
+refused_settled (NoMemory back) is = is
+refused_settled (DiskFull back full) is = is
+refused_settled DiskFault is = inr is
 
 -- In a phase that copies, what was collected was copied, and what was refused was a copy.
-pub collects_copied : (phase : Phase) (old new : Heap) (held after : List Registers) (end end_after : ℕ)
-    (told told_after : Option (List ℕ)) (journal : Journal) → IsCopying phase
+pub collects_copied : (phase : Phase) {old new : Heap} {held after : List Registers} {end end_after : ℕ}
+    {told told_after : Option (List ℕ)} {journal : Journal} → IsCopying phase
     → CopiesIn phase old new held after end end_after told told_after journal
     → CollectsIn phase old new held after end end_after told told_after journal
-collects_copied Inactive old new held after end end_after told told_after journal copying is = is
-collects_copied Mark old new held after end end_after told told_after journal copying is = is
-collects_copied Move old new held after end end_after told told_after journal copying is = absurd copying
+collects_copied Inactive copying is = is
+collects_copied Mark copying is = is
+collects_copied Move copying is = absurd copying
 
-pub refuses_copied : {Disk : Type 0} → (phase : Phase) → (heap : Heap) → (held after : List Registers)
-    → (disk disk_after : Stale Disk) → (refusal : MoveRefusal) → IsCopying phase
-    → CopyIsRefused heap held after disk disk_after refusal
-    → IsRefusedIn phase heap held after disk disk_after refusal
-refuses_copied Inactive heap held after disk disk_after refusal copying is = is
-refuses_copied Mark heap held after disk disk_after refusal copying is = is
-refuses_copied Move heap held after disk disk_after refusal copying is = absurd copying
+pub refuses_copied : {Disk : Type 0} → (phase : Phase) → {heap : Heap} → {held after : List Registers}
+    → {disk disk_after : Stale Disk} → {refusal : MoveRefusal} → IsCopying phase
+    → CopyIsRefused heap held after disk disk_after refusal → IsRefusedIn phase heap held after disk disk_after refusal
+refuses_copied Inactive copying is = is
+refuses_copied Mark copying is = is
+refuses_copied Move copying is = absurd copying

@@ -39,11 +39,11 @@ head_stands home end scion shape image after is_shape within is_scion puts =
     }
 
 -- The image of the disk's words after a Stub was written, for an object whose home word names home and scion.
-pub stub_shows : (told new : Option (List ℕ)) (heap : Heap) (m : Relocation) (home scion end : ℕ) (image : ℕ → ℕ)
+pub stub_shows : (told new : Option (List ℕ)) (heap : Heap) (m : Relocation) {home scion : ℕ} (end : ℕ) (image : ℕ → ℕ)
     → Shows told image → Writes told home (stub_words home m.shape scion) new → IsShape m.shape
     → home + cost_of m.shape ≤ end → IsScion scion → NamesScion (word_at heap.space) m.to home scion
     → (after : ℕ → ℕ) × Shows new after × WritesStub heap m home end image after
-stub_shows told new heap m home scion end image shows writes is_shape within is_scion names =
+stub_shows told new heap m {home} {scion} end image shows writes is_shape within is_scion names =
     let w : ShowsWrite new image home (stub_words home m.shape scion) =
     write_shows told home (stub_words home m.shape scion) new image shows writes in (
       w.after,
@@ -68,10 +68,10 @@ only_one m x zero at = same_Some m x at
 only_one m x (suc k) at = absurd (cc)
 
 -- one with a new home gets its Stub there
-pub one_stub : (homes : NewHomes) (m : Relocation) (heap : Heap) (end home : ℕ) (image after : ℕ → ℕ)
+pub one_stub : (homes : NewHomes) {m : Relocation} {heap : Heap} {end home : ℕ} {image after : ℕ → ℕ}
     → home ≡ given_home homes m → home ≢ 0 → WritesStub heap m home end image after
     → WritesStubs homes (m ∷ []) heap end image after
-one_stub homes m heap end home image after same some writes =
+one_stub homes {m} {heap} {end} {image} {after} same some writes =
     let writes_there : WritesStub heap m (given_home homes m) end image after =
     subst (λ (h : ℕ). WritesStub heap m h end image after) same writes in
     record {

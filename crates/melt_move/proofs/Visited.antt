@@ -145,8 +145,7 @@ module _ (s : State) (live : LiveSet) (choice : Choice) (chosen : IsChoice s liv
     | inr there ↦ elim (in_both leaves stays j b second) [
       | inl leave ↦ let within = slice_get_within leaves j b leave in omega (arith, within, before, there.1)
       | inr stay ↦
-          let one = (same_source s (goes choice.stay) stays choice.stay.next there.0 stay.0 a b
-          chosen.stay there.2 stay.2 same).0 in
+          let one = (same_source there.0 stay.0 chosen.stay there.2 stay.2 same).0 in
           omega (arith, one, before, there.1, stay.1)
     ]
   ]

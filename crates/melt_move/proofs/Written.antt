@@ -55,13 +55,12 @@ body_lies space s decision d end home departs is at =
     }
 
 -- the words of a Body stand in an image
-body_stands : (space : SpaceWords) (s : State) (decision : Decision) (d : Departure) (end : ℕ) (slots : List ℕ)
-    (old new : ℕ → ℕ) → Departs space s decision d
-    → end ≡ decision.homes.first + need_for decision.homes.given.items → EncodesSlots s decision d slots
-    → length slots ≡ d.shape.refs + d.shape.nums
+body_stands : {space : SpaceWords} {s : State} {decision : Decision} {d : Departure} {end : ℕ} {slots : List ℕ}
+    {old new : ℕ → ℕ} → Departs space s decision d → end ≡ decision.homes.first + need_for decision.homes.given.items
+    → EncodesSlots s decision d slots → length slots ≡ d.shape.refs + d.shape.nums
     → Puts old (home_by s.word decision d.from) (body_words (home_by s.word decision d.from) d.shape slots) new
     → WritesBody s (home_by s.word decision) end d old new
-body_stands space s decision d end slots old new departs is encodes size puts =
+body_stands {space} {s} {decision} {d} {end} {slots} {new} departs is encodes size puts =
     let home : ℕ = home_by s.word decision d.from in
     let words : List ℕ = body_words home d.shape slots in
     let count : length words ≡ cost_of d.shape = omega (arith, size) in
@@ -95,16 +94,16 @@ body_stands space s decision d end slots old new departs is encodes size puts =
     }
 
 -- the Body of an object that leaves was written, where the write ended well
-pub body_shown : {E : Type 0} (result : Result Unit E) (space : SpaceWords) (decision : Decision) (d : Departure)
-    (end home : ℕ) (slots : List ℕ) (old new : Option (List ℕ))
-    → end ≡ decision.homes.first + need_for decision.homes.given.items
-    → home ≡ home_by (word_at space) decision d.from → length slots ≡ d.shape.refs + d.shape.nums
+pub body_shown : {E : Type 0} (result : Result Unit E) {space : SpaceWords} (decision : Decision) (d : Departure)
+    {end home : ℕ} (slots : List ℕ) (old new : Option (List ℕ))
+    → end ≡ decision.homes.first + need_for decision.homes.given.items → home ≡ home_by (word_at space) decision d.from
+    → length slots ≡ d.shape.refs + d.shape.nums
     → ((s : State) → Departs space s decision d → EncodesSlots s decision d slots)
     → OnOk result (Writes old home (body_words home d.shape slots) new)
-    → OnOk result ((s : State) (image : ℕ → ℕ) → Departs space s decision d → Shows old image
-    → (after : ℕ → ℕ) × Shows new after × WritesBody s (home_by s.word decision) end d image after)
-body_shown (Err failed) space decision d end home slots old new is at size encodes writes = tt
-body_shown (Ok done) space decision d end home slots old new is at size encodes writes =
+    → OnOk result ((s : State) (image : ℕ → ℕ) → Departs space s decision d → Shows old image → (after : ℕ → ℕ) × Shows
+    new after × WritesBody s (home_by s.word decision) end d image after)
+body_shown (Err failed) {space} decision d {home} slots old new is at size encodes writes = tt
+body_shown (Ok done) {space} decision d {home} slots old new is at size encodes writes =
     λ s image departs shows.
     let same : home ≡ home_by s.word decision d.from =
     at ∙ sym (home_by_seen space s decision d.from departs.decided) in
@@ -113,8 +112,7 @@ body_shown (Ok done) space decision d end home slots old new is at size encodes 
     let puts = subst (λ (h : ℕ). Puts image h (body_words h d.shape slots) shown.after) same shown.puts in (
       shown.after,
       shown.shows,
-      body_stands space s decision d end slots image shown.after departs is
-          (encodes s departs) size puts,
+      body_stands departs is (encodes s departs) size puts,
     )
 
 -- an object of the list leaves
@@ -152,11 +150,10 @@ bodies_none s home end leaving image =
     record { bodies = λ apart k d below at. absurd (omega (arith, below)); others = λ at outside. refl }
 
 -- one Body more
-pub bodies_more : (s : State) (home : ℕ → ℕ) (end : ℕ) (leaving list : List Departure) (n : ℕ) (d : Departure)
-    (image mid after : ℕ → ℕ) → list ≡ leaving → n < length list
-    → WritesBodies s home end leaving n image mid → WritesBody s home end (get_or list n d) mid after
-    → WritesBodies s home end leaving (n + 1) image after
-bodies_more s home end leaving list n d image mid after is within before more =
+pub bodies_more : {s : State} {home : ℕ → ℕ} {end : ℕ} {leaving list : List Departure} {n : ℕ} (d : Departure)
+    {image mid after : ℕ → ℕ} → list ≡ leaving → n < length list → WritesBodies s home end leaving n image mid
+    → WritesBody s home end (get_or list n d) mid after → WritesBodies s home end leaving (n + 1) image after
+bodies_more {s} {home} {end} {leaving} {list} {n} d {mid} {after} is within before more =
     let here : Departure = get_or list n d in
     let at_n : slice_get leaving n ≡ Some here =
     ap (λ (l : List Departure). slice_get l n) (sym is) ∙ slice_get-get_or list n d within in
@@ -178,13 +175,12 @@ bodies_more s home end leaving list n d image mid after is within before more =
     }
 
 -- an image behind one Body more
-pub bodies_shown : (s : State) (home : ℕ → ℕ) (end now : ℕ) (leaving list : List Departure) (n : ℕ) (d : Departure)
-    (told next : Option (List ℕ)) (image : ℕ → ℕ) → list ≡ leaving → n < length list → now ≡ end
-    → (mid : ℕ → ℕ) × Shows told mid × WritesBodies s home end leaving n image mid
-    → ((mid : ℕ → ℕ) → Shows told mid
-    → (after : ℕ → ℕ) × Shows next after × WritesBody s home now (get_or list n d) mid after)
+pub bodies_shown : {s : State} {home : ℕ → ℕ} {end now : ℕ} {leaving list : List Departure} {n : ℕ} (d : Departure)
+    (told next : Option (List ℕ)) {image : ℕ → ℕ} → list ≡ leaving → n < length list → now ≡ end
+    → (mid : ℕ → ℕ) × Shows told mid × WritesBodies s home end leaving n image mid → ((mid : ℕ → ℕ) → Shows told mid →
+    (after : ℕ → ℕ) × Shows next after × WritesBody s home now (get_or list n d) mid after)
     → (after : ℕ → ℕ) × Shows next after × WritesBodies s home end leaving (n + 1) image after
-bodies_shown s home end now leaving list n d told next image is within same before write =
+bodies_shown {s} {home} {list} {n} d told next is within same before write =
     let more = write before.0 before.1 in
     let body = subst (λ (e : ℕ). WritesBody s home e (get_or list n d) before.0 more.0) same more.2 in
-    (more.0, more.1, bodies_more s home end leaving list n d image before.0 more.0 is within before.2 body)
+    (more.0, more.1, bodies_more d is within before.2 body)

@@ -151,8 +151,7 @@ module _ {R : Type 0} (faults : R → ℕ) (words : EpochWords) (t : ℕ) (ms ns
             all_at (λ (m : Mutator (Worker R)). (view_of m).stopped ≡ true → SomeCause rs) rs t c.after
             ended.heap_ends.stops c.now asked.1 in
             let free : has_cause (view_of some_cause.mutator) ≡ false =
-            elim (at_changed t ns rs Is c some_cause.place some_cause.mutator
-            (by_place rs some_cause.place some_cause.mutator some_cause.at)) [
+            elim (at_changed Is c some_cause.place (by_place rs some_cause.place some_cause.mutator some_cause.at)) [
               | inl same ↦
                   ap (λ (m : Mutator (Worker R)). has_cause (view_of m)) (sym same.1)
                   ∙ (same_cause (view_of c.before) (view_of c.after) asked.0 ∙ joined_free words c.before before)
@@ -187,7 +186,7 @@ module _ {R : Type 0} (faults : R → ℕ) (words : EpochWords) (t : ℕ) (ms ns
     own_each k r at =
         let saw : Saw h r.thread (view_of r).seen =
         all_at (λ (m : Mutator (Worker R)). Saw h m.thread (view_of m).seen) rs k r ended.history.saw at in
-        elim (at_changed t ns rs Is c k r at) [
+        elim (at_changed Is c k at) [
           | inl same ↦
               let threads : c.after.thread ≡ c.before.thread =
               ap (λ (m : Mutator (Worker R)). m.thread) c.is.lacked.same in

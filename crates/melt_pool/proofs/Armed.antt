@@ -50,9 +50,10 @@ module _ {A : Type 0} (P : ℕ → A → A → Type 0) where
   }
 
   -- the element that was set here
-  here_done : (k t : ℕ) (olds news : List A) (m n x y : A) → slice_get olds k ≡ Some m → slice_get news k ≡ Some m
-      → P k m n → t ≡ k → slice_get olds t ≡ Some x → slice_get (set news k n) t ≡ Some y → P t x y
-  here_done k t olds news m n x y at there here same was is =
+  here_done : {k t : ℕ} (olds news : List A) {m : A} (n : A) {x y : A} → slice_get olds k ≡ Some m
+      → slice_get news k ≡ Some m → P k m n → t ≡ k → slice_get olds t ≡ Some x → slice_get (set news k n) t ≡ Some y
+      → P t x y
+  here_done {k} olds news {m} n {x} {y} at there here same was is =
       let old : slice_get olds k ≡ Some x = subst (λ (j : ℕ). slice_get olds j ≡ Some x) same was in
       let new : slice_get (set news k n) k ≡ Some y =
       subst (λ (j : ℕ). slice_get (set news k n) j ≡ Some y) same is in
@@ -66,7 +67,7 @@ module _ {A : Type 0} (P : ℕ → A → A → Type 0) where
   one_below k olds news m n so at here = record {
     count = length-set news k n ∙ so.count;
     done = λ t x y below was is. elim (cases_eq t k) [
-      | inl same ↦ here_done k t olds news m n x y at (so.left k (omega arith) ∙ at) here same was is
+      | inl same ↦ here_done olds news n at (so.left k (omega arith) ∙ at) here same was is
       | inr other ↦ so.done t x y (omega (arith, below, other)) was (sym (get_set_other news k t n other) ∙ is)
     ];
     left = λ t past.
@@ -79,7 +80,7 @@ module _ {A : Type 0} (P : ℕ → A → A → Type 0) where
     count = length-set news k n ∙ so.count;
     done = λ t x y from was is. elim (cases_eq t k) [
       | inl same ↦
-          here_done k t olds news m n x y at (so.left k (omega (arith, is_next)) ∙ at) here same was is
+          here_done olds news n at (so.left k (omega (arith, is_next)) ∙ at) here same was is
       | inr other ↦ so.done t x y (omega (arith, from, other, is_next)) was
           (sym (get_set_other news k t n other) ∙ is)
     ];
@@ -142,12 +143,12 @@ HeldAt {R} ms t r q =
     ((m : Mutator (Worker R)) → slice_get ms t ≡ Some m → q ≡ m.registers) × (length q.regs ≡ 16)
 
 -- each brings its operations, and so does one more
-pub one_brought : {R : Type 0} (olds : List (Mutator (Worker R))) (states after : List ThreadState) (k : ℕ)
-    (m : Mutator (Worker R)) (state : ThreadState) → ((t : ℕ) (x : Mutator (Worker R)) (s : ThreadState)
-    → slice_get olds t ≡ Some x → slice_get states t ≡ Some s → Brings x s) → length states ≡ k
+pub one_brought : {R : Type 0} (olds : List (Mutator (Worker R))) (states : List ThreadState) {after : List ThreadState}
+    {k : ℕ} {m : Mutator (Worker R)} {state : ThreadState} → ((t : ℕ) (x : Mutator (Worker R)) (s : ThreadState) →
+    slice_get olds t ≡ Some x → slice_get states t ≡ Some s → Brings x s) → length states ≡ k
     → after ≡ states ++ state ∷ [] → slice_get olds k ≡ Some m → Brings m state → (t : ℕ) (x : Mutator (Worker R))
     (s : ThreadState) → slice_get olds t ≡ Some x → slice_get after t ≡ Some s → Brings x s
-one_brought {R} olds states after k m state so many is at brings t x s at_x at_s =
+one_brought {R} olds states {k} {m} {state} so many is at brings t x s at_x at_s =
     let got : slice_get (states ++ state ∷ []) t ≡ Some s =
     subst (λ (xs : List ThreadState). slice_get xs t ≡ Some s) is at_s in
     elim (cases_eq t k) [
@@ -210,11 +211,11 @@ take_whole zero (x ∷ xs) all = absurd (omega (arith, all))
 take_whole (suc n) (x ∷ xs) all = ap (λ (ys : List _). x ∷ ys) (take_whole n xs (omega (arith, all)))
 
 -- the reads that failed, with those of one reader more
-pub reads_one : {R : Type 0} (faults : R → ℕ) (ms : List (Mutator (Worker R))) (k before mid after : ℕ)
-    (m : Mutator (Worker R)) (worker : Worker R) → CountsReaders faults (take k ms) before mid → slice_get ms k ≡ Some m
+pub reads_one : {R : Type 0} {faults : R → ℕ} (ms : List (Mutator (Worker R))) (k : ℕ) {before mid after : ℕ}
+    {m : Mutator (Worker R)} {worker : Worker R} → CountsReaders faults (take k ms) before mid → slice_get ms k ≡ Some m
     → m.reader ≡ Some worker → after ≡ counted mid (faults worker.reader)
     → CountsReaders faults (take (k + 1) ms) before after
-reads_one {R} faults ms k before mid after m worker so at there is =
+reads_one {R} {faults} ms k {mid} {m} {worker} so at there is =
     let f : Mutator (Worker R) → ℕ = λ x. open_faults (faults_of faults) x.reader in
     let one : f m ≡ faults worker.reader = ap (open_faults (faults_of faults)) there in
     let next : suc k ≡ k + 1 = omega arith in
@@ -251,10 +252,10 @@ lent_work {R} image faults words registers ms ns lent many t n at =
     (record { reader = is.reader; state = None }, ap (λ (x : Mutator (Worker R)). x.reader) is.is)
 
 -- one that was lent a reader and given its operations is ready
-armed_one : {R : Type 0} (image : R → Option (List ℕ)) (faults : R → ℕ) (words : Option (List ℕ)) (v : View) (t : ℕ)
-    (s : ThreadState) (r : Registers) (m x n : Mutator (Worker R)) → IsAway v t m → IsLent image faults words r m x
+armed_one : {R : Type 0} {image : R → Option (List ℕ)} {faults : R → ℕ} {words : Option (List ℕ)} {v : View} {t : ℕ}
+    {s : ThreadState} {r : Registers} {m x n : Mutator (Worker R)} → IsAway v t m → IsLent image faults words r m x
     → IsHanded s x n → IsArmed image faults words v t s r n
-armed_one {R} image faults words v t s r m x n away lent handed =
+armed_one {R} {image} {faults} {words} {v} {t} {s} {r} {m} {x} {n} away lent handed =
     let first : Worker R = record { reader = lent.reader; state = None } in
     let worker : Worker R = record { reader = lent.reader; state = Some s } in
     let whole : Mutator (Worker R) = record m { registers = r; reader = Some worker } in
@@ -277,11 +278,11 @@ armed_one {R} image faults words v t s r m x n away lent handed =
     })
 
 -- and so are all
-pub armed : {R : Type 0} (image : R → Option (List ℕ)) (faults : R → ℕ) (words : Option (List ℕ)) (v : View)
-    (states : List ThreadState) (registers : List Registers) (ms xs ns : List (Mutator (Worker R)))
+pub armed : {R : Type 0} {image : R → Option (List ℕ)} {faults : R → ℕ} {words : Option (List ℕ)} {v : View}
+    {states : List ThreadState} {registers : List Registers} {ms xs ns : List (Mutator (Worker R))}
     → AreAway v registers ms → length states ≡ length ms → AreLent image faults words registers ms xs
     → AreHanded states xs ns → AreArmed image faults words v states registers ns
-armed {R} image faults words v states registers ms xs ns away many lent handed =
+armed {R} {ms} {xs} {ns} away many lent handed =
     let one : length xs ≡ length ms = lent.count in
     let two : length ns ≡ length xs = handed.count in
     record {
@@ -293,8 +294,7 @@ armed {R} image faults words v states registers ms xs ns away many lent handed =
           let x : Mutator (Worker R) = get_or xs t n in
           let at_m : slice_get ms t ≡ Some m = slice_get-get_or ms t n (omega (arith, within, one, two)) in
           let at_x : slice_get xs t ≡ Some x = slice_get-get_or xs t n (omega (arith, within, two)) in
-          armed_one image faults words v t s r m x n (away.each t m at_m) (lent.each t r m x at_r at_m at_x)
-          (handed.each t s x n at_s at_x at_n);
+          armed_one (away.each t m at_m) (lent.each t r m x at_r at_m at_x) (handed.each t s x n at_s at_x at_n);
     }
 
 -- Those from which all was taken are as they were before.

@@ -156,13 +156,13 @@ module _ {R : Type 0} (image : R → Option (List ℕ)) (faults : R → ℕ) (wo
         }
 
 -- A run that stands may begin an epoch with mutators that are ready, where no forwarding word is filled.
-pub at_rest : {R : Type 0} (image : R → Option (List ℕ)) (faults : R → ℕ) (unpaid : ℕ) (told : Bool) (script : Script)
-    (config : Config) (shown : Shown) (run : Row) (heap : Heap) (h : List Entry) (registers : List Registers)
-    (ms : List (Mutator (Worker R))) → StandsBut unpaid told script config shown run
+pub at_rest : {R : Type 0} {image : R → Option (List ℕ)} {faults : R → ℕ} {unpaid : ℕ} {told : Bool} {script : Script}
+    {config : Config} {shown : Shown} {run : Row} {heap : Heap} (h : List Entry) {registers : List Registers}
+    {ms : List (Mutator (Worker R))} → StandsBut unpaid told script config shown run
     → run.view ≡ parts_view heap h registers → NoneForwarded run.view → IsNameless heap
     → AreArmed image faults shown.image run.view run.states registers ms → 1 ≤ length ms
     → IsAtRest (image_of image) told heap h shown.end ms
-at_rest {R} image faults unpaid told script config shown run heap h registers ms stands is none nameless armed some =
+at_rest {R} {image} {faults} {told} {shown} {run} {heap} h {registers} {ms} stands is none nameless armed some =
     at_rest_over image faults shown.image heap h registers run.states ms
     (subst (λ (v : View). AreArmed image faults shown.image v run.states registers ms) is armed) told stands.disk
     (subst (Standing told stands.disk) is stands.table.stands) shown.end stands.under stands.none_free

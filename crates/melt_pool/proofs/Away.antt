@@ -73,11 +73,11 @@ away_other v w t u m d other away = record {
   values = away.values ∙ sym (d.others u other);
 }
 
-pub away_dropped : {R : Type 0} (heap : Heap) (h : List Entry) (held : List Registers) (ms : List (Mutator R)) (t : ℕ)
-    (m n : Mutator R) → t < length held → slice_get ms t ≡ Some m → n ≡ with_none m
+pub away_dropped : {R : Type 0} (heap : Heap) (h : List Entry) {held : List Registers} {ms : List (Mutator R)} (t : ℕ)
+    {m n : Mutator R} → t < length held → slice_get ms t ≡ Some m → n ≡ with_none m
     → AreAway (parts_view heap h held) held ms
     → AreAway (parts_view heap h (slice_set held t no_registers)) (slice_set held t no_registers) (slice_set ms t n)
-away_dropped {R} heap h held ms t m n within at is away =
+away_dropped {R} heap h {held} {ms} t {m} {n} within at is away =
     let v : View = parts_view heap h held in
     let w : View = parts_view heap h (slice_set held t no_registers) in
     let d : HasDropped v w t = thread_dropped heap h held t within in
@@ -118,13 +118,13 @@ nameless_left old new is leaves =
     }
 
 -- The machine is collected where its heap is, with its registers, which were lent for that.
-pub parts_collected : (phase : Phase) (shown later : Shown) (old new : Heap) (h : List Entry)
-    (held lent back after : List Registers) (plans planned : Collector) → lent ≡ held → length back ≡ length lent
+pub parts_collected : (phase : Phase) (shown later : Shown) {old new : Heap} (h : List Entry)
+    {held lent back after : List Registers} (plans planned : Collector) → lent ≡ held → length back ≡ length lent
     → after ≡ back → IsNameless old → IsNameless new → CollectsHeap phase shown later old new lent back plans planned
     → MayCollect shown.end (parts_view old h held)
     → CollectsCore phase shown later (parts_view old h held) (parts_view new h after) plans planned
-parts_collected phase shown later old new h held lent back after plans planned lent_is count is_back is left collects
-    may =
+parts_collected phase shown later {old} {new} h {held} {back} {after} plans planned lent_is count is_back is left
+    collects may =
     let b : Beside = beside_of old h held in
     let names : Option name_table.Names = Some (names_for (length new.space.list) new.maps) in
     let same : length back ≡ length held = count ∙ ap length lent_is in
@@ -135,18 +135,18 @@ parts_collected phase shown later old new h held lent back after plans planned l
     (collects b names (sym lent_is) (names_hold old is) (names_hold new left) may)
 
 -- The machine has no room on disk for its homes where its heap has none.
-pub parts_full : (phase : Phase) (shown later : Shown) (old back : Heap) (h : List Entry) (held lent : List Registers)
+pub parts_full : (phase : Phase) (shown later : Shown) {old back : Heap} {h : List Entry} {held lent : List Registers}
     (left : Left) (full : disk.DiskFull) → lent ≡ held → IsNameless old
     → IsFullHeap phase shown later old back lent full → MayCollect shown.end (parts_view old h held)
     → left.heap ≡ Some back → left.history ≡ h → IsFullCore phase shown later (parts_view old h held) left full
-parts_full phase shown later old back h held lent left full lent_is is refused may there history =
+parts_full phase shown later {old} {h} {held} left full lent_is is refused may there history =
     refused (beside_of old h held) left (sym lent_is) (names_hold old is) may there history
 
 -- Each mutator has the values that its registers stand for behind the collection.
-pub away_collected : {R : Type 0} (phase : Phase) (shown later : Shown) (v w : View) (held after : List Registers)
-    (ms : List (Mutator R)) (plans planned : Collector) → length after ≡ length held → MayCollect shown.end v
-    → CollectsCore phase shown later v w plans planned → AreAway v held ms → AreAway w after ms
-away_collected phase shown later v w held after ms plans planned same may collects away =
+pub away_collected : {R : Type 0} {phase : Phase} {shown later : Shown} {v w : View} {held : List Registers}
+    (after : List Registers) {ms : List (Mutator R)} {plans planned : Collector} → length after ≡ length held
+    → MayCollect shown.end v → CollectsCore phase shown later v w plans planned → AreAway v held ms → AreAway w after ms
+away_collected {phase} {later} {v} {w} after same may collects away =
     let made : CollectedOver false phase later may.disk.free_homes v w collects.entry =
     collects.each false may.disk (record { ends = may.ends; tells = λ told. absurd (cc) }) may.stands in
     record {

@@ -81,7 +81,7 @@ module _ {R : Type 0} (faults : R → ℕ) (finish every : ℕ) (script : Script
       → (run : HasRun faults finish every script words s m k) × (jobs_of run.after < jobs_of s)
   went_runs s m n k went runs =
       let run = runs.has_run script went.after went.brings (works_again s m n went) in
-      let goes = goes_then every script m n k s went.after run.after went.gone.goes run.goes in
+      let goes = goes_then went.gone.goes run.goes in
       let less : jobs_of went.after < jobs_of s = went.gone.less in
       let few : jobs_of run.after ≤ jobs_of went.after = run.goes.less in
       let ends : EndsWell words.start.began.told finish script k.thread (length run.after.replies.items)
@@ -159,7 +159,7 @@ module _ {R : Type 0} (faults : R → ℕ) (finish every : ℕ) (words : EpochWo
         let x : Mutator (Worker R) = get_or mid k m in
         let mid_at : slice_get mid k ≡ Some x = slice_get-get_or mid k m below in
         let runs = run.each k x n mid_at there in
-        elim (at_changed t ms mid Went_at c k x mid_at) [
+        elim (at_changed Went_at c k mid_at) [
           | inl same ↦
               let was : c.before ≡ m =
               let both : Some c.before ≡ Some m =
@@ -201,7 +201,7 @@ module _ {R : Type 0} (faults : R → ℕ) (finish every : ℕ) (words : EpochWo
       → AllMayRun script words ns → All (HasJoined words) ns
       → AllCame faults finish every first words ns rs came → (length rs ≡ length ns) × All (IsSeated words) rs
   came_seated first script ns rs Went may joined all =
-      (all.count, all_seated faults finish every first script words ns rs may all)
+      (all.count, all_seated script may all)
   came_seated None script ns rs (Lacked need) may joined all = absurd all
   came_seated (Some t) script ns rs (Lacked need) may joined all = (
     all.count,

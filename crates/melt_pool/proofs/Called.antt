@@ -6,7 +6,6 @@ use Rattle.atomic_table.specs.declared.shared.Seat.{Seat}
 use Rattle.melt_model.specs.Thread.{own}
 use Rattle.melt_model.specs.declared.history.Entry.{Entry}
 use Rattle.melt_model.specs.declared.history.Slot.{Slot}
-use Rattle.melt_model.specs.declared.history.Slot.TheVariants.{Field, Global}
 use Rattle.melt_model.specs.declared.operations.Op.{Op}
 use Rattle.melt_model.specs.declared.operations.Op.TheVariants.{New, Load, GLoad}
 use Rattle.melt_model.specs.declared.operations.Reply.{Reply}
@@ -102,20 +101,19 @@ module _ {R : Type 0} (image : R → Option (List ℕ)) (faults : R → ℕ) (to
       ]
 
   -- why a load was refused, by what its slot is
-  load_refused : (o : Op) (slot : Slot) (most : ℕ) (why : Refusal) (s t : Seat ℕ View) (p q : R) → IsLoad o
-      → ((need : ℕ) → NeedsAt (knows_of s) (knows_of t) slot need
-      → NeedsIn (knows_of s) (knows_of t) m.values o need)
+  load_refused : (o : Op) {slot : Slot} {most : ℕ} (why : Refusal) (s t : Seat ℕ View) (p q : R) → IsLoad o
+      → ((need : ℕ) → NeedsAt (knows_of s) (knows_of t) slot need → NeedsIn (knows_of s) (knows_of t) m.values o need)
       → LoadRefused told (image p) scions end (faults p) (faults q) (knows_of s) (knows_of t) slot most why
       → Sees (knows_of s) (knows_of t).seen
       × RefusedFor told (image p) scions end (faults p) (faults q) (knows_of s) (knows_of t) m.values o why
-  load_refused o slot most why s t p q loads needs (inl full) =
+  load_refused o {most} why s t p q loads needs (inl full) =
       let Why : Refusal → Type 0 =
       RefusedFor told (image p) scions end (faults p) (faults q) (knows_of s) (knows_of t) m.values o in
       let filled = full.full.filled in
       let forwarded : Why (Pause Forward) =
       record { thread = filled.thread; began = filled.began; forwarded = filled.forwarded; won = filled.won } in
       (full.full.sees, subst Why (sym full.full.is) forwarded)
-  load_refused o slot most why s t p q loads needs (inr (inl lacks)) =
+  load_refused o {most} why s t p q loads needs (inr (inl lacks)) =
       let Why : Refusal → Type 0 =
       RefusedFor told (image p) scions end (faults p) (faults q) (knows_of s) (knows_of t) m.values o in
       let spaced : Why (Pause (Space (cost_of lacks.shape))) = (
@@ -124,9 +122,9 @@ module _ {R : Type 0} (image : R → Option (List ℕ)) (faults : R → ℕ) (to
         needs (cost_of lacks.shape) (lacks.shape, refl, lacks.held),
       ) in
       (lacks.sees, subst Why (sym lacks.is) spaced)
-  load_refused o slot most refusal.DiskFault s t p q loads needs (inr (inr lost)) =
+  load_refused o {most} refusal.DiskFault s t p q loads needs (inr (inr lost)) =
       (lost.stays.sees, (same_by (knows_of s) (knows_of t) 0 0 most lost.stays.counts, loads, lost.lost))
-  load_refused o slot most (refusal.Damaged damaged) s t p q loads needs (inr (inr lost)) = (
+  load_refused o {most} (refusal.Damaged damaged) s t p q loads needs (inr (inr lost)) = (
     lost.stays.sees,
     (
       same_by (knows_of s) (knows_of t) 0 0 most lost.stays.counts,
@@ -135,14 +133,13 @@ module _ {R : Type 0} (image : R → Option (List ℕ)) (faults : R → ℕ) (to
       (lost.home, lost.below, lost.lost.0),
     ),
   )
-  load_refused o slot most (Pause cause) s t p q loads needs (inr (inr lost)) = absurd lost.lost
+  load_refused o {most} (Pause cause) s t p q loads needs (inr (inr lost)) = absurd lost.lost
 
   -- or refused as the stop word was set
-  load_asked : (o : Op) (most : ℕ) (why : Refusal) (s t : Seat ℕ View) (p q : R)
-      → LoadAsked (knows_of s) (knows_of t) most why
-      → Sees (knows_of s) (knows_of t).seen
+  load_asked : (o : Op) {most : ℕ} {why : Refusal} (s t : Seat ℕ View) (p q : R)
+      → LoadAsked (knows_of s) (knows_of t) most why → Sees (knows_of s) (knows_of t).seen
       × RefusedFor told (image p) scions end (faults p) (faults q) (knows_of s) (knows_of t) m.values o why
-  load_asked o most why s t p q asked =
+  load_asked o {most} s t p q asked =
       let Why : Refusal → Type 0 =
       RefusedFor told (image p) scions end (faults p) (faults q) (knows_of s) (knows_of t) m.values o in
       let is_asked : Why (Pause Asked) =
@@ -162,9 +159,8 @@ module _ {R : Type 0} (image : R → Option (List ℕ)) (faults : R → ℕ) (to
       × RefusedFor told (image p) scions end (faults p) (faults q) (knows_of s) (knows_of t) m.values (Load dst src i)
       refused =
       elim loaded.3 [
-        | inl asked ↦ load_asked (Load dst src i) most refused s t p q asked
-        | inr because ↦ load_refused (Load dst src i) (Field loaded.1 i) most refused s t p q tt
-            (λ need at. (loaded.1, loaded.2, at)) because
+        | inl asked ↦ load_asked (Load dst src i) s t p q asked
+        | inr because ↦ load_refused (Load dst src i) refused s t p q tt (λ need at. (loaded.1, loaded.2, at)) because
       ] in
       (why.0, loaded.0, why.1)
 
@@ -181,8 +177,8 @@ module _ {R : Type 0} (image : R → Option (List ℕ)) (faults : R → ℕ) (to
       × RefusedFor told (image p) scions end (faults p) (faults q) (knows_of s) (knows_of t) m.values (GLoad dst g)
       refused =
       elim loaded.1 [
-        | inl asked ↦ load_asked (GLoad dst g) most refused s t p q asked
-        | inr because ↦ load_refused (GLoad dst g) (Global g) most refused s t p q tt (λ need at. at) because
+        | inl asked ↦ load_asked (GLoad dst g) s t p q asked
+        | inr because ↦ load_refused (GLoad dst g) refused s t p q tt (λ need at. at) because
       ] in
       (why.0, loaded.0, why.1)
 

@@ -55,10 +55,10 @@ module _ {R : Type 0} where
   }
 
   -- what stands at a place is what was changed, or what stood there
-  pub at_changed : (t : ℕ) (ms ns : List (Mutator R)) (Is : Mutator R → Mutator R → Type 0)
-      (c : ChangedAt t ms ns Is) (k : ℕ) (r : Mutator R) → slice_get ns k ≡ Some r
+  pub at_changed : {t : ℕ} {ms ns : List (Mutator R)} (Is : Mutator R → Mutator R → Type 0) (c : ChangedAt t ms ns Is)
+      (k : ℕ) {r : Mutator R} → slice_get ns k ≡ Some r
       → ((k ≡ t) × (c.after ≡ r)) ⊎ ((k ≢ t) × (slice_get ms k ≡ Some r))
-  at_changed t ms ns Is c k r at = elim (cases_eq k t) [
+  at_changed {t} {ns} Is c k {r} at = elim (cases_eq k t) [
     | inl same ↦
         let both : Some c.after ≡ Some r = sym c.now ∙ (ap (λ (i : ℕ). slice_get ns i) (sym same) ∙ at) in
         inl (same, let one : c.after ≡ r = cc in one)
@@ -68,7 +68,7 @@ module _ {R : Type 0} where
   -- what holds of those that stood and of the one that was changed holds of all
   pub all_changed : (P : Mutator R → Type 0) (t : ℕ) (ms ns : List (Mutator R)) (Is : Mutator R → Mutator R → Type 0)
       (c : ChangedAt t ms ns Is) → P c.after → ((k : ℕ) (m : Mutator R) → slice_get ms k ≡ Some m → P m) → All P ns
-  all_changed P t ms ns Is c here others = all_by P ns (λ k r at. elim (at_changed t ms ns Is c k r at) [
+  all_changed P t ms ns Is c here others = all_by P ns (λ k r at. elim (at_changed Is c k at) [
     | inl same ↦ subst P same.1 here
     | inr other ↦ others k r other.1
   ])

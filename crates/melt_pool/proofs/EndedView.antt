@@ -370,9 +370,7 @@ module _ {R : Type 0} (image : R → Option (List ℕ)) (told : Bool) (heap new 
           | inl body ↦ body.nowhere a (ap (λ (m : Maps). m.address a) (sym ended_maps) ∙ there)
           | inr other ↦ elim other [
             | inl stub ↦
-                let one = same_head home finish home finish (s.base.image home) (s.base.image (home + 1))
-                (record { shape = z; kind = Body }) (record { shape = stands.reserved_for; kind = Stub stub.scion })
-                head stub.head in
+                let one = same_head head stub.head in
                 let kinds : Body ≡ Stub stub.scion = ap (λ (x : Head). x.kind) one.1 in
                 cc
             | inr sent ↦

@@ -20,7 +20,7 @@ module _ {R : Type 0} (image : R → Option (List ℕ)) (faults : R → ℕ) (fi
     -- all went on
     pub went_ends : (first : Option ℕ) → AllCame faults finish every first words ns rs Went
         → Ended image faults finish every first words.start.began ms qs heap h None
-    went_ends first came = all_passed faults finish every first words ms ns rs qs heap h kept joined came left ended
+    went_ends first came = all_passed kept joined came left ended
 
     -- the first lacked words
     pub lacked_ends : (first : Option ℕ) (need : ℕ) → AllCame faults finish every first words ns rs (Lacked need)

@@ -90,7 +90,7 @@ module _ {R : Type 0} (image : R → Option (List ℕ)) (faults : R → ℕ) (sc
             seated mp nq called took;
         ends = called_ends image faults script words scions finish m n again p q after op result works runs next other
             seated mp nq called count took;
-        goes = goes_then every script m m (dropped_for after.mode n) s again after before
+        goes = goes_then before
             (called_goes image faults script words scions finish m n again every p q after op result works runs next
             other
             seated mp nq called took owing due);
@@ -156,7 +156,7 @@ module _ {R : Type 0} (faults : R → ℕ) (finish every : ℕ) (words : EpochWo
           subst
           (λ (x : Worker R). EndsWell words.start.began.told finish script r.thread (length after.replies.items)
           (faults x.reader) after.mode) same (gone.ends back now);
-      goes = goes_with every script empty r s after m.reader (Some given) gone.goes;
+      goes = goes_with m.reader (Some given) gone.goes;
       less = gone.less;
       goes_on = gone.goes_on;
     };

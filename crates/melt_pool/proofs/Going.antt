@@ -43,10 +43,10 @@ next_stands script t s op p next =
     (sym p.to_come ∙ ap (λ (o : Option Op). with_first o s.cursor.operations) next)
 
 -- a thread that was told its last reply has replies to all operations
-ends_told : (told : Bool) (finish : ℕ) (script : Script) (t faults : ℕ) (s after : ThreadState) (op : Op)
-    (reply : Reply) → ProgramStands script t after → TakesReply s after reply
+ends_told : (told : Bool) (finish : ℕ) {script : Script} {t : ℕ} (faults : ℕ) {s after : ThreadState} (op : Op)
+    {reply : Reply} → ProgramStands script t after → TakesReply s after reply
     → EndsWell told finish script t (length after.replies.items) faults after.mode
-ends_told told finish script t faults s after op reply p takes =
+ends_told told finish {script} {t} faults {after} op p takes =
     let E : Mode → Type 0 = EndsWell told finish script t (length after.replies.items) faults in
     elim takes.fits [
       | inl runs ↦ subst E (sym runs.0) tt
@@ -143,7 +143,7 @@ module _ {R : Type 0} (image : R → Option (List ℕ)) (faults : R → ℕ) (sc
   called_ends p q after op (Ok reply) works runs next other seated mp nq called count took r there =
       let now : Works script words (dropped_for after.mode n) after =
       called_works p q after op (Ok reply) works runs next other seated mp nq called took in
-      ends_told told finish script (dropped_for after.mode n).thread (faults r) s after op reply now.program took
+      ends_told told finish (faults r) op now.program took
   called_ends p q after op (Err why) works runs next other seated mp nq called count took r there =
       let call = by_views p q op (Err why) works.seated seated mp nq called in
       let v : View = view_of m in
@@ -255,11 +255,11 @@ asked_works {R} script words m n s mode works may seated asked fits waits =
     (may_not_end s.mode may) (λ cause. waits) (λ is. absurd (subst Waits is waits)))
 
 -- and goes on
-pub asked_goes : {R : Type 0} (every : ℕ) (script : Script) (words : EpochWords) (m n : Mutator R)
-    (s after : ThreadState) (mode : Mode) → Works script words m s → IsSeated words n → IsAsked m n
+pub asked_goes : {R : Type 0} (every : ℕ) {script : Script} {words : EpochWords} {m n : Mutator R}
+    {s after : ThreadState} (mode : Mode) → Works script words m s → IsSeated words n → IsAsked m n
     → after ≡ record s { mode = mode } → owes mode ≡ owes s.mode → jobs mode (length (left s)) ≤ jobs_of s
     → GoesOn every script m n s after
-asked_goes {R} every script words m n s after mode works seated asked is owed few =
+asked_goes {R} every {script} {words} {m} {n} {s} {after} mode works seated asked is owed few =
     mode_goes every script m n s after mode is (ap (λ (x : Mutator R). x.thread) asked.0)
     (seen_same script words m n s works seated (asked_views words m n works.seated seated asked).sees) owed few
 

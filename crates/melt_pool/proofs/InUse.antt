@@ -142,25 +142,22 @@ append_right (x ∷ xs) ys i zero at = absurd (omega (arith, at))
 append_right (x ∷ xs) ys i (suc n) at = append_right xs ys i n (omega (arith, at))
 
 -- a set that has a part, and behind its numbers those of objects with these shapes
-part_with : (cost : ℕ → ℕ) (P Q : ℕ → Type 0) (zs : List Shape) (from u q : ℕ) → CostsSum cost P u
+part_with : {cost : ℕ → ℕ} (P Q : ℕ → Type 0) (zs : List Shape) (from : ℕ) {u q : ℕ} → CostsSum cost P u
     → CostsSum cost Q q → ((n : ℕ) → P n → Q n) → ((n : ℕ) → P n → n < from)
     → ((i n : ℕ) (z : Shape) → from + i ≡ n → slice_get zs i ≡ Some z → Q n × (cost n ≡ shape_words z))
     → u + sum_by shape_words zs ≤ q
-part_with cost P Q [] from u q less more within below each =
+part_with {cost} P Q [] from {u} {q} less more within below each =
     let part : u ≤ q = CostsSum-part cost P Q u q within less more in omega (arith, part)
-part_with cost P Q (z ∷ zs) from u q less more within below each =
+part_with {cost} P Q (z ∷ zs) from {u} {q} less more within below each =
     let here = each 0 from z (omega arith) refl in
     let words : cost from ≡ shape_words z = here.1 in
     let rest : u + cost from + sum_by shape_words zs ≤ q =
-    part_with cost (λ n. P n ⊎ (n ≡ from)) Q zs (suc from) (u + cost from) q
+    part_with (λ n. P n ⊎ (n ≡ from)) Q zs (suc from)
     (CostsSum-more cost P from u (λ is. let less_than : from < from = below from is in omega (arith, less_than)) less)
-    more
-    (λ n is. elim is [ inl old ↦ within n old | inr same ↦ subst Q (sym same) here.0 ])
-    (λ n is. elim is [
+    more (λ n is. elim is [ inl old ↦ within n old | inr same ↦ subst Q (sym same) here.0 ]) (λ n is. elim is [
       | inl old ↦ let before : n < from = below n old in omega (arith, before)
       | inr same ↦ omega (arith, same)
-    ])
-    (λ i n y at is. each (suc i) n y (omega (arith, at)) is) in
+    ]) (λ i n y at is. each (suc i) n y (omega (arith, at)) is) in
     omega (arith, rest, words, sum_by-cons shape_words z zs)
 
 -- Where all that was in use is so still, and all that was made since, what is in use has grown by all words that were
@@ -175,7 +172,7 @@ grown h more P Q u q less all within below new =
     CostsSum-cost (words_of h) (words_of (h ++ more)) P u
     (λ n is. ap words_in (sym (shape-append h more n (below n is)))) less in
     let part : u + sum_by shape_words (shapes more) ≤ q =
-    part_with (words_of (h ++ more)) P Q (shapes more) (made h) u q later all within below (λ i n z at is.
+    part_with P Q (shapes more) (made h) later all within below (λ i n z at is.
     let inside : i < length (shapes more) = slice_get_within (shapes more) i z is in (
       new n (omega (arith, at)) (let count = made-append h more in omega (arith, at, inside, count)),
       ap words_in

@@ -56,15 +56,15 @@ same_values : (v w : View) → ((t : ℕ) → values_of w t ≡ values_of v t) �
 same_values v w same u r = ap (λ (xs : List Value). value_in xs r) (same u)
 
 -- so the run stands
-pub nothing_stands : {unpaid : ℕ} (told : Bool) (script : Script) (config : Config) (b : Began) (shown : Shown)
-    (old new : Row) → StandsBut unpaid told script config shown old → NothingDone told b shown old new
+pub nothing_stands : {unpaid : ℕ} {told : Bool} {script : Script} {config : Config} {b : Began} {shown : Shown}
+    {old new : Row} → StandsBut unpaid told script config shown old → NothingDone told b shown old new
     → StandsBut unpaid told script config shown new
-nothing_stands {unpaid} told script config b shown old new stands done = record {
+nothing_stands {unpaid} {told} {script} {config} {shown} {old} {new} stands done = record {
   disk = done.disk;
   under = done.under;
   none_free = done.none_free;
   table = subst (TableStands told script config done.disk new.view) (sym done.states)
-      (Table_renewed told script config stands.disk done.disk old.view new.view old.states stands.table done.renewed);
+      (Table_renewed stands.table done.renewed);
   quiet = done.renewed.quiet;
   words = done.words ∙ stands.words;
   every = done.every ∙ stands.every;
@@ -120,18 +120,17 @@ from_needs b v t (op.Drop r) need same nowhere is = absurd is
 from_needs b v t op.Collect need same nowhere is = absurd is
 
 -- the thread lacks these words
-pub lacked_from : {told : Bool} {script : Script} {config : Config} {forced : ℕ} (b : Began) (shown : Shown)
-    (old new : Row) (t need : ℕ) → AwaitsCall told script config shown forced old t
+pub lacked_from : {told : Bool} {script : Script} {config : Config} {forced : ℕ} {b : Began} {shown : Shown}
+    {old new : Row} {t : ℕ} (need : ℕ) → AwaitsCall told script config shown forced old t
     → (done : NothingDone told b shown old new) → b.history ≡ old.view.log → config.heap + 1 < old.view.free + need
-    → need ≤ 126 → NoneForwarded new.view
-    → (o : Op) → ((s : ThreadState) → slice_get old.states t ≡ Some s → s.op ≡ Some o)
-    → (told ≡ true → NeedsFrom b (values_of old.view t) o need)
-    → LacksWords told script config shown forced new t need
-lacked_from {told} {script} {config} {forced} b shown old new t need awaits done same above small none o next needs =
+    → need ≤ 126 → NoneForwarded new.view → (o : Op)
+    → ((s : ThreadState) → slice_get old.states t ≡ Some s → s.op ≡ Some o)
+    → (told ≡ true → NeedsFrom b (values_of old.view t) o need) → LacksWords told script config shown forced new t need
+lacked_from {told} {script} {config} {forced} {b} {old} {new} {t} need awaits done same above small none o next needs =
     let v : View = old.view in
     let w : View = new.view in
     let values : (u r : ℕ) → value w u r ≡ value v u r = same_values v w done.renewed.values in
-    lacks_words awaits (nothing_stands told script config b shown old new awaits.stands done) (record {
+    lacks_words awaits (nothing_stands awaits.stands done) (record {
       states = done.states;
       collector = done.collector;
       history = done.renewed.history;

@@ -36,9 +36,9 @@ may_settled told script config shown (Some t) run may = may.1.collected.none_for
 
 -- the thread that is to be the first lacks room
 first_waits : (told : Bool) (script : Script) (config : Config) (shown : Shown) (first : Option ℕ) (run : Row)
-    → MayRunEpoch told script config shown first run → (t : ℕ) → first ≡ Some t → WaitsForRoom run.states t
-first_waits told script config shown None run may t is = absurd (let no : None ≡ Some t = is in cc)
-first_waits told script config shown (Some u) run may t is =
+    → MayRunEpoch told script config shown first run → {t : ℕ} → first ≡ Some t → WaitsForRoom run.states t
+first_waits told script config shown None run may {t} is = absurd (let no : None ≡ Some t = is in cc)
+first_waits told script config shown (Some u) run may {t} is =
     let same : u ≡ t = let both : Some u ≡ Some t = is in cc in
     subst (WaitsForRoom run.states) same may.1.waits
 
@@ -92,8 +92,7 @@ module _ {R : Type 0} (image : R → Option (List ℕ)) (faults : R → ℕ) (sh
     pub begins_at_rest : IsAtRest (image_of image) told heap h shown.end ms
     begins_at_rest =
         subst (λ (t : Bool). IsAtRest (image_of image) t heap h shown.end ms) (sym begin.stands.told_is)
-        (at_rest image faults begin.unpaid may.0 may.1 may.2 shown row heap h registers ms begin.stands refl
-        (may_settled may.0 may.1 may.2 shown first row may.3) nameless armed some)
+        (at_rest h begin.stands refl (may_settled may.0 may.1 may.2 shown first row may.3) nameless armed some)
 
     -- and so are its threads
     pub begins_threads : (script : Script) × AllRest script b ms
@@ -106,7 +105,7 @@ module _ {R : Type 0} (image : R → Option (List ℕ)) (faults : R → ℕ) (sh
     -- the first of them lacks room
     pub begins_first : IfSome first (LacksAt ms)
     begins_first = if_some first (LacksAt ms) (λ t is.
-        let waits : WaitsForRoom states t = first_waits may.0 may.1 may.2 shown first row may.3 t is in
+        let waits : WaitsForRoom states t = first_waits may.0 may.1 may.2 shown first row may.3 is in
         let below = slice_get_within states t waits.0 waits.1 in
         let m = stands_there ms t (omega (arith, below, armed.count)) in
         let ready = armed_at may.0 may.1 may.2 begin.stands.disk row.view states image faults shown.image registers ms b

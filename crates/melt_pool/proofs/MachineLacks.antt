@@ -191,8 +191,8 @@ module _ {R : Type 0} (image : R → Option (List ℕ)) (faults : R → ℕ) (wo
       omega (arith, below, lacked.count, armed.count)) in
       let past : length heap.space.list + 1 < heap.space.used + 1 + need = lacked.past in
       let size : length heap.space.list ≡ config.heap = table.words in
-      lacked_from b shown old row t need awaits (nothing_done stands.disk stands.under table.stands) refl
-      (omega (arith, past, size)) lacked.small lacked.none_won op.0
+      lacked_from need awaits (nothing_done stands.disk stands.under table.stands) refl (omega (arith, past, size))
+      lacked.small lacked.none_won op.0
       (λ x there. ap (λ (y : ThreadState). y.op) (same_Some x s (sym there ∙ at)) ∙ op.1)
       (λ tells. subst (λ (vs : List Value). NeedsFrom b vs op.0 need) m.2.1.values
       ((lacked.here m.0 n.0 m.1 n.1).1 s op.0 m.2.1.brings op.1 tells))

@@ -230,14 +230,15 @@ module _ {R : Type 0} (image : R → Option (List ℕ)) (faults : R → ℕ) (sh
             ended
 
   -- so many threads were lost as reads failed
-  pub leaves_lost : (after : List ThreadState) (registers_after : List Registers) (ms_after : List (Mutator (Worker R)))
+  pub leaves_lost : {after : List ThreadState} {registers_after : List Registers} {ms_after : List (Mutator (Worker R))}
       → AreDisarmed ns after registers_after ms_after → (collector : Collector) (room : ℕ) (first lacks : Option ℕ)
       → SomeMayRun shown first (machine_row heap h registers states collector room every told)
       → Ended image faults shown.end every first b ms ns new k lacks
       → EndsEpoch shown first (machine_row heap h registers states collector room every told)
-      (machine_row new k registers_after after collector room every told) lacks → (before behind : ℕ)
+      (machine_row new k registers_after after collector room every told) lacks → {before behind : ℕ}
       → CountsReaders faults ns before behind → CountsLosses states after before behind
-  leaves_lost after registers_after ms_after disarmed collector room first None may ended ends before behind counts =
+  leaves_lost {after} {registers_after} {ms_after} disarmed collector room first None may ended ends {before} {behind}
+      counts =
       let row : Row = machine_row heap h registers states collector room every told in
       let begin : MayBegin may.0 may.1 may.2 shown first row = may_begin may.0 may.1 may.2 shown first row may.3 in
       let f : Mutator (Worker R) → ℕ = λ (m : Mutator (Worker R)). open_faults (faults_of faults) m.reader in
@@ -248,9 +249,9 @@ module _ {R : Type 0} (image : R → Option (List ℕ)) (faults : R → ℕ) (sh
       passed_losses may.0 may.1 may.2 begin.stands.disk row.view states image faults shown.image registers ms b
       begin.stands.told_is refl begin.stands.table armed begin.stands.table.globals shown.end every first ns new k ended
       after registers_after ms_after disarmed before behind counted
-  leaves_lost after registers_after ms_after disarmed collector room None (Some need) may ended ends before behind
-      counts =
+  leaves_lost {after} {registers_after} {ms_after} disarmed collector room None (Some need) may ended ends {before}
+      {behind} counts =
       absurd ended
-  leaves_lost after registers_after ms_after disarmed collector room (Some t) (Some need) may ended ends before behind
-      counts =
+  leaves_lost {after} {registers_after} {ms_after} disarmed collector room (Some t) (Some need) may ended ends {before}
+      {behind} counts =
       counts_risen states after before behind (ap losses ends.states) counts.rises

@@ -104,11 +104,10 @@ Stands_new t ops = record {
 }
 
 -- a thread stands before its first event
-new_thread : (told : Bool) (script : Script) (threads t : ℕ) (heap : Heap) (registers : List Registers)
-    (s : ThreadState) → registers ≡ replicate threads no_registers → t < threads
-    → IsNewThread (operations script t) script.globals s
-    → ThreadStands told script (parts_view heap [] registers) t s
-new_thread told script threads t heap registers s held below new =
+new_thread : (told : Bool) (script : Script) (threads t : ℕ) (heap : Heap) {registers : List Registers}
+    {s : ThreadState} → registers ≡ replicate threads no_registers → t < threads
+    → IsNewThread (operations script t) script.globals s → ThreadStands told script (parts_view heap [] registers) t s
+new_thread told script threads t heap {registers} {s} held below new =
     let v : View = parts_view heap [] registers in
     let ops : List Op = operations script t in
     let none : values_of v t ≡ replicate 16 Nil = new_values threads t heap registers held below in
@@ -134,25 +133,24 @@ new_thread told script threads t heap registers s held below new =
     }
 
 -- all threads stand before their first events
-pub new_table : (told : Bool) (script : Script) (config : Config) (entries : ℕ) (image : Option (List ℕ)) (heap : Heap)
-    (registers : List Registers) (states : List ThreadState) → InRanges config → length script.programs ≤ 8
+pub new_table : (told : Bool) {script : Script} {config : Config} {entries : ℕ} (image : Option (List ℕ)) {heap : Heap}
+    {registers : List Registers} {states : List ThreadState} → InRanges config → length script.programs ≤ 8
     → IsNewHeap config.heap script.globals config.forward false heap
     → registers ≡ replicate (length script.programs) no_registers → AreNewThreads script states entries
     → TableStands told script config (bare image) (parts_view heap [] registers) states
-new_table told script config entries image heap registers states ranges few new held new_states =
+new_table told {script} {config} {entries} image {heap} {states} ranges few new held new_states =
     let n : ℕ = length script.programs in
     let forwards : length heap.forward ≡ config.forward =
     ap length new.nothing_forwarded ∙ length-replicate config.forward 0 in
     record {
-      stands = new_standing told image config.heap script.globals config.forward n heap registers
-          (omega (arith, ranges.heap_most)) few new held;
+      stands = new_standing told image n (omega (arith, ranges.heap_most)) few new held;
       count = new_states.count;
       threads = ap length held ∙ length-replicate n no_registers;
       globals = ap length new.globals_hold_nothing ∙ length-replicate script.globals 0;
       words = new.space.size;
       forwards = omega (arith, forwards, ranges.forward_most);
       some_forward = omega (arith, forwards, ranges.forward_least);
-      each = λ t s at. new_thread told script n t heap registers s held
+      each = λ t s at. new_thread told script n t heap held
           (let below : t < length states = slice_get_within states t s at in omega (arith, below, new_states.count))
           (new_states.each t s at);
       own = All-nil (λ (e : Entry). e.thread < n);
@@ -160,14 +158,14 @@ new_table told script config entries image heap registers states ranges few new 
         | inl runs ↦ let wrong : false ≡ true = ap owes_silent (sym runs.0) ∙ owes in cc
         | inr over ↦ let wrong : false ≡ true = ap owes_silent (sym over.0) ∙ owes in cc
       ]);
-      ends = λ t s at. ends_new told script [] config entries t states s new_states at;
+      ends = λ t s at. ends_new told [] config t new_states at;
       entries = omega (arith, new_states.few);
       few = omega (arith, new_states.few);
     }
 
 -- a run stands before its first epoch
-pub new_run_stands : (told : Bool) (script : Script) (config : Config) (shown : Shown) (entries : ℕ) (heap : Heap)
-    (registers : List Registers) (run : Row) → InRanges config → length script.programs ≤ 8 → shown.end ≡ 1
+pub new_run_stands : {told : Bool} {script : Script} {config : Config} (shown : Shown) {entries : ℕ} {heap : Heap}
+    {registers : List Registers} (run : Row) → InRanges config → length script.programs ≤ 8 → shown.end ≡ 1
     → shown.limit ≡ config.disk → (told ≡ true → IsSome shown.image)
     → IsNewHeap config.heap script.globals config.forward false heap
     → registers ≡ replicate (length script.programs) no_registers → AreNewThreads script run.states entries
@@ -175,11 +173,11 @@ pub new_run_stands : (told : Bool) (script : Script) (config : Config) (shown : 
     → run.collector.journal.items ≡ []
     → run.collector.plan ≡ record { next = Inactive; mark = config.mark; move_ = config.move_ }
     → RunStands told script config shown run
-new_run_stands told script config shown entries heap registers run ranges few ends limits some new held new_states
-    sees words every told_is none plan =
+new_run_stands {told} {script} {config} shown {entries} {heap} {registers} run ranges few ends limits some new held
+    new_states sees words every told_is none plan =
     Run_new told script config shown entries run ranges ends limits some
     (subst (λ (v : View). TableStands told script config (bare shown.image) v run.states) (sym sees)
-    (new_table told script config entries shown.image heap registers run.states ranges few new held new_states))
+    (new_table told shown.image ranges few new held new_states))
     (subst IsQuiet (sym sees) (new_quiet heap registers)) (ap (λ (v : View). v.log) sees) new_states words every told_is
     none plan
 

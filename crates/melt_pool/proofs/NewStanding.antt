@@ -71,10 +71,10 @@ pub new_quiet : (heap : Heap) (registers : List Registers) → IsQuiet (parts_vi
 new_quiet heap registers t = get_or_replicate (length registers) t None
 
 -- and all that is told stands
-pub new_standing : (told : Bool) (image : Option (List ℕ)) (words globals forward threads : ℕ) (heap : Heap)
-    (registers : List Registers) → words < 2 ^ 30 → threads ≤ 8 → IsNewHeap words globals forward false heap
+pub new_standing : (told : Bool) (image : Option (List ℕ)) {words globals forward : ℕ} (threads : ℕ) {heap : Heap}
+    {registers : List Registers} → words < 2 ^ 30 → threads ≤ 8 → IsNewHeap words globals forward false heap
     → registers ≡ replicate threads no_registers → Standing told (bare image) (parts_view heap [] registers)
-new_standing told image words globals forward threads heap registers small few new held =
+new_standing told image {words} {globals} {forward} threads {heap} {registers} small few new held =
     let v : View = parts_view heap [] registers in
     let still : IsQuiet v = new_quiet heap registers in
     let gone : (t : ℕ) (c : Call) → call_of v t ≡ Some c → ⊥ =

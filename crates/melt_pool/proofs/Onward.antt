@@ -220,9 +220,9 @@ again_goes every script m s after is =
     (again_jobs s.mode (length (left s)))
 
 -- one part behind another
-pub goes_then : {R : Type 0} (every : ℕ) (script : Script) (m n k : Mutator R) (s mid after : ThreadState)
+pub goes_then : {R : Type 0} {every : ℕ} {script : Script} {m n k : Mutator R} {s mid after : ThreadState}
     → GoesOn every script m n s mid → GoesOn every script n k mid after → GoesOn every script m k s after
-goes_then every script m n k s mid after first second =
+goes_then {every} {script} {m} {n} {k} {s} {mid} {after} first second =
     let collects : collects_in script m.thread after ≡ collects_in script m.thread mid =
     subst (λ (t : ℕ). collects_in script t after ≡ collects_in script t mid) first.thread second.collects in
     let entries : length (own (view_of k).seen m.thread) + length mid.replies.items
@@ -246,10 +246,9 @@ goes_then every script m n k s mid after first second =
     }
 
 -- that does not rest on readers
-pub goes_with : {R : Type 0} (every : ℕ) (script : Script) (m n : Mutator R) (s after : ThreadState) (p q : Option R)
-    → GoesOn every script m n s after
-    → GoesOn every script (record m { reader = p }) (record n { reader = q }) s after
-goes_with every script m n s after p q on = record {
+pub goes_with : {R : Type 0} {every : ℕ} {script : Script} {m n : Mutator R} {s after : ThreadState} (p q : Option R)
+    → GoesOn every script m n s after → GoesOn every script (record m { reader = p }) (record n { reader = q }) s after
+goes_with p q on = record {
   thread = on.thread;
   extra = on.extra;
   grows = on.grows;

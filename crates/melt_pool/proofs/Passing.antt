@@ -124,10 +124,10 @@ module _ {R : Type 0} where
       }
 
   -- What a thread has done since the epoch began stands in the history of all.
-  goes_from : (every : ℕ) (script : Script) (before h : List Entry) (s after : ThreadState) (m n : Mutator (Worker R))
+  goes_from : {every : ℕ} {script : Script} {before h : List Entry} {s after : ThreadState} {m n : Mutator (Worker R)}
       → GoesOn every script m n s after → (view_of m).seen ≡ before → Saw h n.thread (view_of n).seen
       → GoesFrom every script n.thread before h s after
-  goes_from every script before h s after m n on began saw =
+  goes_from {script} {before} {h} {s} {after} {m} {n} on began saw =
       let all : length (own h n.thread) ≡ length (own (view_of n).seen n.thread) = ap length saw.own_same in
       let since : length (own (view_of n).seen m.thread) + length s.replies.items
       ≤ length (own before m.thread) + length after.replies.items =
@@ -156,12 +156,12 @@ module _ {R : Type 0} where
       (x : Passes faults finish every b script h s seated n) × (first ≡ Some k → jobs_of x.after < jobs_of s)
 
   -- and rests behind it, by the history of all
-  run_passes : (faults : R → ℕ) (finish every : ℕ) (first : Option ℕ) (k : ℕ) (script : Script) (words : EpochWords)
-      (h : List Entry) (s : ThreadState) (m n : Mutator (Worker R))
+  run_passes : {faults : R → ℕ} {finish every : ℕ} (first : Option ℕ) (k : ℕ) {script : Script} {words : EpochWords}
+      {h : List Entry} {s : ThreadState} {m n : Mutator (Worker R)}
       (run : HasRun faults finish every script words s m n) → (first ≡ Some k → jobs_of run.after < jobs_of s)
       → (view_of m).seen ≡ words.start.began.history → Saw h n.thread (view_of n).seen
       → PassesFrom faults finish every first k words.start.began script h s n (unseated n)
-  run_passes faults finish every first k script words h s m n run less began saw = (
+  run_passes first k {script} {n} run less began saw = (
     record {
       after = run.after;
       rests = record {
@@ -186,7 +186,7 @@ module _ {R : Type 0} where
       waits = run.waits;
       ended = run.ended;
       ends = run.ends;
-      goes = goes_from every script words.start.began.history h s run.after m n run.goes began saw;
+      goes = goes_from run.goes began saw;
       caused = run.caused;
       stops = run.works.waits;
       asked = run.works.asked;
@@ -207,10 +207,10 @@ module _ {R : Type 0} where
       (all_at (HasJoined words) ns k n joined at))
 
   -- behind their runs all have their seats
-  pub all_seated : (faults : R → ℕ) (finish every : ℕ) (first : Option ℕ) (script : Script) (words : EpochWords)
-      (ns rs : List (Mutator (Worker R))) → AllMayRun script words ns
-      → AllRunFrom faults finish every first words ns rs → All (IsSeated words) rs
-  all_seated faults finish every first script words ns rs may run = all_by (IsSeated words) rs (λ k r at.
+  pub all_seated : {faults : R → ℕ} {finish every : ℕ} {first : Option ℕ} (script : Script) {words : EpochWords}
+      {ns rs : List (Mutator (Worker R))} → AllMayRun script words ns → AllRunFrom faults finish every first words ns rs
+      → All (IsSeated words) rs
+  all_seated script {words} {ns} {rs} may run = all_by (IsSeated words) rs (λ k r at.
       let below : k < length ns = let w = slice_get_within rs k r at in omega (arith, w, run.count) in
       let n : Mutator (Worker R) = get_or ns k r in
       let was : slice_get ns k ≡ Some n = slice_get-get_or ns k r below in
@@ -240,10 +240,10 @@ module _ {R : Type 0} where
     was : unseated began ≡ m
     is : unseated ran ≡ q
 
-  stands_at : (ms ns rs qs : List (Mutator (Worker R))) → map unseated ns ≡ ms → length rs ≡ length ns
-      → qs ≡ map unseated rs → (k : ℕ) (m q : Mutator (Worker R)) → slice_get ms k ≡ Some m → slice_get qs k ≡ Some q
-      → StandsAt ns rs k m q
-  stands_at ms ns rs qs kept count left k m q at there =
+  stands_at : {ms : List (Mutator (Worker R))} (ns rs : List (Mutator (Worker R))) {qs : List (Mutator (Worker R))}
+      → map unseated ns ≡ ms → length rs ≡ length ns → qs ≡ map unseated rs → (k : ℕ) {m q : Mutator (Worker R)}
+      → slice_get ms k ≡ Some m → slice_get qs k ≡ Some q → StandsAt ns rs k m q
+  stands_at {ms} ns rs kept count left k {m} {q} at there =
       let below : k < length ns =
       let w = slice_get_within ms k m at in omega (arith, w, length-map ns unseated, ap length kept) in
       let over : k < length rs = omega (arith, below, count) in
@@ -266,24 +266,24 @@ module _ {R : Type 0} where
       }
 
   -- what the epoch came to
-  pub all_passed : (faults : R → ℕ) (finish every : ℕ) (first : Option ℕ) (words : EpochWords)
-      (ms ns rs qs : List (Mutator (Worker R))) (heap : Heap) (h : List Entry) → map unseated ns ≡ ms
+  pub all_passed : {faults : R → ℕ} {finish every : ℕ} {first : Option ℕ} {words : EpochWords}
+      {ms ns rs qs : List (Mutator (Worker R))} {heap : Heap} {h : List Entry} → map unseated ns ≡ ms
       → All (HasJoined words) ns → AllRunFrom faults finish every first words ns rs → qs ≡ map unseated rs
       → HasEnded words.start.began rs heap h → HasPassed faults finish every first words.start.began ms qs heap h
   unfolding joined_works
-  all_passed faults finish every first words ms ns rs qs heap h kept joined run left ended = record {
+  all_passed {faults} {finish} {every} {first} {words} {ns} {rs} {h} kept joined run left ended = record {
     seats = rs;
     left = left;
     ended = ended;
     count = ap length left
         ∙ (length-map rs unseated ∙ (run.count ∙ (sym (length-map ns unseated) ∙ ap length kept)));
     threads = λ k m q at there.
-        let it = stands_at ms ns rs qs kept run.count left k m q at there in
+        let it = stands_at ns rs kept run.count left k at there in
         ap (λ (x : Mutator (Worker R)). x.thread) (sym it.is)
         ∙ ((run.each k it.began it.ran it.began_at it.ran_at).thread
         ∙ ap (λ (x : Mutator (Worker R)). x.thread) it.was);
     each = λ script rest k s m r q at seated there rests.
-        let it = stands_at ms ns rs qs kept run.count left k m q at there in
+        let it = stands_at ns rs kept run.count left k at there in
         let ran : it.ran ≡ r = let both : Some it.ran ≡ Some r = sym it.ran_at ∙ seated in cc in
         let joins : HasJoined words it.began = all_at (HasJoined words) ns k it.began joined it.began_at in
         let may = joined_works script words s m it.began rest.globals rests it.was joins in
@@ -293,5 +293,5 @@ module _ {R : Type 0} where
         subst (λ (x : Mutator (Worker R)). PassesFrom faults finish every first k words.start.began script h s x q) ran
         (subst (λ (x : Mutator (Worker R)). PassesFrom faults finish every first k words.start.began script h s it.ran
         x)
-        it.is (run_passes faults finish every first k script words h s it.began it.ran has.0 has.1 joins.seen saw));
+        it.is (run_passes first k has.0 has.1 joins.seen saw));
   }

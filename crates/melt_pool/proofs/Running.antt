@@ -61,15 +61,15 @@ worker_reads image words r n w state there is has =
     }
 
 -- what was run, where its thread was taken out and put in
-pub has_run : {R : Type 0} (faults : R → ℕ) (finish every : ℕ) (script : Script) (words : EpochWords)
-    (s after : ThreadState) (m r n : Mutator (Worker R)) (taken : Option (Worker R)) (w : Worker R)
-    → r.reader ≡ Some w → n ≡ record r { reader = Some (record w { state = Some after }) }
-    → Works script words r after → (MayGo after.mode → ⊥) → (IsEnded s.mode → after ≡ s)
-    → (IsEnded s.mode → n ≡ m)
+pub has_run : {R : Type 0} (faults : R → ℕ) (finish : ℕ) {every : ℕ} {script : Script} {words : EpochWords}
+    {s after : ThreadState} (m : Mutator (Worker R)) {r n : Mutator (Worker R)} (taken : Option (Worker R))
+    {w : Worker R} → r.reader ≡ Some w → n ≡ record r { reader = Some (record w { state = Some after }) }
+    → Works script words r after → (MayGo after.mode → ⊥) → (IsEnded s.mode → after ≡ s) → (IsEnded s.mode → n ≡ m)
     → ((IsEnded s.mode → ⊥) → HasEndedWell (faults_of faults) words.start.began.told finish script r after)
     → GoesOn every script (record m { reader = taken }) r s after → WaitsByCause s.mode after.mode r
     → HasRun faults finish every script words s m n
-has_run {R} faults finish every script words s after m r n taken w there is works waits ended kept ends goes caused =
+has_run {R} faults finish {every} {script} {words} {s} {after} m {r} taken {w} there is works waits ended kept ends goes
+    caused =
     let back : Mutator (Worker R) = record r { reader = Some (record w { state = Some after }) } in
     let here : HasRun faults finish every script words s m back = record {
       after = after;
@@ -79,18 +79,17 @@ has_run {R} faults finish every script words s after m r n taken w there is work
       ended = ended;
       kept = λ over. sym is ∙ kept over;
       ends = λ goes. ends goes w there;
-      goes = goes_with every script (record m { reader = taken }) r s after m.reader
-          (Some (record w { state = Some after })) goes;
+      goes = goes_with m.reader (Some (record w { state = Some after })) goes;
       caused = caused;
     } in
     subst (HasRun faults finish every script words s m) (sym is) here
 
 -- a mutator whose thread was taken out and put in again, and is as it was, is as it was
-pub back_as_was : {R : Type 0} (m r n : Mutator (Worker R)) (w back : Worker R) (state after : ThreadState)
-    → m.reader ≡ Some w → w.state ≡ Some state → r ≡ record m { reader = Some (record w { state = None }) }
-    → r.reader ≡ Some back → n ≡ record r { reader = Some (record back { state = Some after }) } → after ≡ state
-    → n ≡ m
-back_as_was {R} m r n w back state after there had is now n_is same =
+pub back_as_was : {R : Type 0} (m : Mutator (Worker R)) {r n : Mutator (Worker R)} {w back : Worker R}
+    {state after : ThreadState} → m.reader ≡ Some w → w.state ≡ Some state
+    → r ≡ record m { reader = Some (record w { state = None }) } → r.reader ≡ Some back
+    → n ≡ record r { reader = Some (record back { state = Some after }) } → after ≡ state → n ≡ m
+back_as_was {R} m {r} {w} {back} {state} {after} there had is now n_is same =
     let empty : Worker R = record w { state = None } in
     let back_is : back ≡ empty =
     let both : Some back ≡ Some empty = sym now ∙ ap (λ (x : Mutator (Worker R)). x.reader) is in cc in

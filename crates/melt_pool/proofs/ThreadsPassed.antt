@@ -241,7 +241,7 @@ module _ {R : Type 0} (told : Bool) (script : Script) (config : Config) (disk : 
       → HaveCuts script h after config journal
   passed_cuts journal have =
       subst (λ (g : List Entry). HaveCuts script g after config journal) goes_on.1
-      (HaveCuts_later script v.log goes_on.0 states after config journal passed_later have)
+      (HaveCuts_later script v.log goes_on.0 config journal passed_later have)
 
   -- the collections stay counted, and those that are unpaid are paid where the call of one was made first
   pub passed_counts : every ≡ config.every → (made : ℕ) → CountsCollections script config 0 states made
@@ -306,7 +306,7 @@ module _ {R : Type 0} (told : Bool) (script : Script) (config : Config) (disk : 
             let same : x ≡ s = sym it.is ∙ it.passes.ended gone.0 in
             subst (λ (g : List Entry). EndsSo told script g after config t x.mode) goes_on.1
             (subst (λ (y : ThreadState). EndsSo told script (v.log ++ goes_on.0) after config t y.mode) (sym same)
-            (ends_later told script v.log goes_on.0 states after config t s s.mode passed_later at
+            (ends_later told script v.log goes_on.0 config t passed_later at
             (replies_here after t s (passed_later.ended t s at gone.0) ∙ sym (replies_here states t s at)) refl
             (table.ends t s at)))
         | inr goes ↦
@@ -318,8 +318,7 @@ module _ {R : Type 0} (told : Bool) (script : Script) (config : Config) (disk : 
             subst (λ (n : ℕ). EndsWell told finish script n (length x.replies.items) faults_had x.mode) it.thread
             (subst (λ (c : Bool). EndsWell c finish script it.back.thread (length x.replies.items) faults_had x.mode)
             is_told ends) in
-            ends_well told finish script config h after t (length x.replies.items) faults_had x.mode within
-            (ap length (replies_here after t x is)) here
+            ends_well told script config h after t faults_had x.mode within (ap length (replies_here after t x is)) here
       ]
 
   -- no thread more was lost than reads failed
@@ -336,7 +335,7 @@ module _ {R : Type 0} (told : Bool) (script : Script) (config : Config) (disk : 
         | inr goes ↦
             let few : lost x.mode ≤ faults_had =
             subst (λ (y : ThreadState). lost y.mode ≤ faults_had) it.is
-            (lost_counted b.told finish script it.back.thread (length it.passes.after.replies.items) faults_had
+            (lost_counted b.told finish script it.back.thread (length it.passes.after.replies.items)
             it.passes.after.mode (it.passes.ends goes.0)) in
             let had : option_map_or (faults_in faults) (slice_get ns t) 0 ≡ faults_had =
             ap (λ (o : Option (Mutator (Worker R))). option_map_or (faults_in faults) o 0) it.came

@@ -66,13 +66,12 @@ sums_within F G f g (x ∷ xs) (y ∷ ys) count each =
     )
 
 -- and less, where one has less
-pub sums_under : {A B : Type 0} (F G : ℕ → ℕ) (f : A → ℕ) (g : B → ℕ) (xs : List A) (ys : List B) (t : ℕ) (p : A)
-    (q : B) → length ys ≡ length xs → EachWithin F G f g xs ys → slice_get xs t ≡ Some p → slice_get ys t ≡ Some q
-    → F t + g q < G t + f p
-    → total F (length xs) + sum (map g ys) < total G (length xs) + sum (map f xs)
-sums_under F G f g [] ys t p q count each at is less = absurd (let no : slice_get [] t ≡ Some p = at in cc)
-sums_under F G f g (x ∷ xs) [] t p q count each at is less = absurd (omega (arith, count))
-sums_under F G f g (x ∷ xs) (y ∷ ys) zero p q count each at is less =
+pub sums_under : {A B : Type 0} (F G : ℕ → ℕ) (f : A → ℕ) (g : B → ℕ) (xs : List A) (ys : List B) (t : ℕ) {p : A}
+    {q : B} → length ys ≡ length xs → EachWithin F G f g xs ys → slice_get xs t ≡ Some p → slice_get ys t ≡ Some q
+    → F t + g q < G t + f p → total F (length xs) + sum (map g ys) < total G (length xs) + sum (map f xs)
+sums_under F G f g [] ys t {p} {q} count each at is less = absurd (let no : slice_get [] t ≡ Some p = at in cc)
+sums_under F G f g (x ∷ xs) [] t {p} {q} count each at is less = absurd (omega (arith, count))
+sums_under F G f g (x ∷ xs) (y ∷ ys) zero {p} {q} count each at is less =
     let F' : ℕ → ℕ = λ t. F (suc t) in
     let G' : ℕ → ℕ = λ t. G (suc t) in
     let behind : total F' (length xs) + sum (map g ys) ≤ total G' (length xs) + sum (map f xs) =
@@ -88,13 +87,12 @@ sums_under F G f g (x ∷ xs) (y ∷ ys) zero p q count each at is less =
       sum_first f x xs,
       sum_first g y ys,
     )
-sums_under F G f g (x ∷ xs) (y ∷ ys) (suc t) p q count each at is less =
+sums_under F G f g (x ∷ xs) (y ∷ ys) (suc t) {p} {q} count each at is less =
     let F' : ℕ → ℕ = λ t. F (suc t) in
     let G' : ℕ → ℕ = λ t. G (suc t) in
     let here : F 0 + g y ≤ G 0 + f x = each 0 x y refl refl in
     let behind : total F' (length xs) + sum (map g ys) < total G' (length xs) + sum (map f xs) =
-    sums_under F' G' f g xs ys t p q (omega (arith, count)) (λ u a b there here. each (suc u) a b there here) at is
-    less in
+    sums_under F' G' f g xs ys t (omega (arith, count)) (λ u a b there here. each (suc u) a b there here) at is less in
     omega (
       arith,
       here,
@@ -120,9 +118,8 @@ pub sum_grows : {A : Type 0} (f : A → ℕ) (xs ys : List A) (t : ℕ) (p q : A
     → slice_get xs t ≡ Some p → slice_get ys t ≡ Some q → f p < f q → sum (map f xs) < sum (map f ys)
 sum_grows f xs ys t p q count each at is more =
     let all : total (λ t. 0) (length ys) + sum (map f xs) < total (λ t. 0) (length ys) + sum (map f ys) =
-    sums_under (λ t. 0) (λ t. 0) f f ys xs t q p (sym count)
-    (λ t y x is at. let rises : f x ≤ f y = each t x y at is in omega (arith, rises)) is at
-    (omega (arith, more)) in
+    sums_under (λ t. 0) (λ t. 0) f f ys xs t (sym count)
+    (λ t y x is at. let rises : f x ≤ f y = each t x y at is in omega (arith, rises)) is at (omega (arith, more)) in
     omega (arith, all)
 
 -- two sums, where what no one but one has differs

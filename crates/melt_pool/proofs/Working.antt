@@ -79,12 +79,13 @@ program_stays script t s mode p fits = record {
 }
 
 -- what the thread was told behind a reply
-pub told_takes : (script : Script) (h later : List Entry) (t globals : ℕ) (s after : ThreadState)
-    (old new values : List Value) (op : Op) (reply : Reply) → ProgramStands script t s → s.op ≡ Some op
+pub told_takes : {script : Script} {h later : List Entry} {t : ℕ} (globals : ℕ) {s after : ThreadState}
+    {old new : List Value} (values : List Value) {op : Op} {reply : Reply} → ProgramStands script t s → s.op ≡ Some op
     → (IsEnded s.mode → ⊥) → TakesReply s after reply → Legal h globals → Legal later globals
     → IsToldBy script h t s old → Answers t h old op reply later new → IsEnded after.mode ⊎ (new ≡ values)
     → IsToldBy script later t after values
-told_takes script h later t globals s after old new values op reply p next goes takes before legal told answers ends =
+told_takes {script} {h} {later} {t} globals {s} {after} {old} {new} values {op} {reply} p next goes takes before legal
+    told answers ends =
     let ops : List Op = operations script t in
     let k : ℕ = length s.replies.items in
     let first : left s ≡ op ∷ s.cursor.operations = ap (λ (o : Option Op). with_first o s.cursor.operations) next in
@@ -97,7 +98,7 @@ told_takes script h later t globals s after old new values op reply p next goes 
     let stands : Stands h t (take k ops) s.replies.items old =
     subst (λ (rs : List Value). Stands h t (take k ops) s.replies.items rs) held told.told in
     let answered : Stands later t (take k ops ++ op ∷ []) (s.replies.items ++ reply ∷ []) new =
-    Stands_answers h later t globals (take k ops) s.replies.items old new op reply before legal stands answers in
+    Stands_answers globals before legal stands answers in
     let taken : take k ops ++ op ∷ [] ≡ take (length after.replies.items) ops =
     sym (ap (λ (n : ℕ). take n ops) count ∙ take_next ops s.cursor.operations k op (sym p.to_come ∙ first)) in
     record {
@@ -109,11 +110,10 @@ told_takes script h later t globals s after old new values op reply p next goes 
     }
 
 -- and where it got none
-pub told_stays : (script : Script) (h later : List Entry) (t : ℕ) (s : ThreadState) (mode : Mode)
-    (old values : List Value) → Begins h later → own later t ≡ own h t → (IsEnded s.mode → ⊥)
-    → IsToldBy script h t s old → IsEnded mode ⊎ (old ≡ values)
-    → IsToldBy script later t (record s { mode = mode }) values
-told_stays script h later t s mode old values begins own_same goes told ends = record {
+pub told_stays : {script : Script} {h later : List Entry} {t : ℕ} {s : ThreadState} (mode : Mode) {old : List Value}
+    (values : List Value) → Begins h later → own later t ≡ own h t → (IsEnded s.mode → ⊥) → IsToldBy script h t s old
+    → IsEnded mode ⊎ (old ≡ values) → IsToldBy script later t (record s { mode = mode }) values
+told_stays {script} {h} {t} {s} mode values begins own_same goes told ends = record {
   registers = told.registers;
   told = subst
       (λ (g : List Entry). Stands g t (take (length s.replies.items) (operations script t)) s.replies.items
@@ -144,9 +144,9 @@ told_between script h between t s values same told = record {
 }
 
 -- the history before the entry of an answer is legal
-legal_before : (h later : List Entry) (t globals : ℕ) (op : Op) (old new : List Value) (reply : Reply)
+legal_before : {h later : List Entry} {t : ℕ} (globals : ℕ) {op : Op} {old new : List Value} {reply : Reply}
     → Answers t h old op reply later new → Legal later globals → Legal h globals
-legal_before h later t globals op old new reply answers legal =
+legal_before {h} {t} globals {op} {old} answers legal =
     let more = with_more h t (does h old op answers.value).act in
     legal_front h more.0 globals (subst (λ (g : List Entry). Legal g globals) (answers.history ∙ more.1) legal)
 
@@ -262,8 +262,7 @@ module _ {R : Type 0} where
           told = λ tells.
               let told : IsToldBy script (view_of n).seen m.thread (record s { mode = mode })
               (dropped_for mode n).values =
-              told_stays script (view_of m).seen (view_of n).seen m.thread s mode m.values (dropped_for mode n).values
-              sees.begins (seen_same sees) goes (works.told tells)
+              told_stays mode (dropped_for mode n).values sees.begins (seen_same sees) goes (works.told tells)
               (elim (dropped_or_not mode n) [
                 | inl over ↦ inl over
                 | inr held ↦ inr (sym values ∙ held)
@@ -307,16 +306,14 @@ module _ {R : Type 0} where
               subst (λ (t : ℕ). Answers t (v.seen ++ replies.between) m.values op reply w.seen n.values) own_thread
               (replies.answers here) in
               let before : Legal (v.seen ++ replies.between) v.began.globals =
-              legal_before (v.seen ++ replies.between) w.seen m.thread v.began.globals op m.values n.values reply
-              answers legal in
+              legal_before v.began.globals answers legal in
               let was : IsToldBy script (v.seen ++ replies.between) m.thread s m.values =
               told_between script v.seen replies.between m.thread s m.values
               (subst (λ (t : ℕ). own (v.seen ++ replies.between) t ≡ own v.seen t) own_thread replies.own_same)
               (works.told tells) in
               let told : IsToldBy script w.seen m.thread after (dropped_for mode n).values =
-              told_takes script (v.seen ++ replies.between) w.seen m.thread v.began.globals s after m.values n.values
-              (dropped_for mode n).values op reply works.program next goes takes before legal was answers
-              (dropped_or_not mode n) in
+              told_takes v.began.globals (dropped_for mode n).values works.program next goes takes before legal was
+              answers (dropped_or_not mode n) in
               subst (λ (t : ℕ). IsToldBy script (view_of (dropped_for mode n)).seen t after (dropped_for mode n).values)
               (sym thread)
               (subst (λ (x : View). IsToldBy script x.seen m.thread after (dropped_for mode n).values) (sym view_is)

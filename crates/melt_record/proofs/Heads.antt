@@ -24,9 +24,9 @@ some_first home end word shape (inr two) p h e =
     (Stub 1, shape, record { in_range = p; within = h; spelled = omega arith })
 
 -- two words spell one head at most, at one home
-pub same_head : (home end other until first second : ℕ) (head k : Head) → IsHead home end first second head
+pub same_head : {home end other until first second : ℕ} {head k : Head} → IsHead home end first second head
     → IsHead other until first second k → (home ≡ other) × (head ≡ k)
-same_head home end other until first second head k p q = grind arith
+same_head p q = grind arith
 
 -- what is written is read
 pub body_is_read : (home end : ℕ) (shape : Shape) (slots : List ℕ) → IsShape shape → home + cost_of shape ≤ end

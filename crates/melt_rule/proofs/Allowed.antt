@@ -40,11 +40,11 @@ use Rattle.melt_rule.specs.declared.view.Doing.TheVariants.{Polled, Headed}
 use Rattle.melt_rule.specs.declared.view.View.{View}
 
 -- a load puts back what it found
-pub loaded : (start : Start) (words : List ℕ) (views : List View) (kept : Kept start words views) (id : ℕ) (v : View)
-    (at : get_elem? views id ≡ some v) (live : 0 < v.parts) (w : View) (i : ℕ)
+pub loaded : {start : Start} {words : List ℕ} {views : List View} (kept : Kept start words views) {id : ℕ} {v : View}
+    {at : get_elem? views id ≡ some v} {live : 0 < v.parts} {w : View} (i : ℕ)
     → IsStep start words words views kept id v at live w
     → IsStep start words (set words i (get_or words i 0)) views kept id v at live w
-loaded start words views kept id v at live w i s =
+loaded {start} {words} {views} kept {id} {v} {at} {live} {w} i s =
     subst (λ (after : List ℕ). IsStep start words after views kept id v at live w) (sym (set-get_or words i 0)) s
 
 -- where the stop word is not set, a seat that goes on has no cause to stop
@@ -59,29 +59,28 @@ no_cause start words views kept id v at goes_on off = go (has_cause v) refl
 pub polls : {start : Start} {slots : ℕ} (id : ℕ) {me : Me ℕ View} → 0 < me.0.parts → is_lacking me.0.doing ≡ false
     → is_reading me.0.doing ≡ false → Allows (Rule start) slots id me 0 (λ n. n) (PollPlay (step slots 0 0 0 none) me)
 polls {start} {slots} id {me} live goes_on left =
-    allowed start slots id 0 me (λ n. n) (PollPlay (step slots 0 0 0 none) me) live
+    allowed slots id 0 me (λ n. n) (PollPlay (step slots 0 0 0 none) me) live
     (λ words views kept at alive small. elim kept.stop.bit [
       | inl zero ↦
           let r = reaches start words views kept id me.0 at alive goes_on (Some Polled) tt refl (inl refl) left in
           let w : View = view_behind me.0 kept.history me.0.known (Some Polled) in (
             w,
-            loaded start words views kept id me.0 at alive w 0 r.0,
+            loaded kept 0 r.0,
             λ inside. ((refl, inside), inl (zero, (r.1, no_cause start words views kept id me.0 at goes_on zero))),
           )
       | inr one ↦
           let r = stops start words views kept id me.0 at alive goes_on one left in
           let w : View = record (view_behind me.0 kept.history me.0.known None) { stopped = true } in (
             w,
-            loaded start words views kept id me.0 at alive w 0 r.0,
+            loaded kept 0 r.0,
             λ inside. ((refl, inside), inr (one, r.1)),
           )
     ])
 
 -- a seat knows one object at an address
-pub one_object : (start : Start) (words : List ℕ) (views : List View) (kept : Kept start words views) (id : ℕ)
-    (v : View)
-    → get_elem? views id ≡ some v → 0 < v.parts → (a n m : ℕ) → Has v.known a n → Has v.known a m → n ≡ m
-one_object start words views kept id v at live a n m x y =
+pub one_object : {start : Start} {words : List ℕ} {views : List View} (kept : Kept start words views) (id : ℕ)
+    (v : View) → get_elem? views id ≡ some v → 0 < v.parts → (a n m : ℕ) → Has v.known a n → Has v.known a m → n ≡ m
+one_object kept id v at live a n m x y =
     let stood = kept.seats id v at live in
     let e : Some n ≡ Some m = sym (stood.known a n x) ∙ stood.known a m y in
     cc
@@ -90,8 +89,7 @@ pub heads : {start : Start} {slots : ℕ} (id : ℕ) {i a n : ℕ} {me : Me ℕ 
     → me.0.doing ≡ Some Polled → Has me.0.known a n → i ≡ word_place me.0.began a
     → Allows (Rule start) slots id me i (λ n. n) (HeadPlay (step slots i 0 0 none) me)
 heads {start} {slots} id {i} {a} {n} {me} live polled has at_i =
-    allowed start slots id i me (λ n. n) (HeadPlay (step slots i 0 0 none) me) live
-    (λ words views kept at alive small.
+    allowed slots id i me (λ n. n) (HeadPlay (step slots i 0 0 none) me) live (λ words views kept at alive small.
     let stood = kept.seats id me.0 at alive in
     let now : State = shows start.began words in
     let named : kept.maps.address a ≡ Some n = stood.known a n has in
@@ -119,13 +117,13 @@ heads {start} {slots} id {i} {a} {n} {me} live polled has at_i =
       };
     } in (
       w,
-      loaded start words views kept id me.0 at alive w i r.0,
+      loaded kept i r.0,
       λ inside. (
         (refl, inside),
         λ b m other place.
             let at_a : a ≡ b = omega arith in
-            let is_n : n ≡ m = one_object start words views kept id me.0 at alive b n m
-            (subst (λ (x : ℕ). Has me.0.known x n) at_a has) other in
+            let is_n : n ≡ m = one_object kept id me.0 at alive b n m (subst (λ (x : ℕ). Has me.0.known x n) at_a has)
+            other in
             subst (λ (x : ℕ). FindsHeader me.0 w x m found) at_a
             (subst (λ (x : ℕ). FindsHeader me.0 w a x found) is_n finds),
       ),
@@ -164,7 +162,7 @@ module _ (start : Start) (words : List ℕ) (views : List View) (kept : Kept sta
       reference.in_range reference.is reference.stands
       (may_answer start words views kept id v at live goes_on at_slot reference.reference left) in (
         r.0,
-        loaded start words views kept id v at live r.0 i r.1,
+        loaded kept i r.1,
         record {
           reference = reference.reference;
           in_range = reference.in_range;
@@ -177,8 +175,7 @@ pub looks_at : {start : Start} {slots : ℕ} (id : ℕ) {at_i a n i : ℕ} {z : 
     → Has me.0.known a n → me.0.doing ≡ Some (Headed a z) → i < z.refs → at_i ≡ word_place me.0.began (a + 2 + i)
     → Allows (Rule start) slots id me at_i (λ n. n) (LookPlay (step slots at_i 0 0 none) me)
 looks_at {start} {slots} id {at_i} {a} {n} {i} {z} {me} live has headed below place_is =
-    allowed start slots id at_i me (λ n. n) (LookPlay (step slots at_i 0 0 none) me) live
-    (λ words views kept at alive small.
+    allowed slots id at_i me (λ n. n) (LookPlay (step slots at_i 0 0 none) me) live (λ words views kept at alive small.
     let stood = kept.seats id me.0 at alive in
     let now : State = shows start.began words in
     let s = slot_word start words views kept id me.0 at alive a n i z headed has below in
@@ -196,8 +193,8 @@ looks_at {start} {slots} id {at_i} {a} {n} {i} {z} {me} live has headed below pl
             let both : Some (Headed a z) ≡ Some (Headed b y) = sym headed ∙ headed_b in
             let at_a : a ≡ b = cc in
             let is_j : i ≡ j = omega arith in
-            let is_n : n ≡ m = one_object start words views kept id me.0 at alive b n m
-            (subst (λ (x : ℕ). Has me.0.known x n) at_a has) other in
+            let is_n : n ≡ m = one_object kept id me.0 at alive b n m (subst (λ (x : ℕ). Has me.0.known x n) at_a has)
+            other in
             let F : ℕ → ℕ → ℕ → Type 0 =
             λ x y k. FindsReference me.0 r.0 (slot.Field y k) (Field x k) (get_or words at_i 0) in
             subst (λ (x : ℕ). F x m j) at_a (subst (λ (x : ℕ). F a x j) is_n (subst (λ (x : ℕ). F a n x) is_j r.2)),
@@ -209,7 +206,7 @@ pub global_looks : {start : Start} {slots : ℕ} (id : ℕ) {g : ℕ} {me : Me �
     → Allows (Rule start) slots id me (global_place g) (λ n. n)
     (GlobalLookPlay (step slots (global_place g) 0 0 none) me)
 global_looks {start} {slots} id {g} {me} live polled below =
-    allowed start slots id (global_place g) me (λ n. n) (GlobalLookPlay (step slots (global_place g) 0 0 none) me) live
+    allowed slots id (global_place g) me (λ n. n) (GlobalLookPlay (step slots (global_place g) 0 0 none) me) live
     (λ words views kept at alive small.
     let stood = kept.seats id me.0 at alive in
     let here : g < start.began.globals = subst (λ (b : Began). g < b.globals) stood.began below in
@@ -251,8 +248,7 @@ pub numbers_at : {start : Start} {slots : ℕ} (id : ℕ) {i a n j : ℕ} {z : S
     → i ≡ word_place me.0.began (number_place a z j)
     → Allows (Rule start) slots id me i (λ n. n) (NumberPlay (step slots i 0 0 none) me)
 numbers_at {start} {slots} id {i} {a} {n} {j} {z} {me} live has headed below place_is =
-    allowed start slots id i me (λ n. n) (NumberPlay (step slots i 0 0 none) me) live
-    (λ words views kept at alive small.
+    allowed slots id i me (λ n. n) (NumberPlay (step slots i 0 0 none) me) live (λ words views kept at alive small.
     let now : State = shows start.began words in
     let object = number_word start words views kept id me.0 at alive a n j z headed has below in
     let r = numbers start words views kept id me.0 at alive (ap is_lacking headed) a n j z object
@@ -268,7 +264,7 @@ numbers_at {start} {slots} id {i} {a} {n} {j} {z} {me} live has headed below pla
     (Num x) me.0.known in
     IsStep start words words views kept id me.0 at alive u × Ends me.0 u (Read (slot.Cell n j) (Num x))) word r in (
       w,
-      loaded start words views kept id me.0 at alive w i both.0,
+      loaded kept i both.0,
       λ inside. (
         (refl, inside),
         λ b m k y headed_b other below_k place.
@@ -276,26 +272,26 @@ numbers_at {start} {slots} id {i} {a} {n} {j} {z} {me} live has headed below pla
             let at_a : a ≡ b = cc in
             let is_z : z ≡ y = cc in
             let is_k : j ≡ k = let refs : z.refs ≡ y.refs = ap (λ (x : Shape). x.refs) is_z in omega arith in
-            let is_n : n ≡ m = one_object start words views kept id me.0 at alive b n m
-            (subst (λ (x : ℕ). Has me.0.known x n) at_a has) other in
+            let is_n : n ≡ m = one_object kept id me.0 at alive b n m (subst (λ (x : ℕ). Has me.0.known x n) at_a has)
+            other in
             let F : ℕ → ℕ → Type 0 = λ x l. Ends me.0 w (Read (slot.Cell x l) (Num (get_or words i 0))) in
             subst (λ (x : ℕ). F x k) is_n (subst (λ (l : ℕ). F n l) is_k both.1),
       ),
     ))
 
 -- a value that the address in a register stands for is one
-one_value : (start : Start) (words : List ℕ) (views : List View) (kept : Kept start words views) (id : ℕ) (v : View)
-    (at : get_elem? views id ≡ some v) (live : 0 < v.parts) (held : ℕ) (x y : Value) → Names v.known held x
+one_value : {start : Start} {words : List ℕ} {views : List View} (kept : Kept start words views) (id : ℕ) (v : View)
+    (at : get_elem? views id ≡ some v) (live : 0 < v.parts) (held : ℕ) {x y : Value} → Names v.known held x
     → Names v.known held y → x ≡ y
-one_value start words views kept id v at live held x y (inl a) (inl b) = a.1 ∙ sym b.1
-one_value start words views kept id v at live held x y (inl a) (inr b) =
+one_value {start} {words} {views} kept id v at live held (inl a) (inl b) = a.1 ∙ sym b.1
+one_value {start} {words} {views} kept id v at live held (inl a) (inr b) =
     let some_ = (within start words views kept id v at live).known held b.0 b.2 in
     absurd (let zero_ : held ≡ 0 = a.0 in let first : 1 ≤ held = some_.0 in omega arith)
-one_value start words views kept id v at live held x y (inr a) (inl b) =
+one_value {start} {words} {views} kept id v at live held (inr a) (inl b) =
     let some_ = (within start words views kept id v at live).known held a.0 a.2 in
     absurd (let zero_ : held ≡ 0 = b.0 in let first : 1 ≤ held = some_.0 in omega arith)
-one_value start words views kept id v at live held x y (inr a) (inr b) =
-    a.1 ∙ (ap Ref (one_object start words views kept id v at live held a.0 b.0 a.2 b.2) ∙ sym b.1)
+one_value {start} {words} {views} kept id v at live held (inr a) (inr b) =
+    a.1 ∙ (ap Ref (one_object kept id v at live held a.0 b.0 a.2 b.2) ∙ sym b.1)
 
 -- the table has the word of an address of the space
 in_table : (start : Start) (words : List ℕ) (views : List View) (kept : Kept start words views) (address : ℕ)
@@ -307,7 +303,7 @@ pub stores_at : {start : Start} {slots : ℕ} (id : ℕ) {i a n k held x : ℕ} 
     → i ≡ word_place me.0.began (a + 2 + k) → Names me.0.known held value → x ≡ 4 * held
     → Allows (Rule start) slots id me i (λ _. x) (λ found. StorePlay (step slots i x 0 none) me x)
 stores_at {start} {slots} id {i} {a} {n} {k} {held} {x} {z} {value} {me} live has headed below place_is names word =
-    allowed start slots id i me (λ _. x) (λ found. StorePlay (step slots i x 0 none) me x) live
+    allowed slots id i me (λ _. x) (λ found. StorePlay (step slots i x 0 none) me x) live
     (λ words views kept at alive small.
     let stood = kept.seats id me.0 at alive in
     let now : State = shows start.began words in
@@ -342,9 +338,9 @@ stores_at {start} {slots} id {i} {a} {n} {k} {held} {x} {z} {value} {me} live ha
             let at_a : a ≡ b = cc in
             let is_k : k ≡ j = omega arith in
             let is_held : held ≡ g = omega arith in
-            let is_n : n ≡ m = one_object start words views kept id me.0 at alive b n m
-            (subst (λ (p : ℕ). Has me.0.known p n) at_a has) has_b in
-            let is_value : value ≡ other = one_value start words views kept id me.0 at alive g value other
+            let is_n : n ≡ m = one_object kept id me.0 at alive b n m (subst (λ (p : ℕ). Has me.0.known p n) at_a has)
+            has_b in
+            let is_value : value ≡ other = one_value kept id me.0 at alive g
             (subst (λ (p : ℕ). Names me.0.known p value) is_held names) names_g in
             let F : ℕ → ℕ → Value → Type 0 = λ p l u. Ends me.0 w (Write (slot.Field p l) u) in
             subst (λ (p : ℕ). F p j other) is_n
@@ -357,9 +353,8 @@ pub global_stores : {start : Start} {slots : ℕ} (id : ℕ) {g held x : ℕ} {v
     → Allows (Rule start) slots id me (global_place g) (λ _. x)
     (λ found. GlobalStorePlay (step slots (global_place g) x 0 none) me x)
 global_stores {start} {slots} id {g} {held} {x} {value} {me} live polled below names word =
-    allowed start slots id (global_place g) me (λ _. x)
-    (λ found. GlobalStorePlay (step slots (global_place g) x 0 none) me x) live
-    (λ words views kept at alive small.
+    allowed slots id (global_place g) me (λ _. x) (λ found. GlobalStorePlay (step slots (global_place g) x 0 none) me x)
+    live (λ words views kept at alive small.
     let stood = kept.seats id me.0 at alive in
     let now : State = shows start.began words in
     let here : g < start.began.globals = subst (λ (b : Began). g < b.globals) stood.began below in
@@ -379,7 +374,7 @@ global_stores {start} {slots} id {g} {held} {x} {value} {me} live polled below n
         λ h f other below_h place stored names_f.
             let is_g : g ≡ h = omega arith in
             let is_held : held ≡ f = omega arith in
-            let is_value : value ≡ other = one_value start words views kept id me.0 at alive f value other
+            let is_value : value ≡ other = one_value kept id me.0 at alive f
             (subst (λ (p : ℕ). Names me.0.known p value) is_held names) names_f in
             let F : ℕ → Value → Type 0 = λ p u. Ends me.0 w (Write (slot.Global p) u) in
             subst (λ (p : ℕ). F p other) is_g (subst (λ (u : Value). F g u) is_value r.1),
@@ -391,7 +386,7 @@ pub number_stores : {start : Start} {slots : ℕ} (id : ℕ) {i a n j x : ℕ} {
     → i ≡ word_place me.0.began (number_place a z j)
     → Allows (Rule start) slots id me i (λ _. x) (λ found. NumberStorePlay (step slots i x 0 none) me x)
 number_stores {start} {slots} id {i} {a} {n} {j} {x} {z} {me} live has headed below place_is =
-    allowed start slots id i me (λ _. x) (λ found. NumberStorePlay (step slots i x 0 none) me x) live
+    allowed slots id i me (λ _. x) (λ found. NumberStorePlay (step slots i x 0 none) me x) live
     (λ words views kept at alive small.
     let stood = kept.seats id me.0 at alive in
     let now : State = shows start.began words in
@@ -424,8 +419,8 @@ number_stores {start} {slots} id {i} {a} {n} {j} {x} {z} {me} live has headed be
             let at_a : a ≡ b = cc in
             let is_z : z ≡ y = cc in
             let is_k : j ≡ k = let refs : z.refs ≡ y.refs = ap (λ (s : Shape). s.refs) is_z in omega arith in
-            let is_n : n ≡ m = one_object start words views kept id me.0 at alive b n m
-            (subst (λ (p : ℕ). Has me.0.known p n) at_a has) has_b in
+            let is_n : n ≡ m = one_object kept id me.0 at alive b n m (subst (λ (p : ℕ). Has me.0.known p n) at_a has)
+            has_b in
             let F : ℕ → ℕ → Type 0 = λ p l. Ends me.0 w (Write (slot.Cell p l) (Num x)) in
             subst (λ (p : ℕ). F p k) is_n (subst (λ (l : ℕ). F n l) is_k r.1),
       ),

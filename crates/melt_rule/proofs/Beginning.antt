@@ -119,14 +119,12 @@ module _ (start : Start) (words : List ℕ) (may : MayBegin start words) where
       let body_head : Head = record { shape = z; kind = Body } in
       elim stands.is [
         | inl body ↦
-            let one = (same_head home now.base.end home now.base.end (now.base.image home) (now.base.image (home + 1))
-            (record { shape = reserved; kind = Body }) body_head body.head head).1 in
+            let one = (same_head body.head head).1 in
             subst (λ (y : Shape). shape start.began.history n ≡ Some (record { refs = y.refs; nums = y.nums }))
             (ap (λ (x : Head). x.shape) one)
             stands.shape_is
         | inr (inl stub) ↦ absurd (
-            let one = (same_head home now.base.end home now.base.end (now.base.image home) (now.base.image (home + 1))
-            (record { shape = reserved; kind = Stub stub.scion }) body_head stub.head head).1 in
+            let one = (same_head stub.head head).1 in
             let kinds : Stub stub.scion ≡ Body = ap (λ (x : Head). x.kind) one in
             cc
             )

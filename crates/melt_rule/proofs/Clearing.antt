@@ -133,17 +133,15 @@ module _ (start : Start) (words after : List ℕ) (views : List View) (kept : Ke
       )
 
 -- A seat that knows of the object at the target clears its bit, and is told this.
-clears_known : (start : Start) (slots id i target : ℕ) (place : Place) (found : Ref) (me : Me ℕ View)
-    (tells : ℕ → Me ℕ View → Type 0) → 0 < me.0.parts → is_lacking me.0.doing ≡ false
-    → i ≡ word_place me.0.began target
-    → ((words : List ℕ) (views : List View) (kept : Kept start words views) → get_elem? views id ≡ some me.0
-    → Knows start.began.told kept.maps (shows start.began words) me.0.rest (Some (Looked place found target)))
+clears_known : {start : Start} (slots id : ℕ) {i target : ℕ} (place : Place) (found : Ref) (me : Me ℕ View)
+    (tells : ℕ → Me ℕ View → Type 0) → 0 < me.0.parts → is_lacking me.0.doing ≡ false → i ≡ word_place me.0.began target
+    → ((words : List ℕ) (views : List View) (kept : Kept start words views) → get_elem? views id ≡ some me.0 → Knows
+    start.began.told kept.maps (shows start.began words) me.0.rest (Some (Looked place found target)))
     → look_of (staged me.0.doing) ≡ Some (record { place = place; found = found }) → is_reading me.0.doing ≡ false
     → ((n : ℕ) (w : View) → IsWithin w → Reaches me.0 w (Some (Cleared place found target)) → tells n (w, me.1))
     → Allows (Rule start) slots id me i (λ n. bit_and n stale_mask) tells
-clears_known start slots id i target place found me tells live goes_on at_i known looked left tell =
-    allowed start slots id i me (λ n. bit_and n stale_mask) tells live
-    (λ words views kept at alive small.
+clears_known {start} slots id {i} {target} place found me tells live goes_on at_i known looked left tell =
+    allowed slots id i me (λ n. bit_and n stale_mask) tells live (λ words views kept at alive small.
     let now : State = shows start.began words in
     let known_ = known words views kept at in
     let object = kept.holds.formed.objects target known_.1.named.0 known_.1.named.1 in
@@ -176,14 +174,10 @@ pub clears_at : {start : Start} {slots : ℕ} (id : ℕ) {i target : ℕ} {place
     → 0 < me.0.parts → me.0.doing ≡ Some (Looked place found target) → i ≡ word_place me.0.began target
     → Allows (Rule start) slots id me i (λ n. bit_and n stale_mask) (ClearPlay (step slots i stale_mask 0 none) me)
 clears_at {start} {slots} id {i} {target} {place} {found} {me} live looked at_i =
-    clears_known start slots id i target place found me (ClearPlay (step slots i stale_mask 0 none) me) live
-    (ap is_lacking looked)
-    at_i
-    (λ words views kept at. subst (Knows start.began.told kept.maps (shows start.began words) me.0.rest) looked
-    (kept.seats id me.0 at live).doing)
-    (ap (λ (doing : Option Doing). look_of (staged doing)) looked)
-    (ap is_reading looked)
-    (λ n w inside reaches. (
+    clears_known slots id place found me (ClearPlay (step slots i stale_mask 0 none) me) live (ap is_lacking looked)
+    at_i (λ words views kept at. subst (Knows start.began.told kept.maps (shows start.began words) me.0.rest) looked
+    (kept.seats id me.0 at live).doing) (ap (λ (doing : Option Doing). look_of (staged doing)) looked)
+    (ap is_reading looked) (λ n w inside reaches. (
       (refl, inside),
       λ p f t also.
           let both : Some (Looked place found target) ≡ Some (Looked p f t) = sym looked ∙ also in
@@ -203,12 +197,8 @@ pub stub_clears_at : {start : Start} {slots : ℕ} (id : ℕ) {i : ℕ} (scion :
     → Allows (Rule start) slots id me i (λ n. bit_and n stale_mask)
     (ClearStubPlay (step slots i stale_mask 0 none) me)
 stub_clears_at {start} {slots} id {i} scion {target} {search} {me} live missed scion_live at_i =
-    clears_known start slots id i target search.place (Disk search.home) me
-    (ClearStubPlay (step slots i stale_mask 0 none) me)
-    live
-    (ap is_lacking missed)
-    at_i
-    (λ words views kept at.
+    clears_known slots id search.place (Disk search.home) me (ClearStubPlay (step slots i stale_mask 0 none) me) live
+    (ap is_lacking missed) at_i (λ words views kept at.
     let now : State = shows start.began words in
     let stood_ = kept.seats id me.0 at live in
     let misses = (subst (Knows start.began.told kept.maps now me.0.rest) missed stood_.doing).0 in
@@ -222,10 +212,7 @@ stub_clears_at {start} {slots} id {i} scion {target} {search} {me} live missed s
         same = λ told. scion_same kept.maps now kept.holds.formed kept.history (kept.holds.tells told) scion search.home
             target range is_live;
       },
-    ))
-    (ap (λ (doing : Option Doing). look_of (staged doing)) missed)
-    (ap is_reading missed)
-    (λ n w inside reaches. (
+    )) (ap (λ (doing : Option Doing). look_of (staged doing)) missed) (ap is_reading missed) (λ n w inside reaches. (
       (refl, inside),
       λ other k t also also_live there.
           let both : Some (Missed search) ≡ Some (Missed other) = sym missed ∙ also in

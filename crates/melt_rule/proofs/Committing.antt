@@ -298,15 +298,15 @@ pub commits_at : {start : Start} {slots : ℕ} (id : ℕ) {i word : ℕ} {a : Ac
     → me.0.doing ≡ Some (Copied a) → i ≡ probe_place me.0.began a.search → word ≡ forward_word a.search.home a.address
     → Allows (Rule start) slots id me i (λ x. either (x == 0) word x) (CommitPlay (step slots i 0 word none) me)
 commits_at {start} {slots} id {i} {word} {a} {me} live copied placed is =
-    allowed start slots id i me (λ x. either (x == 0) word x) (CommitPlay (step slots i 0 word none) me) live
+    allowed slots id i me (λ x. either (x == 0) word x) (CommitPlay (step slots i 0 word none) me) live
     (λ words views kept at alive small.
     let p : ℕ = place start words views kept id me.0 at alive a copied in
     let x : ℕ = get_or words i 0 in
     let there : i ≡ forward_place start.began p =
     placed ∙ ap (λ (b : Began). probe_place b a.search) (kept.seats id me.0 at alive).began in
     let found : (shows start.began words).forward p ≡ x =
-    sym (probed_word start words views kept id i me.0 at alive a.search
-    (commit_within start words views kept id me.0 at alive a copied) placed) in
+    sym (probed_word kept id me.0 at alive a.search (commit_within start words views kept id me.0 at alive a copied)
+    placed) in
     let tells : (w : View) → FindsCommit me.0 w a ((shows start.began words).forward p) → (b : Activation)
     → me.0.doing ≡ Some (Copied b) → i ≡ probe_place me.0.began b.search → FindsCommit me.0 w b x =
     λ w finds b also at_b.
@@ -329,7 +329,7 @@ commits_at {start} {slots} id {i} {word} {a} {me} live copied placed is =
             r.0,
             subst (λ (y : ℕ). IsStep start words (set words i y) views kept id me.0 at alive r.0)
                 (sym (either_no x 0 word some_.1))
-                (loaded start words views kept id me.0 at alive r.0 i r.1),
+                (loaded kept i r.1),
             λ inside. ((refl, inside), tells r.0 r.2),
           )
     ])

@@ -257,9 +257,7 @@ module _ (start : Start) (words : List ℕ) (views : List View) (kept : Kept sta
       let stays = still a k is place word from to in
       storing a k is place word from to (Some (Copying a (k + 1))) refl (
         stays.0,
-        stored_more kept.maps old (shows start.began (stored_at place word)) (region a.address a.shape)
-            (copy_word a.search.home a.shape v.rest) k place word (copies a k is).1 stays.1 (omega arith) stored few
-            (changes a k is place word from to),
+        stored_more (copies a k is).1 stays.1 (omega arith) stored few (changes a k is place word from to),
       )
       refl
 
@@ -302,10 +300,8 @@ pub copies_at : {start : Start} {slots : ℕ} (id : ℕ) {cost : ℕ} {search : 
     → Allows (Rule start) slots id me free_place (λ n. (n + cost) % 2 ^ 64)
     (CopyPlay z rest (step slots free_place cost 0 none) me)
 copies_at {start} {slots} id {cost} {search} {z} {rest} {me} live no_cause is body is_cost =
-    allowed start slots id free_place me (λ n. (n + cost) % 2 ^ 64)
-    (CopyPlay z rest (step slots free_place cost 0 none) me)
-    live
-    (λ words views kept at alive small.
+    allowed slots id free_place me (λ n. (n + cost) % 2 ^ 64) (CopyPlay z rest (step slots free_place cost 0 none) me)
+    live (λ words views kept at alive small.
     let refs : z.refs ≤ 62 = body.head.small.refs in
     let nums : z.nums ≤ 62 = body.head.small.nums in
     let first_free : ℕ = get_or words free_place 0 in
@@ -360,7 +356,7 @@ pub fills_copy_at : {start : Start} {slots : ℕ} (id : ℕ) {i k word : ℕ} {a
     → word ≡ copy_word a.search.home a.shape me.0.rest (k + 1) → i ≡ word_place me.0.began (a.address + 1 + k)
     → Allows (Rule start) slots id me i (λ n. word) (λ n. FillCopyPlay (step slots i word 0 none) me word)
 fills_copy_at {start} {slots} id {i} {k} {word} {a} {me} live is few stored placed =
-    allowed start slots id i me (λ n. word) (λ n. FillCopyPlay (step slots i word 0 none) me word) live
+    allowed slots id i me (λ n. word) (λ n. FillCopyPlay (step slots i word 0 none) me word) live
     (λ words views kept at alive small.
     let place : ℕ = a.address + 1 + k in
     let there : i ≡ word_place start.began place =
@@ -383,7 +379,7 @@ pub heads_copy_at : {start : Start} {slots : ℕ} (id : ℕ) {i k word : ℕ} {a
     → i ≡ word_place me.0.began a.address → word ≡ header_word (record { shape = a.shape; stale = false })
     → Allows (Rule start) slots id me i (λ n. word) (λ n. HeadCopyPlay (step slots i word 0 none) me word)
 heads_copy_at {start} {slots} id {i} {k} {word} {a} {me} live is all placed is_word =
-    allowed start slots id i me (λ n. word) (λ n. HeadCopyPlay (step slots i word 0 none) me word) live
+    allowed slots id i me (λ n. word) (λ n. HeadCopyPlay (step slots i word 0 none) me word) live
     (λ words views kept at alive small.
     let there : i ≡ word_place start.began a.address =
     placed ∙ ap (λ (b : Began). word_place b a.address) (kept.seats id me.0 at alive).began in

@@ -52,12 +52,12 @@ use Rattle.melt_rule.specs.declared.view.Doing.TheVariants.{Cleared}
 use Rattle.melt_rule.specs.declared.view.View.{View}
 
 -- what another seat knows of its call stays
-knows_stays : (told : Bool) (maps new : Maps) (s t : State) (cleared : ℕ) (rest : List ℕ) (doing : Option Doing)
+knows_stays : (told : Bool) {maps new : Maps} {s t : State} {cleared : ℕ} (rest : List ℕ) (doing : Option Doing)
     → FormedWords maps s → Evolves maps new s t cleared
-    → (Owns maps s (owned doing) → RegionStays new s t (owned doing))
-    → Knows told maps s rest doing → Knows told new t rest doing
-knows_stays told maps new s t cleared rest None formed evolves stays knows = tt
-knows_stays told maps new s t cleared rest (Some doing) formed evolves stays knows =
+    → (Owns maps s (owned doing) → RegionStays new s t (owned doing)) → Knows told maps s rest doing
+    → Knows told new t rest doing
+knows_stays told {maps} {new} {s} {t} {cleared} rest None formed evolves stays knows = tt
+knows_stays told {maps} {new} {s} {t} {cleared} rest (Some doing) formed evolves stays knows =
     known_stays maps new s t cleared formed evolves told rest (core_stage doing) stays knows
 
 module _ (start : Start) (words after : List ℕ) (views : List View) (kept : Kept start words views) (id : ℕ) (v : View)
@@ -203,10 +203,8 @@ module _ (start : Start) (words after : List ℕ) (views : List View) (kept : Ke
           fresh = λ a n has. fresh_stays kept.maps s.maps old new s.cleared kept.holds.formed keeps.evolves a
               (n, stood.known a n has)
               (stood.fresh a n has);
-          doing = knows_stays start.began.told kept.maps s.maps old new s.cleared u.rest u.doing kept.holds.formed
-              keeps.evolves
-              (λ owns. keeps.regions (owned u.doing) owns (s.mine_apart i u differ is alive))
-              stood.doing;
+          doing = knows_stays start.began.told u.rest u.doing kept.holds.formed keeps.evolves
+              (λ owns. keeps.regions (owned u.doing) owns (s.mine_apart i u differ is alive)) stood.doing;
         }
 
     own_seat : SeatStands start.began s.maps new later w
@@ -432,12 +430,12 @@ module _ (start : Start) (words after : List ℕ) (views : List View) (kept : Ke
       watched_by act is (inr goes) = elim goes.1 [
         | inl same ↦
             subst (λ (g : Option Look). IfSome g (Watched q seen_now t)) (sym same)
-            (look_stays q t t None seen_before seen_now (look_of (staged v.doing))
+            (look_stays q t t seen_before seen_now (look_of (staged v.doing))
             (ap (with_entry t kept.history) (is ∙ goes.0)) keeps.evolves.names keeps.evolves.homes (inr refl)
             (subst (λ (g : Option Stage). IfSome (look_of g) (Watched q seen_before t)) was_at (tied.watched t)))
         | inr looks ↦
             subst (λ (g : Option Look). IfSome g (Watched q seen_now t)) (sym looks.1)
-            (watch_begins later s.maps new (stage_at (set views id w)) q t looks.0 (keeps.holds.tells told)
+            (watch_begins (stage_at (set views id w)) q t looks.0 (keeps.holds.tells told)
             (knows_look start.began.told s.maps new w.rest w.doing looks.0 looks.1 s.doing) looks.2 since_now)
       ]
         where
@@ -476,8 +474,7 @@ module _ (start : Start) (words after : List ℕ) (views : List View) (kept : Ke
             let act : s.act ≡ Some (Read watched.slot r.value) =
             r.reads ∙ ap (λ (x : Slot). Some (Read x r.value)) (sym slot) in
             subst (λ (x : Option Act). Passed (with_entry t kept.history x) q n) (sym act)
-            (look_passes q t r.target n seen_before look r.value (knows.1.same told)
-            (ap kept.maps.address same ∙ named) watched)
+            (look_passes r.target r.value (knows.1.same told) (ap kept.maps.address same ∙ named) watched)
       ]
 
       owes : Owes kept.history later kept.maps s.maps old new (stage_at views) (stage_at (set views id w)) s.cleared

@@ -417,10 +417,8 @@ module _ (start : Start) (words : List ℕ) (views : List View) (kept : Kept sta
       (mine_apart address k z is)
       (inl (let mine_is : owned v.doing ≡ region address z = ap owned is in sym mine_is)) (
         mine.0,
-        stored_more kept.maps old new (region address z) (λ i. 0) k place 0 mine.1
-            (owns_still kept.maps old new (region address z) kept.holds.formed evolves mine.1.owns)
-            (omega arith)
-            refl few changes,
+        stored_more mine.1 (owns_still kept.maps old new (region address z) kept.holds.formed evolves mine.1.owns)
+            (omega arith) refl few changes,
       )
       (still_bits start words after views kept id v at live v.known doing (inl refl) (ap is_reading is)) in
       (step.0, record { sees = sees start words after views kept id v at live w step.0 step.1; is = refl })

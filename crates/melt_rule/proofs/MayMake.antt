@@ -28,8 +28,7 @@ pub claims : {start : Start} {slots : ℕ} (id cost : ℕ) {me : Me ℕ View} �
     → Allows (Rule start) slots id me free_place (λ n. (n + cost) % 2 ^ 64)
     (ClaimPlay (step slots free_place cost 0 none) me)
 claims {start} {slots} id cost {me} live no_cause left low high =
-    allowed start slots id free_place me (λ n. (n + cost) % 2 ^ 64)
-    (ClaimPlay (step slots free_place cost 0 none) me) live
+    allowed slots id free_place me (λ n. (n + cost) % 2 ^ 64) (ClaimPlay (step slots free_place cost 0 none) me) live
     (λ words views kept at alive small.
     let free : ℕ = get_or words free_place 0 in
     let wide : free + cost < 2 ^ 64 = claim_small start words views kept id me.0 at alive cost high in
@@ -68,8 +67,7 @@ pub fills : {start : Start} {slots : ℕ} (id : ℕ) {i address k : ℕ} {z : Sh
     → me.0.doing ≡ Some (Claimed address z k) → k + 1 < cost_of z → i ≡ word_place me.0.began (address + 1 + k)
     → Allows (Rule start) slots id me i (λ n. 0) (λ n. FillPlay (step slots i 0 0 none) me 0)
 fills {start} {slots} id {i} {address} {k} {z} {me} live is few placed =
-    allowed start slots id i me (λ n. 0) (λ n. FillPlay (step slots i 0 0 none) me 0) live
-    (λ words views kept at alive small.
+    allowed slots id i me (λ n. 0) (λ n. FillPlay (step slots i 0 0 none) me 0) live (λ words views kept at alive small.
     let place : ℕ = address + 1 + k in
     let there : i ≡ word_place start.began place =
     placed ∙ ap (λ (b : Began). word_place b place) (kept.seats id me.0 at alive).began in
@@ -92,7 +90,7 @@ pub publishes : {start : Start} {slots : ℕ} (id : ℕ) {i address k word : ℕ
     → Allows (Rule start) slots id me i (λ n. word) (λ n. PublishPlay (step slots i word 0 none) me word)
 publishes {start} {slots} id {i} {address} {k} {word} {y} {z} {me} live is all cost small placed is_word =
     let header : Header = record { shape = z; stale = false } in
-    allowed start slots id i me (λ n. word) (λ n. PublishPlay (step slots i word 0 none) me word) live
+    allowed slots id i me (λ n. word) (λ n. PublishPlay (step slots i word 0 none) me word) live
     (λ words views kept at alive wide.
     let there : i ≡ word_place start.began address =
     placed ∙ ap (λ (b : Began). word_place b address) (kept.seats id me.0 at alive).began in

@@ -182,13 +182,11 @@ module _ (start : Start) (words : List ℕ) (views : List View) (kept : Kept sta
       }
 
 -- the word at the place of a probe
-pub probed_word : (start : Start) (words : List ℕ) (views : List View) (kept : Kept start words views) (id i : ℕ)
-    (v : View)
-    (at : get_elem? views id ≡ some v) (live : 0 < v.parts) (search : Search) → search.tried < start.began.forwards
-    → i ≡ probe_place v.began search
-    → get_or words i 0
-    ≡ (shows start.began words).forward (probe search.home start.began.forwards search.tried)
-probed_word start words views kept id i v at live search more place =
+pub probed_word : {start : Start} {words : List ℕ} {views : List View} (kept : Kept start words views) (id : ℕ) {i : ℕ}
+    (v : View) (at : get_elem? views id ≡ some v) (live : 0 < v.parts) (search : Search)
+    → search.tried < start.began.forwards → i ≡ probe_place v.began search
+    → get_or words i 0 ≡ (shows start.began words).forward (probe search.home start.began.forwards search.tried)
+probed_word {start} {words} kept id v at live search more place =
     let began : v.began ≡ start.began = (kept.seats id v at live).began in
     ap (λ (k : ℕ). get_or words k 0) place
     ∙ (ap (λ (b : Began). get_or words (probe_place b search) 0) began
@@ -202,18 +200,17 @@ pub probes_at : {start : Start} {slots : ℕ} (id : ℕ) {i : ℕ} {search : Sea
     → me.0.doing ≡ Some (Searching search) → search.tried < me.0.began.forwards → i ≡ probe_place me.0.began search
     → Allows (Rule start) slots id me i (λ n. n) (ProbePlay (step slots i 0 0 none) me)
 probes_at {start} {slots} id {i} {search} {me} live is more place =
-    allowed start slots id i me (λ n. n) (ProbePlay (step slots i 0 0 none) me) live
-    (λ words views kept at alive small.
+    allowed slots id i me (λ n. n) (ProbePlay (step slots i 0 0 none) me) live (λ words views kept at alive small.
     let goes_on : is_lacking me.0.doing ≡ false = ap is_lacking is in
     let left : is_reading me.0.doing ≡ false = ap is_reading is in
     let few : search.tried < start.began.forwards =
     fewer me.0.began start.began search.tried (kept.seats id me.0 at alive).began more in
-    let word = probed_word start words views kept id i me.0 at alive search few place in
+    let word = probed_word kept id me.0 at alive search few place in
     let r = probes start words views kept id me.0 at alive goes_on left search (Missed search)
     (Searching (further search))
     (probing start words views kept id me.0 at alive goes_on left search is few) in (
       r.0,
-      loaded start words views kept id me.0 at alive r.0 i r.1,
+      loaded kept i r.1,
       λ inside. (
         (refl, inside),
         λ other also there.
@@ -229,17 +226,16 @@ pub retries_at : {start : Start} {slots : ℕ} (id : ℕ) {i : ℕ} {a : Activat
     → me.0.doing ≡ Some (Retrying a) → a.search.tried < me.0.began.forwards → i ≡ probe_place me.0.began a.search
     → Allows (Rule start) slots id me i (λ n. n) (RetryPlay (step slots i 0 0 none) me)
 retries_at {start} {slots} id {i} {a} {me} live is more place =
-    allowed start slots id i me (λ n. n) (RetryPlay (step slots i 0 0 none) me) live
-    (λ words views kept at alive small.
+    allowed slots id i me (λ n. n) (RetryPlay (step slots i 0 0 none) me) live (λ words views kept at alive small.
     let goes_on : is_lacking me.0.doing ≡ false = ap is_lacking is in
     let left : is_reading me.0.doing ≡ false = ap is_reading is in
     let few : a.search.tried < start.began.forwards =
     fewer me.0.began start.began a.search.tried (kept.seats id me.0 at alive).began more in
-    let word = probed_word start words views kept id i me.0 at alive a.search few place in
+    let word = probed_word kept id me.0 at alive a.search few place in
     let r = probes start words views kept id me.0 at alive goes_on left a.search (Copied a) (Retrying (retried a))
     (retrying start words views kept id me.0 at alive goes_on left a is few) in (
       r.0,
-      loaded start words views kept id me.0 at alive r.0 i r.1,
+      loaded kept i r.1,
       λ inside. (
         (refl, inside),
         λ other also there.

@@ -108,7 +108,7 @@ pub stops_at : {start : Start} {slots : ℕ} (id : ℕ) {me : Me ℕ View} → 0
     → is_reading me.0.doing ≡ false
     → Allows (Rule start) slots id me 0 (λ _. 1) (λ found. StopPlay (step slots 0 1 0 none) me 1)
 stops_at {start} {slots} id {me} live cause left =
-    allowed start slots id 0 me (λ _. 1) (λ found. StopPlay (step slots 0 1 0 none) me 1) live
+    allowed slots id 0 me (λ _. 1) (λ found. StopPlay (step slots 0 1 0 none) me 1) live
     (λ words views kept at alive small.
     let r = stops_by start words views kept id me.0 at alive me.0.asked me.0.forwarded cause
     (kept.stop.forwarded id me.0 at) left in (
@@ -118,12 +118,12 @@ stops_at {start} {slots} id {me} live cause left =
     ))
 
 -- a call that searches knows so much of the forwarding words
-searches_on : (start : Start) (words : List ℕ) (views : List View) (kept : Kept start words views) (id : ℕ) (v : View)
+searches_on : {start : Start} {words : List ℕ} {views : List View} (kept : Kept start words views) (id : ℕ) (v : View)
     → get_elem? views id ≡ some v → 0 < v.parts → (search : Search) → IsSearching v search
     → Searches start.began.told kept.maps (shows start.began words) search.place search.home search.tried
-searches_on start words views kept id v at live search (inl is) =
+searches_on {start} {words} kept id v at live search (inl is) =
     subst (Knows start.began.told kept.maps (shows start.began words) v.rest) is (kept.seats id v at live).doing
-searches_on start words views kept id v at live search (inr is) =
+searches_on {start} {words} kept id v at live search (inr is) =
     let known : HoldsCopy start.began.told kept.maps (shows start.began words) v.rest is.0 =
     subst (Knows start.began.told kept.maps (shows start.began words) v.rest) is.1 (kept.seats id v at live).doing in
     subst (λ (s : Search).
@@ -135,9 +135,9 @@ searches_left v search (inl is) = ap is_reading is
 searches_left v search (inr is) = ap is_reading is.1
 
 -- where it has read all of them, all are filled
-all_filled : (told : Bool) (maps : Maps) (s : State) (place : Place) (home tried : ℕ)
+all_filled : {told : Bool} {maps : Maps} {s : State} {place : Place} {home tried : ℕ}
     → Searches told maps s place home tried → s.base.forwards ≤ tried → (p : ℕ) → p < s.base.forwards → s.forward p ≢ 0
-all_filled told maps s place home tried is all p below empty =
+all_filled {s} {home} is all p below empty =
     let once = each_place_once home s.base.forwards p below in
     let other = is.probed.others once.0 (let k = once.1.in_range in omega arith) in
     let filled : s.forward (probe home s.base.forwards once.0) ≡ forward_word other.0 other.1 = other.3.is in
@@ -154,16 +154,14 @@ pub fills_at : {start : Start} {slots : ℕ} (id : ℕ) {search : Search} {me : 
     → IsSearching me.0 search → me.0.began.forwards ≤ search.tried
     → Allows (Rule start) slots id me 0 (λ _. 1) (λ found. FillsPlay (step slots 0 1 0 none) me 1)
 fills_at {start} {slots} id {search} {me} live on all =
-    allowed start slots id 0 me (λ _. 1) (λ found. FillsPlay (step slots 0 1 0 none) me 1) live
+    allowed slots id 0 me (λ _. 1) (λ found. FillsPlay (step slots 0 1 0 none) me 1) live
     (λ words views kept at alive small.
-    let searches = searches_on start words views kept id me.0 at alive search on in
+    let searches = searches_on kept id me.0 at alive search on in
     let read : start.began.forwards ≤ search.tried =
     subst (λ (b : Began). b.forwards ≤ search.tried) (kept.seats id me.0 at alive).began all in
     let r = stops_by start words views kept id me.0 at alive me.0.asked true
     (forwarded_cause me.0.asked me.0.spaced)
-    (λ is. all_filled start.began.told kept.maps (shows start.began words) search.place search.home search.tried
-    searches
-    read)
+    (λ is. all_filled searches read)
     (searches_left me.0 search on) in (
       record (view_behind me.0 kept.history me.0.known None) { forwarded = true },
       r.0,
@@ -183,7 +181,7 @@ caused_is v false is = (true, ap (λ (b : Bool). if b then v else record v { ask
 pub asks_at : {start : Start} {slots : ℕ} (id : ℕ) {me : Me ℕ View} → 0 < me.0.parts → is_reading me.0.doing ≡ false
     → Allows (Rule start) slots id me 0 (λ _. 1) (λ found. AskPlay (step slots 0 1 0 none) me 1)
 asks_at {start} {slots} id {me} live left =
-    allowed start slots id 0 me (λ _. 1) (λ found. AskPlay (step slots 0 1 0 none) me 1) live
+    allowed slots id 0 me (λ _. 1) (λ found. AskPlay (step slots 0 1 0 none) me 1) live
     (λ words views kept at alive small.
     let base : View = view_behind me.0 kept.history me.0.known None in
     let c = caused_is base (has_cause base) refl in

@@ -133,8 +133,8 @@ module _ (u : Sight) (h : List Entry) (maps : Maps) (s : State) (before after : 
       | inr other ↦
           subst (λ (g : Option Look). IfSome g (Watched (length u.log) (sight_of h maps s after) x))
           (sym (ap look_of (others x other.1)))
-          (look_stays (length u.log) x x None (sight_of h maps s before) (sight_of h maps s after)
-          (look_of (before x)) refl (λ a n is. is) (λ home. refl) (inr refl) (tied.watched x))
+          (look_stays (length u.log) x x (sight_of h maps s before) (sight_of h maps s after) (look_of (before x)) refl
+          (λ a n is. is) (λ home. refl) (inr refl) (tied.watched x))
     ];
     cleared = λ n bit. elim (tied.cleared n (same_bit after before n false bit)) [
       | inl first ↦ inl first

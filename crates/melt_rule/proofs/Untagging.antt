@@ -248,7 +248,7 @@ module _ (start : Start) (words : List ℕ) (views : List View) (kept : Kept sta
               r.0,
               subst (λ (z : ℕ). IsStep start words (set words i z) views kept id v at live r.0)
                   (sym (either_no x before_ after_ lost_.1))
-                  (loaded start words views kept id v at live r.0 i r.1),
+                  (loaded kept i r.1),
               record {
                 answer = r.2.0;
                 exchanged = record {
@@ -267,8 +267,7 @@ pub untags_at : {start : Start} {slots : ℕ} (id : ℕ) {i a n k target before_
     (UntagPlay (step slots i before_ after_ none) me)
 untags_at {start} {slots} id {i} {a} {n} {k} {target} {before_} {after_} {found} {me} live has cleared place from
     to =
-    allowed start slots id i me (λ x. either (x == before_) after_ x)
-    (UntagPlay (step slots i before_ after_ none) me) live
+    allowed slots id i me (λ x. either (x == before_) after_ x) (UntagPlay (step slots i before_ after_ none) me) live
     (λ words views kept at alive small.
     let stood_ = kept.seats id me.0 at alive in
     let s : State = shows start.began words in
@@ -304,8 +303,8 @@ untags_at {start} {slots} id {i} {a} {n} {k} {target} {before_} {after_} {found}
             let is_k : k ≡ j = cc in
             let is_g : found ≡ g = cc in
             let is_t : target ≡ t = cc in
-            let is_n : n ≡ m = one_object start words views kept id me.0 at alive b n m
-            (subst (λ (y : ℕ). Has me.0.known y n) at_a has) other_has in
+            let is_n : n ≡ m = one_object kept id me.0 at alive b n m (subst (λ (y : ℕ). Has me.0.known y n) at_a has)
+            other_has in
             let U : ℕ → ℕ → Ref → ℕ → Type 0 = λ p q f u. Untags me.0 r.0 (slot.Field p q) f u (get_or words i 0) in
             subst (λ (p : ℕ). U p j g t) is_n
             (subst (λ (q : ℕ). U n q g t) is_k
@@ -319,10 +318,8 @@ pub global_untags : {start : Start} {slots : ℕ} (id : ℕ) {g target before_ a
     → Allows (Rule start) slots id me (global_place g) (λ x. either (x == before_) after_ x)
     (GlobalUntagPlay (step slots (global_place g) before_ after_ none) me)
 global_untags {start} {slots} id {g} {target} {before_} {after_} {found} {me} live cleared from to =
-    allowed start slots id (global_place g) me (λ x. either (x == before_) after_ x)
-    (GlobalUntagPlay (step slots (global_place g) before_ after_ none) me)
-    live
-    (λ words views kept at alive small.
+    allowed slots id (global_place g) me (λ x. either (x == before_) after_ x)
+    (GlobalUntagPlay (step slots (global_place g) before_ after_ none) me) live (λ words views kept at alive small.
     let s : State = shows start.began words in
     let known_ = knows start words views kept id me.0 at alive (Global g) found target cleared in
     let below : g < start.began.globals = known_.0.at in

@@ -52,10 +52,10 @@ place_within b words maps (Field object i) formed is =
 place_within b words maps (Global g) formed is = is
 
 -- and what a call found there
-found_within : (told : Bool) (b : Began) (words : List ℕ) (maps : Maps) (place : Place) (found : Ref) (target : ℕ)
+found_within : {told : Bool} (b : Began) (words : List ℕ) {maps : Maps} {place : Place} {found : Ref} {target : ℕ}
     → FormedWords maps (shows b words) → HasLooked maps (shows b words) place found → Leads told maps found target
     → IsAddress target × (target ≤ b.size) × IsRef found × PlaceFits b place
-found_within told b words maps place found target formed looked leads =
+found_within b words {maps} {place} {target} formed looked leads =
     let inside = named_within maps (shows b words) target leads.named.0 formed leads.named.1 in
     let small : b.size < 2 ^ 30 = formed.small in
     let in_range : IsAddress target = record { not_null = inside.0; small = omega (arith, inside.1) } in
@@ -92,9 +92,9 @@ doing_within b words maps rest (Some (Headed address shape)) formed knows =
     one_header (shows b words) address object.0 knows.header object.1.starts knows.starts in
     subst (λ (z : Shape). address + cost_of z ≤ b.size + 1) (ap (λ (h : Header). h.shape) one ∙ knows.shape_is) within
 doing_within b words maps rest (Some (Looked place found target)) formed knows =
-    found_within b.told b words maps place found target formed knows.0 knows.1
+    found_within b words formed knows.0 knows.1
 doing_within b words maps rest (Some (Cleared place found target)) formed knows =
-    found_within b.told b words maps place found target formed knows.0 knows.1
+    found_within b words formed knows.0 knows.1
 doing_within b words maps rest (Some (Claimed address shape stored)) formed knows =
     (knows.1.owns.first, knows.1.owns.within)
 doing_within b words maps rest (Some (Lacking need)) formed knows = tt
@@ -144,14 +144,12 @@ within start words views kept id v at live =
 
 -- The seat may make the step, and is told this: whatever the words and views are by then, it has a view that shows what
 -- is asked.
-pub allowed : (start : Start) (slots id i : ℕ) (me : Me ℕ View) (f : ℕ → ℕ) (tells : ℕ → Me ℕ View → Type 0)
-    → 0 < me.0.parts
-    → ((words : List ℕ) (views : List View) (kept : Kept start words views) (at : get_elem? views id ≡ some me.0)
-    (live : 0 < me.0.parts) → get_or words i 0 < 18446744073709551616
-    → (w : View) × IsStep start words (set words i (f (get_or words i 0))) views kept id me.0 at live w
-    × (IsWithin w → tells (get_or words i 0) (w, me.1)))
+pub allowed : {start : Start} (slots id i : ℕ) (me : Me ℕ View) (f : ℕ → ℕ) (tells : ℕ → Me ℕ View → Type 0)
+    → 0 < me.0.parts → ((words : List ℕ) (views : List View) (kept : Kept start words views) (at : get_elem? views id ≡
+    some me.0) (live : 0 < me.0.parts) → get_or words i 0 < 18446744073709551616 → (w : View) × IsStep start words (set
+    words i (f (get_or words i 0))) views kept id me.0 at live w × (IsWithin w → tells (get_or words i 0) (w, me.1)))
     → Allows (Rule start) slots id me i f tells
-allowed start slots id i me f tells live may table kept homes at small =
+allowed {start} slots id i me f tells live may table kept homes at small =
     let found : ℕ = get_or table.words i 0 in
     let after : List ℕ = set table.words i (f found) in
     let step = may table.words table.views kept at live small in

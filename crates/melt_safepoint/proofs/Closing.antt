@@ -87,11 +87,11 @@ pub record Ends (run : Row) (ended : RunEnded) : Type 0 where
   pub halt_is : ended.halt ≡ None
 
 -- why it has ended, told by its parts
-ends_by : (told : Bool) (config : Config) (shown : Shown) (disk : OnDisk) (v : View) (run : Row) (heap : Heap)
+ends_by : (told : Bool) (config : Config) (shown : Shown) (disk : OnDisk) (v : View) (run : Row) {heap : Heap}
     (ended : RunEnded) → ended.halt ≡ None → ended.left.heap ≡ Some heap
     → EndsBy told config shown disk v run.states ended None (Some heap)
     → EndsBy told config shown disk v run.states ended ended.halt ended.left.heap
-ends_by told config shown disk v run heap ended none there by =
+ends_by told config shown disk v run {heap} ended none there by =
     let By : Option Halt → Option Heap → Type 0 = λ h x. EndsBy told config shown disk v run.states ended h x in
     subst (λ (h : Option Halt). By h ended.left.heap) (sym none) (subst (λ (x : Option Heap). By None x) (sym there) by)
 
@@ -109,7 +109,7 @@ ended_all told script config shown run ended stands over ends =
       disk = stands.disk;
       v = w;
       states = states;
-      table = Table_renewed told script config stands.disk stands.disk v w states stands.table renewed;
+      table = Table_renewed stands.table renewed;
       cuts = λ is. subst (λ (h : List Entry). HaveCuts script h states config ended.journal.items)
           (sym renewed.history)
           (subst (HaveCuts script v.log states config) (sym ends.journal) (stands.cuts is));
@@ -120,6 +120,6 @@ ended_all told script config shown run ended stands over ends =
       counts = subst (λ (js : List Journal). CountsCollections script config 0 states (length js)) (sym ends.journal)
           stands.counts;
       log = ends.left.log;
-      cause = ends_by told config shown stands.disk w run ends.left.heap ended ends.halt_is ends.left.there
+      cause = ends_by told config shown stands.disk w run ended ends.halt_is ends.left.there
           (over, ends.states, left.1, stands.under);
     }

@@ -47,20 +47,20 @@ use Rattle.melt_safepoint.proofs.Tables.{Table_renewed}
 use Rattle.melt_safepoint.proofs.WordsMade.{made_collected, run_within}
 
 -- the disk ends within its limit behind a collection
-ends_within : (phase : Phase) (shown later : Shown) (v w : View) (old new : Collector)
+ends_within : {phase : Phase} {shown later : Shown} {v w : View} {old new : Collector}
     → CollectsCore phase shown later v w old new → shown.end ≤ shown.limit → later.end ≤ shown.limit
-ends_within phase shown later v w old new collects within = elim (phase_cases phase) [
+ends_within {phase} {shown} collects within = elim (phase_cases phase) [
   | inl move ↦ collects.fits move
   | inr other ↦ subst (λ (n : ℕ). n ≤ shown.limit) (sym (collects.stays other)) within
 ]
 
 -- behind a collection the next one is planned by it
-plan_more : (config : Config) (phase : Phase) (shown later : Shown) (v w : View) (old new : Collector) (was : Phase)
-    → old.plan ≡ plan_for config was → CollectsCore phase shown later v w old new
-    → length v.space.list ≡ config.heap → (last : Option Journal) → (entry : Journal) → last ≡ Some entry
-    → entry.phase ≡ phase → new.plan ≡ plan_after old.plan phase entry.live (length v.space.list)
+plan_more : (config : Config) {phase : Phase} {shown later : Shown} {v w : View} {old new : Collector} (was : Phase)
+    → old.plan ≡ plan_for config was → CollectsCore phase shown later v w old new → length v.space.list ≡ config.heap
+    → {last : Option Journal} → {entry : Journal} → last ≡ Some entry → entry.phase ≡ phase
+    → new.plan ≡ plan_after old.plan phase entry.live (length v.space.list)
     → new.plan ≡ plan_for config (next_of config last)
-plan_more config phase shown later v w old new was plan collects words last entry is of_phase after =
+plan_more config {phase} {v} was plan collects words {entry} is of_phase after =
     let by : ℕ → Phase → Phase = λ n p. planned entry.live n p config.mark config.move_ in
     after ∙ (ap (λ (p : Plan). plan_after p phase entry.live (length v.space.list)) plan
     ∙ (ap (λ (n : ℕ). plan_for config (by n phase)) words
@@ -68,11 +68,11 @@ plan_more config phase shown later v w old new was plan collects words last entr
     ∙ ap (λ (o : Option Journal). plan_for config (next_of config o)) (sym is))))
 
 -- what a collector knows behind one collection more
-pub collector_more : (config : Config) (force : Bool) (shown later : Shown) (v w : View) (old new : Collector)
+pub collector_more : {config : Config} (force : Bool) {shown later : Shown} {v w : View} {old new : Collector}
     → CollectorStands config shown old → CollectsCore (phase_done force old.plan.next) shown later v w old new
     → length v.space.list ≡ config.heap → (force ≡ true → IsTight config (last_of old))
     → CollectorStands config later new
-collector_more config force shown later v w old new stands collects words tight =
+collector_more {config} force {shown} {later} {old} {new} stands collects words tight =
     let js : List Journal = old.journal.items in
     let entry : Journal = collects.entry in
     let phase : Phase = phase_done force old.plan.next in
@@ -82,16 +82,15 @@ collector_more config force shown later v w old new stands collects words tight 
     next) in
     let limit : shown.limit ≡ config.disk = stands.limit in
     let within : later.end ≤ shown.limit =
-    ends_within phase shown later v w old new collects
-    (subst (λ (n : ℕ). shown.end ≤ n) (sym limit) stands.within) in
+    ends_within collects (subst (λ (n : ℕ). shown.end ≤ n) (sym limit) stands.within) in
     let grows : end_of (last_of old) ≤ entry.end =
     subst (λ (n : ℕ). end_of (last_of old) ≤ n) (sym collects.end)
     (subst (λ (n : ℕ). n ≤ later.end) stands.end collects.grows) in
     let last : last_of new ≡ Some entry =
     ap (λ (xs : List Journal). before xs (length xs)) collects.journal ∙ before_end js entry in
     record {
-      plan = plan_more config phase shown later v w old new (next_of config (last_of old)) stands.plan collects words
-          (last_of new) entry last collects.of_phase collects.plan;
+      plan = plan_more config (next_of config (last_of old)) stands.plan collects words last collects.of_phase
+          collects.plan;
       journal = subst (IsJournalOf config) (sym collects.journal)
           (journal_push config js entry stands.journal may
           (collects.held_within, subst (λ (n : ℕ). entry.live ≤ n) words collects.within) grows
@@ -103,16 +102,16 @@ collector_more config force shown later v w old new stands collects words tight 
     }
 
 -- there is one entry more
-journal_count : (phase : Phase) (shown later : Shown) (v w : View) (old new : Collector)
+journal_count : {phase : Phase} {shown later : Shown} {v w : View} {old new : Collector}
     → CollectsCore phase shown later v w old new → length new.journal.items ≡ length old.journal.items + 1
-journal_count phase shown later v w old new collects =
+journal_count {old} collects =
     ap length collects.journal ∙ length-append old.journal.items (collects.entry ∷ [])
 
 -- each collection has its moment, and now is that of one more
-cuts_more : (script : Script) (config : Config) (disk : OnDisk) (v w : View) (states : List ThreadState)
-    (js : List Journal) (entry : Journal) → TableStands true script config disk v states → Gathers v entry
+cuts_more : {script : Script} {config : Config} {disk : OnDisk} {v : View} (w : View) {states : List ThreadState}
+    (js : List Journal) {entry : Journal} → TableStands true script config disk v states → Gathers v entry
     → w.log ≡ v.log → HaveCuts script v.log states config js → HaveCuts script w.log states config (js ++ entry ∷ [])
-cuts_more script config disk v w states js entry table gathers history cuts =
+cuts_more {script} {config} {disk} {v} w {states} js {entry} table gathers history cuts =
     subst (λ (h : List Entry). HaveCuts script h states config (js ++ entry ∷ [])) (sym history)
     (All-push (HasCut script v.log states config) js entry cuts
     (cut_now script config disk v states entry table gathers))
@@ -125,34 +124,33 @@ Over unpaid told script config force shown later old new =
     new.view made.collects.entry
 
 -- it is left over some disk
-pub collected_over : {unpaid : ℕ} (told : Bool) (script : Script) (config : Config) (force : Bool)
-    (shown later : Shown) (old new : Row) → StandsBut unpaid told script config shown old
-    → MakesCollection force shown later old new → Over unpaid told script config force shown later old new
-collected_over {unpaid} told script config force shown later old new stands made =
+pub collected_over : {unpaid : ℕ} {told : Bool} {script : Script} {config : Config} {force : Bool} {shown later : Shown}
+    {old new : Row} → StandsBut unpaid told script config shown old → MakesCollection force shown later old new
+    → Over unpaid told script config force shown later old new
+collected_over {unpaid} {told} stands made =
     (stands, made, made.collects.each told stands.disk stands.under stands.table.stands)
 
 -- all threads stand behind a collection
-pub collected_table : {unpaid : ℕ} (told : Bool) (script : Script) (config : Config) (force : Bool)
-    (shown later : Shown) (old new : Row) → (over : Over unpaid told script config force shown later old new)
+pub collected_table : {unpaid : ℕ} {told : Bool} {script : Script} {config : Config} {force : Bool}
+    {shown later : Shown} {old new : Row} → (over : Over unpaid told script config force shown later old new)
     → TableStands told script config over.2.disk new.view new.states
-collected_table {unpaid} told script config force shown later old new over =
+collected_table {unpaid} {told} {script} {config} {new} over =
     subst (TableStands told script config over.2.disk new.view) (sym over.1.states)
-    (Table_renewed told script config over.0.disk over.2.disk old.view new.view old.states
-    over.0.table over.2.renewed)
+    (Table_renewed over.0.table over.2.renewed)
 
 -- and so do the moments of the collections, told as the view before it tells
-collected_cuts : {unpaid : ℕ} (told : Bool) (script : Script) (config : Config) (force : Bool) (shown later : Shown)
-    (old new : Row) → told ≡ true → Over unpaid told script config force shown later old new
+collected_cuts : {unpaid : ℕ} (told : Bool) {script : Script} {config : Config} {force : Bool} {shown later : Shown}
+    {old new : Row} → told ≡ true → Over unpaid told script config force shown later old new
     → HaveCuts script new.view.log new.states config new.collector.journal.items
-collected_cuts {unpaid} true script config force shown later old new is over =
+collected_cuts {unpaid} true {script} {config} {old} {new} is over =
     let w : View = new.view in
     let entry : Journal = over.1.collects.entry in
     let more : HaveCuts script w.log old.states config (old.collector.journal.items ++ entry ∷ []) =
-    cuts_more script config over.0.disk old.view w old.states old.collector.journal.items entry
-    over.0.table (over.2.gathers refl) over.2.renewed.history (over.0.cuts refl) in
+    cuts_more w old.collector.journal.items over.0.table (over.2.gathers refl) over.2.renewed.history
+    (over.0.cuts refl) in
     subst (λ (xs : List ThreadState). HaveCuts script w.log xs config new.collector.journal.items) (sym over.1.states)
     (subst (HaveCuts script w.log old.states config) (sym over.1.collects.journal) more)
-collected_cuts {unpaid} false script config force shown later old new is over =
+collected_cuts {unpaid} false {script} {config} {old} {new} is over =
     absurd (let wrong : false ≡ true = is in cc)
 
 -- one entry more
@@ -161,15 +159,14 @@ pub journal_more : {force : Bool} {shown later : Shown} {old new : Row} → Make
 journal_more {force} {shown} {later} {old} {new} made =
     omega (
       arith,
-      journal_count (phase_done force old.collector.plan.next) shown later old.view new.view old.collector
-          new.collector made.collects,
+      journal_count made.collects,
     )
 
 -- a collection that is planned is of the phase that was planned behind the one before
-pub planned_one : {unpaid : ℕ} (told : Bool) (script : Script) (config : Config) (shown later : Shown) (old new : Row)
+pub planned_one : {unpaid : ℕ} {told : Bool} {script : Script} {config : Config} {shown later : Shown} {old new : Row}
     → StandsBut unpaid told script config shown old → MakesCollection false shown later old new
     → Planned config 1 (journal_of old) (journal_of new)
-planned_one {unpaid} told script config shown later old new stands made = (
+planned_one {unpaid} {old} stands made = (
   journal_of old,
   refl,
   record {
@@ -189,36 +186,35 @@ moved_one shown later old new made = record {
 }
 
 -- a collection was made that no reply was told of yet
-pub spare_collected : (told : Bool) (script : Script) (config : Config) (force : Bool) (shown later : Shown)
-    (old new : Row) → RunStands told script config shown old → MakesCollection force shown later old new
+pub spare_collected : {told : Bool} {script : Script} {config : Config} {force : Bool} {shown later : Shown}
+    {old new : Row} → RunStands told script config shown old → MakesCollection force shown later old new
     → Spare script config new.states (length new.collector.journal.items)
-spare_collected told script config force shown later old new stands made =
+spare_collected {script} {config} {old} {new} stands made =
     subst (λ (xs : List ThreadState). Spare script config xs (length new.collector.journal.items)) (sym made.states)
     (counts_spare script config old.states (length old.collector.journal.items)
     (length new.collector.journal.items) (journal_more made) stands.counts)
 
 -- a run stands behind a collection, which is still to be paid for
-pub stands_collected : {unpaid : ℕ} (told : Bool) (script : Script) (config : Config) (force : Bool)
-    (shown later : Shown) (old new : Row) → StandsBut unpaid told script config shown old
+pub stands_collected : {unpaid : ℕ} {told : Bool} {script : Script} {config : Config} {force : Bool}
+    {shown later : Shown} {old new : Row} → StandsBut unpaid told script config shown old
     → MakesCollection force shown later old new → (force ≡ true → IsTight config (last_of old.collector))
     → MayOwe unpaid old.states → StandsBut (suc unpaid) told script config later new
 unfolding collected_over
-stands_collected {unpaid} told script config force shown later old new stands made tight owes =
+stands_collected {unpaid} {told} {script} {config} {force} {shown} {later} {old} {new} stands made tight owes =
     let over : Over unpaid told script config force shown later old new =
-    collected_over told script config force shown later old new stands made in
+    collected_over stands made in
     let n : ℕ = length new.collector.journal.items in
     record {
       disk = over.2.disk;
       under = over.2.under;
       none_free = over.2.same_free ∙ stands.none_free;
-      table = collected_table told script config force shown later old new over;
+      table = collected_table over;
       quiet = made.collects.quiet;
       words = made.words ∙ stands.words;
       every = made.every ∙ stands.every;
       told_is = made.told ∙ stands.told_is;
-      collector = collector_more config force shown later old.view new.view old.collector new.collector
-          stands.collector made.collects stands.table.words tight;
-      cuts = λ is. collected_cuts told script config force shown later old new is over;
+      collector = collector_more force stands.collector made.collects stands.table.words tight;
+      cuts = λ is. collected_cuts told is over;
       made = λ is.
           subst (MadeSoFar config new.view) (sym over.1.collects.journal)
           (made_collected config old.view new.view old.collector.journal.items over.1.collects.entry
@@ -258,10 +254,9 @@ may_collect {unpaid} told script config shown run stands = record {
 }
 
 -- what is said of a refusal is said of a full disk
-pub refused_full : (phase : Phase) (shown later : Shown) (v : View) (r : CollectRefusal) (left : Left)
-    (full : DiskFull) → r ≡ refused.DiskFull left full → IsRefusedCore phase shown later v r
-    → IsFullCore phase shown later v left full
-refused_full phase shown later v r left full is said = subst (IsRefusedCore phase shown later v) is said
+pub refused_full : (phase : Phase) (shown later : Shown) (v : View) {r : CollectRefusal} (left : Left) (full : DiskFull)
+    → r ≡ refused.DiskFull left full → IsRefusedCore phase shown later v r → IsFullCore phase shown later v left full
+refused_full phase shown later v left full is said = subst (IsRefusedCore phase shown later v) is said
 
 -- and of one that failed
 pub refused_failed : (phase : Phase) (shown later : Shown) (v : View) (r : CollectRefusal) (left : Left)
@@ -276,23 +271,23 @@ pub record Halts (run : Row) (left : Left) (cause : Halt) (ended : Ended) : Type
   pub halt_is : ended.halt ≡ Some cause
 
 -- why it has ended, told by its parts
-ends_by : (told : Bool) (config : Config) (shown : Shown) (disk : OnDisk) (v : View) (run : Row) (left : Left)
-    (heap : Option Heap) (cause : Halt) (ended : Ended) → Halts run left cause ended → left.heap ≡ heap
+ends_by : (told : Bool) (config : Config) (shown : Shown) (disk : OnDisk) (v : View) {run : Row} {left : Left}
+    {heap : Option Heap} {cause : Halt} {ended : Ended} → Halts run left cause ended → left.heap ≡ heap
     → EndsBy told config shown disk v run.states ended (Some cause) heap
     → EndsBy told config shown disk v run.states ended ended.halt ended.left.heap
-ends_by told config shown disk v run left heap cause ended halts there by =
+ends_by told config shown disk v {run} {left} {heap} {cause} {ended} halts there by =
     let By : Option Halt → Option Heap → Type 0 = λ h x. EndsBy told config shown disk v run.states ended h x in
     subst (λ (h : Option Halt). By h ended.left.heap) (sym halts.halt_is)
     (subst (λ (x : Option Heap). By (Some cause) x) (sym (ap (λ (l : Left). l.heap) halts.left_is ∙ there)) by)
 
 -- the disk was full for a Move of what is left
-full_ends : (told : Bool) (config : Config) (force : Bool) (shown later : Shown) (run : Row) (left : Left)
-    (full : DiskFull) (ended : Ended) → CollectorStands config shown run.collector
+full_ends : {told : Bool} {config : Config} (force : Bool) {shown later : Shown} (run : Row) {left : Left}
+    {full : DiskFull} (ended : Ended) → CollectorStands config shown run.collector
     → (force ≡ true → IsTight config (last_of run.collector))
     → (is : IsFullCore (phase_done force run.collector.plan.next) shown later run.view left full)
     → (over : FullOver told later run.view is.w is.heap full.need) → ended.journal.items ≡ run.collector.journal.items
     → EndsFull told config later over.disk is.w ended full.end full.need full.limit
-full_ends told config force shown later run left full ended stands tight is over journal =
+full_ends {config} force {shown} run {full} ended stands tight is over journal =
     let last : (js : List Journal) → Option Journal = λ js. before js (length js) in
     let next : run.collector.plan.next ≡ next_of config (last_of run.collector) =
     ap (λ (p : Plan). p.next) stands.plan in
@@ -308,24 +303,23 @@ full_ends told config force shown later run left full ended stands tight is over
     }
 
 -- what is left where the disk was full for a collection
-pub stands_full : {unpaid : ℕ} (told : Bool) (script : Script) (config : Config) (force : Bool) (shown later : Shown)
-    (run : Row) (left : Left) (full : DiskFull) (ended : Ended)
-    → StandsBut unpaid told script config shown run → (force ≡ true → IsTight config (last_of run.collector))
+pub stands_full : {unpaid : ℕ} {told : Bool} {script : Script} {config : Config} (force : Bool) {shown later : Shown}
+    {run : Row} {left : Left} {full : DiskFull} {ended : Ended} → StandsBut unpaid told script config shown run
+    → (force ≡ true → IsTight config (last_of run.collector))
     → IsFullCore (phase_done force run.collector.plan.next) shown later run.view left full
-    → Halts run left (halt.DiskFull full.end full.need full.limit) ended
-    → EndedStands told script config later ended
-stands_full {unpaid} told script config force shown later run left full ended stands tight is halts =
+    → Halts run left (halt.DiskFull full.end full.need full.limit) ended → EndedStands told script config later ended
+stands_full {unpaid} {told} {script} {config} force {later} {run} {full} {ended} stands tight is halts =
     let v : View = run.view in
     let w : View = is.w in
     let states : List ThreadState = run.states in
     let over : FullOver told later v w is.heap full.need = is.each told stands.disk stands.under stands.table.stands in
     let ends : EndsFull told config later over.disk w ended full.end full.need full.limit =
-    full_ends told config force shown later run left full ended stands.collector tight is over halts.journal in
+    full_ends force run ended stands.collector tight is over halts.journal in
     record {
       disk = over.disk;
       v = w;
       states = states;
-      table = Table_renewed told script config stands.disk over.disk v w states stands.table over.renewed;
+      table = Table_renewed stands.table over.renewed;
       cuts = λ tells. subst (λ (h : List Entry). HaveCuts script h states config ended.journal.items)
           (sym over.renewed.history)
           (subst (HaveCuts script v.log states config) (sym halts.journal) (stands.cuts tells));
@@ -336,17 +330,15 @@ stands_full {unpaid} told script config force shown later run left full ended st
       counts = subst (λ (js : List Journal). CountsCollections script config unpaid states (length js))
           (sym halts.journal) stands.counts;
       log = ap (λ (l : Left). l.history) halts.left_is ∙ is.log;
-      cause = ends_by told config later over.disk w run left (Some is.heap)
-          (halt.DiskFull full.end full.need full.limit) ended halts is.there
-          (halts.states, over.shows, over.under, ends);
+      cause = ends_by told config later over.disk w halts is.there (halts.states, over.shows, over.under, ends);
     }
 
 -- what is left where the disk failed
-pub stands_failed : {unpaid : ℕ} (told : Bool) (script : Script) (config : Config) (shown later : Shown) (run : Row)
-    (left : Left) (ended : Ended) → StandsBut unpaid told script config shown run
+pub stands_failed : {unpaid : ℕ} {told : Bool} {script : Script} {config : Config} {shown : Shown} (later : Shown)
+    {run : Row} {left : Left} {ended : Ended} → StandsBut unpaid told script config shown run
     → (left.heap ≡ None) × (left.history ≡ run.view.log) → Halts run left halt.DiskFault ended
     → EndedStands told script config later ended
-stands_failed {unpaid} told script config shown later run left ended stands is halts =
+stands_failed {unpaid} {told} {script} {config} later {run} stands is halts =
     let v : View = run.view in
     let states : List ThreadState = run.states in
     record {
@@ -361,5 +353,5 @@ stands_failed {unpaid} told script config shown later run left ended stands is h
       counts = subst (λ (js : List Journal). CountsCollections script config unpaid states (length js))
           (sym halts.journal) stands.counts;
       log = ap (λ (l : Left). l.history) halts.left_is ∙ is.1;
-      cause = ends_by told config later stands.disk v run left None halt.DiskFault ended halts is.0 halts.states;
+      cause = ends_by told config later stands.disk v halts is.0 halts.states;
     }

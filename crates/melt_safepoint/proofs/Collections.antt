@@ -27,14 +27,13 @@ use Rattle.melt_safepoint.proofs.Cuts.{HaveCuts_later}
 use Rattle.melt_safepoint.proofs.Threads.{later_set}
 
 -- the moments of the collections stay those of a run in which a thread got a reply
-pub cuts_reply : (script : Script) (config : Config) (log : List Entry) (states : List ThreadState) (t : ℕ)
-    (s after : ThreadState) (extra : List Reply) (journal : List Journal) → slice_get states t ≡ Some s
+pub cuts_reply : {script : Script} {config : Config} (log : List Entry) (states : List ThreadState) (t : ℕ)
+    {s : ThreadState} (after : ThreadState) (extra : List Reply) (journal : List Journal) → slice_get states t ≡ Some s
     → (IsEnded s.mode → ⊥) → after.replies.items ≡ s.replies.items ++ extra → HaveCuts script log states config journal
     → HaveCuts script log (set states t after) config journal
-cuts_reply script config log states t s after extra journal at goes grown cuts =
+cuts_reply {script} {config} log states t {s} after extra journal at goes grown cuts =
     subst (λ (h : List Entry). HaveCuts script h (set states t after) config journal) (append-nil log)
-    (HaveCuts_later script log [] states (set states t after) config journal
-    (later_set states t s after extra at goes grown) cuts)
+    (HaveCuts_later script log [] config journal (later_set states t s after extra at goes grown) cuts)
 
 -- it only has another mode
 pub goes_on_mode : (s after : ThreadState) → GoesOn s after → (mode : Mode) × (after ≡ record s { mode = mode })

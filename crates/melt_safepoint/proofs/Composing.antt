@@ -30,10 +30,10 @@ rose_since a b c first second rose below = elim (cases_lt b (2 ^ 64 - 1)) [
 ]
 
 -- what was counted where a run was stopped, from before the part that ended well
-pub stop_counts_then : (stop : Stop) (states mid : List ThreadState) (a b c x y z : ℕ) → a ≤ b → b ≤ c
+pub stop_counts_then : (stop : Stop) {states mid : List ThreadState} (a b c : ℕ) {x y : ℕ} (z : ℕ) → a ≤ b → b ≤ c
     → CountsLosses states mid x y → StopCounts stop mid b c y z → StopCounts stop states a c x z
-stop_counts_then NoMemory states mid a b c x y z first second lost counts = tt
-stop_counts_then (Halted ended) states mid a b c x y z first second lost counts = (
+stop_counts_then NoMemory {states} {mid} a b c {x} {y} z first second lost counts = tt
+stop_counts_then (Halted ended) {states} {mid} a b c {x} {y} z first second lost counts = (
   λ is. rose_since a b c first second (counts.0 is),
   counts_then states mid ended.states.items x y z lost counts.1,
 )
@@ -56,12 +56,11 @@ pub stops_paid : (shown later : Shown) (run : Row) (stop : Stop) → StopsBut sh
 stops_paid shown later run stop stops told script config stands = stops told script config (0, stands)
 
 -- a run stands behind a collection that was planned, which is still to be paid for
-planned_keeps : (shown later : Shown) (old new : Row) → MakesCollection false shown later old new
-    → SomeGoesOn old.states → (told : Bool) (script : Script) (config : Config)
-    → RunStands told script config shown old → StandsBut 1 told script config later new
-planned_keeps shown later old new made some told script config stands =
-    stands_collected told script config false shown later old new stands made
-    (λ is. absurd (let wrong : false ≡ true = is in cc))
+planned_keeps : {shown later : Shown} {old new : Row} → MakesCollection false shown later old new
+    → SomeGoesOn old.states → (told : Bool) (script : Script) (config : Config) → RunStands told script config shown old
+    → StandsBut 1 told script config later new
+planned_keeps {old} made some told script config stands =
+    stands_collected stands made (λ is. absurd (let wrong : false ≡ true = is in cc))
     (may_owe 0 old.states some.0 some.1.0 (omega arith) some.1.1 some.1.2)
 
 -- and so where none was made
@@ -101,11 +100,11 @@ some_was (suc n) was = refl
 pub before_made : (due : ℕ) (shown later : Shown) (mid run : Row) → due ≡ 0
     → MakesCollection false shown later mid run → SomeGoesOn mid.states → BeforeCall due shown later mid run
 before_made due shown later mid run none made some = record {
-  keeps = planned_keeps shown later mid run made some;
+  keeps = planned_keeps made some;
   states = made.states;
   just = just_collected false shown later mid run made;
   planned = subst (λ (n : ℕ). MakesPlanned (if_none_was n) shown mid run) (sym none) (λ told script config stands.
-      planned_one told script config shown later mid run stands made);
+      planned_one stands made);
 }
 
 -- or as there was one already
@@ -120,16 +119,15 @@ before_same due shown run was just some = record {
 }
 
 -- a thread that lacks room may make its call then
-pub awaits_call : (due : ℕ) (shown mid_shown later : Shown) (old mid run : Row) (t : ℕ)
+pub awaits_call : {due : ℕ} {shown mid_shown later : Shown} {old mid run : Row} (t : ℕ)
     → KeepsRun shown mid_shown old mid → AllWait old.states → CollectedAll old.states mid.states
     → BeforeCall due mid_shown later mid run → WaitsForRoom mid.states t → (told : Bool) (script : Script)
     (config : Config) → RunStands told script config shown old → AwaitsCall told script config later 0 run t
-awaits_call due shown mid_shown later old mid run t keeps waits all before lacks told script config stands = record {
+awaits_call {old} {mid} t keeps waits all before lacks told script config stands = record {
   stands = before.keeps told script config (keeps told script config stands);
   few = omega arith;
   owed = subst (OweBehindCollects script) (sym before.states)
-      (owe_behind told script config stands.disk old.view old.states mid.states stands.table waits
-      all);
+      (owe_behind stands.table waits all);
   collected = before.just;
   own = subst NoneOwn (sym before.states) (none_own old.states mid.states all);
   waits = subst (λ (states : List ThreadState). WaitsForRoom states t) (sym before.states) lacks;

@@ -233,10 +233,10 @@ pub record AddsHere (script : Script) (config : Config) (states : List ThreadSta
   pub pays : length s.replies.items + over s.mode + paid ≤ length after.replies.items + over after.mode
 
 -- where the replies of one thread change alone
-pub adds_at : (script : Script) (config : Config) (states : List ThreadState) (t c pays : ℕ) (s after : ThreadState)
+pub adds_at : {script : Script} {config : Config} {states : List ThreadState} {t c pays : ℕ} {s after : ThreadState}
     → slice_get states t ≡ Some s → length states ≡ length script.programs
     → AddsHere script config states t c pays s after → Adds script config states (set states t after) c pays
-adds_at script config states t c pays s after at count here =
+adds_at {script} {config} {states} {t} {pays} {s} {after} at count here =
     let within : t < length states = slice_get_within states t s at in
     let below : t < length script.programs = omega (arith, within, count) in
     let A : (List ThreadState) → ℕ → ℕ = λ (xs : List ThreadState). collects_of script (replies_of xs) in
@@ -307,12 +307,11 @@ over_most Lacking = omega arith
 over_most (Ended e) = omega arith
 
 -- no reply and the same silent collections to come
-pub adds_mode : (script : Script) (config : Config) (states : List ThreadState) (t pays : ℕ) (s : ThreadState)
+pub adds_mode : (script : Script) (config : Config) (states : List ThreadState) (t pays : ℕ) {s : ThreadState}
     (mode : Mode) → slice_get states t ≡ Some s → length states ≡ length script.programs → owes s.mode ≡ owes mode
     → over s.mode + pays ≤ over mode → Adds script config states (set states t (record s { mode = mode })) 0 pays
-adds_mode script config states t pays s mode at count same ends =
-    adds_at script config states t 0 pays s (record s { mode = mode }) at count
-    (record {
+adds_mode script config states t pays {s} mode at count same ends =
+    adds_at at count (record {
       all = omega (arith, same, silent_collections script config states t s (record s { mode = mode }) at refl);
       asked = omega (arith, silent_asked script states t s (record s { mode = mode }) at refl);
       pays = omega (arith, ends);
@@ -323,8 +322,7 @@ pub adds_silent : (script : Script) (config : Config) (states : List ThreadState
     (mode : Mode) → slice_get states t ≡ Some s → length states ≡ length script.programs → owes s.mode ≡ owes mode + 1
     → over s.mode ≡ 0 → Adds script config states (set states t (record s { mode = mode })) 1 0
 adds_silent script config states t s mode at count same goes =
-    adds_at script config states t 1 0 s (record s { mode = mode }) at count
-    (record {
+    adds_at at count (record {
       all = omega (arith, same, silent_collections script config states t s (record s { mode = mode }) at refl);
       asked = omega (arith, silent_asked script states t s (record s { mode = mode }) at refl);
       pays = omega (arith, goes);

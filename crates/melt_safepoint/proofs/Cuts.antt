@@ -54,10 +54,10 @@ same_replies states after cut u later gone ended = elim (slice_get_cases states 
 ]
 
 -- a moment is one of the longer run
-IsCut_later : (script : Script) (log more : List Entry) (states after : List ThreadState) (config : Config) (cut : Cut)
-    → Later states after → GoneIn states cut → IsCut script log (replies_of states) config cut
-    → IsCut script (log ++ more) (replies_of after) config cut
-IsCut_later script log more states after config cut later gone is = record {
+IsCut_later : {script : Script} {log : List Entry} (more : List Entry) {states after : List ThreadState}
+    {config : Config} {cut : Cut} → Later states after → GoneIn states cut
+    → IsCut script log (replies_of states) config cut → IsCut script (log ++ more) (replies_of after) config cut
+IsCut_later {script} {log} more {states} {after} {cut} later gone is = record {
   within = omega (arith, is.within, length-append log more);
   few = λ u.
       let extra : (rs : List Reply) × (replies_of after u ≡ replies_of states u ++ rs) = later.replies u in
@@ -104,17 +104,17 @@ abbrev pub NeedsBy : Script → Cut → ℕ → Op → ℕ → List Entry → Ty
 NeedsBy script cut t o need h = NeedsWords h (registers_by script cut h) t o need
 
 -- a thread that lacks room, and gets no further reply
-pub LacksNow_same : (script : Script) (log more : List Entry) (states after : List ThreadState) (config : Config)
-    (t held_words need : ℕ) → Later states after → replies_of after t ≡ replies_of states t
+pub LacksNow_same : {script : Script} {log : List Entry} (more : List Entry) {states after : List ThreadState}
+    {config : Config} {t held_words need : ℕ} → Later states after → replies_of after t ≡ replies_of states t
     → LacksNow script log states config t held_words need → LacksNow script (log ++ more) after config t held_words need
-LacksNow_same script log more states after config t held_words need later same lacks =
+LacksNow_same {script} {log} more {states} {after} {config} {t} {held_words} {need} later same lacks =
     let x : LacksRoom script log (replies_of states) config t held_words need = lacks.0 in
     let history : take x.cut.entries (log ++ more) ≡ take x.cut.entries log =
     take-append-le x.cut.entries log more x.is_cut.is.within in
     let next : LacksRoom script (log ++ more) (replies_of after) config t held_words need = record {
       cut = x.cut;
       is_cut = record {
-        is = IsCut_later script log more states after config x.cut later lacks.1 x.is_cut.is;
+        is = IsCut_later more later lacks.1 x.is_cut.is;
         count = x.is_cut.count ∙ ap length (sym same);
         alive = x.is_cut.alive;
       };
@@ -128,24 +128,25 @@ LacksNow_same script log more states after config t held_words need later same l
     (next, GoneIn_later states after x.cut later lacks.1)
 
 -- a thread that ended for want of room
-pub LacksNow_later : (script : Script) (log more : List Entry) (states after : List ThreadState) (config : Config)
-    (t held_words need : ℕ) (s : ThreadState) → Later states after → slice_get states t ≡ Some s → IsEnded s.mode
-    → LacksNow script log states config t held_words need → LacksNow script (log ++ more) after config t held_words need
-LacksNow_later script log more states after config t held_words need s later at ended lacks =
-    LacksNow_same script log more states after config t held_words need later
-    (replies_here after t s (later.ended t s at ended) ∙ sym (replies_here states t s at)) lacks
+pub LacksNow_later : {script : Script} {log : List Entry} (more : List Entry) {states after : List ThreadState}
+    {config : Config} {t held_words need : ℕ} {s : ThreadState} → Later states after → slice_get states t ≡ Some s
+    → IsEnded s.mode → LacksNow script log states config t held_words need
+    → LacksNow script (log ++ more) after config t held_words need
+LacksNow_later more {states} {after} {t} {s} later at ended lacks =
+    LacksNow_same more later (replies_here after t s (later.ended t s at ended) ∙ sym (replies_here states t s at))
+    lacks
 
 -- the moment of a collection stays one
-pub HasCut_later : (script : Script) (log more : List Entry) (states after : List ThreadState) (config : Config)
-    (entry : Journal) → Later states after → HasCut script log states config entry
+pub HasCut_later : {script : Script} {log : List Entry} (more : List Entry) {states after : List ThreadState}
+    {config : Config} {entry : Journal} → Later states after → HasCut script log states config entry
     → HasCut script (log ++ more) after config entry
-HasCut_later script log more states after config entry later has =
+HasCut_later {script} {log} more {states} {after} {entry} later has =
     let history : take has.cut.entries (log ++ more) ≡ take has.cut.entries log =
     take-append-le has.cut.entries log more has.is_cut.within in
     let at : IsCollectedAt script log entry has.cut = has.collected in
     record {
       cut = has.cut;
-      is_cut = IsCut_later script log more states after config has.cut later has.gone has.is_cut;
+      is_cut = IsCut_later more later has.gone has.is_cut;
       collected = record {
         holds = subst (HoldsBy script has.cut entry.held) (sym history) at.holds;
         alive = at.alive;
@@ -156,12 +157,12 @@ HasCut_later script log more states after config entry later has =
     }
 
 -- and so of all collections
-pub HaveCuts_later : (script : Script) (log more : List Entry) (states after : List ThreadState) (config : Config)
+pub HaveCuts_later : (script : Script) (log more : List Entry) {states after : List ThreadState} (config : Config)
     (journal : List Journal) → Later states after → HaveCuts script log states config journal
     → HaveCuts script (log ++ more) after config journal
-HaveCuts_later script log more states after config journal later have =
+HaveCuts_later script log more {states} {after} config journal later have =
     All-weaker (HasCut script log states config) (HasCut script (log ++ more) after config)
-    (λ entry has. HasCut_later script log more states after config entry later has) journal have
+    (λ entry has. HasCut_later more later has) journal have
 
 -- whether a thread has ended
 abbrev pub has_gone : Mode → Bool

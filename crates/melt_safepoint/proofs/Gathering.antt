@@ -40,13 +40,14 @@ pub same_value : (v w : View) → ((t : ℕ) → values_of w t ≡ values_of v t
 same_value v w values = fun_ext (λ t. fun_ext (λ r. ap (λ (vs : List Value). value_in vs r) (values t)))
 
 -- A new epoch begins, in which all stands as it stood.
-pub renewed_by : (told : Bool) (later : OnDisk) (heap new : Heap) (b : Beside) (names : Option name_table.Names)
-    (registers : List Registers) → RestsOver told later new (with_names_held b names registers)
-    → length new.space.list ≡ length heap.space.list → length new.globals ≡ length heap.globals
-    → length new.forward ≡ length heap.forward → length registers ≡ length b.held
+pub renewed_by : {told : Bool} {later : OnDisk} (heap : Heap) {new : Heap} (b : Beside)
+    (names : Option name_table.Names) (registers : List Registers)
+    → RestsOver told later new (with_names_held b names registers) → length new.space.list ≡ length heap.space.list
+    → length new.globals ≡ length heap.globals → length new.forward ≡ length heap.forward
+    → length registers ≡ length b.held
     → ((t : ℕ) → values_of (rest_view new (with_names_held b names registers)) t ≡ values_of (rest_view heap b) t)
     → Renewed told later (rest_view heap b) (rest_view new (with_names_held b names registers))
-renewed_by told later heap new b names registers rests words globals forwards threads values = record {
+renewed_by heap b names registers rests words globals forwards threads values = record {
   stands = rests.stands;
   quiet = rests.quiet;
   globals = globals;
@@ -146,19 +147,19 @@ with_free_stands true disk free v same stands =
 with_free_stands false disk free v same stands = stands_over disk (with_free disk free) v refl stands
 
 -- the journal has the end of the disk
-end_is : (phase : Phase) (heap new : Heap) (held held_after : List Registers) (end end_after : ℕ)
-    (image image_after : Option (List ℕ)) (entry : Journal)
+end_is : {phase : Phase} {heap new : Heap} {held held_after : List Registers} {end end_after : ℕ}
+    {image image_after : Option (List ℕ)} {entry : Journal}
     → CollectsPlanned phase heap new held held_after end end_after image image_after entry → entry.end ≡ end_after
-end_is phase heap new held held_after end end_after image image_after entry planned =
+end_is {end} planned =
     ap (λ (j : Journal). j.end) planned.journal_is
 
 -- a collection that moves nothing leaves the end of the disk
-end_stays : (phase : Phase) (mid new : Heap) (held held_after : List Registers) (end end_after : ℕ)
+end_stays : {phase : Phase} (mid new : Heap) (held held_after : List Registers) {end end_after : ℕ}
     (image image_after : Option (List ℕ)) (entry : Journal)
     → CollectsIn phase mid new held held_after end end_after image image_after entry → phase ≢ Move → end_after ≡ end
-end_stays Inactive mid new held held_after end end_after image image_after entry collects stays = collects.end_stays
-end_stays Mark mid new held held_after end end_after image image_after entry collects stays = collects.end_stays
-end_stays Move mid new held held_after end end_after image image_after entry collects stays = absurd (stays refl)
+end_stays {phase = Inactive} mid new held held_after image image_after entry collects stays = collects.end_stays
+end_stays {phase = Mark} mid new held held_after image image_after entry collects stays = collects.end_stays
+end_stays {phase = Move} mid new held held_after image image_after entry collects stays = absurd (stays refl)
 
 -- where a push did not fail, its value stands behind the others
 pub when_pushed : {T E : Type 0} (r : Result T E) (now was all : List Journal) → is_err r ≡ false
@@ -182,11 +183,11 @@ may_formed finish heap held may =
     (record { stands = may.may.stands; quiet = may.may.quiet; names = may.names }) may.may.ends)
 
 -- and what a planned collection leaves of them
-pub leaves_planned : (phase : Phase) (shown later : Shown) (heap new : Heap) (held registers : List Registers)
-    (entry : Journal) → MayCollectHeap shown.end heap held
+pub leaves_planned : {phase : Phase} (shown later : Shown) {heap new : Heap} {held registers : List Registers}
+    {entry : Journal} → MayCollectHeap shown.end heap held
     → CollectsPlanned phase heap new held registers shown.end later.end shown.image later.image entry
     → LeavesHeap heap new
-leaves_planned phase shown later heap new held registers entry may planned =
+leaves_planned {phase} shown later {heap} {new} {registers} {entry} may planned =
     let b : Beside = may.beside in
     let free : List ℕ = may.may.disk.free_homes in
     let seen : SeenDisk false shown.end shown.image free (rest_view heap b) =
@@ -239,7 +240,7 @@ module _ (phase : Phase) (shown later : Shown) (heap new : Heap) (b : Beside) (n
       → Gathers v entry
   made_gathers told free seen tells =
       let ends : entry.end ≡ later.end =
-      end_is phase heap new b.held registers shown.end later.end shown.image later.image entry made.planned in
+      end_is made.planned in
       let gathers : Gathers v (record entry { end = later.end }) =
       gathers_told told phase seen.disk heap new b names registers later.end later.image entry
       (made_carried told free seen) tells in
@@ -269,8 +270,7 @@ module _ (phase : Phase) (shown later : Shown) (heap new : Heap) (b : Beside) (n
         disk = with_free c.was.later free;
         under = record { ends = c.was.ends; tells = λ tells. (made.still (some tells), c.was.shows) };
         same_free = refl;
-        renewed = renewed_by told (with_free c.was.later free) heap new b names registers rests c.size c.globals
-            c.forwards made.threads.threads c.values;
+        renewed = renewed_by heap b names registers rests c.size c.globals c.forwards made.threads.threads c.values;
         gathers = made_gathers told free seen;
         marked = λ tells move.
             move_marks told seen.disk heap new b names registers later.end later.image entry
@@ -306,11 +306,11 @@ module _ (phase : Phase) (shown later : Shown) (heap new : Heap) (b : Beside) (n
         stop = refl;
         none_forwarded = c.was.settled;
         quiet = c.at_rest.quiet;
-        end = end_is phase heap new b.held registers shown.end later.end shown.image later.image entry made.planned;
+        end = end_is made.planned;
         grows = omega (arith, grows, c.between_end, seen.ends, c.was.ends);
         fits = made.fits;
-        stays = end_stays phase made.planned.mid new b.held registers shown.end later.end made.planned.between
-            later.image made.planned.alone made.planned.collects;
+        stays = end_stays {phase = phase} made.planned.mid new b.held registers {end = shown.end}
+            {end_after = later.end} made.planned.between later.image made.planned.alone made.planned.collects;
         limit = made.limit;
         each = λ told disk under stands.
             made_over told disk.free_homes (seen_disk told shown.end shown.image disk v under stands)
@@ -318,15 +318,15 @@ module _ (phase : Phase) (shown later : Shown) (heap new : Heap) (b : Beside) (n
       }
 
 -- So it was made whatever stood beside the heap.
-pub collects_heap : (phase : Phase) (shown later : Shown) (heap new : Heap) (held registers : List Registers)
-    (entry : Journal) (old plans : Collector)
+pub collects_heap : {phase : Phase} (shown later : Shown) {heap new : Heap} {held registers : List Registers}
+    {entry : Journal} (old plans : Collector)
     → CollectsPlanned phase heap new held registers shown.end later.end shown.image later.image entry
     → SameThreads held registers → (phase ≡ Move → later.end ≤ shown.limit) → later.limit ≡ shown.limit
     → StillTold shown.image later.image → plans.journal.items ≡ old.journal.items ++ entry ∷ []
     → plans.plan ≡ plan_after old.plan phase entry.live (length heap.space.list)
     → CollectsHeap phase shown later heap new held registers old plans
-collects_heap phase shown later heap new held registers entry old plans planned threads fits limit still pushed next b
-    names was names_were names_are may =
+collects_heap {phase} shown later {heap} {new} {registers} {entry} old plans planned threads fits limit still pushed
+    next b names was names_were names_are may =
     collects_made phase shown later heap new b names registers entry (record {
       planned = subst (λ (lent : List Registers).
           CollectsPlanned phase heap new lent registers shown.end later.end shown.image later.image entry) (sym was)

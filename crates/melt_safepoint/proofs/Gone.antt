@@ -61,20 +61,18 @@ pub dropped_quiet : (v w : View) (t : ℕ) → HasDropped v w t → IsQuiet v �
 dropped_quiet v w t drops quiet u = ap (λ (x : View). call_of x u) drops.only ∙ quiet u
 
 -- why the thread ends
-gone_lacks : (told : Bool) (script : Script) (config : Config) (shown : Shown) (forced : ℕ) (old : Row)
-    (t held need : ℕ) (s : ThreadState) → IsLacking old.states t s
-    → LacksWords told script config shown forced old t need
-    → (told ≡ true → NoRoom config old.view need)
-    → ((disk : OnDisk) → Standing true disk old.view
-    → CostsSum (words_of old.view.log) (Held (value old.view)) held)
+gone_lacks : (told : Bool) {script : Script} {config : Config} {shown : Shown} {forced : ℕ} {old : Row} {t : ℕ}
+    (held : ℕ) {need : ℕ} {s : ThreadState} → IsLacking old.states t s
+    → LacksWords told script config shown forced old t need → (told ≡ true → NoRoom config old.view need)
+    → ((disk : OnDisk) → Standing true disk old.view → CostsSum (words_of old.view.log) (Held (value old.view)) held)
     → told ≡ true → LacksNow script old.view.log old.states config t held need
-gone_lacks true script config shown forced old t held need s was lacks no_room holds is =
+gone_lacks true {old} {t} held {need} {s} was lacks no_room holds is =
     let disk : OnDisk = lacks.stands.disk in
     let all : CostsSum (words_of old.view.log) (Held (value old.view)) held =
     holds disk lacks.stands.table.stands in
-    lacks_room script config disk old.view old.states t need held lacks.op s lacks.stands.table was.at
-    (lacking_open was) lacks.owed (lacks.next s was.at) (lacks.needs refl) all (no_room refl held all)
-gone_lacks false script config shown forced old t held need s was lacks no_room holds is =
+    lacks_room t need lacks.stands.table was.at (lacking_open was) lacks.owed (lacks.next s was.at) (lacks.needs refl)
+    all (no_room refl held all)
+gone_lacks false {old} {t} held {need} {s} was lacks no_room holds is =
     absurd (let wrong : false ≡ true = is in cc)
 
 -- so the run stands behind it
@@ -90,16 +88,15 @@ gone_stands {told} {script} {config} {shown} {forced} {old} {new} {t} {held} {ne
     let after : List ThreadState = set states t (record e.s { mode = mode }) in
     let history : new.view.log ≡ old.view.log = ap (λ (x : View). x.log) e.drops.only in
     let adds : Adds script config states after 0 1 =
-    adds_mode script config states t 1 e.s mode e.was.at stands.table.count (ap owes e.was.lacking)
+    adds_mode script config states t 1 mode e.was.at stands.table.count (ap owes e.was.lacking)
     (omega (arith, ap over e.was.lacking)) in
     record {
       disk = disk;
       under = stands.under;
       none_free = stands.none_free;
       table = subst (TableStands told script config disk new.view) (sym e.states)
-          (Table_gone told script config disk old.view new.view states t e.s (end.OutOfHeap held need) stands.table
-          e.was.at (lacking_open e.was) e.drops (stands.quiet t)
-          (gone_lacks told script config shown forced old t held need e.s e.was lacks no_room e.holds));
+          (Table_gone (end.OutOfHeap held need) stands.table e.was.at (lacking_open e.was) e.drops (stands.quiet t)
+          (gone_lacks told held e.was lacks no_room e.holds));
       quiet = dropped_quiet old.view new.view t e.drops stands.quiet;
       words = e.words ∙ stands.words;
       every = e.every ∙ stands.every;
@@ -111,8 +108,8 @@ gone_stands {told} {script} {config} {shown} {forced} {old} {new} {t} {held} {ne
           (subst (λ (xs : List ThreadState). HaveCuts script new.view.log xs config old.collector.journal.items)
           (sym e.states)
           (subst (λ (h : List Entry). HaveCuts script h after config old.collector.journal.items) (sym history)
-          (cuts_mode script config old.view.log states t e.s mode old.collector.journal.items e.was.at
-          (lacking_open e.was) (stands.cuts tells))));
+          (cuts_mode config old.view.log states t mode old.collector.journal.items e.was.at (lacking_open e.was)
+          (stands.cuts tells))));
       made = λ is.
           subst (λ (c : Collector). MadeSoFar config new.view c.journal.items) (sym e.collector)
           (made_dropped old.view new.view t e.drops (config.heap * length old.collector.journal.items)

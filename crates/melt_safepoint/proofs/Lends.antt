@@ -65,9 +65,9 @@ lends_none k a b js later is grows = record {
 }
 
 -- where no more than so many were begun, no more than more
-pub lends_more : (k m n a b : ℕ) (js later : List Journal) → m ≤ n → LendsFew k m a b js later
+pub lends_more : {k m : ℕ} (n : ℕ) {a b : ℕ} {js later : List Journal} → m ≤ n → LendsFew k m a b js later
     → LendsFew k n a b js later
-lends_more k m n a b js later less lends = record {
+lends_more n less lends = record {
   epochs = lends.epochs;
   lent = lends.lent;
   few = omega (arith, less, lends.few);
@@ -76,9 +76,9 @@ lends_more k m n a b js later less lends = record {
 }
 
 -- and so behind collections that were made meanwhile
-pub lends_since : (k m a b c : ℕ) (js mid later : List Journal) → b ≡ a → length js ≤ length mid
+pub lends_since : {k m a b c : ℕ} (js : List Journal) {mid later : List Journal} → b ≡ a → length js ≤ length mid
     → LendsFew k m b c mid later → LendsFew k m a c js later
-lends_since k m a b c js mid later same grows lends = record {
+lends_since {a} {b} {c} js same grows lends = record {
   epochs = lends.epochs;
   lent = omega (arith, lends.lent, same);
   few = omega (arith, grows, lends.few);
@@ -87,9 +87,9 @@ lends_since k m a b c js mid later same grows lends = record {
 }
 
 -- one after the other
-pub lends_then : (k m n a b c : ℕ) (js mid later : List Journal) → LendsFew k m a b js mid
-    → LendsFew k n b c mid later → LendsFew k (m + n) a c js later
-lends_then k m n a b c js mid later first second = record {
+pub lends_then : {k m n a b c : ℕ} {js mid later : List Journal} → LendsFew k m a b js mid → LendsFew k n b c mid later
+    → LendsFew k (m + n) a c js later
+lends_then {k} {a} {b} {c} first second = record {
   epochs = first.epochs + second.epochs;
   lent = omega (arith, first.lent, second.lent, readers_sum k first.epochs second.epochs);
   few = omega (arith, first.few, second.few);
@@ -98,9 +98,9 @@ lends_then k m n a b c js mid later first second = record {
 }
 
 -- a collection that was made pays for an epoch behind it
-pub lends_after : (k m a b c : ℕ) (js mid later : List Journal) → b ≡ a → length js + 1 ≤ length mid
-    → LendsFew k (m + 1) b c mid later → LendsFew k m a c js later
-lends_after k m a b c js mid later same paid lends = record {
+pub lends_after : {k : ℕ} (m : ℕ) {a b c : ℕ} (js : List Journal) {mid later : List Journal} → b ≡ a
+    → length js + 1 ≤ length mid → LendsFew k (m + 1) b c mid later → LendsFew k m a c js later
+lends_after m {a} {b} {c} js same paid lends = record {
   epochs = lends.epochs;
   lent = omega (arith, lends.lent, same);
   few = omega (arith, paid, lends.few);
@@ -137,9 +137,9 @@ twice_first k a b js later lends same = record {
 }
 
 -- one after the other
-pub twice_then : (k m n a b c : ℕ) (js mid later : List Journal) → LendsTwice k m a b js mid
+pub twice_then : {k m n a b c : ℕ} {js mid later : List Journal} → LendsTwice k m a b js mid
     → LendsTwice k n b c mid later → LendsTwice k (m + n) a c js later
-twice_then k m n a b c js mid later first second = record {
+twice_then {k} {a} {b} {c} first second = record {
   epochs = first.epochs + second.epochs;
   lent = omega (arith, first.lent, second.lent, readers_sum k first.epochs second.epochs);
   few = omega (arith, first.few, second.few);
@@ -151,10 +151,10 @@ pub all_not_some : (states : List ThreadState) → SomeGoesOn states → AllEnde
 all_not_some states some all = some.1.2 (all some.0 some.1.0 some.1.1)
 
 -- what a run that had made no collection leaves of the count of lends
-pub counts_lends : (k : ℕ) (script : Script) (report : Report) (a b : ℕ) (js later : List Journal) → js ≡ []
+pub counts_lends : {k : ℕ} (script : Script) (report : Report) {a b : ℕ} {js later : List Journal} → js ≡ []
     → report.journal ≡ later → LendsTwice k 1 a b js later → (HasNoOperations script → b ≡ a)
     → CountsLends k script report a b
-counts_lends k script report a b js later none is twice idle = record {
+counts_lends script report none is twice idle = record {
   epochs = twice.epochs;
   lent = twice.lent;
   few = omega (arith, twice.few, ap length none, ap length is);

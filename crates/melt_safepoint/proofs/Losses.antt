@@ -120,9 +120,9 @@ rises_open a b f g first second = elim second [
 
 -- On one reader behind others, of which so many faults were counted already: those that were lost meanwhile are counted
 -- with the rest.
-pub counts_open : (states mid after : List ThreadState) (a b f g : ℕ) → CountsLosses states mid a (b + f)
+pub counts_open : {states mid after : List ThreadState} {a : ℕ} (b : ℕ) {f g : ℕ} → CountsLosses states mid a (b + f)
     → CountsLosses mid after f g → CountsLosses states after a (b + g)
-counts_open states mid after a b f g first second = record {
+counts_open {a} b {f} {g} first second = record {
   counted = elim second.counted [
     | inl more ↦ elim first.counted [
       | inl few ↦ inl (omega (arith, few, more))
@@ -141,7 +141,7 @@ pub counts_then : (states mid after : List ThreadState) (a b c : ℕ) → Counts
     → CountsLosses mid after b c → CountsLosses states after a c
 counts_then states mid after a b c first second =
     subst (CountsLosses states after a) (omega arith)
-    (counts_open states mid after a 0 b c (subst (CountsLosses states mid a) (omega arith) first) second)
+    (counts_open 0 (subst (CountsLosses states mid a) (omega arith) first) second)
 
 -- a sum that a word has no room for leaves it at its end
 pub counted_cases : (b f : ℕ) → (counted b f ≡ b + f) ⊎ (counted b f ≡ 2 ^ 64 - 1)
@@ -202,11 +202,10 @@ refused_counts s (refusal.Damaged damaged) faults faults_after fault rises =
     counts_none s (record s { mode = mode_for (refusal.Damaged damaged) }) faults faults_after refl rises
 
 -- no thread was lost before a reader that was lent anew
-pub fresh_counts : (states mid after : List ThreadState) (a b f g : ℕ) → mid ≡ states → b ≡ a → f ≡ 0
+pub fresh_counts : {states mid after : List ThreadState} {a b f g : ℕ} → mid ≡ states → b ≡ a → f ≡ 0
     → CountsLosses mid after f g → CountsLosses states after a (b + g)
-fresh_counts states mid after a b f g same reads none counts =
-    counts_open states mid after a b f g
-    (counts_same states mid a (b + f) (ap losses same) (omega (arith, reads))) counts
+fresh_counts {states} {mid} {a} {b} {f} same reads none counts =
+    counts_open b (counts_same states mid a (b + f) (ap losses same) (omega (arith, reads))) counts
 
 -- where no thread is lost, the count of them that has risen is enough
 pub counts_risen : (states after : List ThreadState) (a b : ℕ) → losses after ≡ losses states → HasRisen a b
@@ -222,9 +221,9 @@ pub record CountsBefore (states after : List ThreadState) (faults faults_after r
   pub lost : CountsLosses states after reads reads_after
 
 -- behind one collection more, no thread more is lost, and no read more failed
-pub counts_made : (states mid after : List ThreadState) (a b c x y z : ℕ) → after ≡ mid → a ≤ b → b ≤ c
+pub counts_made : {states mid after : List ThreadState} (a b c : ℕ) {x y z : ℕ} → after ≡ mid → a ≤ b → b ≤ c
     → CountsLosses states mid x y → z ≡ y → CountsBefore states after a c x z
-counts_made states mid after a b c x y z same first second lost reads = record {
+counts_made {states} {after} a b c {x} {y} same first second lost reads = record {
   count = omega (arith, first, second);
   lost = subst (CountsLosses states after x) (sym reads)
       (subst (λ (xs : List ThreadState). CountsLosses states xs x y) (sym same) lost);

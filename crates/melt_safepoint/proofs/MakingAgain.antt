@@ -71,8 +71,8 @@ again_more states after n s x so_far at made = record {
       elim (calls_again s.mode) [
         | inl again ↦
             subst (λ (z : ThreadState). TableStands told script config disk v (set after n z)) (sym (made.again again))
-            (Table_runs told script config disk v after n s before at (again_open s.mode again)
-            (again_some s.mode s.op again (before.each n s at).fits) (quiet n))
+            (Table_runs n before at (again_open s.mode again) (again_some s.mode s.op again (before.each n s at).fits)
+            (quiet n))
         | inr not ↦ subst (TableStands told script config disk v)
             (sym (ap (set after n) (made.same not) ∙ set_got after n s at)) before
       ];
@@ -81,14 +81,14 @@ again_more states after n s x so_far at made = record {
       elim (calls_again s.mode) [
         | inl again ↦
             subst (λ (z : ThreadState). HaveCuts script log (set after n z) config journal) (sym (made.again again))
-            (cuts_mode script config log after n s Running journal at (again_open s.mode again) before)
+            (cuts_mode config log after n Running journal at (again_open s.mode again) before)
         | inr not ↦ subst (λ (xs : List ThreadState). HaveCuts script log xs config journal)
             (sym (ap (set after n) (made.same not) ∙ set_got after n s at)) before
       ];
   collected = λ script config count.
       let one : Adds script config after (set after n x) 0 0 = elim (calls_again s.mode) [
         | inl again ↦ subst (λ (z : ThreadState). Adds script config after (set after n z) 0 0) (sym (made.again again))
-            (adds_mode script config after n 0 s Running at (so_far.count ∙ count) (again_owes s.mode again)
+            (adds_mode script config after n 0 Running at (so_far.count ∙ count) (again_owes s.mode again)
             (omega (arith, open_over s.mode (again_open s.mode again))))
         | inr not ↦ subst (λ (xs : List ThreadState). Adds script config after xs 0 0)
             (sym (ap (set after n) (made.same not) ∙ set_got after n s at)) (adds_none script config after)
@@ -155,10 +155,10 @@ again_knows states after n v again all own none = record {
 }
 
 -- behind the collections, silent ones are still to come only where a `collect` was answered just now
-pub owe_behind : (told : Bool) (script : Script) (config : Config) (disk : OnDisk) (v : View)
-    (states mid : List ThreadState) → TableStands told script config disk v states → AllWait states
+pub owe_behind : {told : Bool} {script : Script} {config : Config} {disk : OnDisk} {v : View}
+    {states mid : List ThreadState} → TableStands told script config disk v states → AllWait states
     → CollectedAll states mid → OweBehindCollects script mid
-owe_behind told script config disk v states mid table waits all = λ t x at owes. elim (slice_get_cases states t).1 [
+owe_behind {told} {script} {v} {states} {mid} table waits all = λ t x at owes. elim (slice_get_cases states t).1 [
   | inl w ↦
       let s : ThreadState = w.0 in
       let st : ThreadStands told script v t s = table.each t s w.2 in

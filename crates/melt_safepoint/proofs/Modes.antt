@@ -30,25 +30,25 @@ use Rattle.melt_safepoint.proofs.Cuts.{replies_here, LacksNow_later, HaveCuts_la
 use Rattle.melt_safepoint.proofs.Threads.{replies_same, later_set}
 
 -- why a thread has ended stays so
-pub ends_later : (told : Bool) (script : Script) (log more : List Entry) (states after : List ThreadState)
-    (config : Config) (u : ℕ) (s : ThreadState) (mode : Mode) → Later states after → slice_get states u ≡ Some s
+pub ends_later : (told : Bool) (script : Script) (log more : List Entry) {states after : List ThreadState}
+    (config : Config) (u : ℕ) {s : ThreadState} {mode : Mode} → Later states after → slice_get states u ≡ Some s
     → replies_of after u ≡ replies_of states u → s.mode ≡ mode → EndsSo told script log states config u mode
     → EndsSo told script (log ++ more) after config u mode
-ends_later told script log more states after config u s Running later at same is ends = tt
-ends_later told script log more states after config u s Due later at same is ends = tt
-ends_later told script log more states after config u s Silent later at same is ends = tt
-ends_later told script log more states after config u s Collecting later at same is ends = tt
-ends_later told script log more states after config u s Asked later at same is ends = tt
-ends_later told script log more states after config u s Lacking later at same is ends = tt
-ends_later told script log more states after config u s (Ended end.Done) later at same is ends = ap length same ∙ ends
-ends_later told script log more states after config u s (Ended (end.OutOfHeap held_words need)) later at same is ends =
-    λ tells. LacksNow_later script log more states after config u held_words need s later at
+ends_later told script log more config u {mode = Running} later at same is ends = tt
+ends_later told script log more config u {mode = Due} later at same is ends = tt
+ends_later told script log more config u {mode = Silent} later at same is ends = tt
+ends_later told script log more config u {mode = Collecting} later at same is ends = tt
+ends_later told script log more config u {mode = Asked} later at same is ends = tt
+ends_later told script log more config u {mode = Lacking} later at same is ends = tt
+ends_later told script log more config u {mode = Ended end.Done} later at same is ends = ap length same ∙ ends
+ends_later told script log more config u {mode = Ended (end.OutOfHeap held_words need)} later at same is ends =
+    λ tells. LacksNow_later more later at
     (let over : IsEnded (Ended (end.OutOfHeap held_words need)) = tt in subst IsEnded (sym is) over) (ends tells)
-ends_later told script log more states after config u s (Ended end.DiskFault) later at same is ends =
+ends_later told script log more config u {mode = Ended end.DiskFault} later at same is ends =
     subst (LoadsNext script u) (ap length (sym same)) ends
-ends_later told script log more states after config u s (Ended (end.Damaged home place word)) later at same is ends =
+ends_later told script log more config u {mode = Ended (end.Damaged home place word)} later at same is ends =
     (ends.0, subst (LoadsNext script u) (ap length (sym same)) ends.1, ends.2)
-ends_later told script log more states after config u s (Ended end.Halted) later at same is ends = absurd ends
+ends_later told script log more config u {mode = Ended end.Halted} later at same is ends = absurd ends
 
 -- a thread that has not ended need not say why
 pub ends_open : (told : Bool) (script : Script) (log : List Entry) (states : List ThreadState) (config : Config) (t : ℕ)
@@ -93,12 +93,12 @@ refused_owes refusal.DiskFault = refl
 refused_owes (refusal.Damaged damaged) = refl
 
 -- why a thread has ended that could not read the disk
-pub lost_so : (told : Bool) (script : Script) (log : List Entry) (states : List ThreadState) (config : Config)
-    (t finish : ℕ) (r : Refusal) → finish ≤ config.disk → LoadsNext script t (length (replies_of states t))
+pub lost_so : (told : Bool) {script : Script} (log : List Entry) (states : List ThreadState) (config : Config) {t : ℕ}
+    (finish : ℕ) (r : Refusal) → finish ≤ config.disk → LoadsNext script t (length (replies_of states t))
     → IsLostBy told finish r → EndsSo told script log states config t (mode_for r)
-lost_so told script log states config t finish (refusal.Pause cause) within loads is = absurd is
-lost_so told script log states config t finish refusal.DiskFault within loads is = loads
-lost_so told script log states config t finish (refusal.Damaged damaged) within loads is =
+lost_so told log states config finish (refusal.Pause cause) within loads is = absurd is
+lost_so told log states config finish refusal.DiskFault within loads is = loads
+lost_so told log states config finish (refusal.Damaged damaged) within loads is =
     (is.untold, loads, is.read config within)
 
 -- its mode fits its next operation
@@ -168,41 +168,40 @@ later_mode states t s mode at goes =
     later_set states t s (record s { mode = mode }) [] at goes (sym (append-nil s.replies.items))
 
 -- and the moments of collections are those that they were
-pub cuts_mode : (script : Script) (config : Config) (log : List Entry) (states : List ThreadState) (t : ℕ)
-    (s : ThreadState) (mode : Mode) (journal : List Journal) → slice_get states t ≡ Some s → (IsEnded s.mode → ⊥)
+pub cuts_mode : {script : Script} (config : Config) (log : List Entry) (states : List ThreadState) (t : ℕ)
+    {s : ThreadState} (mode : Mode) (journal : List Journal) → slice_get states t ≡ Some s → (IsEnded s.mode → ⊥)
     → HaveCuts script log states config journal
     → HaveCuts script log (set states t (record s { mode = mode })) config journal
-cuts_mode script config log states t s mode journal at goes have =
+cuts_mode {script} config log states t {s} mode journal at goes have =
     let after : List ThreadState = set states t (record s { mode = mode }) in
     subst (λ (h : List Entry). HaveCuts script h after config journal) (append-nil log)
-    (HaveCuts_later script log [] states after config journal (later_mode states t s mode at goes) have)
+    (HaveCuts_later script log [] config journal (later_mode states t s mode at goes) have)
 
 -- why a thread ends is so when it has ended
 pub ends_gone : (told : Bool) (script : Script) (log : List Entry) (states : List ThreadState) (config : Config) (t : ℕ)
-    (s : ThreadState) (e : ThreadEnd) → slice_get states t ≡ Some s → (IsEnded s.mode → ⊥)
+    {s : ThreadState} (e : ThreadEnd) → slice_get states t ≡ Some s → (IsEnded s.mode → ⊥)
     → EndsSo told script log states config t (Ended e)
     → EndsSo told script log (set states t (record s { mode = Ended e })) config t (Ended e)
-ends_gone told script log states config t s end.Done at goes ends =
+ends_gone told script log states config t {s} end.Done at goes ends =
     let after : ThreadState = record s { mode = Ended end.Done } in
     ap length (replies_same states t s after at ∙ sym (replies_here states t s at)) ∙ ends
-ends_gone told script log states config t s (end.OutOfHeap held_words need) at goes ends = λ tells.
+ends_gone told script log states config t {s} (end.OutOfHeap held_words need) at goes ends = λ tells.
     let after : ThreadState = record s { mode = Ended (end.OutOfHeap held_words need) } in
     let later : Later states (set states t after) =
     later_mode states t s (Ended (end.OutOfHeap held_words need)) at goes in
     subst (λ (h : List Entry). LacksNow script h (set states t after) config t held_words need) (append-nil log)
-    (LacksNow_same script log [] states (set states t after) config t held_words need later
-    (replies_same states t s after at ∙ sym (replies_here states t s at)) (ends tells))
-ends_gone told script log states config t s end.DiskFault at goes ends =
+    (LacksNow_same [] later (replies_same states t s after at ∙ sym (replies_here states t s at)) (ends tells))
+ends_gone told script log states config t {s} end.DiskFault at goes ends =
     let after : ThreadState = record s { mode = Ended end.DiskFault } in
     subst (LoadsNext script t) (ap length (replies_here states t s at ∙ sym (replies_same states t s after at))) ends
-ends_gone told script log states config t s (end.Damaged home place word) at goes ends =
+ends_gone told script log states config t {s} (end.Damaged home place word) at goes ends =
     let after : ThreadState = record s { mode = Ended (end.Damaged home place word) } in (
       ends.0,
       subst (LoadsNext script t) (ap length (replies_here states t s at ∙ sym (replies_same states t s after at)))
           ends.1,
       ends.2,
     )
-ends_gone told script log states config t s end.Halted at goes ends = absurd ends
+ends_gone told script log states config t {s} end.Halted at goes ends = absurd ends
 
 -- a thread that can go on does not wait
 pub goes_waits : (mode : Mode) → MayGo mode → Waits mode → ⊥

@@ -65,10 +65,10 @@ told_now script config disk v states u table =
     ]
 
 -- so it has ended, or has its last silent collection still to come
-pub over_now : (told : Bool) (script : Script) (config : Config) (disk : OnDisk) (v : View) (states : List ThreadState)
-    (u : ℕ) (s : ThreadState) → TableStands told script config disk v states → slice_get states u ≡ Some s
+pub over_now : {told : Bool} {script : Script} {config : Config} {disk : OnDisk} {v : View} {states : List ThreadState}
+    (u : ℕ) {s : ThreadState} → TableStands told script config disk v states → slice_get states u ≡ Some s
     → length s.replies.items ≡ length (operations script u) → (has_gone s.mode ≡ true) ⊎ (owes_silent s.mode ≡ true)
-over_now told script config disk v states u s table at all = elim (gone_cases s.mode) [
+over_now {told} {script} {v} u {s} table at all = elim (gone_cases s.mode) [
   | inl gone ↦ inl gone.1
   | inr goes ↦
       let st : ThreadStands told script v u s = table.each u s at in
@@ -92,7 +92,7 @@ IsCut_now script config disk v states table = record {
     | inl w ↦
         let count : length w.0.replies.items ≡ length (operations script u) =
         ap length (sym (replies_here states u w.0 w.2)) ∙ all in
-        elim (over_now true script config disk v states u w.0 table w.2 count) [
+        elim (over_now u table w.2 count) [
           | inl gone ↦ inl (gone_here states u w.0 w.2 ∙ gone)
           | inr owes ↦ inr (subst (IsDue config) count (table.due u w.0 w.2 owes))
         ]
@@ -109,7 +109,7 @@ over_alone script config disk v states u table owe all = elim (slice_get_cases s
   | inl w ↦
       let count : length w.0.replies.items ≡ length (operations script u) =
       ap length (sym (replies_here states u w.0 w.2)) ∙ all in
-      elim (over_now true script config disk v states u w.0 table w.2 count) [
+      elim (over_now u table w.2 count) [
         | inl gone ↦ inl (gone_here states u w.0 w.2 ∙ gone)
         | inr owes ↦
             let had : HadCollect script u w.0 = owe u w.0 w.2 owes in
@@ -119,11 +119,11 @@ over_alone script config disk v states u table owe all = elim (slice_get_cases s
 ]
 
 -- the thread has not ended now
-IsCutAt_now : (script : Script) (config : Config) (disk : OnDisk) (v : View) (states : List ThreadState) (t : ℕ)
-    (s : ThreadState) → TableStands true script config disk v states → slice_get states t ≡ Some s
+IsCutAt_now : {script : Script} {config : Config} {disk : OnDisk} {v : View} {states : List ThreadState} (t : ℕ)
+    {s : ThreadState} → TableStands true script config disk v states → slice_get states t ≡ Some s
     → (IsEnded s.mode → ⊥)
     → IsCutAt script v.log (replies_of states) config t (length (replies_of states t)) (now v.log states)
-IsCutAt_now script config disk v states t s table at goes = record {
+IsCutAt_now {script} {config} {disk} {v} {states} t {s} table at goes = record {
   is = IsCut_now script config disk v states table;
   count = refl;
   alive = gone_here states t s at ∙ elim (gone_cases s.mode) [ inl gone ↦ absurd (goes gone.0) | inr not ↦ not.1 ];
@@ -164,9 +164,9 @@ nothing_past v u r past =
     (omega (arith, length-map v.held (λ (x : Registers). x.regs))))
 
 -- the registers of all threads by the history are those that they have
-registers_now : (script : Script) (config : Config) (disk : OnDisk) (v : View) (states : List ThreadState) (u r : ℕ)
+registers_now : {script : Script} {config : Config} {disk : OnDisk} {v : View} {states : List ThreadState} (u r : ℕ)
     → TableStands true script config disk v states → registers_by script (now v.log states) v.log u r ≡ value v u r
-registers_now script config disk v states u r table =
+registers_now {script} {v} {states} u r table =
     let at : Bool → List Reply → Value =
     λ b rs. if b then Nil else value_in (registers_after v.log u (operations script u) (length rs)) r in
     elim (slice_get_cases states u).1 [
@@ -186,7 +186,7 @@ pub cut_now : (script : Script) (config : Config) (disk : OnDisk) (v : View) (st
 cut_now script config disk v states entry table gathers =
     let cut : Cut = now v.log states in
     let same : (u r : ℕ) → value v u r ≡ registers_by script cut v.log u r =
-    λ u r. sym (registers_now script config disk v states u r table) in
+    λ u r. sym (registers_now u r table) in
     let holds : HoldsBy script cut entry.held v.log =
     held_words_same v.log (value v) (registers_by script cut v.log) entry.held same gathers.holds in
     let reach : ReachesBy script cut gathers.alive v.log =
@@ -204,35 +204,35 @@ cut_now script config disk v states entry table gathers =
     }
 
 -- the next operation of a thread is that of the script behind its replies
-pub next_op : (told : Bool) (script : Script) (config : Config) (disk : OnDisk) (v : View) (states : List ThreadState)
-    (t : ℕ) (s : ThreadState) (o : Op) → TableStands told script config disk v states → slice_get states t ≡ Some s
+pub next_op : {told : Bool} {script : Script} {config : Config} {disk : OnDisk} {v : View} {states : List ThreadState}
+    (t : ℕ) {s : ThreadState} {o : Op} → TableStands told script config disk v states → slice_get states t ≡ Some s
     → s.op ≡ Some o → slice_get (operations script t) (length (replies_of states t)) ≡ Some o
-next_op told script config disk v states t s o table at next =
+next_op {script} {states} t {s} {o} table at next =
     let to_come : o ∷ s.cursor.operations ≡ drop (length s.replies.items) (operations script t) =
     ap (λ (x : Option Op). with_first x s.cursor.operations) (sym next) ∙ (table.each t s at).to_come in
     ap (λ (rs : List Reply). slice_get (operations script t) (length rs)) (replies_here states t s at)
     ∙ first_left (operations script t) (length s.replies.items) o s.cursor.operations to_come
 
 -- now: the next operation of a thread needs more words than there are beside those that registers hold
-pub lacks_room : (script : Script) (config : Config) (disk : OnDisk) (v : View) (states : List ThreadState)
-    (t need held_words : ℕ) (o : Op) (s : ThreadState) → TableStands true script config disk v states
+pub lacks_room : {script : Script} {config : Config} {disk : OnDisk} {v : View} {states : List ThreadState} (t need : ℕ)
+    {held_words : ℕ} {o : Op} {s : ThreadState} → TableStands true script config disk v states
     → slice_get states t ≡ Some s → (IsEnded s.mode → ⊥) → OweBehindCollects script states → s.op ≡ Some o
     → NeedsWords v.log (value v) t o need → CostsSum (words_of v.log) (Held (value v)) held_words
     → config.heap < held_words + need → LacksNow script v.log states config t held_words need
-lacks_room script config disk v states t need held_words o s table at goes owe next needs held above =
+lacks_room {script} {config} {disk} {v} {states} t need {held_words} {o} table at goes owe next needs held above =
     let cut : Cut = now v.log states in
     let same : (u r : ℕ) → value v u r ≡ registers_by script cut v.log u r =
-    λ u r. sym (registers_now script config disk v states u r table) in
+    λ u r. sym (registers_now u r table) in
     let holds : HoldsBy script cut held_words v.log =
     held_words_same v.log (value v) (registers_by script cut v.log) held_words same held in
     let needed : NeedsBy script cut t o need v.log =
     needs_same v.log (value v) (registers_by script cut v.log) t o need same needs in
     let lacks : LacksRoom script v.log (replies_of states) config t held_words need = record {
       cut = cut;
-      is_cut = IsCutAt_now script config disk v states t s table at goes;
+      is_cut = IsCutAt_now t table at goes;
       over = λ u all. over_alone script config disk v states u table owe all;
       op = o;
-      next = next_op true script config disk v states t s o table at next;
+      next = next_op t table at next;
       needed = subst (NeedsBy script cut t o need) (sym (take-length v.log)) needed;
       holds = subst (HoldsBy script cut held_words) (sym (take-length v.log)) holds;
       above = above;

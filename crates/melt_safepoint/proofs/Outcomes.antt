@@ -41,10 +41,10 @@ IsCut_same script log a b config cut same is = record {
 }
 
 -- the next operation had no room, by other lists of the same replies
-LacksRoom_same : (script : Script) (log : List Entry) (a b : ℕ → List Reply) (config : Config) (t held_words need : ℕ)
-    → ((u : ℕ) → a u ≡ b u) → LacksRoom script log a config t held_words need
+LacksRoom_same : {script : Script} {log : List Entry} {a : ℕ → List Reply} (b : ℕ → List Reply) {config : Config}
+    {t held_words need : ℕ} → ((u : ℕ) → a u ≡ b u) → LacksRoom script log a config t held_words need
     → LacksRoom script log b config t held_words need
-LacksRoom_same script log a b config t held_words need same lacks = record {
+LacksRoom_same {script} {log} {a} b {config} {t} same lacks = record {
   cut = lacks.cut;
   is_cut = record {
     is = IsCut_same script log a b config lacks.cut same lacks.is_cut.is;
@@ -107,8 +107,7 @@ pub may_end : (told : Bool) (script : Script) (config : Config) (report : Report
     → EndsSo told script report.history states config t (mode.Ended e) → MayEnd told script config report t e
 may_end told script config report states t end.Done same ends = ap length (sym (same t)) ∙ ends
 may_end told script config report states t (end.OutOfHeap held_words need) same ends = λ is.
-    LacksRoom_same script report.history (replies_of states) (replies_in report) config t held_words need same
-    (ends is).0
+    LacksRoom_same (replies_in report) same (ends is).0
 may_end told script config report states t end.DiskFault same ends =
     subst (LoadsNext script t) (ap length (same t)) ends
 may_end told script config report states t (end.Damaged home at word) same ends =

@@ -29,10 +29,10 @@ below_none shown old = record {
 }
 
 -- for one thread more
-pub below_more : (shown mid : Shown) (old run next : Row) (n : ℕ) (s : ThreadState) → MadeBelow shown old run n
+pub below_more : {shown mid : Shown} {old run next : Row} {n : ℕ} {s : ThreadState} → MadeBelow shown old run n
     → slice_get old.states n ≡ Some s → KeepsRun shown mid old run → MakesFor s mid run next
     → MadeBelow shown old next (n + 1)
-below_more shown mid old run next n s so_far at keeps makes =
+below_more {old} {run} {next} {n} {s} so_far at keeps makes =
     let m : ℕ = collections_due (take n old.states) in
     let k : ℕ = collections_for s.mode in
     let next_n : n + 1 ≡ suc n = omega arith in

@@ -180,12 +180,12 @@ module _ (told : Bool) (disk : OnDisk) (mid new : Heap) (b : Beside) (registers 
   was_collected Move collects = was_moved collects
 
 -- with other numbers of Stubs and another end in the journal
-renumbered : (phase : Phase) (disk : OnDisk) (mid new : Heap) (b : Beside) (registers : List Registers) (finish : ℕ)
-    (image : Option (List ℕ)) (journal : Journal) (stubs end : ℕ)
+renumbered : {phase : Phase} {disk : OnDisk} {mid new : Heap} (b : Beside) {registers : List Registers} {finish : ℕ}
+    {image : Option (List ℕ)} {journal : Journal} (stubs end : ℕ)
     → WasCollected phase (maps_of b.names) disk mid new b.held registers finish image journal
     → WasCollected phase (maps_of b.names) disk mid new b.held registers finish image
     (record journal { stubs = stubs; end = end })
-renumbered phase disk mid new b registers finish image journal stubs end was = record {
+renumbered b stubs end was = record {
   after = was.after;
   later = was.later;
   to = was.to;
@@ -204,11 +204,11 @@ renumbered phase disk mid new b registers finish image journal stubs end was = r
 }
 
 -- where all is told, a collection leaves the same homes free
-free_stay : (told : Bool) (phase : Phase) (disk : OnDisk) (mid new : Heap) (b : Beside) (registers : List Registers)
-    (finish : ℕ) (image : Option (List ℕ)) (journal : Journal) → RestsOver told disk mid b
+free_stay : {told : Bool} {phase : Phase} {disk : OnDisk} {mid new : Heap} {b : Beside} {registers : List Registers}
+    {finish : ℕ} {image : Option (List ℕ)} {journal : Journal} → RestsOver told disk mid b
     → (was : WasCollected phase (maps_of b.names) disk mid new b.held registers finish image journal) → told ≡ true
     → was.later.free_homes ≡ disk.free_homes
-free_stay told phase disk mid new b registers finish image journal rests was tells =
+free_stay {told} {disk} {mid} {b} rests was tells =
     (was.collected.disk b.log (placed_told told disk (rest_view mid b) rests.stands tells).tells).free_homes
 
 -- names that are kept stay so
@@ -262,7 +262,7 @@ module _ (told : Bool) (phase : Phase) (disk : OnDisk) (heap new : Heap) (b : Be
   was_planned =
       subst (WasCollected phase (maps_of b.names) between mid new b.held registers end_after image_after)
       (sym planned.journal_is)
-      (renumbered phase between mid new b registers end_after image_after planned.alone _ _
+      (renumbered b _ _
       (was_collected told between mid new b registers end end_after planned.between image_after planned.alone
       rests_between ends settled.kept.shows phase planned.collects))
 
@@ -365,7 +365,7 @@ module _ (told : Bool) (phase : Phase) (disk : OnDisk) (heap new : Heap) (b : Be
       was = p.was;
       at_rest = rests_for told p.between p.was.later p.mid new b names registers over_mid over_stands threads.threads;
       free = λ tells.
-          free_stay told phase p.between p.mid new b registers finish image journal over_mid p.was tells
+          free_stay over_mid p.was tells
           ∙ p.between_free;
       size = over_size;
       globals = leaves_heap.globals;

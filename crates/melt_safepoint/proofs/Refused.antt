@@ -29,14 +29,15 @@ use Rattle.melt_safepoint.proofs.Gathering.{SeenDisk, renewed_by, seen_disk}
 use Rattle.melt_safepoint.proofs.PlannedRest.{SettledOver, keeps_made, keeps_then, settled_on}
 
 -- only a Move asks the disk for room
-pub refused_move : {Disk : Type 0} (phase : Phase) (mid : Heap) (held held_after : List Registers)
+pub refused_move : {Disk : Type 0} {phase : Phase} (mid : Heap) (held held_after : List Registers)
     (between later : Stale Disk) (back : Heap) (full : disk_full.DiskFull)
     → IsRefusedIn phase mid held held_after between later (DiskFull back full)
     → (phase ≡ Move) × IsRefused mid held held_after between later (DiskFull back full)
-refused_move Inactive mid held held_after between later back full refused =
+refused_move {phase = Inactive} mid held held_after between later back full refused =
     let no = refused.no_memory in absurd (cc)
-refused_move Mark mid held held_after between later back full refused = let no = refused.no_memory in absurd (cc)
-refused_move Move mid held held_after between later back full refused = (refl, refused)
+refused_move {phase = Mark} mid held held_after between later back full refused =
+    let no = refused.no_memory in absurd (cc)
+refused_move {phase = Move} mid held held_after between later back full refused = (refl, refused)
 
 -- the same names are for as many addresses
 keeps_same : (old new : Option name_table.Names) → SameNames old new → KeepsNames old new
@@ -159,7 +160,7 @@ module _ (told : Bool) (disk : OnDisk) (heap mid back : Heap) (b : Beside) (imag
       tells = λ tells.
           (some tells, subst (λ (words : Option (List ℕ)). Shows words over.image) (sym shown) settled.kept.shows);
     };
-    renewed = renewed_by told over heap back b b.names b.held rests_back stands_back.size stands_back.globals
+    renewed = renewed_by heap b b.names b.held rests_back stands_back.size stands_back.globals
         stands_back.tables.forwards refl values_back;
     shows = shows_rest back b stands_back.names_are;
     needs = needs_back limit full lacks;
@@ -167,17 +168,17 @@ module _ (told : Bool) (disk : OnDisk) (heap mid back : Heap) (b : Beside) (imag
 
 -- Where a planned collection was refused for want of room on the disk, it was a Move, and over each disk that is seen
 -- as it was all stands as before.
-pub is_full : {Disk : Type 0} (phase : Phase) (image : Disk → Option (List ℕ)) (writes : Disk → ℕ) (heap : Heap)
-    (held registers : List Registers) (before behind : Stale Disk) (back : Heap) (full : disk_full.DiskFull)
+pub is_full : {Disk : Type 0} {phase : Phase} {image : Disk → Option (List ℕ)} {writes : Disk → ℕ} {heap : Heap}
+    {held registers : List Registers} {before behind : Stale Disk} {back : Heap} {full : disk_full.DiskFull}
     → IsRefusedSettled image writes phase heap held registers before behind (DiskFull back full)
     → behind.limit ≡ before.limit → StillTold (image before.disk.now) (image behind.disk.now)
     → IsFullHeap phase (shown_by image before) (shown_by image behind) heap back held full
-is_full phase image writes heap held registers before behind back full refused limit still b left was names may there
-    history =
+is_full {phase} {image} {writes} {heap} {held} {registers} {before} {behind} {back} {full} refused limit still b left
+    was names may there history =
     let settled : IsRefusedSettled image writes phase heap b.held registers before behind (DiskFull back full) =
     subst (λ (lent : List Registers).
     IsRefusedSettled image writes phase heap lent registers before behind (DiskFull back full)) (sym was) refused in
-    let found = refused_move phase settled.mid b.held registers settled.between behind back full settled.refused in
+    let found = refused_move settled.mid b.held registers settled.between behind back full settled.refused in
     let same : IsAsBefore settled.mid back = found.1.0 in
     let lacks : LacksDisk settled.mid b.held settled.between.end settled.between.limit full = found.1.4 in
     let stays : settled.between.end ≡ before.end = settled.end_stays in

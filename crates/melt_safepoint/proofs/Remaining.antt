@@ -90,10 +90,10 @@ placed_left disk heap v is stands =
     })
 
 -- the heap that is left
-left_heap : (told : Bool) (script : Script) (config : Config) (seen : Shown) (disk : OnDisk) (heap : Heap) (v : View)
-    (states : List ThreadState) (report : Report) → TableStands told script config disk v states → ShowsHeap heap v
+left_heap : {told : Bool} {script : Script} {config : Config} (seen : Shown) {disk : OnDisk} {heap : Heap} {v : View}
+    {states : List ThreadState} (report : Report) → TableStands told script config disk v states → ShowsHeap heap v
     → Underlies told seen.end seen.image disk → report.history ≡ v.log → IsLeft told script config seen report heap
-left_heap told script config seen disk heap v states report table shows under log = record {
+left_heap {told} {script} {config} seen {disk} {heap} {v} {states} report table shows under log = record {
   globals = ap length (sym shows.globals) ∙ table.globals;
   words = ap (λ (x : SpaceWords). length x.list) (sym shows.space) ∙ table.words;
   placed = λ is. (
@@ -131,11 +131,11 @@ left_by script log t r halts count =
     if halts then value_in (registers_after log t (operations script t) count) r else Nil
 
 -- what a thread of the run holds is what is left of it
-thread_left : (script : Script) (config : Config) (disk : OnDisk) (v : View) (states : List ThreadState)
-    (report : Report) (t r : ℕ) (s : ThreadState) (x : ThreadReport) → TableStands true script config disk v states
+thread_left : {script : Script} {config : Config} {disk : OnDisk} {v : View} {states : List ThreadState}
+    (report : Report) (t r : ℕ) {s : ThreadState} (x : ThreadReport) → TableStands true script config disk v states
     → slice_get states t ≡ Some s → EndsAs report s x
     → value v t r ≡ left_by script v.log t r (is_halted x.end) (length s.replies.items)
-thread_left script config disk v states report t r s x table at (inl ends) =
+thread_left {script} {config} {v} {states} report t r {s} x table at (inl ends) =
     let so : EndsSo true script v.log states config t (mode.Ended x.end) =
     subst (λ (m : Mode). EndsSo true script v.log states config t m) ends (table.ends t s at) in
     let over : IsEnded s.mode = subst IsEnded (sym ends) tt in
@@ -143,23 +143,22 @@ thread_left script config disk v states report t r s x table at (inl ends) =
     ∙ (get_or_replicate 16 r Nil
     ∙ sym (ap (λ (b : Bool). left_by script v.log t r b (length s.replies.items))
     (not_halted true script v.log states config t x.end so)))
-thread_left script config disk v states report t r s x table at (inr halts) =
+thread_left {script} {config} {v} {states} report t r {s} x table at (inr halts) =
     sym (held_left script v t r s (table.each t s at) halts.0)
     ∙ sym (ap (λ (e : ThreadEnd). left_by script v.log t r (is_halted e) (length s.replies.items)) halts.1)
 
 -- and so what all registers hold
-registers_left : (script : Script) (config : Config) (disk : OnDisk) (v : View) (states : List ThreadState)
-    (ended : Ended) (report : Report) (t r : ℕ) → TableStands true script config disk v states
+registers_left : {script : Script} {config : Config} {disk : OnDisk} {v : View} {states : List ThreadState}
+    {ended : Ended} {report : Report} (t r : ℕ) → TableStands true script config disk v states
     → Reports states ended report → v.log ≡ report.history → value v t r ≡ register_left script report t r
-registers_left script config disk v states ended report t r table reports history =
+registers_left {script} {v} {states} {ended} {report} t r table reports history =
     let halts : Option ThreadReport → Bool = λ o. option_map_or (λ (x : ThreadReport). is_halted x.end) o false in
     elim (slice_get_cases report.threads t).1 [
       | inl w ↦
           let state = state_at states t (omega (arith, w.1, reports.count)) in
           let count : length state.0.replies.items ≡ answered report t =
           ap length (sym (replies_here states t state.0 state.1) ∙ replies_same states ended report reports t) in
-          thread_left script config disk v states report t r state.0 w.0 table state.1
-          (reports.ends t state.0 w.0 state.1 w.2)
+          thread_left report t r w.0 table state.1 (reports.ends t state.0 w.0 state.1 w.2)
           ∙ (ap (λ (h : List Entry). left_by script h t r (is_halted w.0.end) (length state.0.replies.items)) history
           ∙ (ap (left_by script report.history t r (is_halted w.0.end)) count
           ∙ sym (ap (λ (o : Option ThreadReport). left_by script report.history t r (halts o) (answered report t))
@@ -182,13 +181,12 @@ placed_values h disk v a stands history same =
     subst (λ (log : List Entry). Placed log a (maps v) (state disk v)) history q
 
 -- the heap for which a full disk was refused
-left_full : (script : Script) (config : Config) (seen : Shown) (disk : OnDisk) (v : View) (states : List ThreadState)
-    (ended : Ended) (report : Report) (heap : Heap) (finish need limit : ℕ)
-    → TableStands true script config disk v states
-    → ShowsHeap heap v → Reports states ended report → v.log ≡ report.history
-    → Underlies true seen.end seen.image disk → EndsFull true config seen disk v ended finish need limit
-    → IsFull script seen report heap finish need
-left_full script config seen disk v states ended report heap finish need limit table shows reports history under full =
+left_full : {script : Script} {config : Config} {seen : Shown} {disk : OnDisk} {v : View} {states : List ThreadState}
+    {ended : Ended} {report : Report} {heap : Heap} {finish need limit : ℕ}
+    → TableStands true script config disk v states → ShowsHeap heap v → Reports states ended report
+    → v.log ≡ report.history → Underlies true seen.end seen.image disk
+    → EndsFull true config seen disk v ended finish need limit → IsFull script seen report heap finish need
+left_full {script} {disk} {v} {report} {heap} {need} table shows reports history under full =
     let same : state disk v ≡ state_of heap v.held disk = shown_heap disk heap v v.held shows in
     record {
       end_is = full.end_is;
@@ -198,16 +196,16 @@ left_full script config seen disk v states ended report heap finish need limit t
       registers = v.held;
       placed = subst (Placed report.history (register_left script report) (maps v)) same
           (placed_values report.history disk v (register_left script report) table.stands history
-          (λ t r. registers_left script config disk v states ended report t r table reports history));
+          (λ t r. registers_left t r table reports history));
       needs = subst (λ (s : State). CountsWords s (WantsHome s) need) same (full.needs refl);
     }
 
 -- why the run was halted
-may_halt : (told : Bool) (config : Config) (seen : Shown) (disk : OnDisk) (v : View) (ended : Ended) (report : Report)
-    (finish need limit : ℕ) → report.journal ≡ ended.journal.items
+may_halt : {told : Bool} {config : Config} {seen : Shown} {disk : OnDisk} {v : View} {ended : Ended} (report : Report)
+    {finish need limit : ℕ} → report.journal ≡ ended.journal.items
     → EndsFull told config seen disk v ended finish need limit
     → MayHalt config report (Some (halt.DiskFull finish need limit))
-may_halt told config seen disk v ended report finish need limit journal full =
+may_halt {config} {ended} report journal full =
     let last : before ended.journal.items (length ended.journal.items)
     ≡ before report.journal (length report.journal) =
     ap (λ (js : List Journal). before js (length js)) (sym journal) in
@@ -221,59 +219,54 @@ pub record ReportOf (ended : Ended) (report : Report) : Type 0 where
   pub halt : report.halt ≡ ended.halt
 
 -- the report and the heap, by why the run ended
-ran : (told : Bool) (script : Script) (config : Config) (seen : Shown) (ended : Ended) (report : Report)
+ran : {told : Bool} {script : Script} {config : Config} {seen : Shown} {ended : Ended} {report : Report}
     (stands : EndedStands told script config seen ended) → ReportOf ended report → (why : Option Halt)
-    (heap : Option Heap) → report.halt ≡ why
-    → EndsBy told config seen stands.disk stands.v stands.states ended why heap
+    (heap : Option Heap) → report.halt ≡ why → EndsBy told config seen stands.disk stands.v stands.states ended why heap
     → HasRun told script config seen report heap
-ran told script config seen ended report stands is None (Some heap) halts cause =
+ran {told} {script} {config} {seen} {ended} {report} stands is None (Some heap) halts cause =
     let reports : Reports stands.states ended report =
     reports_ended stands.states ended report cause.1 is.threads is.journal is.log in
     record {
-      reported = step_report told script config seen ended report stands reports
-          (subst (MayHalt config report) (sym halts) tt);
+      reported = step_report stands reports (subst (MayHalt config report) (sym halts) tt);
       left = subst (λ (o : Option Halt). HasLeft told script config seen report o (Some heap)) (sym halts)
-          (left_heap told script config seen stands.disk heap stands.v stands.states report stands.table cause.2
-          cause.3 (is.log ∙ stands.log));
+          (left_heap seen report stands.table cause.2 cause.3 (is.log ∙ stands.log));
     }
-ran told script config seen ended report stands is (Some (halt.DiskFull finish need limit)) (Some heap) halts cause =
+ran {told} {script} {config} {seen} {ended} {report} stands is (Some (halt.DiskFull finish need limit)) (Some heap)
+    halts cause =
     let reports : Reports stands.states ended report =
     reports_halted stands.states ended report cause.0 is.threads
     (subst IsSome (sym halts) refl) is.journal is.log in
     record {
-      reported = step_report told script config seen ended report stands reports
-          (subst (MayHalt config report) (sym halts)
-          (may_halt told config seen stands.disk stands.v ended report finish need limit is.journal cause.3));
+      reported = step_report stands reports (subst (MayHalt config report) (sym halts)
+          (may_halt report is.journal cause.3));
       left = subst (λ (o : Option Halt). HasLeft told script config seen report o (Some heap)) (sym halts) (
-        left_heap told script config seen stands.disk heap stands.v stands.states report stands.table cause.1
-            cause.2 (is.log ∙ stands.log),
-        λ so. left_full script config seen stands.disk stands.v stands.states ended report heap finish need limit
-            (as_told told script config stands.disk stands.v stands.states so stands.table) cause.1 reports
-            (sym (is.log ∙ stands.log))
-            (subst (λ (b : Bool). Underlies b seen.end seen.image stands.disk) so cause.2)
+        left_heap seen report stands.table cause.1 cause.2 (is.log ∙ stands.log),
+        λ so. left_full (as_told told script config stands.disk stands.v stands.states so stands.table) cause.1 reports
+            (sym (is.log ∙ stands.log)) (subst (λ (b : Bool). Underlies b seen.end seen.image stands.disk) so cause.2)
             (subst (λ (b : Bool). EndsFull b config seen stands.disk stands.v ended finish need limit) so cause.3),
       );
     }
-ran told script config seen ended report stands is (Some halt.DiskFault) None halts cause =
+ran {told} {script} {config} {seen} {ended} {report} stands is (Some halt.DiskFault) None halts cause =
     let reports : Reports stands.states ended report =
     reports_halted stands.states ended report cause is.threads
     (subst IsSome (sym halts) refl) is.journal is.log in
     record {
-      reported = step_report told script config seen ended report stands reports
-          (subst (MayHalt config report) (sym halts) tt);
+      reported = step_report stands reports (subst (MayHalt config report) (sym halts) tt);
       left = subst (λ (o : Option Halt). HasLeft told script config seen report o None) (sym halts) tt;
     }
-ran told script config seen ended report stands is None None halts cause = absurd cause
-ran told script config seen ended report stands is (Some (halt.DiskFull finish need limit)) None halts cause =
+ran {told} {script} {config} {seen} {ended} {report} stands is None None halts cause = absurd cause
+ran {told} {script} {config} {seen} {ended} {report} stands is (Some (halt.DiskFull finish need limit)) None halts
+    cause =
     absurd cause
-ran told script config seen ended report stands is (Some halt.DiskFault) (Some heap) halts cause = absurd cause
+ran {told} {script} {config} {seen} {ended} {report} stands is (Some halt.DiskFault) (Some heap) halts cause =
+    absurd cause
 
 -- what is left of a run that has ended
 pub has_run : (told : Bool) (script : Script) (config : Config) (shown : Shown) (ended : Ended) (report : Report)
     → EndedStands told script config shown ended → ReportOf ended report
     → HasRun told script config shown report ended.left.heap
 has_run told script config shown ended report stands is =
-    ran told script config shown ended report stands is ended.halt ended.left.heap is.halt stands.cause
+    ran stands is ended.halt ended.left.heap is.halt stands.cause
 
 -- all threads have ended by then
 over_by : (told : Bool) (config : Config) (shown : Shown) (disk : OnDisk) (v : View) (states : List ThreadState)
@@ -295,11 +288,11 @@ all_over told script config shown ended stands =
 
 -- what a run leaves of the counts of a disk, of which so many writes and lends failed
 -- and so many reads, before and after
-pub counts_faults : (states : List ThreadState) (ended : Ended) (report : Report) (faults after lost lost_after : ℕ)
-    → losses states ≡ 0 → faults ≤ after → StopCounts (Halted ended) states faults after lost lost_after
-    → lost_in report ≡ losses ended.states.items → report.halt ≡ ended.halt
-    → CountsFaults report faults after lost lost_after
-counts_faults states ended report faults after lost lost_after none rises counts same halts = record {
+pub counts_faults : (states : List ThreadState) (ended : Ended) (report : Report) {faults : ℕ}
+    (after lost lost_after : ℕ) → losses states ≡ 0 → faults ≤ after
+    → StopCounts (Halted ended) states faults after lost lost_after → lost_in report ≡ losses ended.states.items
+    → report.halt ≡ ended.halt → CountsFaults report faults after lost lost_after
+counts_faults states ended report after lost lost_after none rises counts same halts = record {
   lost = elim counts.1.counted [ inl less ↦ inl (omega (arith, less, none, same)) | inr most ↦ inr most ];
   halted = λ is. counts.0 (sym halts ∙ is);
   faults_rise = rises;

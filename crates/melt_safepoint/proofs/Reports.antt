@@ -105,14 +105,14 @@ replies_same states ended report reports t =
     ]
 
 -- so of each thread of the report
-reported_end : (told : Bool) (script : Script) (config : Config) (ended : Ended) (report : Report)
-    (states : List ThreadState) (t : ℕ) (s : ThreadState) (r : ThreadReport) → Reports states ended report
+reported_end : (told : Bool) (script : Script) (config : Config) {ended : Ended} {report : Report}
+    {states : List ThreadState} (t : ℕ) (s : ThreadState) (r : ThreadReport) → Reports states ended report
     → EndsSo told script report.history states config t s.mode → EndsAs report s r
     → MayEnd told script config report t r.end
-reported_end told script config ended report states t s r reports so (inl ends) =
+reported_end told script config {ended} {report} {states} t s r reports so (inl ends) =
     may_end told script config report states t r.end (replies_same states ended report reports)
     (subst (λ (m : Mode). EndsSo told script report.history states config t m) ends so)
-reported_end told script config ended report states t s r reports so (inr halts) =
+reported_end told script config {ended} {report} {states} t s r reports so (inr halts) =
     subst (λ (e : ThreadEnd). MayEnd told script config report t e) (sym halts.1) halts.2
 
 -- silent collections that are still to come are those of threads that are halted
@@ -132,10 +132,10 @@ as_told told script config disk v states is table =
     subst (λ (b : Bool). TableStands b script config disk v states) is table
 
 -- the history is that of the report
-history_of : (script : Script) (config : Config) (disk : OnDisk) (v : View) (states : List ThreadState) (ended : Ended)
-    (report : Report) → TableStands true script config disk v states → Reports states ended report
+history_of : {script : Script} {config : Config} {disk : OnDisk} {v : View} {states : List ThreadState} {ended : Ended}
+    {report : Report} → TableStands true script config disk v states → Reports states ended report
     → v.log ≡ report.history → HasHistory script report.history report
-history_of script config disk v states ended report table reports history = record {
+history_of {script} {config} {disk} {v} {states} {ended} {report} table reports history = record {
   legal = subst (λ (h : List Entry). Legal h script.globals) history
       (subst (Legal v.log) table.globals (table.stands.legal refl));
   threads = reports.count ∙ table.count;
@@ -169,23 +169,22 @@ cuts_of script config v states ended report have reports history = λ k entry at
     )
 
 -- the report has the replies and the end of each thread, the journal and the history
-pub step_report : (told : Bool) (script : Script) (config : Config) (shown : Shown) (ended : Ended) (report : Report)
+pub step_report : {told : Bool} {script : Script} {config : Config} {shown : Shown} {ended : Ended} {report : Report}
     (stands : EndedStands told script config shown ended) → Reports stands.states ended report
     → MayHalt config report report.halt → IsStepReport told script config report
-step_report told script config shown ended report stands reports halts =
+step_report {told} {script} {config} {ended} {report} stands reports halts =
     let states : List ThreadState = stands.states in
     let v : View = stands.v in
     let table : TableStands told script config stands.disk v states = stands.table in
     let history : v.log ≡ report.history = sym stands.log ∙ sym reports.log in
     let threads : length report.threads ≡ length script.programs = reports.count ∙ table.count in
     record {
-      history = λ is. history_of script config stands.disk v states ended report
-          (as_told told script config stands.disk v states is table) reports history;
+      history = λ is. history_of (as_told told script config stands.disk v states is table) reports history;
       threads = threads;
       ends = λ t r at.
           let below : t < length report.threads = slice_get_within report.threads t r at in
           let state = state_at states t (omega (arith, below, reports.count)) in
-          reported_end told script config ended report states t state.0 r reports
+          reported_end told script config t state.0 r reports
           (subst (λ (h : List Entry). EndsSo told script h states config t state.0.mode) history
           (table.ends t state.0 state.1)) (reports.ends t state.0 r state.1 at);
       halt = halts;

@@ -30,10 +30,10 @@ no_replies script entries t states new_states = elim (slice_get_cases states t).
 ]
 
 -- a thread that has ended at once has no operations
-pub ends_new : (told : Bool) (script : Script) (log : List Entry) (config : Config) (entries t : ℕ)
-    (states : List ThreadState) (s : ThreadState) → AreNewThreads script states entries → slice_get states t ≡ Some s
+pub ends_new : (told : Bool) {script : Script} (log : List Entry) (config : Config) {entries : ℕ} (t : ℕ)
+    {states : List ThreadState} {s : ThreadState} → AreNewThreads script states entries → slice_get states t ≡ Some s
     → EndsSo told script log states config t s.mode
-ends_new told script log config entries t states s new_states at =
+ends_new told {script} log config {entries} t {states} {s} new_states at =
     let new : IsNewThread (operations script t) script.globals s = new_states.each t s at in
     elim new.mode [
       | inl runs ↦ subst (EndsSo told script log states config t) (sym runs.0) tt

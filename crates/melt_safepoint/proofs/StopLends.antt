@@ -15,39 +15,39 @@ stop_one k a b js NoMemory lends keeps = tt
 stop_one k a b js (Halted ended) lends keeps = lends_one k a b js ended.journal.items lends keeps
 
 -- and so for more
-pub stop_more : (k m n a b : ℕ) (js : List Journal) (stop : Stop) → m ≤ n → StopLends k m a b js stop
+pub stop_more : (k : ℕ) {m : ℕ} (n a b : ℕ) (js : List Journal) (stop : Stop) → m ≤ n → StopLends k m a b js stop
     → StopLends k n a b js stop
-stop_more k m n a b js NoMemory less lends = tt
-stop_more k m n a b js (Halted ended) less lends = lends_more k m n a b js ended.journal.items less lends
+stop_more k n a b js NoMemory less lends = tt
+stop_more k n a b js (Halted ended) less lends = lends_more n less lends
 
 -- behind collections that were made meanwhile
-pub stop_since : (k m a b c : ℕ) (js mid : List Journal) (stop : Stop) → b ≡ a → length js ≤ length mid
+pub stop_since : (k m : ℕ) {a b : ℕ} (c : ℕ) (js mid : List Journal) (stop : Stop) → b ≡ a → length js ≤ length mid
     → StopLends k m b c mid stop → StopLends k m a c js stop
-stop_since k m a b c js mid NoMemory same grows lends = tt
-stop_since k m a b c js mid (Halted ended) same grows lends =
-    lends_since k m a b c js mid ended.journal.items same grows lends
+stop_since k m c js mid NoMemory same grows lends = tt
+stop_since k m c js mid (Halted ended) same grows lends =
+    lends_since js same grows lends
 
 -- one after the other
-pub stop_then : (k m n a b c : ℕ) (js mid : List Journal) (stop : Stop) → LendsFew k m a b js mid
+pub stop_then : {k m : ℕ} (n : ℕ) {a b : ℕ} (c : ℕ) {js mid : List Journal} (stop : Stop) → LendsFew k m a b js mid
     → StopLends k n b c mid stop → StopLends k (m + n) a c js stop
-stop_then k m n a b c js mid NoMemory first second = tt
-stop_then k m n a b c js mid (Halted ended) first second =
-    lends_then k m n a b c js mid ended.journal.items first second
+stop_then n c NoMemory first second = tt
+stop_then n c (Halted ended) first second =
+    lends_then first second
 
 -- behind a collection
-pub stop_after : (k m a b c : ℕ) (js mid : List Journal) (stop : Stop) → b ≡ a → length js + 1 ≤ length mid
+pub stop_after : (k m : ℕ) {a b : ℕ} (c : ℕ) (js mid : List Journal) (stop : Stop) → b ≡ a → length js + 1 ≤ length mid
     → StopLends k (m + 1) b c mid stop → StopLends k m a c js stop
-stop_after k m a b c js mid NoMemory same paid lends = tt
-stop_after k m a b c js mid (Halted ended) same paid lends =
-    lends_after k m a b c js mid ended.journal.items same paid lends
+stop_after k m c js mid NoMemory same paid lends = tt
+stop_after k m c js mid (Halted ended) same paid lends =
+    lends_after m js same paid lends
 
 -- the collections behind this one pay for two epochs each
-pub stop_twice : (k a b : ℕ) (js mid : List Journal) (stop : Stop) → b ≡ a → length js + 1 ≤ length mid
-    → (c : ℕ) → StopLends k 2 b c mid stop → StopTwice k 0 a c js stop
-stop_twice k a b js mid NoMemory same paid c lends = tt
-stop_twice k a b js mid (Halted ended) same paid c lends =
+pub stop_twice : (k : ℕ) {a b : ℕ} (js mid : List Journal) (stop : Stop) → b ≡ a → length js + 1 ≤ length mid → (c : ℕ)
+    → StopLends k 2 b c mid stop → StopTwice k 0 a c js stop
+stop_twice k {a} js mid NoMemory same paid c lends = tt
+stop_twice k {a} js mid (Halted ended) same paid c lends =
     let few : LendsFew k 1 a c js ended.journal.items =
-    lends_after k 1 a b c js mid ended.journal.items same paid lends in
+    lends_after 1 js same paid lends in
     lends_twice k a c js ended.journal.items (omega (arith, paid, lends.grows)) few
 
 -- none was begun
@@ -64,8 +64,8 @@ twice_stop_first k a b js NoMemory lends keeps = tt
 twice_stop_first k a b js (Halted ended) lends keeps = twice_first k a b js ended.journal.items lends keeps
 
 -- one after the other
-pub twice_stop_then : (k m n a b c : ℕ) (js mid : List Journal) (stop : Stop) → LendsTwice k m a b js mid
-    → StopTwice k n b c mid stop → StopTwice k (m + n) a c js stop
-twice_stop_then k m n a b c js mid NoMemory first second = tt
-twice_stop_then k m n a b c js mid (Halted ended) first second =
-    twice_then k m n a b c js mid ended.journal.items first second
+pub twice_stop_then : {k m : ℕ} (n : ℕ) {a b : ℕ} (c : ℕ) {js mid : List Journal} (stop : Stop)
+    → LendsTwice k m a b js mid → StopTwice k n b c mid stop → StopTwice k (m + n) a c js stop
+twice_stop_then n c NoMemory first second = tt
+twice_stop_then n c (Halted ended) first second =
+    twice_then first second

@@ -32,11 +32,11 @@ use Rattle.melt_safepoint.proofs.Tables.{told_left}
 use Rattle.melt_safepoint.specs.Rows.{Row}
 
 -- a thread with this next operation got its reply
-told_collections : (told : Bool) (script : Script) (config : Config) (v : View) (states : List ThreadState) (t : ℕ)
-    (s after : ThreadState) (op : Op) (reply : Reply) → ThreadStands told script v t s → slice_get states t ≡ Some s
+told_collections : {told : Bool} {script : Script} (config : Config) {v : View} (states : List ThreadState) {t : ℕ}
+    {s after : ThreadState} {op : Op} {reply : Reply} → ThreadStands told script v t s → slice_get states t ≡ Some s
     → DueBy config.every s after → TakesReply s after reply → left s ≡ op ∷ s.cursor.operations
     → CountsTold script config states t after op
-told_collections told script config v states t s after op reply st at due takes next_is =
+told_collections {script} config states {t} {s} {after} {op} {reply} st at due takes next_is =
     let ops : List Op = operations script t in
     let k : ℕ = length s.replies.items in
     let C : ℕ → ℕ = λ (n : ℕ). count_by is_collect (take n ops) in
@@ -64,16 +64,15 @@ told_collections told script config v states t s after op reply st at due takes 
     }
 
 -- a reply to an operation
-pub adds_told : (told : Bool) (script : Script) (config : Config) (v : View) (states : List ThreadState) (t : ℕ)
-    (s after : ThreadState) (op : Op) (reply : Reply) → ThreadStands told script v t s → slice_get states t ≡ Some s
+pub adds_told : {told : Bool} {script : Script} (config : Config) {v : View} (states : List ThreadState) {t : ℕ}
+    {s after : ThreadState} {op : Op} {reply : Reply} → ThreadStands told script v t s → slice_get states t ≡ Some s
     → length states ≡ length script.programs → DueBy config.every s after → TakesReply s after reply
     → left s ≡ op ∷ s.cursor.operations → owes s.mode ≡ 0 → (IsEnded s.mode → ⊥)
     → Adds script config states (set states t after) (if is_collect op then 1 else 0) 1
-adds_told told script config v states t s after op reply st at count due takes next none goes =
+adds_told {script} config states {t} {s} {after} {op} {reply} st at count due takes next none goes =
     let counts : CountsTold script config states t after op =
-    told_collections told script config v states t s after op reply st at due takes next in
-    adds_at script config states t (if is_collect op then 1 else 0) 1 s after at count
-    (record {
+    told_collections config states st at due takes next in
+    adds_at at count (record {
       all = omega (arith, none, counts.collections);
       asked = omega (arith, counts.asked);
       pays = omega (
@@ -85,27 +84,26 @@ adds_told told script config v states t s after op reply st at count due takes n
     })
 
 -- a reply to another operation than a collection
-pub adds_got : (told : Bool) (script : Script) (config : Config) (disk : OnDisk) (v w : View)
-    (states : List ThreadState) (t : ℕ) (s after : ThreadState) → TableStands told script config disk v states
+pub adds_got : {told : Bool} {script : Script} {config : Config} {disk : OnDisk} {v w : View}
+    {states : List ThreadState} {t : ℕ} {s after : ThreadState} → TableStands told script config disk v states
     → slice_get states t ≡ Some s → DueBy config.every s after → (IsEnded s.mode → ⊥)
     → (got : ThreadTold told v w t s after) → got.op ≢ Collect → Adds script config states (set states t after) 0 1
-adds_got told script config disk v w states t s after table at due goes got other =
+adds_got {script} {config} {states} {t} {s} {after} table at due goes got other =
     subst (λ (c : ℕ). Adds script config states (set states t after) c 1)
     (ap {B = ℕ} (λ (b : Bool). if b then 1 else 0) (is_no_collect got.op other))
-    (adds_told told script config v states t s after got.op got.reply (table.each t s at) at table.count due got.takes
-    (told_left told v w t s after got) (ap {B = ℕ} (λ (b : Bool). if b then 1 else 0) got.not_due) goes)
+    (adds_told config states (table.each t s at) at table.count due got.takes (told_left got)
+    (ap {B = ℕ} (λ (b : Bool). if b then 1 else 0) got.not_due) goes)
 
 -- a thread that was lost has ended
-pub adds_lost : (told : Bool) (script : Script) (config : Config) (disk : OnDisk) (v w : View)
-    (states : List ThreadState) (t : ℕ) (s after : ThreadState) → TableStands told script config disk v states
+pub adds_lost : {told : Bool} {script : Script} {config : Config} {disk : OnDisk} {v w : View}
+    {states : List ThreadState} {t : ℕ} {s after : ThreadState} → TableStands told script config disk v states
     → slice_get states t ≡ Some s → ThreadLost told disk.end v w t s after
     → Adds script config states (set states t after) 0 1
-adds_lost told script config disk v w states t s after table at is =
+adds_lost {told} {script} {config} {disk} {states} {t} {s} table at is =
     subst (λ (y : ThreadState). Adds script config states (set states t y) 0 1) (sym is.only)
-    (adds_mode script config states t 1 s (mode_for is.refusal) at table.count
+    (adds_mode script config states t 1 (mode_for is.refusal) at table.count
     (ap {B = ℕ} (λ (b : Bool). if b then 1 else 0) is.not_due
-    ∙ sym (ap {B = ℕ} (λ (b : Bool). if b then 1 else 0) (refused_owes is.refusal)))
-    (omega (
+    ∙ sym (ap {B = ℕ} (λ (b : Bool). if b then 1 else 0) (refused_owes is.refusal))) (omega (
       arith,
       open_over s.mode is.goes,
       ended_over (mode_for is.refusal)
@@ -124,16 +122,16 @@ counts_of {unpaid} script config run states c same collector counts =
     counts)
 
 -- An event of a thread adds nothing, where it got no reply to a collection.
-pub collections_step : (told : Bool) (script : Script) (config : Config) (disk : OnDisk) (v w : View)
-    (states : List ThreadState) (t : ℕ) (s after : ThreadState) → TableStands told script config disk v states
+pub collections_step : {told : Bool} {script : Script} {config : Config} {disk : OnDisk} {v w : View}
+    {states : List ThreadState} {t : ℕ} {s after : ThreadState} → TableStands told script config disk v states
     → slice_get states t ≡ Some s → ThreadStep told disk v w t s after → DueBy config.every s after
     → (IsEnded s.mode → ⊥) → ((got : ThreadTold told v w t s after) → got.op ≢ Collect)
     → Adds script config states (set states t after) 0 0
-collections_step told script config disk v w states t s after table at step due goes other =
+collections_step {script} {config} {states} {t} {s} {after} table at step due goes other =
     let by_mode : (mode : Mode) → after ≡ record s { mode = mode } → owes s.mode ≡ owes mode
     → Adds script config states (set states t after) 0 0 = λ mode is same.
     subst (λ (y : ThreadState). Adds script config states (set states t y) 0 0) (sym is)
-    (adds_mode script config states t 0 s mode at table.count same (omega (arith, open_over s.mode goes))) in
+    (adds_mode script config states t 0 mode at table.count same (omega (arith, open_over s.mode goes))) in
     let none_for : (r : Refusal) → 0 ≡ owes (mode_for r) =
     λ r. sym (ap {B = ℕ} (λ (b : Bool). if b then 1 else 0) (refused_owes r)) in
     elim step.what [
@@ -152,7 +150,7 @@ collections_step told script config disk v w states t s after table at step due 
                 (ap {B = ℕ} (λ (b : Bool). if b then 1 else 0) lost.not_due ∙ none_for lost.refusal)
             | inr got ↦
                 adds_less script config states (set states t after)
-                (adds_got told script config disk v w states t s after table at due goes got (other got))
+                (adds_got table at due goes got (other got))
           ]
         ]
       ]

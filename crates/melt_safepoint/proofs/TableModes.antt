@@ -60,23 +60,22 @@ drop_cases v w t Lacking drops = inr (λ is. is, drops)
 drop_cases v w t (Ended e) drops = inl (tt, drops)
 
 -- a thread without a call in flight runs on with its next operation
-pub Table_runs : (told : Bool) (script : Script) (config : Config) (disk : OnDisk) (v : View)
-    (states : List ThreadState) (t : ℕ) (s : ThreadState) → TableStands told script config disk v states
+pub Table_runs : {told : Bool} {script : Script} {config : Config} {disk : OnDisk} {v : View}
+    {states : List ThreadState} (t : ℕ) {s : ThreadState} → TableStands told script config disk v states
     → slice_get states t ≡ Some s → (IsEnded s.mode → ⊥) → IsSome s.op → call_of v t ≡ None
     → TableStands told script config disk v (set states t (record s { mode = Running }))
-Table_runs told script config disk v states t s table at goes op no_call =
+Table_runs {told} {script} {config} {v} {states} t {s} table at goes op no_call =
     let runs : ThreadStands told script v t (record s { mode = Running }) =
-    mode_stands told script v v t s Running (table.each t s at) goes (λ over. over) refl refl op
-    (λ c is. absurd (cc)) in
-    Table_moves told script config disk v v states t s (record s { mode = Running }) table at goes table.stands
-    (nothing_keeps v t) (same_moves told script config v v states t s Running
-    (λ owes. absurd (let wrong : false ≡ true = owes in cc)) (λ over. over) refl runs)
+    mode_stands v Running (table.each t s at) goes (λ over. over) refl refl op (λ c is. absurd (cc)) in
+    Table_moves table at goes table.stands (nothing_keeps v t)
+    (same_moves config v states s Running (λ owes. absurd (let wrong : false ≡ true = owes in cc))
+    (λ over. over) refl runs)
 
 -- a thread that has no operation left has its replies
-pub ends_done : (told : Bool) (script : Script) (config : Config) (disk : OnDisk) (v : View)
-    (states : List ThreadState) (t : ℕ) (s : ThreadState) → TableStands told script config disk v states
-    → slice_get states t ≡ Some s → s.op ≡ None → EndsSo told script v.log states config t (Ended end.Done)
-ends_done told script config disk v states t s table at none =
+pub ends_done : {told : Bool} {script : Script} {config : Config} {disk : OnDisk} {v : View} {states : List ThreadState}
+    (t : ℕ) {s : ThreadState} → TableStands told script config disk v states → slice_get states t ≡ Some s → s.op ≡ None
+    → EndsSo told script v.log states config t (Ended end.Done)
+ends_done {told} {script} {v} {states} t {s} table at none =
     let st : ThreadStands told script v t s = table.each t s at in
     let nothing : left s ≡ [] = ap (λ (o : Option Op). with_first o s.cursor.operations) none ∙ st.none_left none in
     omega (arith, ap length (replies_here states t s at), st.within, ap length nothing)
@@ -97,22 +96,22 @@ dropped_keeps v w t dropped = record {
 }
 
 -- a thread that has ended stands, with registers that were dropped
-gone_stands : (told : Bool) (script : Script) (v w : View) (t : ℕ) (s : ThreadState) (e : ThreadEnd)
+gone_stands : {told : Bool} {script : Script} {v w : View} {t : ℕ} {s : ThreadState} (e : ThreadEnd)
     → ThreadStands told script v t s → HasDropped v w t → call_of v t ≡ None
     → ThreadStands told script w t (record s { mode = Ended e })
-gone_stands told script v w t s e st dropped no_call =
-    stands_so told script v w t s (Ended e) st
-    (λ tells. told_so script v w t s (Ended e) (st.is_told tells) (ap (λ (x : View). x.log) dropped.only) (inl tt))
+gone_stands {w} {t} e st dropped no_call =
+    stands_so w (Ended e) st
+    (λ tells. told_so w (Ended e) (st.is_told tells) (ap (λ (x : View). x.log) dropped.only) (inl tt))
     (λ over. dropped.here)
     (λ c is. absurd (let none : call_of w t ≡ None = ap (λ (x : View). call_of x t) dropped.only ∙ no_call in cc)) tt
 
 -- a thread ends, and its registers are dropped
-pub Table_gone : (told : Bool) (script : Script) (config : Config) (disk : OnDisk) (v w : View)
-    (states : List ThreadState) (t : ℕ) (s : ThreadState) (e : ThreadEnd)
-    → TableStands told script config disk v states → slice_get states t ≡ Some s → (IsEnded s.mode → ⊥)
-    → HasDropped v w t → call_of v t ≡ None → EndsSo told script v.log states config t (Ended e)
+pub Table_gone : {told : Bool} {script : Script} {config : Config} {disk : OnDisk} {v w : View}
+    {states : List ThreadState} {t : ℕ} {s : ThreadState} (e : ThreadEnd) → TableStands told script config disk v states
+    → slice_get states t ≡ Some s → (IsEnded s.mode → ⊥) → HasDropped v w t → call_of v t ≡ None
+    → EndsSo told script v.log states config t (Ended e)
     → TableStands told script config disk w (set states t (record s { mode = Ended e }))
-Table_gone told script config disk v w states t s e table at goes dropped no_call ends =
+Table_gone {told} {script} {config} {disk} {v} {w} {states} {t} {s} e table at goes dropped no_call ends =
     let after : ThreadState = record s { mode = Ended e } in
     let history : w.log ≡ v.log = ap (λ (x : View). x.log) dropped.only in
     let moves : Moves told script config v w states t s after = record {
@@ -120,14 +119,13 @@ Table_gone told script config disk v w states t s e table at goes dropped no_cal
       extra = [];
       grown = history;
       replies = sym (append-nil s.replies.items);
-      stands = gone_stands told script v w t s e (table.each t s at) dropped no_call;
+      stands = gone_stands e (table.each t s at) dropped no_call;
       due = λ owes. absurd (let wrong : false ≡ true = owes in cc);
       ends = subst (λ (h : List Entry). EndsSo told script h (set states t after) config t (Ended e)) (sym history)
-          (ends_gone told script v.log states config t s e at goes ends);
+          (ends_gone told script v.log states config t e at goes ends);
       entries = let same : length w.log ≡ length v.log = ap length history in omega arith;
     } in
-    Table_moves told script config disk v w states t s after table at goes (dropped.keeps told disk table.stands)
-    (dropped_keeps v w t dropped) moves
+    Table_moves table at goes (dropped.keeps told disk table.stands) (dropped_keeps v w t dropped) moves
 
 -- some thread of the run waits
 abbrev SomeWaits : List ThreadState → Type 0

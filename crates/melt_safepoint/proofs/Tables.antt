@@ -49,12 +49,12 @@ use Rattle.melt_safepoint.specs.Tables.{ThreadLost, ThreadTold, IsReady, ThreadS
 use Rattle.melt_safepoint.proofs.Telling.{with_more, with_length, with_own, told_with, Stands_answers}
 
 -- A thread stands so too with another mode, where it is told so.
-pub stands_so : (told : Bool) (script : Script) (v w : View) (t : ℕ) (s : ThreadState) (mode : Mode)
+pub stands_so : {told : Bool} {script : Script} {v : View} (w : View) {t : ℕ} {s : ThreadState} (mode : Mode)
     → ThreadStands told script v t s → (told ≡ true → IsTold script w t (record s { mode = mode }))
     → (IsEnded mode → values_of w t ≡ replicate 16 Nil)
     → ((c : Call) → call_of w t ≡ Some c → (mode ≡ Running) × (s.op ≡ Some c.op) × (c.op ≢ Collect))
     → FitsMode mode s.op → ThreadStands told script w t (record s { mode = mode })
-stands_so told script v w t s mode st is_told dropped call fits = record {
+stands_so w mode st is_told dropped call fits = record {
   to_come = st.to_come;
   within = st.within;
   none_left = st.none_left;
@@ -68,9 +68,9 @@ stands_so told script v w t s mode st is_told dropped call fits = record {
 }
 
 -- what a thread is told by a history that is the same
-pub told_so : (script : Script) (v w : View) (t : ℕ) (s : ThreadState) (mode : Mode) (is : IsTold script v t s)
+pub told_so : {script : Script} {v : View} (w : View) {t : ℕ} {s : ThreadState} (mode : Mode) (is : IsTold script v t s)
     → w.log ≡ v.log → IsEnded mode ⊎ (is.registers ≡ values_of w t) → IsTold script w t (record s { mode = mode })
-told_so script v w t s mode is history in_registers = record {
+told_so {script} w {t} {s} mode is history in_registers = record {
   registers = is.registers;
   told = subst (λ (h : List Entry). Stands h t (take (length s.replies.items) (operations script t)) s.replies.items
       is.registers) (sym history) is.told;
@@ -78,26 +78,24 @@ told_so script v w t s mode is history in_registers = record {
 }
 
 -- another thread than that of the event
-other_told : (script : Script) (v w : View) (t u : ℕ) (s : ThreadState) (act : Option Act) → u ≢ t → KeepsOthers v w t
+other_told : {script : Script} {v w : View} {t u : ℕ} {s : ThreadState} (act : Option Act) → u ≢ t → KeepsOthers v w t
     → w.log ≡ with_entry t v.log act → IsTold script v u s → IsTold script w u s
-other_told script v w t u s act differ others grown is = record {
+other_told {script} {t} {u} {s} act differ others grown is = record {
   registers = is.registers;
   told = subst (λ (h : List Entry). Stands h u (take (length s.replies.items) (operations script u)) s.replies.items
       is.registers) (sym grown)
-      (told_with v.log t u (take (length s.replies.items) (operations script u)) s.replies.items is.registers act differ
-      is.told);
+      (told_with t act differ is.told);
   in_registers = elim is.in_registers [
     | inl over ↦ inl over
     | inr same ↦ inr (same ∙ sym (others.values u differ))
   ];
 }
 
-other_stands : (told : Bool) (script : Script) (v w : View) (t u : ℕ) (s : ThreadState) (act : Option Act) → u ≢ t
+other_stands : {told : Bool} {script : Script} {v w : View} {t u : ℕ} {s : ThreadState} (act : Option Act) → u ≢ t
     → KeepsOthers v w t → w.log ≡ with_entry t v.log act → ThreadStands told script v u s
     → ThreadStands told script w u s
-other_stands told script v w t u s act differ others grown st =
-    stands_so told script v w u s s.mode st
-    (λ tells. other_told script v w t u s act differ others grown (st.is_told tells))
+other_stands {w} {u} {s} act differ others grown st =
+    stands_so w s.mode st (λ tells. other_told act differ others grown (st.is_told tells))
     (λ over. others.values u differ ∙ st.dropped over) (λ c is. st.call c (sym (others.calls u differ) ∙ is)) st.fits
 
 -- the registers of a thread that has not ended hold what it was told
@@ -106,16 +104,14 @@ held_now : (script : Script) (v : View) (t : ℕ) (s : ThreadState) (is : IsTold
 held_now script v t s is runs = elim is.in_registers [ inl over ↦ absurd (runs over) | inr same ↦ same ]
 
 -- a thread of which at most the mode changes
-pub mode_stands : (told : Bool) (script : Script) (v w : View) (t : ℕ) (s : ThreadState) (mode : Mode)
+pub mode_stands : {told : Bool} {script : Script} {v : View} (w : View) {t : ℕ} {s : ThreadState} (mode : Mode)
     → ThreadStands told script v t s → (IsEnded s.mode → ⊥) → (IsEnded mode → ⊥) → w.log ≡ v.log
     → values_of w t ≡ values_of v t → FitsMode mode s.op
     → ((c : Call) → call_of w t ≡ Some c → (mode ≡ Running) × (s.op ≡ Some c.op) × (c.op ≢ Collect))
     → ThreadStands told script w t (record s { mode = mode })
-mode_stands told script v w t s mode st runs waits history values fits call =
-    stands_so told script v w t s mode st
-    (λ tells. told_so script v w t s mode (st.is_told tells) history
-    (inr (held_now script v t s (st.is_told tells) runs ∙ sym values)))
-    (λ over. absurd (waits over)) call fits
+mode_stands {script} {v} w {t} {s} mode st runs waits history values fits call =
+    stands_so w mode st (λ tells. told_so w mode (st.is_told tells) history
+    (inr (held_now script v t s (st.is_told tells) runs ∙ sym values))) (λ over. absurd (waits over)) call fits
 
 -- What an event of a thread shows of it, so that all threads stand behind the event: its entry, if it has one, and the
 -- replies that it got.
@@ -131,11 +127,11 @@ pub record Moves (told : Bool) (script : Script) (config : Config) (v w : View) 
   pub entries : length w.log + length (left after) ≤ length v.log + length (left s)
 
 -- all threads stand behind such an event
-pub Table_moves : (told : Bool) (script : Script) (config : Config) (disk : OnDisk) (v w : View)
-    (states : List ThreadState) (t : ℕ) (s after : ThreadState) → TableStands told script config disk v states
+pub Table_moves : {told : Bool} {script : Script} {config : Config} {disk : OnDisk} {v w : View}
+    {states : List ThreadState} {t : ℕ} {s after : ThreadState} → TableStands told script config disk v states
     → slice_get states t ≡ Some s → (IsEnded s.mode → ⊥) → Standing told disk w → KeepsOthers v w t
     → Moves told script config v w states t s after → TableStands told script config disk w (set states t after)
-Table_moves told script config disk v w states t s after table at runs stands others m =
+Table_moves {told} {script} {config} {v} {w} {states} {t} {s} {after} table at runs stands others m =
     let later : Later states (set states t after) = later_set states t s after m.extra at runs m.replies in
     let more = with_more v.log t m.act in
     let longer : w.log ≡ v.log ++ more.0 = m.grown ∙ more.1 in
@@ -163,8 +159,7 @@ Table_moves told script config disk v w states t s after table at runs stands ot
       each = λ u x is. elim (cases_eq u t) [
         | inl same ↦ subst (λ (k : ℕ). ThreadStands told script w k x) (sym same)
             (subst (λ (y : ThreadState). ThreadStands told script w t y) (at_t u x same is) m.stands)
-        | inr differ ↦ other_stands told script v w t u x m.act differ others m.grown
-            (table.each u x (elsewhere u x differ is))
+        | inr differ ↦ other_stands m.act differ others m.grown (table.each u x (elsewhere u x differ is))
       ];
       own = subst (All (λ (e : Entry). e.thread < length script.programs)) (sym m.grown)
           (with_own v.log t (length script.programs) m.act
@@ -181,9 +176,8 @@ Table_moves told script config disk v w states t s after table at runs stands ot
             (at_t u x same is) m.ends)
         | inr differ ↦ subst (λ (h : List Entry). EndsSo told script h (set states t after) config u x.mode)
             (sym longer)
-            (ends_later told script v.log more.0 states (set states t after) config u x x.mode later
-            (elsewhere u x differ is) (replies_other states t u after differ) refl
-            (table.ends u x (elsewhere u x differ is)))
+            (ends_later told script v.log more.0 config u later (elsewhere u x differ is)
+            (replies_other states t u after differ) refl (table.ends u x (elsewhere u x differ is)))
       ];
       entries =
           let e : length v.log + to_reply states ≤ v.capacity = table.entries in
@@ -193,22 +187,21 @@ Table_moves told script config disk v w states t s after table at runs stands ot
     }
 
 -- and the moments of collections stay so
-pub cuts_moves : (told : Bool) (script : Script) (config : Config) (v w : View) (states : List ThreadState) (t : ℕ)
-    (s after : ThreadState) (journal : List Journal) → slice_get states t ≡ Some s → (IsEnded s.mode → ⊥)
+pub cuts_moves : {told : Bool} {script : Script} {config : Config} {v w : View} {states : List ThreadState} {t : ℕ}
+    {s after : ThreadState} (journal : List Journal) → slice_get states t ≡ Some s → (IsEnded s.mode → ⊥)
     → Moves told script config v w states t s after → HaveCuts script v.log states config journal
     → HaveCuts script w.log (set states t after) config journal
-cuts_moves told script config v w states t s after journal at runs m have =
+cuts_moves {script} {config} {v} {states} {t} {s} {after} journal at runs m have =
     let more = with_more v.log t m.act in
     subst (λ (h : List Entry). HaveCuts script h (set states t after) config journal) (sym (m.grown ∙ more.1))
-    (HaveCuts_later script v.log more.0 states (set states t after) config journal
-    (later_set states t s after m.extra at runs m.replies) have)
+    (HaveCuts_later script v.log more.0 config journal (later_set states t s after m.extra at runs m.replies) have)
 
 -- a thread that got no reply
-pub same_moves : (told : Bool) (script : Script) (config : Config) (v w : View) (states : List ThreadState) (t : ℕ)
-    (s : ThreadState) (mode : Mode) → (owes_silent mode ≡ true → IsDue config (length s.replies.items))
+pub same_moves : {told : Bool} {script : Script} (config : Config) (v : View) {w : View} (states : List ThreadState)
+    {t : ℕ} (s : ThreadState) (mode : Mode) → (owes_silent mode ≡ true → IsDue config (length s.replies.items))
     → (IsEnded mode → ⊥) → w.log ≡ v.log → ThreadStands told script w t (record s { mode = mode })
     → Moves told script config v w states t s (record s { mode = mode })
-same_moves told script config v w states t s mode due free history stands =
+same_moves {told} {script} config v {w} states {t} s mode due free history stands =
     let after : ThreadState = record s { mode = mode } in
     record {
       act = None;
@@ -230,11 +223,11 @@ waits_open v w t s after mode waits over = elim waits.before [
 ]
 
 -- a thread that waits for a collection
-waits_moves : (told : Bool) (script : Script) (config : Config) (v w : View) (states : List ThreadState) (t : ℕ)
-    (s after : ThreadState) (mode : Mode) → (owes_silent s.mode ≡ true → IsDue config (length s.replies.items))
+waits_moves : {told : Bool} {script : Script} (config : Config) {v w : View} (states : List ThreadState) {t : ℕ}
+    {s after : ThreadState} {mode : Mode} → (owes_silent s.mode ≡ true → IsDue config (length s.replies.items))
     → ThreadStands told script v t s → (IsEnded s.mode → ⊥) → ThreadWaits v w t s after mode
     → Moves told script config v w states t s after
-waits_moves told script config v w states t s after mode due st runs waits =
+waits_moves {told} {script} config {v} {w} states {t} {s} {after} {mode} due st runs waits =
     let waiting : IsEnded mode → ⊥ = waits_open v w t s after mode waits in
     let fits : FitsMode mode s.op = elim waits.before [
       | inl own ↦ subst (λ (m : Mode). FitsMode m s.op) (sym own.2) own.1
@@ -249,26 +242,26 @@ waits_moves told script config v w states t s after mode due st runs waits =
       | inr due ↦ let known : s.mode ≡ Running = (st.call c is).0 in let is_due : s.mode ≡ Due = due.0 in absurd (cc)
     ] in
     let stands : ThreadStands told script (stopped v) t (record s { mode = mode }) =
-    mode_stands told script v (stopped v) t s mode st runs waiting refl refl fits (λ c is. absurd (call c is)) in
+    mode_stands (stopped v) mode st runs waiting refl refl fits (λ c is. absurd (call c is)) in
     subst (λ (y : ThreadState). Moves told script config v w states t s y) (sym waits.only)
-    (same_moves told script config v w states t s mode owes waiting (ap (λ (x : View). x.log) waits.stop)
+    (same_moves config v states s mode owes waiting (ap (λ (x : View). x.log) waits.stop)
     (subst (λ (x : View). ThreadStands told script x t (record s { mode = mode })) (sym waits.stop) stands))
 
 -- a thread whose call goes on
-goes_moves : (told : Bool) (script : Script) (config : Config) (v w : View) (states : List ThreadState) (t : ℕ)
-    (s after : ThreadState) → (owes_silent s.mode ≡ true → IsDue config (length s.replies.items))
+goes_moves : {told : Bool} {script : Script} (config : Config) {v w : View} (states : List ThreadState) {t : ℕ}
+    {s after : ThreadState} → (owes_silent s.mode ≡ true → IsDue config (length s.replies.items))
     → ThreadStands told script v t s → (IsEnded s.mode → ⊥) → ThreadGoes v w t s after
     → Moves told script config v w states t s after
-goes_moves told script config v w states t s after due st runs goes =
+goes_moves {told} {script} config {v} {w} states {t} {s} due st runs goes =
     let stands : ThreadStands told script w t (record s { mode = s.mode }) =
-    mode_stands told script v w t s s.mode st runs runs goes.history goes.values st.fits
+    mode_stands w s.mode st runs runs goes.history goes.values st.fits
     (λ c is. let same : goes.call ≡ c = same_Some goes.call c (sym goes.flight ∙ is) in (
       goes.running,
       goes.op ∙ ap (λ (x : Call). Some x.op) same,
       subst (λ (x : Call). x.op ≢ Collect) same goes.no_collect,
     )) in
     subst (λ (y : ThreadState). Moves told script config v w states t s y) (sym goes.same)
-    (same_moves told script config v w states t s s.mode due runs goes.history stands)
+    (same_moves config v states s s.mode due runs goes.history stands)
 
 -- what a call that paused leaves of the view
 pub paused_view : (v w : View) (t : ℕ) (o : Op) (cause : Pause) → Pauses v w t o cause
@@ -282,12 +275,12 @@ paused_view v w t o (pause.Space need) pauses = (pauses.call, pauses.own.history
 paused_view v w t o pause.Forward pauses = (pauses.call, pauses.own.history, pauses.own.values)
 
 -- a thread that waits for its call to be made again
-again_moves : (told : Bool) (script : Script) (config : Config) (v w : View) (states : List ThreadState) (t : ℕ)
-    (s : ThreadState) (mode : Mode) → ThreadStands told script v t s → (IsEnded s.mode → ⊥)
+again_moves : {told : Bool} {script : Script} (config : Config) {v : View} (w : View) (states : List ThreadState)
+    {t : ℕ} {s : ThreadState} (mode : Mode) → ThreadStands told script v t s → (IsEnded s.mode → ⊥)
     → (mode ≡ Asked) ⊎ (mode ≡ Lacking) → IsSome s.op → s.op ≢ Some Collect
     → (call_of w t ≡ None) × (w.log ≡ v.log) × (values_of w t ≡ values_of v t)
     → Moves told script config v w states t s (record s { mode = mode })
-again_moves told script config v w states t s mode st runs waits some no_collect behind =
+again_moves {told} {script} config {v} w states {t} {s} mode st runs waits some no_collect behind =
     let waiting : IsEnded mode → ⊥ = λ over. elim waits [
       | inl asked ↦ subst IsEnded asked over
       | inr lacking ↦ subst IsEnded lacking over
@@ -301,58 +294,53 @@ again_moves told script config v w states t s mode st runs waits some no_collect
       | inr lacking ↦ subst (λ (m : Mode). FitsMode m s.op) (sym lacking) (some, no_collect)
     ] in
     let stands : ThreadStands told script w t (record s { mode = mode }) =
-    mode_stands told script v w t s mode st runs waiting behind.1 behind.2 fits
+    mode_stands w mode st runs waiting behind.1 behind.2 fits
     (λ c is. absurd (let none : call_of w t ≡ None = behind.0 in cc)) in
-    same_moves told script config v w states t s mode owes waiting behind.1 stands
+    same_moves config v states s mode owes waiting behind.1 stands
 
 -- a thread whose call was refused
-refused_moves : (told : Bool) (script : Script) (config : Config) (v w : View) (states : List ThreadState) (t : ℕ)
-    (s after : ThreadState) → ThreadStands told script v t s → (IsEnded s.mode → ⊥) → ThreadRefused v w t s after
+refused_moves : {told : Bool} {script : Script} (config : Config) {v w : View} (states : List ThreadState) {t : ℕ}
+    {s after : ThreadState} → ThreadStands told script v t s → (IsEnded s.mode → ⊥) → ThreadRefused v w t s after
     → Moves told script config v w states t s after
-refused_moves told script config v w states t s after st runs refused =
+refused_moves {told} {script} config {v} {w} states {t} {s} st runs refused =
     subst (λ (y : ThreadState). Moves told script config v w states t s y) (sym refused.only)
-    (again_moves told script config v w states t s (mode_for (refusal.Pause refused.cause)) st runs
-    (paused_cases refused.cause)
-    (rw refused.next refl)
-    (λ is. refused.no_collect (same_Some refused.op Collect (sym refused.next ∙ is)))
+    (again_moves config w states (mode_for (refusal.Pause refused.cause)) st runs (paused_cases refused.cause)
+    (rw refused.next refl) (λ is. refused.no_collect (same_Some refused.op Collect (sym refused.next ∙ is)))
     (paused_view v w t refused.op refused.cause refused.pauses))
 
 -- a thread that still lacks room stands as before
-pub Table_lacks : (told : Bool) (script : Script) (config : Config) (disk : OnDisk) (v w : View)
-    (states : List ThreadState) (t : ℕ) (s : ThreadState) → TableStands told script config disk v states
+pub Table_lacks : {told : Bool} {script : Script} {config : Config} {disk : OnDisk} {v w : View}
+    {states : List ThreadState} {t : ℕ} {s : ThreadState} → TableStands told script config disk v states
     → slice_get states t ≡ Some s → s.mode ≡ Lacking → Standing told disk w → KeepsOthers v w t
     → (call_of w t ≡ None) × (w.log ≡ v.log) × (values_of w t ≡ values_of v t)
     → TableStands told script config disk w states
-Table_lacks told script config disk v w states t s table at lacking stands others behind =
+Table_lacks {told} {script} {config} {disk} {v} {w} {states} {t} {s} table at lacking stands others behind =
     let st : ThreadStands told script v t s = table.each t s at in
     let runs : IsEnded s.mode → ⊥ = λ over. subst IsEnded lacking over in
     let fits : FitsMode Lacking s.op = subst (λ (m : Mode). FitsMode m s.op) lacking st.fits in
     let same : record s { mode = Lacking } ≡ s =
     ap {B = ThreadState} (λ (m : Mode). record s { mode = m }) (sym lacking) in
     let moves : Moves told script config v w states t s (record s { mode = Lacking }) =
-    again_moves told script config v w states t s Lacking st runs (inr refl) fits.0 fits.1 behind in
+    again_moves config w states Lacking st runs (inr refl) fits.0 fits.1 behind in
     subst (TableStands told script config disk w) (set_got states t s at)
     (subst (λ (y : ThreadState). TableStands told script config disk w (set states t y)) same
-    (Table_moves told script config disk v w states t s (record s { mode = Lacking }) table at runs stands others
-    moves))
+    (Table_moves table at runs stands others moves))
 
 -- it stands, with registers that hold nothing
-lost_stands : (told : Bool) (script : Script) (finish : ℕ) (v w : View) (t : ℕ) (s after : ThreadState)
+lost_stands : {told : Bool} {script : Script} {finish : ℕ} {v w : View} {t : ℕ} {s after : ThreadState}
     → ThreadStands told script v t s → (lost : ThreadLost told finish v w t s after)
     → ThreadStands told script w t (record s { mode = mode_for lost.refusal })
-lost_stands told script finish v w t s after st lost =
+lost_stands {told} {finish} {w} {t} {s} st lost =
     let over : IsEnded (mode_for lost.refusal) = lost_ends told finish lost.refusal lost.cause in
-    stands_so told script v w t s (mode_for lost.refusal) st
-    (λ tells. told_so script v w t s (mode_for lost.refusal) (st.is_told tells) lost.history (inl over))
-    (λ ended. lost.dropped) (λ c is. absurd (let none : call_of w t ≡ None = lost.call in cc))
-    (ended_fits (mode_for lost.refusal) s.op over)
+    stands_so w (mode_for lost.refusal) st
+    (λ tells. told_so w (mode_for lost.refusal) (st.is_told tells) lost.history (inl over)) (λ ended. lost.dropped)
+    (λ c is. absurd (let none : call_of w t ≡ None = lost.call in cc)) (ended_fits (mode_for lost.refusal) s.op over)
 
 -- all threads stand behind the end of one that could not read the disk
-pub lost_moves : (told : Bool) (script : Script) (config : Config) (finish : ℕ) (v w : View) (states : List ThreadState)
-    (t : ℕ) (s after : ThreadState) → finish ≤ config.disk → ThreadStands told script v t s
-    → slice_get states t ≡ Some s → ThreadLost told finish v w t s after
-    → Moves told script config v w states t s after
-lost_moves told script config finish v w states t s after within st at lost =
+pub lost_moves : {told : Bool} {script : Script} (config : Config) {finish : ℕ} {v w : View} (states : List ThreadState)
+    {t : ℕ} {s after : ThreadState} → finish ≤ config.disk → ThreadStands told script v t s
+    → slice_get states t ≡ Some s → ThreadLost told finish v w t s after → Moves told script config v w states t s after
+lost_moves {told} {script} config {finish} {v} {w} states {t} {s} within st at lost =
     let gone : ThreadState = record s { mode = mode_for lost.refusal } in
     let next : slice_get (operations script t) (length s.replies.items) ≡ Some lost.op =
     first_left (operations script t) (length s.replies.items) lost.op s.cursor.operations
@@ -366,35 +354,35 @@ lost_moves told script config finish v w states t s after within st at lost =
       extra = [];
       grown = lost.history;
       replies = sym (append-nil s.replies.items);
-      stands = lost_stands told script finish v w t s after st lost;
+      stands = lost_stands st lost;
       due = λ owes. absurd (let wrong : false ≡ true = sym (refused_owes lost.refusal) ∙ owes in cc);
-      ends = lost_so told script w.log (set states t gone) config t finish lost.refusal within loads lost.cause;
+      ends = lost_so told w.log (set states t gone) config finish lost.refusal within loads lost.cause;
       entries = let same : length w.log ≡ length v.log = ap length lost.history in omega arith;
     })
 
 -- A thread that got the reply to its next operation: what was left began with it.
-pub told_left : (told : Bool) (v w : View) (t : ℕ) (s after : ThreadState) (got : ThreadTold told v w t s after)
+pub told_left : {told : Bool} {v w : View} {t : ℕ} {s after : ThreadState} (got : ThreadTold told v w t s after)
     → left s ≡ got.op ∷ s.cursor.operations
-told_left told v w t s after got = ap (λ (o : Option Op). with_first o s.cursor.operations) got.next
+told_left {s} got = ap (λ (o : Option Op). with_first o s.cursor.operations) got.next
 
 -- the operations to which it has replies
-told_taken : (told : Bool) (script : Script) (v w : View) (t : ℕ) (s after : ThreadState)
+told_taken : {told : Bool} {script : Script} {v w : View} {t : ℕ} {s after : ThreadState}
     → ThreadStands told script v t s → (got : ThreadTold told v w t s after)
-    → take (length after.replies.items) (operations script t) ≡ take (length s.replies.items) (operations script t)
-    ++ got.op ∷ []
-told_taken told script v w t s after st got =
+    → take (length after.replies.items) (operations script t)
+    ≡ take (length s.replies.items) (operations script t) ++ got.op ∷ []
+told_taken {script} {t} {s} {after} st got =
     let ops : List Op = operations script t in
     let k : ℕ = length s.replies.items in
     let more : length after.replies.items ≡ suc k =
     omega (arith, ap length got.takes.replies, length-append s.replies.items (got.reply ∷ [])) in
     ap (λ (n : ℕ). take n ops) more
-    ∙ take_next ops s.cursor.operations k got.op (sym st.to_come ∙ told_left told v w t s after got)
+    ∙ take_next ops s.cursor.operations k got.op (sym st.to_come ∙ told_left got)
 
 -- it is told one operation further by the history
-told_further : (script : Script) (disk : OnDisk) (v w : View) (t : ℕ) (s after : ThreadState)
+told_further : {script : Script} {disk : OnDisk} {v w : View} {t : ℕ} {s after : ThreadState}
     → ThreadStands true script v t s → (IsEnded s.mode → ⊥) → Standing true disk v → Standing true disk w
     → length w.globals ≡ length v.globals → ThreadTold true v w t s after → IsTold script w t after
-told_further script disk v w t s after st runs before behind globals got =
+told_further {script} {v} {w} {t} {s} {after} st runs before behind globals got =
     let ops : List Op = operations script t in
     let k : ℕ = length s.replies.items in
     let is : IsTold script v t s = st.is_told refl in
@@ -404,34 +392,33 @@ told_further script disk v w t s after st runs before behind globals got =
     subst (λ (rs : List Value). Stands v.log t (take k ops) s.replies.items rs)
     (held_now script v t s is runs) is.told in
     let next : Stands w.log t (take k ops ++ got.op ∷ []) (s.replies.items ++ got.reply ∷ []) answers.0 =
-    Stands_answers v.log w.log t (length v.globals) (take k ops) s.replies.items
-    (values_of v t) answers.0 got.op got.reply (before.legal refl) legal now answers.1 in
+    Stands_answers (length v.globals) (before.legal refl) legal now answers.1 in
     record {
       registers = answers.0;
       told = subst (λ (os : List Op). Stands w.log t os after.replies.items answers.0)
-          (sym (told_taken true script v w t s after st got))
+          (sym (told_taken st got))
           (subst (λ (rs : List Reply). Stands w.log t (take k ops ++ got.op ∷ []) rs answers.0) (sym got.takes.replies)
           next);
       in_registers = answers.2;
     }
 
 -- so far as the thread is told
-told_by : (told : Bool) (script : Script) (disk : OnDisk) (v w : View) (t : ℕ) (s after : ThreadState)
+told_by : (told : Bool) {script : Script} {disk : OnDisk} {v w : View} {t : ℕ} {s after : ThreadState}
     → ThreadStands told script v t s → (IsEnded s.mode → ⊥) → Standing told disk v → Standing told disk w
     → length w.globals ≡ length v.globals → ThreadTold told v w t s after → told ≡ true → IsTold script w t after
-told_by true script disk v w t s after st runs before behind globals got tells =
-    told_further script disk v w t s after st runs before behind globals got
-told_by false script disk v w t s after st runs before behind globals got tells = absurd (cc)
+told_by true st runs before behind globals got tells =
+    told_further st runs before behind globals got
+told_by false st runs before behind globals got tells = absurd (cc)
 
 -- it stands one operation further
-told_stands : (told : Bool) (script : Script) (disk : OnDisk) (v w : View) (t : ℕ) (s after : ThreadState)
+told_stands : {told : Bool} {script : Script} {disk : OnDisk} {v w : View} {t : ℕ} {s after : ThreadState}
     → ThreadStands told script v t s → (IsEnded s.mode → ⊥) → Standing told disk v → Standing told disk w
     → length w.globals ≡ length v.globals → ThreadTold told v w t s after → ThreadStands told script w t after
-told_stands told script disk v w t s after st runs before behind globals got =
+told_stands {told} {script} {w} {t} {s} {after} st runs before behind globals got =
     let ops : List Op = operations script t in
     let k : ℕ = length s.replies.items in
     let takes : TakesReply s after got.reply = got.takes in
-    let first : left s ≡ got.op ∷ s.cursor.operations = told_left told v w t s after got in
+    let first : left s ≡ got.op ∷ s.cursor.operations = told_left got in
     let dropped : drop k ops ≡ got.op ∷ s.cursor.operations = sym st.to_come ∙ first in
     let count : length after.replies.items ≡ k + 1 =
     ap length takes.replies ∙ length-append s.replies.items (got.reply ∷ []) in
@@ -447,7 +434,7 @@ told_stands told script disk v w t s after st runs before behind globals got =
           ∙ ap (λ (n : ℕ). drop n ops) (sym more));
       within = omega (arith, count, sizes, fewer, within);
       none_left = takes.none_left;
-      is_told = told_by told script disk v w t s after st runs before behind globals got;
+      is_told = told_by told st runs before behind globals got;
       dropped = got.dropped;
       call = λ c is. absurd (let none : call_of w t ≡ None = got.call in cc);
       fits = told_fits s after got.reply takes;
@@ -457,10 +444,10 @@ told_stands told script disk v w t s after st runs before behind globals got =
     }
 
 -- if it has ended, all its operations were answered
-told_ends : (told : Bool) (script : Script) (config : Config) (w : View) (states : List ThreadState) (t : ℕ)
-    (s after : ThreadState) (reply : Reply) → slice_get states t ≡ Some s → ThreadStands told script w t after
+told_ends : {told : Bool} {script : Script} (config : Config) {w : View} (states : List ThreadState) {t : ℕ}
+    {s after : ThreadState} {reply : Reply} → slice_get states t ≡ Some s → ThreadStands told script w t after
     → TakesReply s after reply → EndsSo told script w.log (set states t after) config t after.mode
-told_ends told script config w states t s after reply at st takes =
+told_ends {told} {script} config {w} states {t} {s} {after} at st takes =
     elim takes.fits [
       | inl runs ↦ subst (λ (m : Mode). EndsSo told script w.log (set states t after) config t m) (sym runs.0) tt
       | inr rest ↦ elim rest [
@@ -473,14 +460,14 @@ told_ends told script config w states t s after reply at st takes =
     ]
 
 -- so all threads stand behind its reply
-pub told_moves : (told : Bool) (script : Script) (config : Config) (disk : OnDisk) (v w : View)
-    (states : List ThreadState) (t : ℕ) (s after : ThreadState) → DueBy config.every s after
+pub told_moves : {told : Bool} {script : Script} {config : Config} {disk : OnDisk} {v w : View}
+    {states : List ThreadState} {t : ℕ} {s after : ThreadState} → DueBy config.every s after
     → TableStands told script config disk v states → slice_get states t ≡ Some s → (IsEnded s.mode → ⊥)
     → Standing told disk w → length w.globals ≡ length v.globals → ThreadTold told v w t s after
     → Moves told script config v w states t s after
-told_moves told script config disk v w states t s after due table at runs behind globals got =
+told_moves {told} {script} {config} {v} {w} {states} {t} {s} {after} due table at runs behind globals got =
     let st : ThreadStands told script w t after =
-    told_stands told script disk v w t s after (table.each t s at) runs table.stands behind globals got in
+    told_stands (table.each t s at) runs table.stands behind globals got in
     record {
       act = got.history.0;
       extra = got.reply ∷ [];
@@ -488,9 +475,9 @@ told_moves told script config disk v w states t s after due table at runs behind
       replies = got.takes.replies;
       stands = st;
       due = told_due config s after got.reply due got.takes;
-      ends = told_ends told script config w states t s after got.reply at st got.takes;
+      ends = told_ends config states at st got.takes;
       entries =
-          let first : left s ≡ got.op ∷ s.cursor.operations = told_left told v w t s after got in
+          let first : left s ≡ got.op ∷ s.cursor.operations = told_left got in
           omega (
             arith,
             ap length got.history.1,
@@ -501,52 +488,49 @@ told_moves told script config disk v w states t s after due table at runs behind
     }
 
 -- what an event of one thread that has not ended shows of it
-pub step_moves : (told : Bool) (script : Script) (config : Config) (disk : OnDisk) (v w : View)
-    (states : List ThreadState) (t : ℕ) (s after : ThreadState) → disk.end ≤ config.disk
+pub step_moves : {told : Bool} {script : Script} {config : Config} {disk : OnDisk} {v w : View}
+    {states : List ThreadState} {t : ℕ} {s after : ThreadState} → disk.end ≤ config.disk
     → TableStands told script config disk v states → slice_get states t ≡ Some s → (IsEnded s.mode → ⊥)
     → ThreadStep told disk v w t s after → DueBy config.every s after → Moves told script config v w states t s after
-step_moves told script config disk v w states t s after within table at runs step due =
+step_moves {told} {script} {config} {v} {states} {t} {s} within table at runs step due =
     let st : ThreadStands told script v t s = table.each t s at in
     elim step.what [
-      | inl waits ↦ waits_moves told script config v w states t s after waits.0 (table.due t s at) st runs waits.1
+      | inl waits ↦ waits_moves config states (table.due t s at) st runs waits.1
       | inr rest ↦ elim rest [
-        | inl goes ↦ goes_moves told script config v w states t s after (table.due t s at) st runs goes
+        | inl goes ↦ goes_moves config states (table.due t s at) st runs goes
         | inr further ↦ elim further [
-          | inl refused ↦ refused_moves told script config v w states t s after st runs refused
+          | inl refused ↦ refused_moves config states st runs refused
           | inr last ↦ elim last [
-            | inl lost ↦ lost_moves told script config disk.end v w states t s after within st at lost
-            | inr got ↦ told_moves told script config disk v w states t s after due table at runs step.stands
-                step.others.globals got
+            | inl lost ↦ lost_moves config states within st at lost
+            | inr got ↦ told_moves due table at runs step.stands step.others.globals got
           ]
         ]
       ]
     ]
 
 -- all threads stand behind the event
-pub Table_step : (told : Bool) (script : Script) (config : Config) (disk : OnDisk) (v w : View)
-    (states : List ThreadState) (t : ℕ) (s after : ThreadState) → disk.end ≤ config.disk
+pub Table_step : {told : Bool} {script : Script} {config : Config} {disk : OnDisk} {v w : View}
+    {states : List ThreadState} {t : ℕ} {s after : ThreadState} → disk.end ≤ config.disk
     → TableStands told script config disk v states → slice_get states t ≡ Some s → (IsEnded s.mode → ⊥)
     → ThreadStep told disk v w t s after → DueBy config.every s after
     → TableStands told script config disk w (set states t after)
-Table_step told script config disk v w states t s after within table at runs step due =
-    Table_moves told script config disk v w states t s after table at runs step.stands step.others
-    (step_moves told script config disk v w states t s after within table at runs step due)
+Table_step within table at runs step due =
+    Table_moves table at runs step.stands step.others (step_moves within table at runs step due)
 
 -- and the moments of collections stay so
-pub cuts_step : (told : Bool) (script : Script) (config : Config) (disk : OnDisk) (v w : View)
-    (states : List ThreadState) (t : ℕ) (s after : ThreadState) (journal : List Journal) → disk.end ≤ config.disk
+pub cuts_step : {told : Bool} {script : Script} {config : Config} {disk : OnDisk} {v w : View}
+    {states : List ThreadState} {t : ℕ} {s after : ThreadState} (journal : List Journal) → disk.end ≤ config.disk
     → TableStands told script config disk v states → slice_get states t ≡ Some s → (IsEnded s.mode → ⊥)
     → ThreadStep told disk v w t s after → DueBy config.every s after → HaveCuts script v.log states config journal
     → HaveCuts script w.log (set states t after) config journal
-cuts_step told script config disk v w states t s after journal within table at runs step due have =
-    cuts_moves told script config v w states t s after journal at runs
-    (step_moves told script config disk v w states t s after within table at runs step due) have
+cuts_step journal within table at runs step due have =
+    cuts_moves journal at runs (step_moves within table at runs step due) have
 
 -- what an event needs
-pub table_ready : (script : Script) (config : Config) (disk : OnDisk) (v : View) (states : List ThreadState) (t : ℕ)
-    (s : ThreadState) (finish : ℕ) → TableStands false script config disk v states → disk.end ≡ finish
+pub table_ready : {script : Script} {config : Config} {disk : OnDisk} {v : View} {states : List ThreadState} (t : ℕ)
+    {s : ThreadState} {finish : ℕ} → TableStands false script config disk v states → disk.end ≡ finish
     → slice_get states t ≡ Some s → IsReady finish v t s
-table_ready script config disk v states t s finish table ends at =
+table_ready {script} {disk} {v} {states} t {s} table ends at =
     let st : ThreadStands false script v t s = table.each t s at in
     let within : t < length states = slice_get_within states t s at in
     let count : length states ≡ length script.programs = table.count in
@@ -574,9 +558,9 @@ table_ready script config disk v states t s finish table ends at =
     }
 
 -- a call that is in flight is that of a thread that can go on
-call_goes : (told : Bool) (script : Script) (config : Config) (disk : OnDisk) (v : View) (states : List ThreadState)
-    (t : ℕ) (c : Call) → TableStands told script config disk v states → AllWait states → call_of v t ≡ Some c → ⊥
-call_goes told script config disk v states t c table waits is =
+call_goes : {told : Bool} {script : Script} {config : Config} {disk : OnDisk} {v : View} {states : List ThreadState}
+    (t : ℕ) {c : Call} → TableStands told script config disk v states → AllWait states → call_of v t ≡ Some c → ⊥
+call_goes {script} {v} {states} t {c} table waits is =
     let count : length states ≡ length script.programs = table.count in
     let threads : length v.held ≡ length script.programs = table.threads in
     let each : length v.calls ≡ length v.held = table.stands.each in
@@ -595,13 +579,13 @@ none_of (Some x) never = absurd (never x refl)
 pub waiting_quiet : (told : Bool) (script : Script) (config : Config) (disk : OnDisk) (v : View)
     (states : List ThreadState) → TableStands told script config disk v states → AllWait states → IsQuiet v
 waiting_quiet told script config disk v states table waits t =
-    none_of (call_of v t) (λ c is. call_goes told script config disk v states t c table waits is)
+    none_of (call_of v t) (λ c is. call_goes t table waits is)
 
 -- all threads stand in a new epoch
-pub Table_renewed : (told : Bool) (script : Script) (config : Config) (disk later : OnDisk) (v w : View)
-    (states : List ThreadState) → TableStands told script config disk v states → Renewed told later v w
+pub Table_renewed : {told : Bool} {script : Script} {config : Config} {disk later : OnDisk} {v w : View}
+    {states : List ThreadState} → TableStands told script config disk v states → Renewed told later v w
     → TableStands told script config later w states
-Table_renewed told script config disk later v w states table renewed = record {
+Table_renewed {told} {script} {config} {v} {w} {states} table renewed = record {
   stands = renewed.stands;
   count = table.count;
   threads = renewed.threads ∙ table.threads;
@@ -611,13 +595,11 @@ Table_renewed told script config disk later v w states table renewed = record {
   some_forward = subst (λ (n : ℕ). 1 ≤ n) (sym renewed.forwards) table.some_forward;
   each = λ t s at.
       let st : ThreadStands told script v t s = table.each t s at in
-      stands_so told script v w t s s.mode st
-      (λ tells. told_so script v w t s s.mode (st.is_told tells) renewed.history
-      (elim (st.is_told tells).in_registers [
+      stands_so w s.mode st
+      (λ tells. told_so w s.mode (st.is_told tells) renewed.history (elim (st.is_told tells).in_registers [
         | inl over ↦ inl over
         | inr same ↦ inr (same ∙ sym (renewed.values t))
-      ]))
-      (λ over. renewed.values t ∙ st.dropped over)
+      ])) (λ over. renewed.values t ∙ st.dropped over)
       (λ c is. absurd (let none : call_of w t ≡ None = renewed.quiet t in cc)) st.fits;
   own = subst (All (λ (e : Entry). e.thread < length script.programs)) (sym renewed.history) table.own;
   due = table.due;

@@ -70,20 +70,19 @@ pub same_quiet : (v w : View) → SameEpoch v w → IsQuiet v → IsQuiet w
 same_quiet v w same quiet = λ u. ap (λ xs. get_or xs u None) same.calls ∙ quiet u
 
 -- the next operation of a thread that waits for its own collection is that
-pub collecting_op : {unpaid : ℕ} (told : Bool) (script : Script) (config : Config) (shown : Shown) (run : Row) (t : ℕ)
-    (s : ThreadState) → StandsBut unpaid told script config shown run → slice_get run.states t ≡ Some s
+pub collecting_op : {unpaid : ℕ} {told : Bool} {script : Script} {config : Config} {shown : Shown} {run : Row} (t : ℕ)
+    {s : ThreadState} → StandsBut unpaid told script config shown run → slice_get run.states t ≡ Some s
     → s.mode ≡ Collecting → s.op ≡ Some Collect
-collecting_op {unpaid} told script config shown run t s stands at is =
+collecting_op {unpaid} t {s} stands at is =
     subst (λ (m : Mode). FitsMode m s.op) is (stands.table.each t s at).fits
 
 -- it has room for the reply
-pub collecting_room : {unpaid : ℕ} (told : Bool) (script : Script) (config : Config) (shown : Shown) (run : Row) (t : ℕ)
-    (s : ThreadState) → StandsBut unpaid told script config shown run → slice_get run.states t ≡ Some s
+pub collecting_room : {unpaid : ℕ} {told : Bool} {script : Script} {config : Config} {shown : Shown} {run : Row} (t : ℕ)
+    {s : ThreadState} → StandsBut unpaid told script config shown run → slice_get run.states t ≡ Some s
     → s.mode ≡ Collecting → length s.replies.items < vec_capacity s.replies
-collecting_room {unpaid} told script config shown run t s stands at is =
-    (table_ready script config stands.disk run.view run.states t s stands.disk.end
-    (Table_untold told script config stands.disk run.view run.states stands.table) refl at).room
-    (subst IsSome (sym (collecting_op told script config shown run t s stands at is)) refl)
+collecting_room {unpaid} {told} {script} {config} {run} t stands at is =
+    (table_ready t (Table_untold told script config stands.disk run.view run.states stands.table) refl at).room
+    (subst IsSome (sym (collecting_op t stands at is)) refl)
 
 -- the reply to a collection, where the thread has ended with it or has not
 collect_told : (told : Bool) (v w : View) (t : ℕ) (s after : ThreadState) → s.mode ≡ Collecting → s.op ≡ Some Collect
@@ -107,25 +106,26 @@ collect_told told v w t s after mode next takes history held dropped call = reco
 }
 
 -- the same as an event of the thread
-collect_step : (told : Bool) (disk : OnDisk) (v w : View) (t : ℕ) (s after : ThreadState) → Standing told disk v
-    → call_of v t ≡ None → s.mode ≡ Collecting → s.op ≡ Some Collect → TakesReply s after reply.Done
-    → DropsIfEnded v w t after.mode → ThreadStep told disk v w t s after
-collect_step told disk v w t s after stands no_call mode next takes drops = elim (drop_cases v w t after.mode drops) [
-  | inl gone ↦ record {
-    stands = gone.1.keeps told disk stands;
-    others = dropped_keeps v w t gone.1;
-    what =
-        inr (inr (inr (inr (collect_told told v w t s after mode next takes (ap (λ (x : View). x.log) gone.1.only)
-        (inl gone.0) (λ over. gone.1.here) (ap (λ (x : View). call_of x t) gone.1.only ∙ no_call)))));
-  }
-  | inr goes ↦ subst (λ (x : View). ThreadStep told disk v x t s after) (sym goes.1) (record {
-    stands = stands;
-    others = nothing_keeps v t;
-    what =
-        inr (inr (inr (inr (collect_told told v v t s after mode next takes refl (inr refl)
-        (λ over. absurd (goes.0 over)) no_call))));
-  })
-]
+collect_step : {told : Bool} {disk : OnDisk} {v : View} (w : View) (t : ℕ) {s after : ThreadState}
+    → Standing told disk v → call_of v t ≡ None → s.mode ≡ Collecting → s.op ≡ Some Collect
+    → TakesReply s after reply.Done → DropsIfEnded v w t after.mode → ThreadStep told disk v w t s after
+collect_step {told} {disk} {v} w t {s} {after} stands no_call mode next takes drops =
+    elim (drop_cases v w t after.mode drops) [
+      | inl gone ↦ record {
+        stands = gone.1.keeps told disk stands;
+        others = dropped_keeps v w t gone.1;
+        what =
+            inr (inr (inr (inr (collect_told told v w t s after mode next takes (ap (λ (x : View). x.log) gone.1.only)
+            (inl gone.0) (λ over. gone.1.here) (ap (λ (x : View). call_of x t) gone.1.only ∙ no_call)))));
+      }
+      | inr goes ↦ subst (λ (x : View). ThreadStep told disk v x t s after) (sym goes.1) (record {
+        stands = stands;
+        others = nothing_keeps v t;
+        what =
+            inr (inr (inr (inr (collect_told told v v t s after mode next takes refl (inr refl)
+            (λ over. absurd (goes.0 over)) no_call))));
+      })
+    ]
 
 -- Of a run one thread changed, and a core in which all else is as before.
 pub record SetsState (mid new : Row) (t : ℕ) (after : ThreadState) : Type 0 where
@@ -142,14 +142,13 @@ HasSpare script config run = Spare script config run.states (length run.collecto
 
 -- What is left to show of a run of which one thread changed: that all threads stand, and where the moments and the
 -- number of collections are.
-set_stands : (told : Bool) (script : Script) (config : Config) (shown : Shown) (mid new : Row) (t : ℕ)
-    (after : ThreadState) → (stands : StandsBut 1 told script config shown mid) → SetsState mid new t after
+set_stands : {told : Bool} {script : Script} {config : Config} {shown : Shown} {mid new : Row} {t : ℕ}
+    {after : ThreadState} → (stands : StandsBut 1 told script config shown mid) → SetsState mid new t after
     → TableStands told script config stands.disk new.view (set mid.states t after)
-    → (told ≡ true → HaveCuts script mid.view.log (set mid.states t after) config
-    mid.collector.journal.items)
+    → (told ≡ true → HaveCuts script mid.view.log (set mid.states t after) config mid.collector.journal.items)
     → HasSpare script config mid → Adds script config mid.states (set mid.states t after) 1 0
     → RunStands told script config shown new
-set_stands told script config shown mid new t after stands sets table cuts spare adds =
+set_stands {told} {script} {config} {shown} {mid} {new} {t} {after} stands sets table cuts spare adds =
     let states : List ThreadState = set mid.states t after in
     let counts : CountsCollections script config 0 states (length mid.collector.journal.items) =
     counts_taken script config mid.states states (length mid.collector.journal.items) spare adds in
@@ -179,84 +178,72 @@ set_stands told script config shown mid new t after stands sets table cuts spare
     }
 
 -- the collection that is the next operation of a thread was made, and the thread got its reply
-Run_answered : (told : Bool) (script : Script) (config : Config) (shown : Shown) (mid new : Row) (t : ℕ)
-    (s after : ThreadState) → StandsBut 1 told script config shown mid → HasSpare script config mid
-    → slice_get mid.states t ≡ Some s → s.mode ≡ Collecting
-    → TakesReply s after reply.Done → DueBy mid.every s after
-    → DropsIfEnded mid.view new.view t after.mode → SetsState mid new t after
-    → RunStands told script config shown new
-Run_answered told script config shown mid new t s after stands spare at mode takes due drops sets =
+Run_answered : {told : Bool} {script : Script} {config : Config} {shown : Shown} {mid new : Row} {t : ℕ}
+    {s after : ThreadState} → StandsBut 1 told script config shown mid → HasSpare script config mid
+    → slice_get mid.states t ≡ Some s → s.mode ≡ Collecting → TakesReply s after reply.Done → DueBy mid.every s after
+    → DropsIfEnded mid.view new.view t after.mode → SetsState mid new t after → RunStands told script config shown new
+Run_answered {told} {script} {config} {mid} {new} {t} {s} {after} stands spare at mode takes due drops sets =
     let v : View = mid.view in
     let w : View = new.view in
     let states : List ThreadState = mid.states in
     let by : DueBy config.every s after = subst (λ (n : ℕ). DueBy n s after) stands.every due in
     let goes : IsEnded s.mode → ⊥ = λ over. subst IsEnded mode over in
     let step : ThreadStep told stands.disk v w t s after =
-    collect_step told stands.disk v w t s after stands.table.stands (stands.quiet t) mode
-    (collecting_op told script config shown mid t s stands at mode) takes drops in
-    let next : s.op ≡ Some Collect = collecting_op told script config shown mid t s stands at mode in
+    collect_step w t stands.table.stands (stands.quiet t) mode (collecting_op t stands at mode) takes drops in
+    let next : s.op ≡ Some Collect = collecting_op t stands at mode in
     let adds : Adds script config states (set states t after) 1 1 =
-    adds_told told script config v states t s after Collect reply.Done (stands.table.each t s at) at stands.table.count
-    by takes (ap (λ (o : Option Op). with_first o s.cursor.operations) next) (ap owes mode) goes in
+    adds_told config states (stands.table.each t s at) at stands.table.count by takes
+    (ap (λ (o : Option Op). with_first o s.cursor.operations) next) (ap owes mode) goes in
     let within : stands.disk.end ≤ config.disk =
     subst (λ (n : ℕ). n ≤ config.disk) (sym stands.under.ends) stands.collector.within in
-    set_stands told script config shown mid new t after stands sets
-    (Table_step told script config stands.disk v w states t s after within stands.table at goes step by)
-    (λ is. cuts_reply script config v.log states t s after (reply.Done ∷ []) mid.collector.journal.items at goes
-    takes.replies (stands.cuts is)) spare
-    (record { all = adds.all; asked = adds.asked; pays = omega (arith, adds.pays) })
+    set_stands stands sets (Table_step within stands.table at goes step by)
+    (λ is. cuts_reply v.log states t after (reply.Done ∷ []) mid.collector.journal.items at goes takes.replies
+    (stands.cuts is)) spare (record { all = adds.all; asked = adds.asked; pays = omega (arith, adds.pays) })
 
 -- all threads stand where one goes on
-Table_goes_on : (told : Bool) (script : Script) (config : Config) (disk : OnDisk) (v w : View)
-    (states : List ThreadState) (t : ℕ) (s after : ThreadState) → TableStands told script config disk v states
-    → slice_get states t ≡ Some s → (IsEnded s.mode → ⊥) → call_of v t ≡ None → GoesOn s after
-    → DropsIfEnded v w t after.mode → TableStands told script config disk w (set states t after)
-Table_goes_on told script config disk v w states t s after table at goes no_call on drops = elim on [
+Table_goes_on : {told : Bool} {script : Script} {config : Config} {disk : OnDisk} {v : View} (w : View)
+    {states : List ThreadState} (t : ℕ) {s : ThreadState} (after : ThreadState)
+    → TableStands told script config disk v states → slice_get states t ≡ Some s → (IsEnded s.mode → ⊥)
+    → call_of v t ≡ None → GoesOn s after → DropsIfEnded v w t after.mode
+    → TableStands told script config disk w (set states t after)
+Table_goes_on {told} {script} {config} {disk} {v} w {states} t {s} after table at goes no_call on drops = elim on [
   | inl runs ↦
       let same : w ≡ v = subst (λ (x : ThreadState). DropsIfEnded v w t x.mode) runs.1 drops in
       subst (λ (x : ThreadState). TableStands told script config disk w (set states t x)) (sym runs.1)
       (subst (λ (x : View). TableStands told script config disk x (set states t (record s { mode = Running })))
-      (sym same) (Table_runs told script config disk v states t s table at goes runs.0 no_call))
+      (sym same) (Table_runs t table at goes runs.0 no_call))
   | inr ended ↦
       let dropped : HasDropped v w t = subst (λ (x : ThreadState). DropsIfEnded v w t x.mode) ended.1 drops in
       subst (λ (x : ThreadState). TableStands told script config disk w (set states t x)) (sym ended.1)
-      (Table_gone told script config disk v w states t s end.Done table at goes dropped no_call
-      (ends_done told script config disk v states t s table at ended.0))
+      (Table_gone end.Done table at goes dropped no_call (ends_done t table at ended.0))
 ]
 
 -- the silent collection for which a thread waits was made, and the thread goes on
-Run_goes_on : (told : Bool) (script : Script) (config : Config) (shown : Shown) (mid new : Row) (t : ℕ)
-    (s after : ThreadState) → StandsBut 1 told script config shown mid → HasSpare script config mid
-    → slice_get mid.states t ≡ Some s → s.mode ≡ Silent → GoesOn s after
-    → DropsIfEnded mid.view new.view t after.mode → SetsState mid new t after
-    → RunStands told script config shown new
-Run_goes_on told script config shown mid new t s after stands spare at mode on drops sets =
+Run_goes_on : {told : Bool} {script : Script} {config : Config} {shown : Shown} {mid new : Row} {t : ℕ}
+    {s after : ThreadState} → StandsBut 1 told script config shown mid → HasSpare script config mid
+    → slice_get mid.states t ≡ Some s → s.mode ≡ Silent → GoesOn s after → DropsIfEnded mid.view new.view t after.mode
+    → SetsState mid new t after → RunStands told script config shown new
+Run_goes_on {script} {config} {mid} {new} {t} {s} {after} stands spare at mode on drops sets =
     let v : View = mid.view in
     let states : List ThreadState = mid.states in
     let goes : IsEnded s.mode → ⊥ = λ over. subst IsEnded mode over in
     let by = goes_on_mode s after on in
     let one : owes s.mode ≡ owes by.0 + 1 = let had : owes s.mode ≡ 1 = ap owes mode in omega (arith, had, by.2) in
-    set_stands told script config shown mid new t after stands sets
-    (Table_goes_on told script config stands.disk v new.view states t s after stands.table at goes (stands.quiet t) on
-    drops)
+    set_stands stands sets (Table_goes_on new.view t after stands.table at goes (stands.quiet t) on drops)
     (λ is. subst (λ (x : ThreadState). HaveCuts script v.log (set states t x) config mid.collector.journal.items)
-    (sym by.1) (cuts_mode script config v.log states t s by.0 mid.collector.journal.items at goes (stands.cuts is)))
-    spare
+    (sym by.1) (cuts_mode config v.log states t by.0 mid.collector.journal.items at goes (stands.cuts is))) spare
     (subst (λ (x : ThreadState). Adds script config states (set states t x) 1 0) (sym by.1)
     (adds_silent script config states t s by.0 at stands.table.count one (open_over s.mode goes)))
 
 -- a run stands where the thread goes on
-pub Run_taken : (told : Bool) (script : Script) (config : Config) (shown : Shown) (mid new : Row) (t : ℕ)
-    (s after : ThreadState) → StandsBut 1 told script config shown mid → HasSpare script config mid
-    → slice_get mid.states t ≡ Some s → ForCollection s.mode
-    → TakesCollection mid.every s after → DropsIfEnded mid.view new.view t after.mode
-    → SetsState mid new t after → RunStands told script config shown new
-Run_taken told script config shown mid new t s after stands spare at waits takes drops sets =
+pub Run_taken : {told : Bool} {script : Script} {config : Config} {shown : Shown} {mid new : Row} {t : ℕ}
+    {s after : ThreadState} → StandsBut 1 told script config shown mid → HasSpare script config mid
+    → slice_get mid.states t ≡ Some s → ForCollection s.mode → TakesCollection mid.every s after
+    → DropsIfEnded mid.view new.view t after.mode → SetsState mid new t after → RunStands told script config shown new
+Run_taken {s} stands spare at waits takes drops sets =
     elim (waits_cases s.mode waits) [
-      | inl silent ↦ Run_goes_on told script config shown mid new t s after stands spare at silent
-          (takes.silent silent) drops sets
-      | inr own ↦ Run_answered told script config shown mid new t s after stands spare at own (takes.takes own)
-          (takes.due own) drops sets
+      | inl silent ↦ Run_goes_on stands spare at silent (takes.silent silent) drops sets
+      | inr own ↦ Run_answered stands spare at own (takes.takes own) (takes.due own) drops sets
     ]
 
 -- the state that was read is that of the thread
@@ -272,10 +259,10 @@ pub record WasCollected (old mid : Row) (t : ℕ) (s after : ThreadState) : Type
   pub takes : TakesCollection mid.every s after
 
 -- it is told so by the state that was read
-pub was_collected : (old mid : Row) (t : ℕ) (s x after d : ThreadState) → slice_get old.states t ≡ Some s
-    → mid.states ≡ old.states → x ≡ get_or mid.states t d
+pub was_collected : (old mid : Row) (t : ℕ) {s x after : ThreadState} (d : ThreadState)
+    → slice_get old.states t ≡ Some s → mid.states ≡ old.states → x ≡ get_or mid.states t d
     → (s.mode ≡ Collecting) ⊎ (s.mode ≡ Silent) → TakesCollection mid.every x after → WasCollected old mid t s after
-was_collected old mid t s x after d at same read mode takes = record {
+was_collected old mid t {s} {x} {after} d at same read mode takes = record {
   at = at;
   waits = elim mode [
     | inl own ↦ subst ForCollection (sym own) tt
@@ -290,27 +277,23 @@ never_forced : (config : Config) (c : Collector) → false ≡ true → IsTight 
 never_forced config c is = absurd (cc)
 
 -- what stands before a planned collection stands where the thread goes on behind it
-pub keeps_taken : (shown later : Shown) (old mid new : Row) (t : ℕ) (s after : ThreadState)
+pub keeps_taken : {shown later : Shown} {old mid new : Row} {t : ℕ} {s after : ThreadState}
     → MakesCollection false shown later old mid → WasCollected old mid t s after
-    → DropsIfEnded mid.view new.view t after.mode → SetsState mid new t after
-    → KeepsRun shown later old new
-keeps_taken shown later old mid new t s after made was drops sets = λ told script config stands.
+    → DropsIfEnded mid.view new.view t after.mode → SetsState mid new t after → KeepsRun shown later old new
+keeps_taken {old} {mid} {t} {s} made was drops sets = λ told script config stands.
     let here : slice_get mid.states t ≡ Some s =
     ap (λ (xs : List ThreadState). slice_get xs t) made.states ∙ was.at in
-    Run_taken told script config later mid new t s after
-    (stands_collected told script config false shown later old mid stands made (never_forced config old.collector)
-    (may_owe 0 old.states t s (omega arith) was.at (own_open s.mode was.waits)))
-    (spare_collected told script config false shown later old mid stands made) here was.waits
-    was.takes drops sets
+    Run_taken (stands_collected stands made (never_forced config old.collector)
+    (may_owe 0 old.states t s (omega arith) was.at (own_open s.mode was.waits))) (spare_collected stands made) here
+    was.waits was.takes drops sets
 
 -- the threads of a run have registers behind a collection
-pub collected_thread : (told : Bool) (script : Script) (config : Config) (shown later : Shown) (old mid : Row) (t : ℕ)
-    → RunStands told script config shown old → MakesCollection false shown later old mid
-    → t < length old.states → t < length mid.view.held
-collected_thread told script config shown later old mid t stands made below =
+pub collected_thread : {told : Bool} {script : Script} {config : Config} {shown later : Shown} {old mid : Row} (t : ℕ)
+    → RunStands told script config shown old → MakesCollection false shown later old mid → t < length old.states
+    → t < length mid.view.held
+collected_thread {told} {script} {config} {mid} t stands made below =
     let behind : TableStands told script config _ mid.view mid.states =
-    collected_table told script config false shown later old mid
-    (collected_over told script config false shown later old mid stands made) in
+    collected_table (collected_over stands made) in
     omega (arith, below, behind.threads, stands.table.count)
 
 -- a collection was made for a thread that waits for one
@@ -322,7 +305,7 @@ made_for shown later old mid new s made waits collector same = record {
   none = λ never. absurd (never waits);
   planned = subst (λ (n : ℕ). MakesPlanned n shown old new) (sym (own_one s.mode waits)) (λ told script config stands.
       subst (λ (c : Collector). Planned config 1 (journal_of old) c.journal.items) (sym collector)
-      (planned_one told script config shown later old mid stands made));
+      (planned_one stands made));
 }
 
 -- and none for another

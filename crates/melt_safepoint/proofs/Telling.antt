@@ -129,43 +129,42 @@ with_own h t threads None within own = own
 with_own h t threads (Some act) within own = All-push (λ (e : Entry). e.thread < threads) h (entry t act) own within
 
 -- what another thread was told stays
-pub told_with : (h : List Entry) (t u : ℕ) (ops : List Op) (replies : List Reply) (registers : List Value)
+pub told_with : {h : List Entry} (t : ℕ) {u : ℕ} {ops : List Op} {replies : List Reply} {registers : List Value}
     (act : Option Act) → u ≢ t → Stands h u ops replies registers → Stands (with_entry t h act) u ops replies registers
-told_with h t u ops replies registers None differ told = told
-told_with h t u ops replies registers (Some act) differ told =
+told_with {h} t {u} {ops} {replies} {registers} None differ told = told
+told_with {h} t {u} {ops} {replies} {registers} (Some act) differ told =
     Stands_other h u ops replies registers (entry t act) told (λ same. differ (sym same))
 
 -- the thread stands one operation further, where its entry is the new last one or there is none
-stands_by : (h : List Entry) (t : ℕ) (ops : List Op) (replies : List Reply) (rs : List Value) (o : Op) (x : Value)
+stands_by : {h : List Entry} {t : ℕ} {ops : List Op} {replies : List Reply} {rs : List Value} (o : Op) {x : Value}
     (act : Option Act) → Stands h t ops replies rs → (does h rs o x).act ≡ act → gives h act ≡ x
     → HoldReferences (with_entry t h act) (does h rs o x).registers
-    → Stands (with_entry t h act) t (ops ++ o ∷ []) (replies ++ (does h rs o x).reply ∷ [])
-    (does h rs o x).registers
-stands_by h t ops replies rs o x None stands is given holds =
+    → Stands (with_entry t h act) t (ops ++ o ∷ []) (replies ++ (does h rs o x).reply ∷ []) (does h rs o x).registers
+stands_by {h} {t} {ops} {replies} {rs} o None stands is given holds =
     let S : Value → Type 0 = λ v. (does h rs o v).act ≡ None → HoldReferences h (does h rs o v).registers
     → Stands h t (ops ++ o ∷ []) (replies ++ (does h rs o v).reply ∷ []) (does h rs o v).registers in
     let at_nil : S Nil = λ none references. Stands_local h t ops replies rs o stands none references in
     subst S given at_nil is holds
-stands_by h t ops replies rs o x (Some act) stands is given holds =
+stands_by {h} {t} {ops} {replies} {rs} o (Some act) stands is given holds =
     let S : Value → Type 0 = λ v. (does h rs o v).act ≡ Some act
     → HoldReferences (h ++ entry t act ∷ []) (does h rs o v).registers
     → Stands (h ++ entry t act ∷ []) t (ops ++ o ∷ []) (replies ++ (does h rs o v).reply ∷ [])
     (does h rs o v).registers in
     let at_given : S (gives h (Some act)) =
-    λ same references. Stands_entry h t ops replies rs o (entry t act) stands refl same references in
+    λ same references. Stands_entry o (entry t act) stands refl same references in
     subst S given at_given is holds
 
 -- a thread that was answered stands one operation further
-pub Stands_answers : (h h' : List Entry) (t globals : ℕ) (ops : List Op) (replies : List Reply) (rs rs' : List Value)
-    (o : Op) (r : Reply) → Legal h globals → Legal h' globals → Stands h t ops replies rs → Answers t h rs o r h' rs'
-    → Stands h' t (ops ++ o ∷ []) (replies ++ r ∷ []) rs'
-Stands_answers h h' t globals ops replies rs rs' o r before legal stands a =
+pub Stands_answers : {h h' : List Entry} {t : ℕ} (globals : ℕ) {ops : List Op} {replies : List Reply}
+    {rs rs' : List Value} {o : Op} {r : Reply} → Legal h globals → Legal h' globals → Stands h t ops replies rs
+    → Answers t h rs o r h' rs' → Stands h' t (ops ++ o ∷ []) (replies ++ r ∷ []) rs'
+Stands_answers {h} {t} globals {ops} {replies} {rs} {rs'} {o} {r} before legal stands a =
     let d : Deed = does h rs o a.value in
     let held : HoldReferences (with_entry t h d.act) d.registers =
     does_references h t globals rs o a.value before stands.references
     (subst (λ (k : List Entry). Legal k globals) a.history legal) a.given in
     let next : Stands (with_entry t h d.act) t (ops ++ o ∷ []) (replies ++ d.reply ∷ []) d.registers =
-    stands_by h t ops replies rs o a.value d.act stands refl a.given held in
+    stands_by o d.act stands refl a.given held in
     let told : Stands (with_entry t h d.act) t (ops ++ o ∷ []) (replies ++ r ∷ []) d.registers =
     subst (λ (x : Reply). Stands (with_entry t h d.act) t (ops ++ o ∷ []) (replies ++ x ∷ []) d.registers) a.told
     next in

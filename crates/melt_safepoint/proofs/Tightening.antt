@@ -47,9 +47,9 @@ module _ (phase : Phase) (m after : Maps) (s t : State) (to home scion : ℕ →
       reached = Reached.in_register is.0.thread is.0.register a is.0.holds (let some = is.1 in omega (arith, some))
 
   -- an object that stays takes as many words as before
-  same_cost : (Is Has : ℕ → Type 0) (before behind : ℕ) (was : CountsWords s Is before) (is : CountsWords t Has behind)
-      (a n : ℕ) → m.address a ≡ Some n → to a ≢ 0 → was.cost a ≡ is.cost (to a)
-  same_cost Is Has before behind was is a n named stays =
+  same_cost : (Is Has : ℕ → Type 0) {before behind : ℕ} (was : CountsWords s Is before) (is : CountsWords t Has behind)
+      (a : ℕ) {n : ℕ} → m.address a ≡ Some n → to a ≢ 0 → was.cost a ≡ is.cost (to a)
+  same_cost Is Has was is a {n} named stays =
       let object : (header : Header) × ObjectAt s a header = formed.words.objects a n named in
       let arrives : Arrives phase s t to home scion a object.0 =
       collected.words.arrives a object.0 stays object.1.starts in
@@ -63,7 +63,7 @@ module _ (phase : Phase) (m after : Maps) (s t : State) (to home scion : ℕ →
       moved_counts to s (HeldAt s) held helds lives.cost
       (λ a b is other same. collected.words.chooses.once a b (held_stays a is) same)
       (λ a is. let named = held_named a is in
-      same_cost (HeldAt s) (IsNamed after) held live helds lives a named.0 named.1 (held_stays a is))
+      same_cost (HeldAt s) (IsNamed after) helds lives a named.1 (held_stays a is))
 
   -- the words of all that is left
   all_left : (live : ℕ) (lives : CountsWords t (IsNamed after) live) → CostsSum lives.cost (IsNamed after) live

@@ -28,12 +28,11 @@ use Rattle.melt_safepoint.specs.declared.ending.Stop.{Stop}
 use Rattle.melt_safepoint.proofs.Collected.{just_collected, stands_collected}
 
 -- what one more forced Move leaves, by what its collection did
-left_again : {spare : List ℕ} (told : Bool) (config : Config) (forced : ℕ) (later : Shown) (v w : View)
-    (entry : Journal) (need : ℕ)
-    → told ≡ true → forced < 2 → LacksBy config forced v need → w.free ≡ entry.live + 1
+left_again : {spare : List ℕ} {told : Bool} (config : Config) (forced : ℕ) {later : Shown} {v w : View}
+    {entry : Journal} (need : ℕ) → told ≡ true → forced < 2 → LacksBy config forced v need → w.free ≡ entry.live + 1
     → CollectedOver told Move later spare v w entry → LeftBy (suc forced) w
-left_again {spare} told config zero later v w entry need tells few left free over = over.marked tells refl
-left_again {spare} told config (suc zero) later v w entry need tells few left free over =
+left_again {spare} config zero {v} {w} {entry} need tells few left free over = over.marked tells refl
+left_again {spare} config (suc zero) {v} {w} {entry} need tells few left free over =
     let gathers : Gathers v entry = over.gathers tells in
     let same : (u r : ℕ) → value v u r ≡ value w u r =
     λ u r. sym (ap (λ (xs : List Value). value_in xs r) (over.renewed.values u)) in
@@ -43,7 +42,7 @@ left_again {spare} told config (suc zero) later v w entry need tells few left fr
           (held_words_same v.log (value v) (value w) entry.held same gathers.holds);
       free = let all : entry.live ≡ entry.held = over.tight tells refl left in omega (arith, free, all);
     }
-left_again {spare} told config (suc (suc k)) later v w entry need tells few left free over = absurd (omega (arith, few))
+left_again {spare} config (suc (suc k)) {v} {w} {entry} need tells few left free over = absurd (omega (arith, few))
 
 -- behind it the thread may make its call once more
 pub awaits_again : {told : Bool} {script : Script} {config : Config} {shown later : Shown} {forced : ℕ} {old new : Row}
@@ -54,15 +53,14 @@ awaits_again {told} {script} {config} {shown} {later} {forced} {old} {new} {t} {
     let over : CollectedOver told Move later stands.disk.free_homes old.view new.view made.collects.entry =
     made.collects.each told stands.disk stands.under stands.table.stands in
     record {
-      stands = stands_collected told script config true shown later old new stands made (λ is. lacks.tight)
+      stands = stands_collected stands made (λ is. lacks.tight)
           (room_owes old.states t lacks.waits (omega (arith, few)));
       few = omega (arith, few);
       owed = subst (OweBehindCollects script) (sym made.states) lacks.owed;
       collected = just_collected true shown later old new made;
       own = subst NoneOwn (sym made.states) lacks.own;
       waits = subst (λ (xs : List ThreadState). WaitsForRoom xs t) (sym made.states) lacks.waits;
-      left = λ tells. left_again told config forced later old.view new.view made.collects.entry need tells
-          few (lacks.left tells) made.collects.live over;
+      left = λ tells. left_again config forced need tells few (lacks.left tells) made.collects.live over;
     }
 
 -- what holds of a value, where more did
@@ -113,10 +111,10 @@ no_room_left {shown} {run} {t} {forced} {need} why told script config lacks =
     ]) lacks
 
 -- a run that was stopped behind a forced Move
-pub forced_stops : (shown mid later : Shown) (old run : Row) (t need forced : ℕ) (stop : Stop)
+pub forced_stops : {shown mid : Shown} (later : Shown) {old run : Row} (t need forced : ℕ) (stop : Stop)
     → MakesCollection true shown mid old run → forced < 2 → StopsBut mid later run stop
     → StopsFrom (λ told script config. LacksWords told script config shown forced old t need) later stop
-forced_stops shown mid later old run t need forced stop made few stops told script config lacks =
+forced_stops later t need forced stop made few stops told script config lacks =
     stops told script config (suc (suc forced), (awaits_again few lacks made).stands)
 
 -- or before it

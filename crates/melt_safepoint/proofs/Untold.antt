@@ -72,13 +72,13 @@ run_untold {script} {config} {shown} {report} {heap} has = record {
 }
 
 -- a run that is told where the disk tells its words
-pub run_as_told : (image : Option (List ℕ)) (told : Bool) (script : Script) (config : Config) (shown : Shown)
-    (report : Report) (heap : Option Heap) → (told ≡ true → IsSome image)
+pub run_as_told : (image : Option (List ℕ)) (told : Bool) {script : Script} {config : Config} {shown : Shown}
+    {report : Report} {heap : Option Heap} → (told ≡ true → IsSome image)
     → HasRun (is_some image) script config shown report heap → HasRun told script config shown report heap
-run_as_told None true script config shown report heap some has = absurd (let wrong : false ≡ true = some refl in cc)
-run_as_told None false script config shown report heap some has = has
-run_as_told (Some words) true script config shown report heap some has = has
-run_as_told (Some words) false script config shown report heap some has = run_untold has
+run_as_told None true some has = absurd (let wrong : false ≡ true = some refl in cc)
+run_as_told None false some has = has
+run_as_told (Some words) true some has = has
+run_as_told (Some words) false some has = run_untold has
 
 -- the disk under a run
 under_untold : {told : Bool} {finish : ℕ} {image : Option (List ℕ)} {disk : OnDisk} → Underlies told finish image disk

@@ -92,23 +92,20 @@ module _ (maps : Maps) (s t : State) (x word : ℕ) (formed : FormedWords maps s
   keeps_part a n p h part behind = keeps_word
       (λ b m named.
       let object = formed.objects b m named in
-      parts_differ maps s a b n m p 0 x b h object.0 formed part (head_part maps s b m object.0 named object.1.starts)
-      (omega arith))
+      parts_differ maps s formed part (head_part maps s b m object.0 named object.1.starts) (omega arith))
       (λ b m named.
       let object = formed.objects b m named in
-      parts_differ maps s a b n m p 1 x (b + 1) h object.0 formed part
-      (home_part maps s b m object.0 named object.1.starts) (omega arith))
+      parts_differ maps s formed part (home_part maps s b m object.0 named object.1.starts) (omega arith))
 
   -- a word of a region of a thread
   pub keeps_outside : (r : Region) → Owns maps s r → r.at ≤ x → x < r.at + r.words → KeepsObjects maps maps s t
   keeps_outside r owns from below = keeps_word
       (λ b m named.
       let object = formed.objects b m named in
-      part_outside maps s r b m 0 b x object.0 owns (head_part maps s b m object.0 named object.1.starts) from below)
+      part_outside maps s x owns (head_part maps s b m object.0 named object.1.starts) from below)
       (λ b m named.
       let object = formed.objects b m named in
-      part_outside maps s r b m 1 (b + 1) x object.0 owns
-      (home_part maps s b m object.0 named object.1.starts) from below)
+      part_outside maps s x owns (home_part maps s b m object.0 named object.1.starts) from below)
 
 -- the header without the stale bit
 abbrev pub fresh_header : Header → Header
@@ -121,8 +118,7 @@ module _ (maps : Maps) (s t : State) (a n : ℕ) (h : Header) (formed : FormedWo
   -- a word behind a header is another
   pub behind_cleared : (b m q y : ℕ) (k : Header) → PartAt maps s b m q y k → 1 ≤ q → t.word y ≡ s.word y
   behind_cleared b m q y k part behind =
-      changes.others y (parts_differ maps s a b n m 0 q a y h k formed (head_part maps s a n h named starts) part
-      (omega arith))
+      changes.others y (parts_differ maps s formed (head_part maps s a n h named starts) part (omega arith))
 
   cleared_starts : HeaderAt t a (fresh_header h)
   cleared_starts = record { in_range = starts.in_range; word = changes.here }

@@ -281,9 +281,7 @@ module _ (maps new : Maps) (s t : State) (home tried p n address : ℕ) (z : Sha
     was_body = elim stood.is [
       | inl is ↦
           let same : stood.reserved_for ≡ z = ap (λ (x : Head). x.shape)
-          (same_head home s.base.end home s.base.end (s.base.image home) (s.base.image (home + 1))
-          (record { shape = stood.reserved_for; kind = Body }) (record { shape = z; kind = Body }) is.head
-          (may.body.head.on_disk is_told)).1 in
+          (same_head is.head (may.body.head.on_disk is_told)).1 in
           (subst (λ (y : Shape). IsBody h maps s.base home n y) same is, same)
       | inr (inl is) ↦ absurd (let first : 0 < is.scion = is.head.second_word.0.not_null in
           let some : s.base.image (home + 1) ≡ is.scion = is.head.second_word.1 in

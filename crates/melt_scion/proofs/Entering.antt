@@ -48,14 +48,14 @@ module _ (maps new : Maps) (s t : State) (at n : ℕ) (z : Shape) (formed : Form
   -- the words of other objects stay
   pub old_part : (a m p x : ℕ) (h : Header) → PartAt maps s a m p x h → t.word x ≡ s.word x
   old_part a m p x h part =
-      appears.others x (λ from below. part_outside maps s (stretch at z) a m p x x h appears.owns part from below refl)
+      appears.others x (λ from below. part_outside maps s x appears.owns part from below refl)
 
   -- no object was at the address
   pub other_address : (a m : ℕ) → maps.address a ≡ Some m → a ≢ at
   other_address a m named =
       let object = formed.objects a m named in
-      part_outside maps s (stretch at z) a m 0 a at object.0 appears.owns
-      (head_part maps s a m object.0 named object.1.starts) (omega arith) (omega arith)
+      part_outside maps s at appears.owns (head_part maps s a m object.0 named object.1.starts) (omega arith)
+      (omega arith)
 
   old_head : (a m : ℕ) → maps.address a ≡ Some m → t.word a ≡ s.word a
   old_head a m named =

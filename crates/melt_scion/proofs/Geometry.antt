@@ -17,15 +17,15 @@ pub header_moves : (s t : State) (a : ℕ) (h : Header) → s.word a ≡ t.word 
 header_moves s t a h same starts = record { in_range = starts.in_range; word = same ∙ starts.word }
 
 -- two stretches of which the lower ends before the other begins have no place in common
-pub stretches_apart : (a b p q x y ca cb : ℕ) → (a < b → a + ca ≤ b) → (b < a → b + cb ≤ a) → a ≢ b → p < ca → q < cb
-    → x ≡ a + p → y ≡ b + q → y ≢ x
-stretches_apart a b p q x y ca cb up down differ in_a in_b is_x is_y = λ same. grind arith
+pub stretches_apart : (a b p q : ℕ) {x y : ℕ} (ca cb : ℕ) → (a < b → a + ca ≤ b) → (b < a → b + cb ≤ a) → a ≢ b → p < ca
+    → q < cb → x ≡ a + p → y ≡ b + q → y ≢ x
+stretches_apart a b p q ca cb up down differ in_a in_b is_x is_y = λ same. grind arith
 
 -- the place q of the object at b is the place p of the object at a, or another word
-pub one_part : (maps : Maps) (s : State) (a b n m p q x y : ℕ) (h k : Header) → FormedWords maps s
+pub one_part : {maps : Maps} {s : State} {a b n m : ℕ} (p q : ℕ) {x y : ℕ} {h k : Header} → FormedWords maps s
     → maps.address a ≡ Some n → maps.address b ≡ Some m → HeaderAt s a h → HeaderAt s b k → p < cost_of h.shape
     → q < cost_of k.shape → x ≡ a + p → y ≡ b + q → ((b ≡ a) × (k ≡ h) × (q ≡ p) × (m ≡ n)) ⊎ (y ≢ x)
-one_part maps s a b n m p q x y h k formed named_a named_b at_a at_b in_a in_b is_x is_y =
+one_part {maps} {s} {a} {b} {n} {m} p q {h} {k} formed named_a named_b at_a at_b in_a in_b is_x is_y =
     elim (eqb_tells b a) [
       | inl same ↦
           let k_at_a : HeaderAt s a k = subst (λ (c : ℕ). HeaderAt s c k) same.1 at_b in
@@ -34,18 +34,18 @@ one_part maps s a b n m p q x y h k formed named_a named_b at_a at_b in_a in_b i
             | inl one ↦ inl (same.1, one_header s a k h k_at_a at_a, one.1, number)
             | inr two ↦ inr (let same_start : b ≡ a = same.1 in let differ : q ≢ p = two.1 in omega arith)
           ]
-      | inr other ↦ inr (stretches_apart a b p q x y (cost_of h.shape) (cost_of k.shape)
+      | inr other ↦ inr (stretches_apart a b p q (cost_of h.shape) (cost_of k.shape)
           (formed.apart a b n m h named_a named_b at_a) (formed.apart b a m n k named_b named_a at_b)
           (λ e. other.1 (sym e)) in_a in_b is_x is_y)
     ]
 
 -- a word behind the header of an object is no header
-pub behind_header : (maps : Maps) (s : State) (a b n m q y : ℕ) (k : Header) → FormedWords maps s →
-    maps.address a ≡ Some n → maps.address b ≡ Some m → HeaderAt s b k → 1 ≤ q → q < cost_of k.shape → y ≡ b + q → a ≢ y
-behind_header maps s a b n m q y k formed named_a named_b at_b behind within is =
+pub behind_header : {maps : Maps} {s : State} (a : ℕ) {b n m : ℕ} (q : ℕ) {y : ℕ} {k : Header} → FormedWords maps s
+    → maps.address a ≡ Some n → maps.address b ≡ Some m → HeaderAt s b k → 1 ≤ q → q < cost_of k.shape → y ≡ b + q
+    → a ≢ y
+behind_header a {n} q formed named_a named_b at_b behind within is =
     let object = formed.objects a n named_a in
-    elim (one_part maps s a b n m 0 q a y object.0 k formed named_a named_b object.1.starts at_b (omega arith) within
-    (omega arith) is) [
+    elim (one_part 0 q formed named_a named_b object.1.starts at_b (omega arith) within (omega arith) is) [
       | inl same ↦ absurd (let e : q ≡ 0 = same.2 in omega arith)
       | inr other ↦ λ e. other (sym e)
     ]

@@ -30,19 +30,19 @@ follow_within from end (suc j) (x ∷ homes) y follows at =
     (omega arith, rest.1)
 
 -- of two of them, the one that is named first ends before the other begins
-follow_order : (from end i j : ℕ) (homes : List Home) (x y : Home) → Follow from homes end →
-    slice_get homes i ≡ Some x → slice_get homes j ≡ Some y → i < j → x.at + cost_of x.shape ≤ y.at
-follow_order from end i j [] x y follows first second less = absurd (cc)
-follow_order from end i zero (w ∷ homes) x y follows first second less = absurd (omega arith)
-follow_order from end zero (suc j) (w ∷ homes) x y follows first second less =
+follow_order : (from end i j : ℕ) (homes : List Home) {x y : Home} → Follow from homes end → slice_get homes i ≡ Some x
+    → slice_get homes j ≡ Some y → i < j → x.at + cost_of x.shape ≤ y.at
+follow_order from end i j [] {x} {y} follows first second less = absurd (cc)
+follow_order from end i zero (w ∷ homes) {x} {y} follows first second less = absurd (omega arith)
+follow_order from end zero (suc j) (w ∷ homes) {x} {y} follows first second less =
     let same : w ≡ x = same_Some w x first in
     let here : x.at ≡ from = ap (λ (home : Home). home.at) (sym same) ∙ follows.0 in
     let cost : cost_of w.shape ≡ cost_of x.shape = ap (λ (home : Home). cost_of home.shape) same in
     let rest = follow_within (from + cost_of w.shape) end j homes y follows.1 second in
     let behind : from + cost_of w.shape ≤ y.at = rest.0 in
     omega arith
-follow_order from end (suc i) (suc j) (w ∷ homes) x y follows first second less =
-    follow_order (from + cost_of w.shape) end i j homes x y follows.1 first second (omega arith)
+follow_order from end (suc i) (suc j) (w ∷ homes) {x} {y} follows first second less =
+    follow_order (from + cost_of w.shape) end i j homes follows.1 first second (omega arith)
 
 module _ (homes : List Home) (end : ℕ) (follows : Follow 1 homes end) where
   -- a home lies between the first word of the disk and the end
@@ -62,9 +62,9 @@ module _ (homes : List Home) (end : ℕ) (follows : Follow 1 homes end) where
             inl (ap (λ (x : Home). x.at) one, ap (λ (x : Home). x.shape) one)
         | inr differ ↦ elim differ [
           | inl less ↦
-              inr (inl (follow_order 1 end is.index also.index homes this that follows is.is also.is less))
+              inr (inl (follow_order 1 end is.index also.index homes follows is.is also.is less))
           | inr more ↦
-              inr (inr (follow_order 1 end also.index is.index homes that this follows also.is is.is more))
+              inr (inr (follow_order 1 end also.index is.index homes follows also.is is.is more))
         ]
       ]
 

@@ -170,7 +170,7 @@ module _ (c : Collection) where
   ref_fits (Clean a) reached range may =
       let f = found a (reached a refl) in
       address_fits a f (kept_tag c.phase (c.to a)) (λ some. (
-        tag_may_stand c.phase c.new s t a (c.to a) f.header (arrives a f some).later (named_there a f some)
+        tag_may_stand c.phase c.new s a f.header (arrives a f some).later (named_there a f some)
             (arrives a f some).marked (fresh_there a f some may.1),
         tag_in_range c.phase (c.to a) (to_in_range a some),
       ))

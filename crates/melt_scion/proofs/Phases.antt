@@ -46,11 +46,12 @@ tag_value Mark maps a = refl
 tag_value Move maps a = refl
 
 -- and may stand where stale bits stay, or is not clean any more
-pub tag_may_stand : (phase : Phase) (maps : Maps) (s t : State) (a to : ℕ) (old later : Header) → IsNamed maps to →
-    BitGoes phase s a old later → (later.stale ≡ old.stale → IsFresh t to) → MayStand maps t (kept_tag phase to)
-tag_may_stand Inactive maps s t a to old later named bit fresh = (named, fresh bit)
-tag_may_stand Mark maps s t a to old later named bit fresh = named
-tag_may_stand Move maps s t a to old later named bit fresh = named
+pub tag_may_stand : (phase : Phase) (maps : Maps) (s : State) {t : State} (a : ℕ) {to : ℕ} (old later : Header)
+    → IsNamed maps to → BitGoes phase s a old later → (later.stale ≡ old.stale → IsFresh t to)
+    → MayStand maps t (kept_tag phase to)
+tag_may_stand Inactive maps s a old later named bit fresh = (named, fresh bit)
+tag_may_stand Mark maps s a old later named bit fresh = named
+tag_may_stand Move maps s a old later named bit fresh = named
 
 -- the reference to an object with a new address
 pub by_place_there : (place : ℕ) (there away : Ref) → place ≢ 0 → by_place place there away ≡ there

@@ -60,11 +60,11 @@ keeps_unused old new number same size unused =
       not_live = same ∙ unused.not_live;
     }
 
-pub adds : (pairs : Pairs) (unused rest : List ℕ) (scion index home address : ℕ) → scion ≡ suc index
+pub adds : (pairs : Pairs) {unused rest : List ℕ} {scion index : ℕ} (home address : ℕ) → scion ≡ suc index
     → unused ≡ scion ∷ rest → IsTable (table_of pairs unused)
     → Adds (table_of pairs unused) (table_of (slice_set pairs index (Some (home, address))) rest) home address scion
     × IsTable (table_of (slice_set pairs index (Some (home, address))) rest)
-adds pairs unused rest scion index home address scion_is unused_is table =
+adds pairs {unused} {rest} {scion} {index} home address scion_is unused_is table =
     let pair : Option (ℕ × ℕ) = Some (home, address) in
     let after : Pairs = slice_set pairs index pair in
     let old : Scions = table_of pairs unused in
@@ -158,11 +158,11 @@ frees pairs unused scion index scion_is live table =
       },
     )
 
-pub moves : (pairs : Pairs) (unused : List ℕ) (scion index home address : ℕ) (was : ℕ) → scion ≡ suc index
+pub moves : (pairs : Pairs) (unused : List ℕ) {scion index home : ℕ} (address : ℕ) {was : ℕ} → scion ≡ suc index
     → slice_index_or pairs index None ≡ Some (home, was) → IsTable (table_of pairs unused)
     → SetsAddress (table_of pairs unused) (table_of (slice_set pairs index (Some (home, address))) unused) scion address
     × IsTable (table_of (slice_set pairs index (Some (home, address))) unused)
-moves pairs unused scion index home address was scion_is is table =
+moves pairs unused {scion} {index} {home} address {was} scion_is is table =
     let pair : Option (ℕ × ℕ) = Some (home, address) in
     let after : Pairs = slice_set pairs index pair in
     let old : Scions = table_of pairs unused in
@@ -285,16 +285,16 @@ given_index pairs stack rest capacity scion taken is taken_is kept =
     (subst (λ (xs : List ℕ). Contains xs scion) (sym given) (contains_here scion (reverse rest))) in
     (unused.from_1, unused.in_range)
 
-pub added : (pairs : Pairs) (stack rest : List ℕ) (capacity scion home address : ℕ) (taken : Option ℕ)
+pub added : {pairs : Pairs} {stack : List ℕ} (rest : List ℕ) {capacity scion : ℕ} (home address : ℕ) {taken : Option ℕ}
     → stack ≡ rest ++ option_to_list taken → taken ≡ Some scion → IsKept pairs (reverse stack) capacity
     → Adds (table_of pairs (reverse stack))
     (table_of (slice_set pairs (scion - 1) (Some (home, address))) (reverse rest)) home address scion
     × IsKept (slice_set pairs (scion - 1) (Some (home, address))) (reverse rest) capacity
-added pairs stack rest capacity scion home address taken is taken_is kept =
+added {pairs} {stack} rest {capacity} {scion} home address {taken} is taken_is kept =
     let given = popped stack rest scion taken is taken_is in
     let low = (given_index pairs stack rest capacity scion taken is taken_is kept).0 in
     let next : scion ≡ suc (scion - 1) = omega (arith, low) in
-    let done = adds pairs (reverse stack) (reverse rest) scion (scion - 1) home address next given kept.table in
+    let done = adds pairs home address next given kept.table in
     let size = length-set pairs (scion - 1) (Some (home, address)) in
     let small = kept.small in
     let room = kept.room in
@@ -325,13 +325,13 @@ pushed_is : {T E : Type 0} (outcome : Result T E) (stack after : List ℕ) (scio
 pushed_is outcome stack after scion is ok =
     ap reverse (is ∙ ap (λ (b : Bool). if b then stack ++ scion ∷ [] else stack) ok) ∙ pushed stack scion
 
-pub freed : {T E : Type 0} (pairs : Pairs) (stack after : List ℕ) (capacity grown scion : ℕ) (outcome : Result T E)
-    → IsKept pairs (reverse stack) capacity → IsLive (table_of pairs (reverse stack)) scion
+pub freed : {T E : Type 0} {pairs : Pairs} (stack after : List ℕ) {capacity : ℕ} (grown scion : ℕ)
+    (outcome : Result T E) → IsKept pairs (reverse stack) capacity → IsLive (table_of pairs (reverse stack)) scion
     → (length stack < capacity → IsOk outcome) → after ≡ (if is_ok outcome then stack ++ scion ∷ [] else stack)
     → capacity ≤ grown
     → Frees (table_of pairs (reverse stack)) (table_of (slice_set pairs (scion - 1) None) (reverse after)) scion
     × IsKept (slice_set pairs (scion - 1) None) (reverse after) grown
-freed pairs stack after capacity grown scion outcome kept live succeeds is grows =
+freed {pairs} stack after {capacity} grown scion outcome kept live succeeds is grows =
     let low = (live_place pairs (reverse stack) scion live).0 in
     let next : scion ≡ suc (scion - 1) = omega (arith, low) in
     let less : Pairs = slice_set pairs (scion - 1) None in
@@ -356,15 +356,15 @@ read_pair pairs unused scion read live is =
     let place = live_place pairs unused scion live in
     get_or_default pairs (scion - 1) None read (omega (arith, place.0, place.1)) ∙ sym is
 
-pub moved : (pairs : Pairs) (unused : List ℕ) (capacity scion home address was : ℕ) → IsKept pairs unused capacity
-    → IsLive (table_of pairs unused) scion → slice_index_or pairs (scion - 1) None ≡ Some (home, was)
-    → SetsAddress (table_of pairs unused)
-    (table_of (slice_set pairs (scion - 1) (Some (home, address))) unused) scion address
-    × IsKept (slice_set pairs (scion - 1) (Some (home, address))) unused capacity
-moved pairs unused capacity scion home address was kept live is =
+pub moved : {pairs : Pairs} {unused : List ℕ} {capacity : ℕ} (scion : ℕ) {home : ℕ} (address : ℕ) {was : ℕ}
+    → IsKept pairs unused capacity → IsLive (table_of pairs unused) scion
+    → slice_index_or pairs (scion - 1) None ≡ Some (home, was)
+    → SetsAddress (table_of pairs unused) (table_of (slice_set pairs (scion - 1) (Some (home, address))) unused) scion
+    address × IsKept (slice_set pairs (scion - 1) (Some (home, address))) unused capacity
+moved {pairs} {unused} scion {home} address kept live is =
     let low = (live_place pairs unused scion live).0 in
     let next : scion ≡ suc (scion - 1) = omega (arith, low) in
-    let done = moves pairs unused scion (scion - 1) home address was next is kept.table in
+    let done = moves pairs unused address next is kept.table in
     let size = length-set pairs (scion - 1) (Some (home, address)) in
     let small = kept.small in
     let room = kept.room in

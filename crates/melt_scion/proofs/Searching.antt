@@ -94,15 +94,13 @@ module _ (b : Base) (home : ℕ) (stands : HasRecord b home) where
       elim stands [
         | inl body ↦ absurd (
             let e : read ≡ record { shape = body.shape; kind = Body } =
-            (same_head home b.end home b.end (b.image home) (b.image (home + 1)) read
-            (record { shape = body.shape; kind = Body }) head body.head).1 in
+            (same_head head body.head).1 in
             let k : Stub scion ≡ Body = ap (λ (x : Head). x.kind) e in
             cc
             )
         | inr stub ↦
             let e : read ≡ record { shape = stub.shape; kind = Stub stub.scion } =
-            (same_head home b.end home b.end (b.image home) (b.image (home + 1)) read
-            (record { shape = stub.shape; kind = Stub stub.scion }) head stub.head).1 in
+            (same_head head stub.head).1 in
             let k : Stub scion ≡ Stub stub.scion = ap (λ (x : Head). x.kind) e in
             let same : scion ≡ stub.scion = cc in
             (stub.address, ap b.scion same ∙ stub.live)
@@ -116,14 +114,12 @@ module _ (b : Base) (home : ℕ) (stands : HasRecord b home) where
       elim stands [
         | inl body ↦
             let e : read ≡ record { shape = body.shape; kind = Body } =
-            (same_head home b.end home b.end (b.image home) (b.image (home + 1)) read
-            (record { shape = body.shape; kind = Body }) head body.head).1 in
+            (same_head head body.head).1 in
             let refs : z.refs ≡ body.shape.refs = ap (λ (x : Head). x.shape.refs) e in
             body.slots i (omega (arith, below, refs))
         | inr stub ↦ absurd (
             let e : read ≡ record { shape = stub.shape; kind = Stub stub.scion } =
-            (same_head home b.end home b.end (b.image home) (b.image (home + 1)) read
-            (record { shape = stub.shape; kind = Stub stub.scion }) head stub.head).1 in
+            (same_head head stub.head).1 in
             let k : Body ≡ Stub stub.scion = ap (λ (x : Head). x.kind) e in
             cc
             )

@@ -40,8 +40,7 @@ module _ (maps : Maps) (s t : State) (place home address scion : ℕ)
         let named = object_stood.named in
         let object = formed.objects address named.0 named.1 in
         settles.other_words x
-        (parts_differ maps s address a named.0 n 1 p (address + 1) x object.0 header formed
-        (home_part maps s address named.0 object.0 named.1 object.1.starts) part other);
+        (parts_differ maps s formed (home_part maps s address named.0 object.0 named.1 object.1.starts) part other);
     global = settles.global;
   }
 

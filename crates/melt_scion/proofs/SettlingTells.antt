@@ -164,12 +164,11 @@ module _ (maps : Maps) (s t : State) (place home address scion : ℕ)
       tells_on maps s t formed (settle_same maps s t place home address scion settles formed) h tells homes_tell
 
 -- the state stands for the history that it stood for, with the same values in registers
-pub settle_placed : (maps : Maps) (s t : State) (place home address scion : ℕ) →
-    SettlesOne s t place home address scion → (z : Shape) →
-    HeadIs s.base home (record { shape = z; kind = Stub scion }) → IsReserved s.base.homes home z →
-    ((u r : ℕ) → t.register u r ≡ s.register u r) → (h : List Entry) (value : ℕ → ℕ → Value) →
-    Placed h value maps s → Placed h value maps t
-settle_placed maps s t place home address scion settles z head reserved stay h value placed = record {
+pub settle_placed : {maps : Maps} {s t : State} {place home address scion : ℕ} → SettlesOne s t place home address scion
+    → {z : Shape} → HeadIs s.base home (record { shape = z; kind = Stub scion }) → IsReserved s.base.homes home z
+    → ((u r : ℕ) → t.register u r ≡ s.register u r) → {h : List Entry} {value : ℕ → ℕ → Value} → Placed h value maps s
+    → Placed h value maps t
+settle_placed {maps} {s} {t} {place} {home} {address} {scion} settles {z} head reserved stay {h} placed = record {
   formed = settle_registers maps s t place home address scion settles stay placed.formed;
   tells = settle_tells maps s t place home address scion settles placed.formed.words z head reserved h placed.tells;
   registers = λ u r. ap (value_at maps) (stay u r) ∙ placed.registers u r;

@@ -98,7 +98,7 @@ pub word_outside : (maps : Maps) (s t : State) (x word : ℕ) (r : Region) → F
     Owns maps s r → r.at ≤ x → x < r.at + r.words → SameParts maps s t
 word_outside maps s t x word r formed changes owns from below = record {
   keeps = keeps_outside maps s t x word formed changes r owns from below;
-  part = λ a n p y h part behind. changes.others y (part_outside maps s r a n p y x h owns part from below);
+  part = λ a n p y h part behind. changes.others y (part_outside maps s x owns part from below);
   global = changes.global;
   forward = changes.forward;
 }

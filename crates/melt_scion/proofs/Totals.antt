@@ -50,11 +50,10 @@ module _ (h : List Entry) (value : ℕ → ℕ → Value) (maps : Maps) (s : Sta
       counts
 
   -- The words of all objects after a collection of which none left for the disk. Before it no home was reserved.
-  pub live_costs : (phase : Phase) (new : Maps) (t : State) (to home scion : ℕ → ℕ) (live : ℕ)
-      → Legal h s.base.globals
+  pub live_costs : {phase : Phase} {new : Maps} {t : State} {to home scion : ℕ → ℕ} {live : ℕ} → Legal h s.base.globals
       → s.base.homes ≡ [] → ((a : ℕ) → Leaves phase s a → ⊥) → Collected phase maps new s t to home scion
       → CountsWords t (IsNamed new) live → CostsSum (words_of h) (Alive h value) live
-  live_costs phase new t to home scion live legal none stay collected counts =
+  live_costs {new} {t} {to} {live} legal none stay collected counts =
       let after = collected.placed h value placed in
       counts_numbers h new t after.formed.words after.tells (IsNamed new) (Alive h value) live (λ a is. is) (λ n. (
         λ alive.

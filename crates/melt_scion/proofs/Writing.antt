@@ -68,8 +68,7 @@ module _ (maps : Maps) (s t : State) (a n i word : ℕ) (h : Header) (formed : F
       (record {
         slots = λ b m j k named_b at_b below. word_or_other (λ w. Stands maps w (last after (Field m j))) s t
             (a + 2 + i) (b + 2 + j) word changes
-            (λ same. let one = same_slot maps s a b n m i j h k formed part
-            (slot_part maps s b m j k named_b at_b below) same in
+            (λ same. let one = same_slot maps s i j formed part (slot_part maps s b m j k named_b at_b below) same in
             subst (Stands maps word)
             (sym (ap (λ (l : ℕ). last after (Field l j)) one.0
             ∙ (ap (λ (l : ℕ). last after (Field n l)) one.1 ∙ values.here))) stands)
@@ -79,7 +78,7 @@ module _ (maps : Maps) (s t : State) (a n i word : ℕ) (h : Header) (formed : F
             other (omega arith))))) (tells.slots b m j k named_b at_b below));
         numbers = λ b m j k named_b at_b below.
             ap Num (changes.others (b + 2 + k.shape.refs + j)
-            (slot_or_number maps s a b n m i j h k formed part (number_part maps s b m j k named_b at_b below) within))
+            (slot_or_number maps s i j formed part (number_part maps s b m j k named_b at_b below) within))
             ∙ (tells.numbers b m j k named_b at_b below ∙ sym (values.others (Cell m j) refl));
         globals = λ g below.
             subst (λ w. Stands maps w (last after (Global g))) (sym (changes.global g))
@@ -100,8 +99,7 @@ module _ (maps : Maps) (s t : State) (a n i word : ℕ) (h : Header) (formed : F
       t.word (b + 2 + j) ≡ s.word (b + 2 + j)
   slot_stays b m j k named_b at_b below =
       changes.others (b + 2 + j)
-      (λ e. slot_or_number maps s b a m n j i k h formed (slot_part maps s b m j k named_b at_b below) part_of below
-      (sym e))
+      (λ e. slot_or_number maps s j i formed (slot_part maps s b m j k named_b at_b below) part_of below (sym e))
 
   -- a number word is replaced
   pub Formed_number : FormedWords maps t
@@ -131,8 +129,8 @@ module _ (maps : Maps) (s t : State) (a n i word : ℕ) (h : Header) (formed : F
             (tells.slots b m j k named_b at_b below));
         numbers = λ b m j k named_b at_b below. word_or_other (λ w. Num w ≡ last after (Cell m j)) s t x
             (b + 2 + k.shape.refs + j) word changes
-            (λ same. let one = same_number maps s a b n m i j h k formed part_of
-            (number_part maps s b m j k named_b at_b below) same in
+            (λ same. let one = same_number maps s i j formed part_of (number_part maps s b m j k named_b at_b below)
+            same in
             sym (ap (λ (l : ℕ). last after (Cell l j)) one.0
             ∙ (ap (λ (l : ℕ). last after (Cell n l)) one.1 ∙ values.here)))
             (λ other. tells.numbers b m j k named_b at_b below

@@ -62,10 +62,10 @@ row_of number of a b c d e f =
     (simp (append_assoc, append-nil) refl)
 
 -- the line of a collection, from its seven fields
-pub collection_row : (number : ℕ) (of : Journal) → (first second third fourth fifth sixth seventh : List ℕ)
+pub collection_row : (number : ℕ) (of : Journal) → {first second third fourth fifth sixth seventh : List ℕ}
     → first ≡ decimal number → second ≡ phase_name of.phase → third ≡ decimal of.held → fourth ≡ decimal of.live
-    → fifth ≡ decimal of.bodies → sixth ≡ decimal of.stubs → seventh ≡ decimal of.end
-    → number < 2 ^ 64 → of.held < 2 ^ 64 → of.live < 2 ^ 64 → of.bodies < 2 ^ 64 → of.stubs < 2 ^ 64 → of.end < 2 ^ 64
+    → fifth ≡ decimal of.bodies → sixth ≡ decimal of.stubs → seventh ≡ decimal of.end → number < 2 ^ 64
+    → of.held < 2 ^ 64 → of.live < 2 ^ 64 → of.bodies < 2 ^ 64 → of.stubs < 2 ^ 64 → of.end < 2 ^ 64
     → row_text default_writer (first ∷ second ∷ third ∷ fourth ∷ fifth ∷ sixth ∷ seventh ∷ []) ≡ journal_line number of
-collection_row number of _ _ _ _ _ _ _ one two three four five six seven a b c d e f =
+collection_row number of one two three four five six seven a b c d e f =
     rw (one, two, three, four, five, six, seven) (row_of number of a b c d e f)

@@ -55,15 +55,15 @@ few_still told disk v u t gone few =
     let same : length u.forward ≡ length v.forward = gone.others.forwards in omega (arith, same, few)
 
 -- what a told event made came into use
-made_on : (told : Bool) (disk : OnDisk) (v u w : View) (t : ℕ) (o : Op) (result : StepResult) → HasGone told disk v u t
+made_on : {told : Bool} {disk : OnDisk} {v u w : View} {t : ℕ} {o : Op} {result : StepResult} → HasGone told disk v u t
     → AdvancesOver disk u w t o result → told ≡ true → KeepsMade v w
-made_on told disk v u w t o result gone event is past had =
+made_on {disk} {u} gone event is past had =
     event.makes tt (subst (λ (b : Bool). Standing b disk u) is gone.stands) past (gone.makes is past had)
 
 -- and by one more
-gone_on : (told : Bool) (disk : OnDisk) (v u w : View) (t : ℕ) (o : Op) → length v.forward ≤ most_forwards
+gone_on : {told : Bool} {disk : OnDisk} {v u w : View} {t : ℕ} {o : Op} → length v.forward ≤ most_forwards
     → HasGone told disk v u t → AdvancesOver disk u w t o Going → HasGone told disk v w t
-gone_on told disk v u w t o few gone event =
+gone_on {told} {disk} {v} {u} {w} {t} {o} few gone event =
     let goes : Goes disk u w t o = event.outcome in
     let nearer : events_left most_forwards (stage_of w t) < events_left most_forwards (stage_of u t) =
     goes_nearer disk u w t o goes (few_still told disk v u t gone few) in
@@ -77,7 +77,7 @@ gone_on told disk v u w t o few gone event =
         values = goes.own.values ∙ gone.own.values;
       };
       stop = goes.stop ∙ gone.stop;
-      makes = made_on told disk v u w t o Going gone event;
+      makes = made_on gone event;
       left = omega (arith, nearer, left);
     }
 
@@ -87,25 +87,25 @@ pub record LastEvent (told : Bool) (disk : OnDisk) (v w : View) (t : ℕ) (o : O
   pub gone : HasGone told disk v before t
   pub event : AdvancesOver disk before w t o result
 
-pub last_event : (told : Bool) (disk : OnDisk) (more : ℕ) (v u w : View) (t : ℕ) (o : Op) (result : StepResult)
+pub last_event : {told : Bool} {disk : OnDisk} (more : ℕ) {v u : View} (w : View) {t : ℕ} (o : Op) (result : StepResult)
     → length v.forward ≤ most_forwards → HasGone told disk v u t → MovesBy more u w t o result
     → LastEvent told disk v w t o result
-last_event told disk zero v u w t o result few gone moves =
+last_event {told} {disk} zero {u} w o result few gone moves =
     record { before = u; gone = gone; event = moves.over disk (stands_untold told disk u gone.stands) }
-last_event told disk (suc more) v u w t o result few gone moves =
-    last_event told disk more v moves.0 w t o result few
-    (gone_on told disk v u moves.0 t o few gone (moves.1.over disk (stands_untold told disk u gone.stands))) moves.2
+last_event {told} {disk} (suc more) {u} w o result few gone moves =
+    last_event more w o result few (gone_on few gone (moves.1.over disk (stands_untold told disk u gone.stands)))
+    moves.2
 
 -- all that was made came into use
-pub all_made : (told : Bool) (disk : OnDisk) (v w : View) (t : ℕ) (o : Op) (result : StepResult)
+pub all_made : {told : Bool} {disk : OnDisk} {v w : View} {t : ℕ} {o : Op} {result : StepResult}
     → LastEvent told disk v w t o result → told ≡ true → KeepsMade v w
-all_made told disk v w t o result last = made_on told disk v last.before w t o result last.gone last.event
+all_made last = made_on last.gone last.event
 
 -- the call goes on
-pub at_once_goes : (told : Bool) (disk : OnDisk) (v w : View) (t : ℕ) (o : Op) (s : ThreadState) → s.mode ≡ Running
+pub at_once_goes : {told : Bool} {disk : OnDisk} {v w : View} {t : ℕ} {o : Op} (s : ThreadState) → s.mode ≡ Running
     → s.op ≡ Some o → o ≢ Collect → length v.forward ≤ most_forwards → LastEvent told disk v w t o Going
     → ThreadStep told disk v w t s s
-at_once_goes told disk v w t o s running next no_collect few last =
+at_once_goes {told} {disk} {v} {w} {t} {o} s running next no_collect few last =
     let u : View = last.before in
     let goes : Goes disk u w t o = last.event.outcome in
     let nearer : events_left most_forwards (stage_of w t) < events_left most_forwards (stage_of u t) =
@@ -129,10 +129,11 @@ at_once_goes told disk v w t o s running next no_collect few last =
     }
 
 -- the call was answered
-pub at_once_told : (told : Bool) (disk : OnDisk) (v w x : View) (t : ℕ) (o : Op) (reply : Reply) (s after : ThreadState)
-    → s.mode ≡ Running → s.op ≡ Some o → o ≢ Collect → LastEvent told disk v w t o (Answered reply)
-    → TakesReply s after reply → DropsIfEnded w x t after.mode → ThreadStep told disk v x t s after
-at_once_told told disk v w x t o reply s after running next no_collect last takes drops =
+pub at_once_told : {told : Bool} {disk : OnDisk} {v w : View} (x : View) {t : ℕ} {o : Op} {reply : Reply}
+    {s after : ThreadState} → s.mode ≡ Running → s.op ≡ Some o → o ≢ Collect
+    → LastEvent told disk v w t o (Answered reply) → TakesReply s after reply → DropsIfEnded w x t after.mode
+    → ThreadStep told disk v x t s after
+at_once_told {told} {disk} {v} {w} x {t} {o} {reply} {after} running next no_collect last takes drops =
     let u : View = last.before in
     let answered : IsAnswered disk u w t o reply = last.event.outcome in
     let behind = dropped_stands told disk w x t after.mode (last.event.keeps told (λ is. tt) last.gone.stands) drops in
@@ -140,6 +141,6 @@ at_once_told told disk v w x t o reply s after running next no_collect last take
       stands = behind.0;
       others = KeepsOthers_both v w x t (KeepsOthers_both v u w t last.gone.others last.event.others) behind.1;
       what =
-          inr (inr (inr (inr (told_state told disk v u w x t o reply s after next no_collect last.gone.own.history
-          last.gone.own.values last.gone.stands answered (ap owes_silent running) takes drops))));
+          inr (inr (inr (inr (told_state v x next no_collect last.gone.own.history last.gone.own.values last.gone.stands
+          answered (ap owes_silent running) takes drops))));
     }

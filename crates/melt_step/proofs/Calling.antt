@@ -48,11 +48,11 @@ use Rattle.melt_safepoint.specs.Tables.{ThreadLost, SetsStop, IsReady}
 use Rattle.melt_safepoint.proofs.TableModes.{drop_cases, dropped_keeps, nothing_keeps, stop_keeps}
 
 -- a thread waits for a collection
-pub waits_step : (told : Bool) (disk : OnDisk) (v w : View) (t : ℕ) (s : ThreadState) (mode : Mode)
+pub waits_step : {told : Bool} {disk : OnDisk} {v w : View} (t : ℕ) (s : ThreadState) (mode : Mode)
     → Standing told disk v → w ≡ stopped v
     → ((s.mode ≡ Running) × (s.op ≡ Some Collect) × (mode ≡ Collecting)) ⊎ ((s.mode ≡ Due) × (mode ≡ Silent))
     → ThreadStep told disk v w t s (record s { mode = mode })
-waits_step told disk v w t s mode stands is before =
+waits_step {told} {disk} {v} t s mode stands is before =
     record {
       stands = subst (Standing told disk) (sym is) (stands_stopped disk told v stands);
       others = subst (λ (x : View). KeepsOthers v x t) (sym is) (stop_keeps v true t);
@@ -89,21 +89,21 @@ thread_there v w t others within =
     let same : length w.held ≡ length v.held = others.threads in omega (arith, same, within)
 
 -- how a reply leaves the history and the registers of its thread, told or not
-pub answers_told : (told : Bool) (disk : OnDisk) (v u w : View) (t : ℕ) (o : Op) (reply : Reply) → u.log ≡ v.log
-    → values_of u t ≡ values_of v t → Standing told disk u → IsAnswered disk u w t o reply → told ≡ true
+pub answers_told : {told : Bool} {disk : OnDisk} (v : View) {u w : View} {t : ℕ} {o : Op} {reply : Reply}
+    → u.log ≡ v.log → values_of u t ≡ values_of v t → Standing told disk u → IsAnswered disk u w t o reply → told ≡ true
     → Answers t v.log (values_of v t) o reply w.log (values_of w t)
-answers_told told disk v u w t o reply log values stood answered is =
+answers_told {disk} v {u} {w} {t} {o} {reply} log values stood answered is =
     let stood_told : Standing true disk u = subst (λ (b : Bool). Standing b disk u) is stood in
     let here : Answers t u.log (values_of u t) o reply w.log (values_of w t) = answered.answers stood_told in
     subst (λ (h : List Entry). Answers t h (values_of v t) o reply w.log (values_of w t)) log
     (subst (λ (vs : List Value). Answers t u.log vs o reply w.log (values_of w t)) values here)
 
 -- a thread got its reply, by the last event of a call that the others saw nothing of
-pub told_state : (told : Bool) (disk : OnDisk) (v u w x : View) (t : ℕ) (o : Op) (reply : Reply) (s after : ThreadState)
-    → s.op ≡ Some o → o ≢ Collect → u.log ≡ v.log → values_of u t ≡ values_of v t → Standing told disk u
-    → IsAnswered disk u w t o reply → owes_silent s.mode ≡ false → TakesReply s after reply
+pub told_state : {told : Bool} {disk : OnDisk} (v : View) {u w : View} (x : View) {t : ℕ} {o : Op} {reply : Reply}
+    {s after : ThreadState} → s.op ≡ Some o → o ≢ Collect → u.log ≡ v.log → values_of u t ≡ values_of v t
+    → Standing told disk u → IsAnswered disk u w t o reply → owes_silent s.mode ≡ false → TakesReply s after reply
     → DropsIfEnded w x t after.mode → ThreadTold told v x t s after
-told_state told disk v u w x t o reply s after next no_collect log values stood answered open_ takes drops =
+told_state v {w} x {t} {o} {reply} {after} next no_collect log values stood answered open_ takes drops =
     let noted : w.log ≡ with_entry t v.log answered.history.0 =
     answered.history.1 ∙ ap (λ (h : List Entry). with_entry t h answered.history.0) log in
     elim (drop_cases w x t after.mode drops) [
@@ -119,7 +119,7 @@ told_state told disk v u w x t o reply s after next no_collect log values stood 
             answers = λ is. (
               values_of w t,
               subst (λ (h : List Entry). Answers t v.log (values_of v t) o reply h (values_of w t)) (sym history)
-                  (answers_told told disk v u w t o reply log values stood answered is),
+                  (answers_told v log values stood answered is),
               inl ended.0,
             );
             dropped = λ over. dropped.here;
@@ -136,7 +136,7 @@ told_state told disk v u w x t o reply s after next no_collect log values stood 
         answers = λ is. (
           values_of w t,
           subst (λ (y : View). Answers t v.log (values_of v t) o reply y.log (values_of w t)) (sym goes.1)
-              (answers_told told disk v u w t o reply log values stood answered is),
+              (answers_told v log values stood answered is),
           inr (ap (λ (y : View). values_of y t) (sym goes.1)),
         );
         dropped = λ over. absurd (goes.0 over);
@@ -192,10 +192,10 @@ goes_nearer disk v w t o goes few =
     < events_left most_forwards (stage_in (call_of v t))) (sym goes.call) (goes.nearer most_forwards few)
 
 -- an event behind which the call goes on
-pub goes_step : (told : Bool) (tells : Type 0) (disk : OnDisk) (v w : View) (t : ℕ) (o : Op) (s : ThreadState)
+pub goes_step : {told : Bool} {tells : Type 0} {disk : OnDisk} {v w : View} {t : ℕ} {o : Op} (s : ThreadState)
     → s.mode ≡ Running → s.op ≡ Some o → o ≢ Collect → Standing told disk v → (told ≡ true → tells)
     → length v.forward ≤ most_forwards → AdvancesWhere tells disk v w t o Going → ThreadStep told disk v w t s s
-goes_step told tells disk v w t o s running next no_collect stands tell few advances =
+goes_step {told} {disk} {v} {w} {t} {o} s running next no_collect stands tell few advances =
     let goes : Goes disk v w t o = advances.outcome in
     let call : Call = record { op = o; stage = goes.stage } in
     record {
@@ -287,12 +287,12 @@ pub record Begins (told : Bool) (image : Option (List ℕ)) (disk : OnDisk) (v :
   pub damage : (damaged : Damaged) → why ≡ refusal.Damaged damaged → IsDamage image disk.end v t damaged
 
 -- why the thread has ended
-lost_cause : (told : Bool) (image : Option (List ℕ)) (disk : OnDisk) (v w : View) (t : ℕ) (o : Op) (why : Refusal)
-    → NoPause why → Begins told image disk v t o why → Refuses (TellsDisk image disk) disk v w t o why
+lost_cause : {told : Bool} {image : Option (List ℕ)} {disk : OnDisk} {v : View} (w : View) {t : ℕ} {o : Op}
+    (why : Refusal) → NoPause why → Begins told image disk v t o why → Refuses (TellsDisk image disk) disk v w t o why
     → IsLostBy told disk.end why × (home : ℕ) × IsLost v w t home
-lost_cause told image disk v w t o (refusal.Pause cause) none begins is = absurd none
-lost_cause told image disk v w t o refusal.DiskFault none begins is = (tt, is.0, is.1)
-lost_cause told image disk v w t o (refusal.Damaged damaged) none begins is =
+lost_cause {told} {image} {disk} {v} w {t} {o} (refusal.Pause cause) none begins is = absurd none
+lost_cause {told} {image} {disk} {v} w {t} {o} refusal.DiskFault none begins is = (tt, is.0, is.1)
+lost_cause {told} {image} {disk} {v} w {t} {o} (refusal.Damaged damaged) none begins is =
     let below : damaged.home < disk.end =
     (reads_load told disk v t damaged.home o begins.stands begins.continued is.lost.reads).1 in
     let damage : IsDamage image disk.end v t damaged = begins.damage damaged refl in
@@ -319,12 +319,12 @@ drops_lost w x t (refusal.Damaged damaged) none drops = drops
 
 -- A thread has ended, as its record could not be read, or is none, in the last event of a call that the history saw
 -- nothing of.
-pub lost_state : (told : Bool) (image : Option (List ℕ)) (disk : OnDisk) (v u w x : View) (t : ℕ) (o : Op)
-    (s : ThreadState) (why : Refusal) → s.op ≡ Some o → owes_silent s.mode ≡ false → (IsEnded s.mode → ⊥)
+pub lost_state : {told : Bool} {image : Option (List ℕ)} {disk : OnDisk} (v : View) {u : View} (w x : View) {t : ℕ}
+    {o : Op} (s : ThreadState) {why : Refusal} → s.op ≡ Some o → owes_silent s.mode ≡ false → (IsEnded s.mode → ⊥)
     → u.log ≡ v.log → NoPause why → Begins told image disk u t o why → Refuses (TellsDisk image disk) disk u w t o why
     → DropsIfEnded w x t (mode_for why) → ThreadLost told disk.end v x t s (record s { mode = mode_for why })
-lost_state told image disk v u w x t o s why next open_ goes log none begins is drops =
-    let cause = lost_cause told image disk u w t o why none begins is in
+lost_state {told} {disk} v {u} w x {t} {o} s {why} next open_ goes log none begins is drops =
+    let cause = lost_cause w why none begins is in
     let lost : IsLost u w t cause.1 = cause.2 in
     let dropped : HasDropped w x t = drops_lost w x t why none drops in
     record {
@@ -342,34 +342,33 @@ lost_state told image disk v u w x t o s why next open_ goes log none begins is 
     }
 
 -- an event by which a thread got its reply
-pub told_step : (told : Bool) (disk : OnDisk) (v w x : View) (t : ℕ) (o : Op) (reply : Reply) (s after : ThreadState)
-    → s.mode ≡ Running → s.op ≡ Some o → o ≢ Collect → Standing told disk v → Standing told disk w → KeepsOthers v w t
-    → IsAnswered disk v w t o reply → TakesReply s after reply → DropsIfEnded w x t after.mode
-    → ThreadStep told disk v x t s after
-told_step told disk v w x t o reply s after running next no_collect stood stands others answered takes drops =
+pub told_step : {told : Bool} {disk : OnDisk} {v w : View} (x : View) {t : ℕ} {o : Op} {reply : Reply}
+    {s after : ThreadState} → s.mode ≡ Running → s.op ≡ Some o → o ≢ Collect → Standing told disk v
+    → Standing told disk w → KeepsOthers v w t → IsAnswered disk v w t o reply → TakesReply s after reply
+    → DropsIfEnded w x t after.mode → ThreadStep told disk v x t s after
+told_step {told} {disk} {v} {w} x {t} {after} running next no_collect stood stands others answered takes drops =
     let behind = dropped_stands told disk w x t after.mode stands drops in
     record {
       stands = behind.0;
       others = KeepsOthers_both v w x t others behind.1;
       what =
-          inr (inr (inr (inr (told_state told disk v v w x t o reply s after next no_collect refl refl stood answered
-          (ap owes_silent running) takes drops))));
+          inr (inr (inr (inr (told_state v x next no_collect refl refl stood answered (ap owes_silent running) takes
+          drops))));
     }
 
 -- what it does to the stop word
-pub told_sets : (v w x : View) (t : ℕ) (s after : ThreadState) (reply : Reply) → w.stop ≡ v.stop
+pub told_sets : (v w x : View) (t : ℕ) {s after : ThreadState} {reply : Reply} → w.stop ≡ v.stop
     → TakesReply s after reply → DropsIfEnded w x t after.mode → SetsStop v x after
-told_sets v w x t s after reply same takes drops =
+told_sets v w x t {s} {after} {reply} same takes drops =
     stop_same v x after (stop_dropped w x t after.mode drops ∙ same) (told_goes s after reply takes)
     (told_runs s after reply takes)
 
 -- an event by which the call was refused
-pub refused_step : (told : Bool) (image : Option (List ℕ)) (disk : OnDisk) (v w x : View) (t : ℕ) (o : Op)
-    (s : ThreadState) (why : Refusal) → s.mode ≡ Running → s.op ≡ Some o → o ≢ Collect
-    → Begins told image disk v t o why
-    → AdvancesWhere (TellsDisk image disk) disk v w t o (Refused why) → DropsIfEnded w x t (mode_for why)
-    → ThreadStep told disk v x t s (record s { mode = mode_for why })
-refused_step told image disk v w x t o s why running next no_collect begins advances drops =
+pub refused_step : {told : Bool} {image : Option (List ℕ)} {disk : OnDisk} {v w : View} (x : View) {t : ℕ} {o : Op}
+    (s : ThreadState) {why : Refusal} → s.mode ≡ Running → s.op ≡ Some o → o ≢ Collect
+    → Begins told image disk v t o why → AdvancesWhere (TellsDisk image disk) disk v w t o (Refused why)
+    → DropsIfEnded w x t (mode_for why) → ThreadStep told disk v x t s (record s { mode = mode_for why })
+refused_step {told} {image} {disk} {v} {w} x {t} {o} s {why} running next no_collect begins advances drops =
     let behind = dropped_stands told disk w x t (mode_for why) (advances.keeps told begins.tells begins.stands) drops in
     record {
       stands = behind.0;
@@ -400,24 +399,21 @@ refused_step told image disk v w x t o s why running next no_collect begins adva
         ⊎ ThreadTold told v x t s (record s { mode = mode_for r }))))
     by_cause (refusal.Pause cause) from is over = inr (inr (inl (waits cause is (pause_drops w x t cause over))))
     by_cause refusal.DiskFault from is over =
-        inr (inr (inr (inl (lost_state told image disk v v w x t o s refusal.DiskFault next (ap owes_silent running)
-        alive
-        refl tt from is over))))
+        inr (inr (inr (inl (lost_state v w x s next (ap owes_silent running) alive refl tt from is over))))
     by_cause (refusal.Damaged damaged) from is over =
-        inr (inr (inr (inl (lost_state told image disk v v w x t o s (refusal.Damaged damaged) next
-        (ap owes_silent running) alive refl tt from is over))))
+        inr (inr (inr (inl (lost_state v w x s next (ap owes_silent running) alive refl tt from is over))))
 
 -- what it does to the stop word
-pub refused_sets : (tells : Type 0) (disk : OnDisk) (v w x : View) (t : ℕ) (o : Op) (s : ThreadState) (why : Refusal)
-    → Refuses tells disk v w t o why → DropsIfEnded w x t (mode_for why)
+pub refused_sets : (tells : Type 0) (disk : OnDisk) {v : View} (w : View) {x : View} (t : ℕ) (o : Op) (s : ThreadState)
+    (why : Refusal) → Refuses tells disk v w t o why → DropsIfEnded w x t (mode_for why)
     → SetsStop v x (record s { mode = mode_for why })
-refused_sets tells disk v w x t o s (refusal.Pause cause) is drops =
+refused_sets tells disk {v} w {x} t o s (refusal.Pause cause) is drops =
     subst (λ (y : View). SetsStop v y (record s { mode = mode_for (refusal.Pause cause) }))
     (sym (pause_drops w x t cause drops)) (pause_sets v w t o s cause is)
-refused_sets tells disk v w x t o s refusal.DiskFault is drops =
+refused_sets tells disk {v} w {x} t o s refusal.DiskFault is drops =
     stop_same v x (record s { mode = Ended end.DiskFault })
     (stop_dropped w x t (Ended end.DiskFault) drops ∙ is.1.stop) (λ waits. waits) (λ asked. cc)
-refused_sets tells disk v w x t o s (refusal.Damaged damaged) is drops =
+refused_sets tells disk {v} w {x} t o s (refusal.Damaged damaged) is drops =
     let over : Mode = mode_for (refusal.Damaged damaged) in
     stop_same v x (record s { mode = over }) (stop_dropped w x t over drops ∙ is.lost.stop) (λ waits. waits)
     (λ asked. cc)
@@ -438,12 +434,11 @@ continues_next None next o call is = tt
 continues_next (Some c) next o call is = same_Some o c.op (sym is ∙ call c refl)
 
 -- what may be read of the disk in the event of a thread that is ready
-pub begins_ready : (told : Bool) (image : Option (List ℕ)) (finish : ℕ) (disk : OnDisk) (v : View) (t : ℕ) (o : Op)
-    (s : ThreadState) (why : Refusal) → IsReady finish v t s → s.op ≡ Some o → Underlies told finish image disk
-    → Standing told disk v
-    → ((damaged : Damaged) → why ≡ refusal.Damaged damaged → IsDamage image finish v t damaged)
+pub begins_ready : {told : Bool} {image : Option (List ℕ)} {finish : ℕ} {disk : OnDisk} {v : View} {t : ℕ} {o : Op}
+    {s : ThreadState} (why : Refusal) → IsReady finish v t s → s.op ≡ Some o → Underlies told finish image disk
+    → Standing told disk v → ((damaged : Damaged) → why ≡ refusal.Damaged damaged → IsDamage image finish v t damaged)
     → Begins told image disk v t o why
-begins_ready told image finish disk v t o s why ready next under stands damage = record {
+begins_ready {image} {v} {t} {o} {s} why ready next under stands damage = record {
   stands = stands;
   continued = continues_next (call_of v t) s.op o (λ c is. (ready.call c is).1) next;
   tells = under.tells;

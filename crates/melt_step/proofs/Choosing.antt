@@ -23,7 +23,6 @@ use Rattle.melt_scion.specs.declared.heap.Names as name_table
 use Rattle.melt_scion.specs.declared.registers.Registers.{Registers}
 use Rattle.melt_core.specs.Answering.{with_entry}
 use Rattle.melt_core.specs.Views.{View, view, values_of, registers_in, held_values, IsQuiet, Standing}
-use Rattle.melt_core.specs.Changed.{stopped}
 use Rattle.melt_core.specs.Epochs.{no_registers, IsNewRest, AtRest, core_of, HasFinished, HasDropped}
 use Rattle.melt_core.specs.Advances.{AdvancesOver, KeepsOthers, IsAnswered, Goes, Refuses, TellsDisk}
 use Rattle.melt_core.proofs.NoHomes.{as_told_by}
@@ -67,11 +66,11 @@ stands_as v w t s log threads values st = record {
 }
 
 -- all threads stand as before, in a view with the same history and registers, over whatever disk it stands
-all_as : (threads globals : ℕ) (disk later : OnDisk) (v w : View) (all : ℕ → SoFar)
-    → AllStand threads globals disk v all → Standing true later w
-    → w.log ≡ v.log → length w.held ≡ length v.held → length w.globals ≡ length v.globals
-    → ((t : ℕ) → values_of w t ≡ values_of v t) → AllStand threads globals later w all
-all_as threads globals disk later v w all a stands log threads_stay words values = record {
+all_as : {threads globals : ℕ} {disk later : OnDisk} {v w : View} {all : ℕ → SoFar}
+    → AllStand threads globals disk v all → Standing true later w → w.log ≡ v.log → length w.held ≡ length v.held
+    → length w.globals ≡ length v.globals → ((t : ℕ) → values_of w t ≡ values_of v t)
+    → AllStand threads globals later w all
+all_as {threads} {v} {w} {all} a stands log threads_stay words values = record {
   stands = stands;
   has_threads = threads_stay ∙ a.has_threads;
   words = words ∙ a.words;
@@ -99,45 +98,42 @@ all_values v w t others own u = elim (cases_eq u t) [
 ]
 
 -- an event that leaves the history
-event_stays : (threads globals : ℕ) (disk : OnDisk) (v w : View) (all after : ℕ → SoFar) (t : ℕ)
+event_stays : {threads globals : ℕ} {disk : OnDisk} {v w : View} {all : ℕ → SoFar} (after : ℕ → SoFar) {t : ℕ}
     → AllStand threads globals disk v all → Standing true disk w → KeepsOthers v w t → w.log ≡ v.log
     → values_of w t ≡ values_of v t → ((u : ℕ) → after u ≡ all u) → AllStand threads globals disk w after
-event_stays threads globals disk v w all after t a stands others log values same =
+event_stays {threads} {globals} {disk} {v} {w} {all} after {t} a stands others log values same =
     all_same threads globals disk w all after
-    (all_as threads globals disk disk v w all a stands log others.threads others.globals
-    (all_values v w t others values)) same
+    (all_as a stands log others.threads others.globals (all_values v w t others values)) same
 
 -- what is left of history and registers by a call that paused
-paused_stays : (threads globals : ℕ) (disk : OnDisk) (v w : View) (all after : ℕ → SoFar) (t : ℕ) (o : Op)
+paused_stays : {threads globals : ℕ} {disk : OnDisk} {v w : View} {all : ℕ → SoFar} (after : ℕ → SoFar) {t : ℕ} (o : Op)
     (cause : Refusal) → AllStand threads globals disk v all → Standing true disk w → KeepsOthers v w t
     → Refuses (Unit {0}) disk v w t o cause → ((u : ℕ) → after u ≡ all u) → AllStand threads globals disk w after
-paused_stays threads globals disk v w all after t o (refusal.Pause pause.Asked) a stands others refused same =
-    event_stays threads globals disk v w all after t a stands others (ap (λ (x : View). x.log) refused.same)
+paused_stays after {t} o (refusal.Pause pause.Asked) a stands others refused same =
+    event_stays after a stands others (ap (λ (x : View). x.log) refused.same)
     (ap (λ (x : View). values_of x t) refused.same) same
-paused_stays threads globals disk v w all after t o (refusal.Pause (pause.Space need)) a stands others refused same =
-    event_stays threads globals disk v w all after t a stands others refused.own.history refused.own.values same
-paused_stays threads globals disk v w all after t o (refusal.Pause pause.Forward) a stands others refused same =
-    event_stays threads globals disk v w all after t a stands others refused.own.history refused.own.values same
-paused_stays threads globals disk v w all after t o refusal.DiskFault a stands others refused same =
-    event_stays threads globals disk v w all after t a stands others refused.1.own.history refused.1.own.values same
-paused_stays threads globals disk v w all after t o (refusal.Damaged damaged) a stands others refused same =
-    event_stays threads globals disk v w all after t a stands others refused.lost.own.history refused.lost.own.values
-    same
+paused_stays after {t} o (refusal.Pause (pause.Space need)) a stands others refused same =
+    event_stays after a stands others refused.own.history refused.own.values same
+paused_stays after {t} o (refusal.Pause pause.Forward) a stands others refused same =
+    event_stays after a stands others refused.own.history refused.own.values same
+paused_stays after {t} o refusal.DiskFault a stands others refused same =
+    event_stays after a stands others refused.1.own.history refused.1.own.values same
+paused_stays after {t} o (refusal.Damaged damaged) a stands others refused same =
+    event_stays after a stands others refused.lost.own.history refused.lost.own.values same
 
 -- a thread that was answered, and the others
-answered_stands : (threads globals : ℕ) (disk : OnDisk) (v w : View) (all after : ℕ → SoFar) (t : ℕ) (o : Op)
-    (reply : Reply) → AllStand threads globals disk v all → (all t).over ≡ false → t < length v.held
+answered_stands : {threads globals : ℕ} {disk : OnDisk} {v w : View} {all after : ℕ → SoFar} {t : ℕ} {o : Op}
+    {reply : Reply} → AllStand threads globals disk v all → (all t).over ≡ false → t < length v.held
     → Standing true disk w → KeepsOthers v w t → IsAnswered disk v w t o reply
     → SetsSoFar all after t (with_reply (all t) o reply) → AllStand threads globals disk w after
-answered_stands threads globals disk v w all after t o reply a open_ within stands others answered sets =
+answered_stands {threads} {globals} {v} {w} {all} {after} {t} {o} {reply} a open_ within stands others answered sets =
     let st : StandsSoFar v t (all t) = a.each t in
     let answers = answered.answers a.stands in
     let legal : Legal w.log (length v.globals) = subst (Legal w.log) others.globals (stands.legal refl) in
     let now : Stands v.log t (all t).ops (all t).replies (values_of v t) =
     subst (Stands v.log t (all t).ops (all t).replies) (st.in_registers within open_) st.told in
     let told : Stands w.log t ((all t).ops ++ o ∷ []) ((all t).replies ++ reply ∷ []) (values_of w t) =
-    Stands_answers v.log w.log t (length v.globals) (all t).ops (all t).replies (values_of v t) (values_of w t) o reply
-    (a.stands.legal refl) legal now answers in
+    Stands_answers (length v.globals) (a.stands.legal refl) legal now answers in
     let act : Option Act = (does v.log (values_of v t) o answers.value).act in
     let grown : w.log ≡ with_entry t v.log act = answers.history in
     let here : StandsSoFar w t (with_reply (all t) o reply) =
@@ -146,7 +142,7 @@ answered_stands threads globals disk v w all after t o reply a open_ within stan
     a.each u in record {
       registers = su.registers;
       told = subst (λ (h : List Entry). Stands h u (all u).ops (all u).replies su.registers) (sym grown)
-          (told_with v.log t u (all u).ops (all u).replies su.registers act differ su.told);
+          (told_with t act differ su.told);
       in_registers = λ there stays. su.in_registers (subst (λ (n : ℕ). u < n) others.threads there) stays
           ∙ sym (others.values u differ);
     } in
@@ -164,25 +160,23 @@ answered_stands threads globals disk v w all after t o reply a open_ within stan
     }
 
 -- an event
-event_stands : (threads globals : ℕ) (disk : OnDisk) (v w : View) (all after : ℕ → SoFar) (t : ℕ) (o : Op)
+event_stands : {threads globals : ℕ} {disk : OnDisk} {v w : View} {all : ℕ → SoFar} (after : ℕ → SoFar) {t : ℕ} {o : Op}
     (result : StepResult) → AllStand threads globals disk v all → (all t).over ≡ false → t < length v.held
     → AdvancesOver disk v w t o result → SetsBy all after t o result → AllStand threads globals disk w after
-event_stands threads globals disk v w all after t o Going a open_ within advances sets =
+event_stands {disk} {v} {w} after {t} {o} Going a open_ within advances sets =
     let goes : Goes disk v w t o = advances.outcome in
-    event_stays threads globals disk v w all after t a
-    (advances.keeps true (λ told. tt) a.stands) advances.others goes.own.history goes.own.values sets
-event_stands threads globals disk v w all after t o (Answered reply) a open_ within advances sets =
-    answered_stands threads globals disk v w all after t o reply a open_ within
-    (advances.keeps true (λ told. tt) a.stands) advances.others advances.outcome sets
-event_stands threads globals disk v w all after t o (Refused cause) a open_ within advances sets =
-    paused_stays threads globals disk v w all after t o cause a
-    (advances.keeps true (λ told. tt) a.stands) advances.others advances.outcome sets
+    event_stays after a (advances.keeps true (λ told. tt) a.stands) advances.others goes.own.history goes.own.values
+    sets
+event_stands {disk} {v} {w} after {t} {o} (Answered reply) a open_ within advances sets =
+    answered_stands a open_ within (advances.keeps true (λ told. tt) a.stands) advances.others advances.outcome sets
+event_stands {disk} {v} {w} after {t} {o} (Refused cause) a open_ within advances sets =
+    paused_stays after o cause a (advances.keeps true (λ told. tt) a.stands) advances.others advances.outcome sets
 
 -- a `collect` was answered
-collect_stands : (threads globals : ℕ) (disk : OnDisk) (v : View) (all after : ℕ → SoFar) (t : ℕ)
+collect_stands : {threads globals : ℕ} {disk : OnDisk} {v : View} {all after : ℕ → SoFar} {t : ℕ}
     → AllStand threads globals disk v all → SetsSoFar all after t (with_reply (all t) Collect Done)
     → AllStand threads globals disk v after
-collect_stands threads globals disk v all after t a sets =
+collect_stands {v} {all} {after} {t} a sets =
     let st : StandsSoFar v t (all t) = a.each t in
     let here : StandsSoFar v t (with_reply (all t) Collect Done) = record {
       registers = st.registers;
@@ -202,10 +196,10 @@ collect_stands threads globals disk v all after t a sets =
     }
 
 -- a thread dropped its registers
-dropped_stands : (threads globals : ℕ) (disk : OnDisk) (v w : View) (all after : ℕ → SoFar) (t : ℕ)
+dropped_stands : {threads globals : ℕ} {disk : OnDisk} {v w : View} {all after : ℕ → SoFar} {t : ℕ}
     → AllStand threads globals disk v all → HasDropped v w t → KeepsOthers v w t
     → SetsSoFar all after t (record (all t) { over = true }) → AllStand threads globals disk w after
-dropped_stands threads globals disk v w all after t a dropped others sets =
+dropped_stands {threads} {globals} {disk} {v} {w} {all} {after} {t} a dropped others sets =
     let log : w.log ≡ v.log = ap (λ (x : View). x.log) dropped.only in
     let st : StandsSoFar v t (all t) = a.each t in
     let here : StandsSoFar w t (record (all t) { over = true }) = record {
@@ -227,11 +221,10 @@ dropped_stands threads globals disk v w all after t a dropped others sets =
     }
 
 -- a run begins
-start_stands : (threads globals words forward entries : ℕ) (heap : Heap) (rest : Rest) (all : ℕ → SoFar)
-    → AtRest true no_homes_on heap rest
-    → IsNewHeap words globals forward true heap → IsNewRest threads entries rest → ((t : ℕ) → all t ≡ nothing_yet)
-    → AllStand threads globals no_homes_on (view (core_of heap rest)) all
-start_stands threads globals words forward entries heap rest all at_rest new_heap new_rest none =
+start_stands : {threads globals words forward entries : ℕ} {heap : Heap} {rest : Rest} (all : ℕ → SoFar)
+    → AtRest true no_homes_on heap rest → IsNewHeap words globals forward true heap → IsNewRest threads entries rest
+    → ((t : ℕ) → all t ≡ nothing_yet) → AllStand threads globals no_homes_on (view (core_of heap rest)) all
+start_stands {threads} {globals} {words} {heap} {rest} all at_rest new_heap new_rest none =
     let v : View = view (core_of heap rest) in
     let count : length rest.held.items ≡ threads = ap length new_rest.held ∙ length-replicate threads no_registers in
     let each : (t : ℕ) → StandsSoFar v t nothing_yet = λ t. record {
@@ -252,12 +245,11 @@ start_stands threads globals words forward entries heap rest all at_rest new_hea
     }
 
 -- a new epoch
-epoch_stands : (threads globals : ℕ) (disk : OnDisk) (v : View) (all : ℕ → SoFar) (heap : Heap) (rest : Rest)
+epoch_stands : {threads globals : ℕ} {disk : OnDisk} {v : View} {all : ℕ → SoFar} {heap : Heap} {rest : Rest}
     → AllStand threads globals disk v all → AtRest true disk heap rest → HasFinished v (view (core_of heap rest))
     → AllStand threads globals disk (view (core_of heap rest)) all
-epoch_stands threads globals disk v all heap rest a at_rest finished =
-    all_as threads globals disk disk v (view (core_of heap rest)) all a at_rest.stands finished.log
-    (ap length finished.held) (ap length finished.globals) (λ t.
+epoch_stands {globals} {v} {rest} a at_rest finished =
+    all_as a at_rest.stands finished.log (ap length finished.held) (ap length finished.globals) (λ t.
     ap (λ (names : Option name_table.Names). held_values names (registers_in rest.held.items t)) finished.names
     ∙ ap (λ (held : List Registers). held_values v.names (registers_in held t)) finished.held)
 
@@ -269,18 +261,19 @@ record StandTold (threads globals end : ℕ) (image : Option (List ℕ)) (v : Vi
   pub all_stand : AllStand threads globals disk v all
 
 -- over the same disk, in another view
-told_as : (threads globals end : ℕ) (image : Option (List ℕ)) (v w : View) (all after : ℕ → SoFar)
+told_as : {threads globals end : ℕ} {image : Option (List ℕ)} {v w : View} {all after : ℕ → SoFar}
     → (s : StandTold threads globals end image v all) → AllStand threads globals s.disk w after
     → StandTold threads globals end image w after
-told_as threads globals end image v w all after s stand =
+told_as s stand =
     record { disk = s.disk; ends = s.ends; tells = s.tells; all_stand = stand }
 
 -- a collection
-collection_stands : (threads globals end end_after : ℕ) (image image_after : Option (List ℕ)) (all : ℕ → SoFar)
-    (heap new : Heap) (rest after : Rest) → StandTold threads globals end image (view (core_of heap rest)) all
+collection_stands : {threads globals end end_after : ℕ} {image image_after : Option (List ℕ)} {all : ℕ → SoFar}
+    {heap new : Heap} {rest after : Rest} → StandTold threads globals end image (view (core_of heap rest)) all
     → IsQuiet (view (core_of heap rest)) → CollectsRest end end_after image image_after heap rest new after
     → IsSome image_after → StandTold threads globals end_after image_after (view (core_of new after)) all
-collection_stands threads globals end end_after image image_after all heap new rest after s quiet c told =
+collection_stands {threads} {globals} {end} {end_after} {image} {image_after} {heap} {new} {rest} {after} s quiet c
+    told =
     let stands : Standing true s.disk (view (core_of heap rest)) = s.all_stand.stands in
     let b : Beside = beside_of heap rest in
     let registers : List Registers = after.held.items in
@@ -303,10 +296,8 @@ collection_stands threads globals end end_after image image_after all heap new r
       disk = moved.was.later;
       ends = moved.was.ends;
       tells = (told, moved.was.shows);
-      all_stand = all_as threads globals s.disk moved.was.later (view (core_of heap rest)) (view (core_of new after))
-          all s.all_stand (subst (Standing true moved.was.later) shows moved.at_rest.stands) same c.only.threads
-          moved.globals
-          (λ t. ap (λ (w : View). values_of w t) (sym shows) ∙ moved.values t);
+      all_stand = all_as s.all_stand (subst (Standing true moved.was.later) shows moved.at_rest.stands) same
+          c.only.threads moved.globals (λ t. ap (λ (w : View). values_of w t) (sym shows) ∙ moved.values t);
     }
 
 -- they stand after each choice
@@ -319,41 +310,34 @@ chosen_stands threads globals _ _ v all (Chosen.starts _ _ words forward entries
       ends = refl;
       tells = (refl, λ k. refl);
       all_stand = subst (λ (x : View). AllStand threads globals no_homes_on x all) (sym is)
-          (start_stands threads globals words forward entries heap rest all
-          (start_at_rest true words globals forward threads entries heap rest small few new_heap new_rest) new_heap
-          new_rest none);
+          (start_stands all (start_at_rest true small few new_heap new_rest) new_heap new_rest none);
     }
 chosen_stands threads globals end image w after (Chosen.event _ _ v _ all _ t o result chosen open_ may advances sets) =
     let s : StandTold threads globals end image v all = chosen_stands threads globals end image v all chosen in
-    told_as threads globals end image v w all after s
-    (event_stands threads globals s.disk v w all after t o result s.all_stand open_ may.asks.thread
-    (as_told_by (TellsDisk image s.disk) s.disk v w t o result s.tells (advances.over s.disk s.ends)) sets)
+    told_as s
+    (event_stands after result s.all_stand open_ may.asks.thread (as_told_by s.tells (advances.over s.disk s.ends))
+    sets)
 chosen_stands threads globals end image w all (Chosen.asks _ _ v _ _ chosen is) =
     let s : StandTold threads globals end image v all = chosen_stands threads globals end image v all chosen in
-    told_as threads globals end image v w all all s
-    (subst (λ (x : View). AllStand threads globals s.disk x all) (sym is)
-    (all_as threads globals s.disk s.disk v (stopped v) all s.all_stand
-    (stands_stopped s.disk true v s.all_stand.stands) refl refl refl (λ t. refl)))
+    told_as s (subst (λ (x : View). AllStand threads globals s.disk x all) (sym is)
+    (all_as s.all_stand (stands_stopped s.disk true v s.all_stand.stands) refl refl refl (λ t. refl)))
 chosen_stands threads globals end image v after (Chosen.collect _ _ _ all _ t chosen sets) =
     let s : StandTold threads globals end image v all = chosen_stands threads globals end image v all chosen in
-    told_as threads globals end image v v all after s
-    (collect_stands threads globals s.disk v all after t s.all_stand sets)
+    told_as s (collect_stands s.all_stand sets)
 chosen_stands threads globals end image w after (Chosen.drops _ _ v _ all _ t chosen none dropped sets) =
     let s : StandTold threads globals end image v all = chosen_stands threads globals end image v all chosen in
-    told_as threads globals end image v w all after s
-    (dropped_stands threads globals s.disk v w all after t s.all_stand dropped (dropped_keeps v w t dropped) sets)
+    told_as s (dropped_stands s.all_stand dropped (dropped_keeps v w t dropped) sets)
 chosen_stands threads globals end image w all (Chosen.epoch _ _ v _ _ heap rest chosen quiet rests finished settled
     is) =
     let s : StandTold threads globals end image v all = chosen_stands threads globals end image v all chosen in
-    told_as threads globals end image v w all all s
-    (subst (λ (x : View). AllStand threads globals s.disk x all) (sym is)
-    (epoch_stands threads globals s.disk v all heap rest s.all_stand (rests true s.disk s.all_stand.stands) finished))
+    told_as s (subst (λ (x : View). AllStand threads globals s.disk x all) (sym is)
+    (epoch_stands s.all_stand (rests true s.disk s.all_stand.stands) finished))
 chosen_stands threads globals _ _ w all (Chosen.collection end end_after image image_after v _ _ heap new rest after
     chosen was quiet collects told is) =
     let s : StandTold threads globals end image v all = chosen_stands threads globals end image v all chosen in
     subst (λ (x : View). StandTold threads globals end_after image_after x all) (sym is)
-    (collection_stands threads globals end end_after image image_after all heap new rest after
-    (subst (λ (x : View). StandTold threads globals end image x all) was s) (subst IsQuiet was quiet) collects told)
+    (collection_stands (subst (λ (x : View). StandTold threads globals end image x all) was s) (subst IsQuiet was quiet)
+    collects told)
 
 -- threads that stand in a history were told what it gives them
 pub chosen_told : (threads globals end : ℕ) (image : Option (List ℕ)) (v : View) (all : ℕ → SoFar)

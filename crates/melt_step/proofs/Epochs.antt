@@ -128,8 +128,7 @@ renews_stands {unpaid} {told} {script} {config} {shown} {old} {new} r stands = r
   under = stands.under;
   none_free = stands.none_free;
   table = subst (TableStands told script config stands.disk new.view) (sym r.states)
-      (Table_renewed told script config stands.disk stands.disk old.view new.view old.states stands.table
-      (renewed r told stands.disk stands.table.stands stands.quiet));
+      (Table_renewed stands.table (renewed r told stands.disk stands.table.stands stands.quiet));
   quiet = renews_quiet r stands.quiet;
   words = r.words ∙ stands.words;
   every = r.every ∙ stands.every;

@@ -90,8 +90,7 @@ alone_ready {told} {script} {config} {shown} {forced} {run} {t} {s} o awaits was
     let table =
     Table_untold told script config awaits.stands.disk v run.states awaits.stands.table in
     let ready : IsReady shown.end v t s =
-    table_ready script config awaits.stands.disk v run.states t s shown.end table awaits.stands.under.ends
-    was.at in
+    table_ready t table awaits.stands.under.ends was.at in
     let fits = lacking_next table was in
     record {
       disk = awaits.stands.disk;
@@ -114,10 +113,10 @@ alone_ready {told} {script} {config} {shown} {forced} {run} {t} {s} o awaits was
     }
 
 -- what a call did over each disk that is seen so, seen by other names
-pub called_by : (shown : Shown) (finish : ℕ) (image : Option (List ℕ)) (v w : View) (t : ℕ) (s after : ThreadState)
+pub called_by : (shown : Shown) {finish : ℕ} {image : Option (List ℕ)} {v w : View} (t : ℕ) (s after : ThreadState)
     (o : Op) (lacks : Option ℕ) → shown.end ≡ finish → shown.image ≡ image
     → CalledAlone finish image v w t s after o lacks → CalledAlone shown.end shown.image v w t s after o lacks
-called_by shown finish image v w t s after o lacks ends shows called = λ told disk under.
+called_by shown t s after o lacks ends shows called = λ told disk under.
     called told disk (record {
       ends = under.ends ∙ ends;
       tells = λ is. subst (λ (x : Option (List ℕ)). TellsDisk x disk) shows (under.tells is);
@@ -196,14 +195,12 @@ made_stands {told} {script} {config} {shown} {forced} {old} {new} {t} {lacks} aw
     let due : DueBy config.every m.s m.after = subst (λ (n : ℕ). DueBy n m.s m.after) stands.every m.due in
     let fits = lacking_next stands.table m.was in
     let table : TableStands told script config disk w (set states t m.after) =
-    Table_step told script config disk v w states t m.s m.after within stands.table m.was.at open_ step due in
+    Table_step within stands.table m.was.at open_ step due in
     let cuts : told ≡ true → HaveCuts script w.log (set states t m.after) config old.collector.journal.items = λ tells.
-    cuts_step told script config disk v w states t m.s m.after old.collector.journal.items within stands.table m.was.at
-    open_ step due (stands.cuts tells) in
+    cuts_step old.collector.journal.items within stands.table m.was.at open_ step due (stands.cuts tells) in
     let adds : Adds script config states (set states t m.after) 0 1 = elim (came none (call_over awaits m)).1 [
-      | inl is ↦ adds_lost told script config disk v w states t m.s m.after stands.table m.was.at is
-      | inr got ↦ adds_got told script config disk v w states t m.s m.after stands.table m.was.at due open_ got
-          (λ same. fits.1 (got.next ∙ ap Some same))
+      | inl is ↦ adds_lost stands.table m.was.at is
+      | inr got ↦ adds_got stands.table m.was.at due open_ got (λ same. fits.1 (got.next ∙ ap Some same))
     ] in
     record {
       disk = disk;
@@ -386,8 +383,8 @@ lacked_stands {told} {script} {config} {shown} {forced} {old} {new} {t} {lacks} 
       told = m.told;
     } in
     stands_same awaits.stands same
-    (Table_lacks told script config awaits.stands.disk old.view new.view old.states t m.s
-    awaits.stands.table m.was.at m.was.lacking over.stands over.others (alone.call, alone.history, alone.values))
+    (Table_lacks awaits.stands.table m.was.at m.was.lacking over.stands over.others
+    (alone.call, alone.history, alone.values))
     (quiet_behind old.view new.view t over.others alone.call awaits.stands.quiet) (call_makes awaits m)
 
 -- and the thread lacks them

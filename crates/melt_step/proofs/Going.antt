@@ -34,14 +34,13 @@ use Rattle.melt_safepoint.proofs.Tables.{waiting_quiet}
 use Rattle.melt_safepoint.proofs.ToDo.{to_do_within_set}
 
 -- a run stands on behind an event of a thread that can go on
-pub step_keeps : (finish : ℕ) (image : Option (List ℕ)) (old new : Row) (t : ℕ) (s after : ThreadState)
-    → slice_get old.states t ≡ Some s → MayGo s.mode
-    → TakesTurn finish image old.view new.view t s after → new.states ≡ set old.states t after
-    → DueBy old.every s after → MakesInUse finish image old.view new.view
+pub step_keeps : {finish : ℕ} {image : Option (List ℕ)} (old new : Row) (t : ℕ) {s : ThreadState} (after : ThreadState)
+    → slice_get old.states t ≡ Some s → MayGo s.mode → TakesTurn finish image old.view new.view t s after
+    → new.states ≡ set old.states t after → DueBy old.every s after → MakesInUse finish image old.view new.view
     → new.every ≡ old.every → new.words ≡ old.words → new.told ≡ old.told → new.collector ≡ old.collector
     → (shown : Shown) → shown.end ≡ finish → shown.image ≡ image → KeepsGoing shown old new
-step_keeps finish image old new t s after at goes turn states due makes every words is_told collector shown ends shows
-    told script config stands =
+step_keeps {finish} {image} old new t {s} after at goes turn states due makes every words is_told collector shown ends
+    shows told script config stands =
     let had : List ThreadState = old.states in
     let disk : OnDisk = stands.disk in
     let table : TableStands told script config disk old.view had = stands.table in
@@ -55,15 +54,13 @@ step_keeps finish image old new t s after at goes turn states due makes every wo
     λ got. got.no_collect goes in
     let by : DueBy config.every s after = subst (λ (n : ℕ). DueBy n s after) stands.every due in
     let adds : Adds script config had (set had t after) 0 0 =
-    collections_step told script config disk old.view new.view had t s after table at step by
-    (goes_on s.mode goes) other in
+    collections_step table at step by (goes_on s.mode goes) other in
     record {
       disk = disk;
       under = stands.under;
       none_free = stands.none_free;
       table = subst (TableStands told script config disk new.view) (sym states)
-          (Table_step told script config disk old.view new.view had t s after within table at
-          (goes_on s.mode goes) step by);
+          (Table_step within table at (goes_on s.mode goes) step by);
       words = words ∙ stands.words;
       every = every ∙ stands.every;
       told_is = is_told ∙ stands.told_is;
@@ -73,8 +70,7 @@ step_keeps finish image old new t s after at goes turn states due makes every wo
           (sym states)
           (subst (λ (c : Collector). HaveCuts script new.view.log (set had t after) config c.journal.items)
           (sym collector)
-          (cuts_step told script config disk old.view new.view had t s after old.collector.journal.items
-          within table at (goes_on s.mode goes) step by (stands.cuts is)));
+          (cuts_step old.collector.journal.items within table at (goes_on s.mode goes) step by (stands.cuts is)));
       made = λ is.
           subst (λ (c : Collector). MadeSoFar config new.view c.journal.items) (sym collector)
           (makes disk (subst (λ (b : Bool). Underlies b finish image disk) is under)
@@ -85,12 +81,11 @@ step_keeps finish image old new t s after at goes turn states due makes every wo
     }
 
 -- it has less to do than before
-pub step_less : (told : Bool) (script : Script) (config : Config) (shown : Shown) (finish : ℕ) (image : Option (List ℕ))
-    (old : Row) (w : View) (t : ℕ) (s after : ThreadState) → Goes told script config shown old
-    → shown.end ≡ finish → slice_get old.states t ≡ Some s → MayGo s.mode
-    → TakesTurn finish image old.view w t s after
+pub step_less : {told : Bool} {script : Script} {config : Config} {shown : Shown} {finish : ℕ} (image : Option (List ℕ))
+    {old : Row} (w : View) (t : ℕ) {s : ThreadState} (after : ThreadState) → Goes told script config shown old
+    → shown.end ≡ finish → slice_get old.states t ≡ Some s → MayGo s.mode → TakesTurn finish image old.view w t s after
     → potential (set old.states t after) w.calls < potential old.states old.view.calls
-step_less told script config shown finish image old w t s after stands ends at goes turn =
+step_less {told} {script} {config} {finish} image {old} w t {s} after stands ends at goes turn =
     let disk : OnDisk = stands.disk in
     let v : View = old.view in
     let table : TableStands false script config disk v old.states =
@@ -100,21 +95,20 @@ step_less told script config shown finish image old w t s after stands ends at g
     let step : ThreadStep false disk v w t s after = turn false disk under table.stands in
     let before : Standing false disk v = table.stands in
     let behind : Standing false disk w = step.stands in
-    step_nearer false script config disk v w old.states t s after table at goes step
-    (behind.each ∙ (step.others.threads ∙ sym before.each))
+    step_nearer table at goes step (behind.each ∙ (step.others.threads ∙ sym before.each))
 
 -- it has no more to do than before
-pub step_to_do : (told : Bool) (script : Script) (config : Config) (shown : Shown) (finish : ℕ)
-    (image : Option (List ℕ)) (old : Row) (w : View) (t : ℕ) (s after : ThreadState) → Goes told script config shown old
-    → shown.end ≡ finish → slice_get old.states t ≡ Some s → MayGo s.mode
+pub step_to_do : {told : Bool} {script : Script} {config : Config} {shown : Shown} {finish : ℕ}
+    (image : Option (List ℕ)) {old : Row} (w : View) (t : ℕ) {s : ThreadState} (after : ThreadState)
+    → Goes told script config shown old → shown.end ≡ finish → slice_get old.states t ≡ Some s → MayGo s.mode
     → TakesTurn finish image old.view w t s after → to_do (set old.states t after) ≤ to_do old.states
-step_to_do told script config shown finish image old w t s after stands ends at goes turn =
+step_to_do {told} {finish} image {old} w t {s} after stands ends at goes turn =
     let disk : OnDisk = stands.disk in
     let under : Underlies false finish image disk =
     record { ends = stands.under.ends ∙ ends; tells = λ wrong. absurd (let w : false ≡ true = wrong in cc) } in
     let step : ThreadStep false disk old.view w t s after =
     turn false disk under (stands_untold told disk old.view stands.table.stands) in
-    to_do_within_set old.states t s after at (step_jobs false disk old.view w t s after goes step)
+    to_do_within_set old.states t s after at (step_jobs goes step)
 
 -- a run whose threads made their calls again
 pub again_keeps : (shown : Shown) (old new : Row) (n : ℕ) → AgainBelow old.states new.states n

@@ -73,8 +73,7 @@ home_away v disk home n z none head stands =
     elim stands.is [
       | inl body ↦
           let e : read ≡ record { shape = stands.reserved_for; kind = Body } =
-          (same_head home disk.end home disk.end (disk.image home) (disk.image (home + 1)) read
-          (record { shape = stands.reserved_for; kind = Body }) (head.on_disk refl) body.head).1 in
+          (same_head (head.on_disk refl) body.head).1 in
           let same : z ≡ stands.reserved_for = ap (λ (x : Head). x.shape) e in
           record {
             nowhere = body.nowhere;
@@ -83,8 +82,7 @@ home_away v disk home n z none head stands =
       | inr rest ↦ elim rest [
         | inl stub ↦
             let e : read ≡ record { shape = stands.reserved_for; kind = Stub stub.scion } =
-            (same_head home disk.end home disk.end (disk.image home) (disk.image (home + 1)) read
-            (record { shape = stands.reserved_for; kind = Stub stub.scion }) (head.on_disk refl) stub.head).1 in
+            (same_head (head.on_disk refl) stub.head).1 in
             let k : Body ≡ Stub stub.scion = ap (λ (x : Head). x.kind) e in
             absurd (cc)
         | inr sent ↦
@@ -129,10 +127,10 @@ needs_object v disk place at home z stands where_at found =
     }
 
 -- so the load needs the words of that object
-pub load_needs : (v : View) (disk : OnDisk) (t : ℕ) (o : Op) (place : Place) (dst home : ℕ) (z : Shape)
+pub load_needs : {v : View} {disk : OnDisk} (t : ℕ) (o : Op) (place : Place) (dst : ℕ) {home : ℕ} {z : Shape}
     → Standing true disk v → LoadsAt (register_in v.held t) o place dst → FoundAway v disk place home z
     → NeedsWords v.log (value v) t o (cost_of z)
-load_needs v disk t o (Field object i) dst home z stands loads found =
+load_needs {v} {disk} t o (Field object i) dst {home} {z} stands loads found =
     let m : ℕ = found.at.1.number in
     let is : o ≡ op.Load dst loads.0 i = load_is o loads.0 dst i loads.1 in
     let value_is : value v t loads.0 ≡ Ref m =
@@ -141,6 +139,6 @@ load_needs v disk t o (Field object i) dst home z stands loads found =
     ∙ held_is v.names object (Ref m) (named_value v.names object m found.at.1.named)) in
     subst (λ (p : Op). NeedsWords v.log (value v) t p (cost_of z)) (sym is)
     (m, value_is, needs_object v disk (Field object i) (slot.Field m i) home z stands (m, found.at.1.named, refl) found)
-load_needs v disk t o (Global g) dst home z stands loads found =
+load_needs {v} {disk} t o (Global g) dst {home} {z} stands loads found =
     subst (λ (p : Op). NeedsWords v.log (value v) t p (cost_of z)) (sym (gload_is o dst g loads))
     (needs_object v disk (Global g) (slot.Global g) home z stands refl found)

@@ -167,13 +167,12 @@ probes_empty s search empty another next none probes = elim probes.1 [
 ]
 
 -- the claim for a new object
-by_made : (v w x : View) (disk : OnDisk) (dst : ℕ) (shape : Shape) (next : Stage) → Untouched v w
+by_made : {v w : View} (x : View) (disk : OnDisk) (dst : ℕ) (shape : Shape) (next : Stage) → Untouched v w
     → length w.space.list ≡ length v.space.list → maps x ≡ maps w
     → FreeMoves (state disk w) (state disk x) (w.free + cost_of shape)
     → (w.free + cost_of shape ≤ length w.space.list + 1 → next ≡ Claimed w.free shape 0 dst)
-    → (length w.space.list + 1 < w.free + cost_of shape → next ≡ stage.Lacking (cost_of shape))
-    → By v x (Some next)
-by_made v w x disk dst shape next is words names moves fits lacks =
+    → (length w.space.list + 1 < w.free + cost_of shape → next ≡ stage.Lacking (cost_of shape)) → By v x (Some next)
+by_made {v} {w} x disk dst shape next is words names moves fits lacks =
     elim (cases_lt (length w.space.list + 1) (w.free + cost_of shape)) [
       | inl above ↦
           let lacked : HasLacked v x (cost_of shape) = record {
@@ -185,13 +184,12 @@ by_made v w x disk dst shape next is words names moves fits lacks =
     ]
 
 -- the claim for a copy
-by_fetched : (v w x : View) (disk : OnDisk) (search : Search) (shape : Shape) (next : Stage) → NoneForwarded v
+by_fetched : {v w : View} (x : View) (disk : OnDisk) {search : Search} (shape : Shape) (next : Stage) → NoneForwarded v
     → Untouched v w → IsFirst w search → length w.space.list ≡ length v.space.list → maps x ≡ maps w
-    → FreeMoves (state disk w) (state disk x) (w.free + cost_of shape)
-    → (w.free + cost_of shape ≤ length w.space.list + 1
-    → next ≡ Copying (record { search = search; address = w.free; shape = shape }) 0)
+    → FreeMoves (state disk w) (state disk x) (w.free + cost_of shape) → (w.free + cost_of shape ≤ length w.space.list +
+    1 → next ≡ Copying (record { search = search; address = w.free; shape = shape }) 0)
     → (length w.space.list + 1 < w.free + cost_of shape → next ≡ LackingCopy search shape) → By v x (Some next)
-by_fetched v w x disk search shape next none is first words names moves fits lacks =
+by_fetched {v} {w} x disk {search} shape next none is first words names moves fits lacks =
     let keeps : Keeps v x = keeps_free v w x disk (w.free + cost_of shape) names moves is.keeps in
     elim (cases_lt (length w.space.list + 1) (w.free + cost_of shape)) [
       | inl above ↦
@@ -207,35 +205,35 @@ by_fetched v w x disk search shape next none is first words names moves fits lac
     ]
 
 -- what a load finds at its place
-by_found : (v w x : View) (disk : OnDisk) (place : Place) (dst : ℕ) (next : Stage) → Untouched v w → maps x ≡ maps w
-    → SameWords (state disk w) (state disk x)
+by_found : {v w : View} (x : View) (disk : OnDisk) (place : Place) (dst : ℕ) (next : Stage) → Untouched v w
+    → maps x ≡ maps w → SameWords (state disk w) (state disk x)
     → FindsTag (word_in (state no_homes_on w) place) place dst next → By v x (Some next)
-by_found v w x disk place dst next is names same (inl stale) =
+by_found {v} {w} x disk place dst next is names same (inl stale) =
     subst (λ (g : Stage). By v x (Some g)) (sym stale.2) tt
-by_found v w x disk place dst next is names same (inr home) =
+by_found {v} {w} x disk place dst next is names same (inr home) =
     let search : Search = record { place = place; home = home.0; tried = 0; dst = dst } in
     let first : IsFirst x search =
     record { tried = refl; word = place_same v w x disk place same.word same.global ∙ home.1 } in
     subst (λ (g : Stage). By v x (Some g)) (sym home.2) (untouched_same v w x disk names same is, first)
 
 -- the head of a record was read
-by_read : (v x : View) (s : State) (search : Search) (shape : Shape) (kind : Kind) (next : Stage)
+by_read : {v x : View} (s : State) {search : Search} (shape : Shape) (kind : Kind) (next : Stage)
     → Untouched v x × IsFirst x search → ReadAs s search shape kind next → By v x (Some next)
-by_read v x s search shape Body next is reads =
+by_read {v} {x} s {search} shape Body next is reads =
     subst (λ (g : Stage). By v x (Some g)) (sym reads) (behind (shape.refs + shape.nums == 0))
   where
     behind : (whole : Bool) → By v x (Some (if whole then BodyRead search shape else HeadRead search shape))
     behind true = is
     behind false = is
-by_read v x s search shape (Stub scion) next is reads = subst (λ (g : Stage). By v x (Some g)) (sym reads.2) tt
+by_read {v} {x} s {search} shape (Stub scion) next is reads = subst (λ (g : Stage). By v x (Some g)) (sym reads.2) tt
 
 -- a word of the copy was stored
-copied_on : (w x : View) (disk : OnDisk) (m n : Maps) (search : Search) (last : Bool) (at word to other : ℕ)
-    → IsCopied w search
-    → Applies m n (state disk w) (state disk x) (if last then Word at word else Word to other) → IsCopied x search
-copied_on w x disk m n search true at word to other is applies =
+copied_on : {w x : View} (disk : OnDisk) (m n : Maps) {search : Search} (last : Bool) (at word to other : ℕ)
+    → IsCopied w search → Applies m n (state disk w) (state disk x) (if last then Word at word else Word to other)
+    → IsCopied x search
+copied_on disk m n true at word to other is applies =
     record { tried = is.tried; none = λ p. applies.1.forward p ∙ is.none p }
-copied_on w x disk m n search false at word to other is applies =
+copied_on disk m n false at word to other is applies =
     record { tried = is.tried; none = λ p. applies.1.forward p ∙ is.none p }
 
 by_copied : (v x : View) (a : Activation) (stored : ℕ) (next : Stage) → IsCopied x a.search
@@ -255,15 +253,15 @@ by_goes : (v w x : View) (disk : OnDisk) (register : ℕ → ℕ) (rest : List �
 by_goes v w x disk register rest stop o None next none words is goes applies =
     subst (λ (g : Stage). By v x (Some g)) (sym goes.3) (untouched_same v w x disk applies.0 applies.1 is)
 by_goes v w x disk register rest stop o (Some (Polled (Make dst shape))) next none words is goes applies =
-    by_made v w x disk dst shape next is words applies.0 applies.1 goes.0 goes.1
+    by_made x disk dst shape next is words applies.0 applies.1 goes.0 goes.1
 by_goes v w x disk register rest stop o (Some (Polled (Use r access))) next none words is goes applies =
     subst (λ (g : Stage). By v x (Some g)) (sym goes.3) (untouched_same v w x disk applies.0 applies.1 is)
 by_goes v w x disk register rest stop o (Some (Polled (LoadGlobal dst g))) next none words is goes applies =
-    by_found v w x disk (Global g) dst next is applies.0 applies.1 goes
+    by_found x disk (Global g) dst next is applies.0 applies.1 goes
 by_goes v w x disk register rest stop o (Some (Polled (StoreGlobal g src))) next none words is goes applies =
     absurd goes
 by_goes v w x disk register rest stop o (Some (Headed object shape (Load dst i))) next none words is goes applies =
-    by_found v w x disk (Field object i) dst next is applies.0 applies.1 goes
+    by_found x disk (Field object i) dst next is applies.0 applies.1 goes
 by_goes v w x disk register rest stop o (Some (Headed object shape (Store i src))) next none words is goes applies =
     absurd goes
 by_goes v w x disk register rest stop o (Some (Headed object shape (Get j))) next none words is goes applies =
@@ -283,16 +281,16 @@ by_goes v w x disk register rest stop o (Some (Searching search)) next none word
     (none_kept v w none is.0.keeps _) goes))
     (untouched_same v w x disk applies.0 applies.1 is.0, first_same v w x disk search applies.1 is.1)
 by_goes v w x disk register rest stop o (Some (Missed search)) next none words is goes applies =
-    by_read v x (state disk w) search goes.0 goes.1 next
+    by_read (state disk w) goes.0 goes.1 next
     (untouched_same v w x disk applies.0 applies.1 is.0, first_same v w x disk search applies.1 is.1) goes.2
 by_goes v w x disk register rest stop o (Some (HeadRead search shape)) next none words is goes applies =
     subst (λ (g : Stage). By v x (Some g)) (sym goes)
     (untouched_same v w x disk applies.0 applies.1 is.0, first_same v w x disk search applies.1 is.1)
 by_goes v w x disk register rest stop o (Some (BodyRead search shape)) next none words is goes applies =
-    by_fetched v w x disk search shape next none is.0 is.1 words applies.0 applies.1 goes.0 goes.1
+    by_fetched x disk shape next none is.0 is.1 words applies.0 applies.1 goes.0 goes.1
 by_goes v w x disk register rest stop o (Some (Copying a stored)) next none words is goes applies =
     by_copied v x a stored next
-    (copied_on w x disk (maps w) (maps x) a.search (stored + 1 == cost_of a.shape) _ _ _ _ is applies) goes.0 goes.1
+    (copied_on disk (maps w) (maps x) (stored + 1 == cost_of a.shape) _ _ _ _ is applies) goes.0 goes.1
 by_goes v w x disk register rest stop o (Some (Copied a)) next none words is goes applies =
     subst (λ (g : Stage). By v x (Some g))
     (sym
@@ -313,9 +311,9 @@ pub record OnCall (v w : View) (t : ℕ) (o : Op) : Type 0 where
   pub by : By v w (stage_of w t)
 
 -- the call goes on
-pub call_goes : (v w x : View) (t : ℕ) (o : Op) (tells : Type 0) (disk : OnDisk) → NoneForwarded v → OnCall v w t o
+pub call_goes : {v w x : View} {t : ℕ} {o : Op} {tells : Type 0} {disk : OnDisk} → NoneForwarded v → OnCall v w t o
     → AdvancesWhere tells disk w x t o Going → OnCall v x t o
-call_goes v w x t o tells disk none on advances =
+call_goes {v} {w} {x} {t} {o} {disk} none on advances =
     let goes : Goes disk w x t o = advances.outcome in
     let after : stage_of x t ≡ Some goes.stage = ap stage_in goes.call in
     record {
@@ -357,14 +355,14 @@ lacked_by v w (Some (LackingCopy search shape)) need is lacks = subst (HasLacked
 lacked_by v w from need is lacks = absurd lacks
 
 -- and its event, which changes no word
-lacked_keeps : (v w x : View) (disk : OnDisk) (register : ℕ → ℕ) (rest : List ℕ) (from : Option Stage) (need : ℕ)
-    → Lacks from need → Keeps v w
+lacked_keeps : {v w : View} (x : View) (disk : OnDisk) (register : ℕ → ℕ) (rest : List ℕ) (from : Option Stage)
+    (need : ℕ) → Lacks from need → Keeps v w
     → Applies (maps w) (maps x) (state disk w) (state disk x) (change_of (state disk w) register rest from) → Keeps v x
-lacked_keeps v w x disk register rest (Some (stage.Lacking words)) need lacks keeps applies =
+lacked_keeps {v} {w} x disk register rest (Some (stage.Lacking words)) need lacks keeps applies =
     keeps_same v w x disk applies.0 applies.1 keeps
-lacked_keeps v w x disk register rest (Some (LackingCopy search shape)) need lacks keeps applies =
+lacked_keeps {v} {w} x disk register rest (Some (LackingCopy search shape)) need lacks keeps applies =
     keeps_same v w x disk applies.0 applies.1 keeps
-lacked_keeps v w x disk register rest from need lacks keeps applies = absurd lacks
+lacked_keeps {v} {w} x disk register rest from need lacks keeps applies = absurd lacks
 
 -- an object of an operation takes few words
 small_made : (globals : ℕ) (o : Op) (dst : ℕ) (shape : Shape) → InBounds globals o
@@ -381,9 +379,9 @@ record LacksThese (told : Bool) (w : View) (t : ℕ) (o : Op) (need : ℕ) : Typ
   needs : told ≡ true → NeedsWords w.log (value w) t o need
 
 -- words for a new object
-lacks_made : (told : Bool) (register : ℕ → ℕ) (w : View) (t : ℕ) (o : Op) (words need globals : ℕ) → InBounds globals o
-    → Fits register o (stage.Lacking words) → words ≡ need → LacksThese told w t o need
-lacks_made told register w t o words need globals bounds fits same =
+lacks_made : (told : Bool) (register : ℕ → ℕ) (w : View) (t : ℕ) (o : Op) {words need : ℕ} (globals : ℕ)
+    → InBounds globals o → Fits register o (stage.Lacking words) → words ≡ need → LacksThese told w t o need
+lacks_made told register w t o {need} globals bounds fits same =
     let is : o ≡ op.New fits.0 fits.1.refs fits.1.nums = new_is o fits.0 fits.1 fits.2 in
     let cost : need ≡ cost_of fits.1 = sym same ∙ fits.3 in
     let small : cost_of fits.1 ≤ 126 = small_made globals o fits.0 fits.1 bounds is in
@@ -393,20 +391,18 @@ lacks_made told register w t o words need globals bounds fits same =
     }
 
 -- words for a copy
-lacks_copy : (told : Bool) (disk : OnDisk) (w : View) (t : ℕ) (o : Op) (search : Search) (shape : Shape)
+lacks_copy : {told : Bool} {disk : OnDisk} {w : View} (t : ℕ) (o : Op) {search : Search} (shape : Shape)
     → Standing told disk w → NoneForwarded w → IsFirst w search
     → Fits (register_in w.held t) o (LackingCopy search shape)
     → Known told (maps w) (state disk w) (rest_of w t) (LackingCopy search shape)
     → LacksThese told w t o (cost_of shape)
-lacks_copy told disk w t o search shape stands none first fits known =
+lacks_copy {disk} {w} t o {search} shape stands none first fits known =
     let refs : shape.refs ≤ 62 = known.2.small.refs in
     let nums : shape.nums ≤ 62 = known.2.small.nums in
     record {
       small = omega (arith, refs, nums);
       needs = λ is.
-          load_needs w disk t o search.place search.dst search.home shape
-          (subst (λ (b : Bool). Standing b disk w) is stands)
-          fits (record {
+          load_needs t o search.place search.dst (subst (λ (b : Bool). Standing b disk w) is stands) fits (record {
             none = none;
             at = known.1.searches.looked.at;
             word = place_on w disk search.place ∙ first.word;
@@ -421,17 +417,17 @@ lacks_copy told disk w t o search shape stands none first fits known =
     place_on w disk (Global g) = refl
 
 -- by the stage
-lacks_these : (told : Bool) (disk : OnDisk) (v w : View) (t : ℕ) (o : Op) (need globals : ℕ) → InBounds globals o
+lacks_these : {told : Bool} {disk : OnDisk} {v w : View} {t : ℕ} {o : Op} (need globals : ℕ) → InBounds globals o
     → NoneForwarded w → OnCall v w t o → Standing told disk w → Lacks (stage_of w t) need → LacksThese told w t o need
-lacks_these told disk v w t o need globals bounds none on stands lacks =
+lacks_these {told} {disk} {v} {w} {t} {o} need globals bounds none on stands lacks =
     by_call (call_of w t) refl on.continued on.by lacks
   where
     by_stage : (g : Stage) → Fits (register_in w.held t) o g → Known told (maps w) (state disk w) (rest_of w t) g
         → By v w (Some g) → Lacks (Some g) need → LacksThese told w t o need
     by_stage (stage.Lacking words) fits known by lacks =
-        lacks_made told (register_in w.held t) w t o words need globals bounds fits lacks
+        lacks_made told (register_in w.held t) w t o globals bounds fits lacks
     by_stage (LackingCopy search shape) fits known by lacks =
-        subst (LacksThese told w t o) lacks (lacks_copy told disk w t o search shape stands none by.1 fits known)
+        subst (LacksThese told w t o) lacks (lacks_copy t o shape stands none by.1 fits known)
     by_stage g fits known by lacks = absurd lacks
 
     by_call : (now : Option Call) → call_of w t ≡ now → Continues now o → By v w (stage_in now)
@@ -472,19 +468,19 @@ needs_same v w t o need log values needs =
     (subst (λ (h : List Entry). NeedsWords h (value w) t o need) log needs)
 
 -- the call was refused: its claim ended past the last word of the heap
-pub call_lacks : (told : Bool) (tells : Type 0) (disk : OnDisk) (v w x : View) (t : ℕ) (o : Op) (need globals : ℕ)
+pub call_lacks : {told : Bool} {tells : Type 0} {disk : OnDisk} {v w x : View} {t : ℕ} {o : Op} (need globals : ℕ)
     (s : ThreadState) → InBounds globals o → NoneForwarded v → OnCall v w t o → Standing told disk w
     → (told ≡ true → tells) → AdvancesWhere tells disk w x t o (Refused (refusal.Pause (pause.Space need)))
     → CalledOver told disk v x t s s o (Some need)
-call_lacks told tells disk v w x t o need globals s bounds none on stands tell advances =
+call_lacks {told} {disk} {v} {w} {x} {t} {o} need globals s bounds none on stands tell advances =
     let refused : IsRefused w x t o need = advances.outcome in
     let lacked : HasLacked v w need = lacked_by v w (stage_of w t) need on.by refused.lacks in
     let keeps : Keeps v x =
-    lacked_keeps v w x disk (register_in w.held t) (rest_of w t) (stage_of w t) need refused.lacks lacked.keeps
+    lacked_keeps x disk (register_in w.held t) (rest_of w t) (stage_of w t) need refused.lacks lacked.keeps
     advances.changes in
     let others : KeepsOthers v x t = KeepsOthers_both v w x t on.others advances.others in
     let these : LacksThese told w t o need =
-    lacks_these told disk v w t o need globals bounds (none_kept v w none lacked.keeps) on stands refused.lacks in
+    lacks_these need globals bounds (none_kept v w none lacked.keeps) on stands refused.lacks in
     let registers : registers_in x.held t ≡ registers_in v.held t = refused.own.registers ∙ on.registers in
     record {
       stands = advances.keeps told tell stands;
@@ -510,11 +506,11 @@ call_lacks told tells disk v w x t o need globals s bounds none on stands tell a
     }
 
 -- the call was answered
-pub call_told : (told : Bool) (disk : OnDisk) (v w x y : View) (t : ℕ) (o : Op) (reply : Reply) (s after : ThreadState)
-    → s.mode ≡ Lacking → s.op ≡ Some o → o ≢ Collect → OnCall v w t o → Standing told disk w → Standing told disk x
-    → KeepsOthers w x t → IsAnswered disk w x t o reply → TakesReply s after reply → DropsIfEnded x y t after.mode
-    → CalledOver told disk v y t s after o None
-call_told told disk v w x y t o reply s after lacking next no_collect on stood stands others answered takes drops =
+pub call_told : {told : Bool} {disk : OnDisk} {v w x : View} (y : View) {t : ℕ} {o : Op} {reply : Reply}
+    {s after : ThreadState} → s.mode ≡ Lacking → s.op ≡ Some o → o ≢ Collect → OnCall v w t o → Standing told disk w
+    → Standing told disk x → KeepsOthers w x t → IsAnswered disk w x t o reply → TakesReply s after reply
+    → DropsIfEnded x y t after.mode → CalledOver told disk v y t s after o None
+call_told {told} {disk} {v} {w} {x} y {t} {after} lacking next no_collect on stood stands others answered takes drops =
     let behind = dropped_stands told disk x y t after.mode stands drops in
     record {
       stands = behind.0;
@@ -522,17 +518,16 @@ call_told told disk v w x y t o reply s after lacking next no_collect on stood s
       what = inl (
         refl,
         stop_dropped x y t after.mode drops ∙ (answered.stop ∙ on.stop),
-        inr (told_state told disk v w x y t o reply s after next no_collect on.history on.values stood answered
-            (ap owes_silent lacking) takes drops),
+        inr (told_state v y next no_collect on.history on.values stood answered (ap owes_silent lacking) takes drops),
       );
     }
 
 -- the thread was lost
-pub call_lost : (told : Bool) (image : Option (List ℕ)) (disk : OnDisk) (v w x y : View) (t : ℕ) (o : Op)
-    (s : ThreadState) (why : Refusal) → s.mode ≡ Lacking → s.op ≡ Some o → NoPause why → OnCall v w t o
+pub call_lost : {told : Bool} {image : Option (List ℕ)} {disk : OnDisk} {v w x : View} (y : View) {t : ℕ} {o : Op}
+    (s : ThreadState) {why : Refusal} → s.mode ≡ Lacking → s.op ≡ Some o → NoPause why → OnCall v w t o
     → Begins told image disk w t o why → AdvancesWhere (TellsDisk image disk) disk w x t o (Refused why)
     → DropsIfEnded x y t (mode_for why) → CalledOver told disk v y t s (record s { mode = mode_for why }) o None
-call_lost told image disk v w x y t o s why lacking next no_pause on begins advances drops =
+call_lost {told} {image} {disk} {v} {w} {x} y {t} {o} s {why} lacking next no_pause on begins advances drops =
     let behind =
     dropped_stands told disk x y t (mode_for why) (advances.keeps told begins.tells begins.stands) drops in
     record {
@@ -541,8 +536,8 @@ call_lost told image disk v w x y t o s why lacking next no_pause on begins adva
       what = inl (
         refl,
         stop_dropped x y t (mode_for why) drops ∙ (lost_stop why no_pause advances.outcome ∙ on.stop),
-        inl (lost_state told image disk v w x y t o s why next (ap owes_silent lacking)
-            (λ over. subst IsEnded lacking over) on.history no_pause begins advances.outcome drops),
+        inl (lost_state v x y s next (ap owes_silent lacking) (λ over. subst IsEnded lacking over) on.history no_pause
+            begins advances.outcome drops),
       );
     }
   where
@@ -552,9 +547,9 @@ call_lost told image disk v w x y t o s why lacking next no_pause on begins adva
     lost_stop (refusal.Damaged damaged) none is = is.lost.stop
 
 -- each event of the call asks what it asked when it began
-pub call_asks : (finish : ℕ) (v w : View) (t : ℕ) (s : ThreadState) (o : Op) → (ready : IsAloneReady finish v t s o)
+pub call_asks : {finish : ℕ} {v w : View} {t : ℕ} {s : ThreadState} {o : Op} → (ready : IsAloneReady finish v t s o)
     → OnCall v w t o → Standing false ready.disk w → MayAdvance finish w t o
-call_asks finish v w t s o ready on stands = record {
+call_asks {v} {w} {t} {o} ready on stands = record {
   disk = ready.disk;
   ends = ready.ends;
   asks = record {
@@ -571,21 +566,22 @@ call_asks finish v w t s o ready on stands = record {
 }
 
 -- a call that lacks no words was refused for no pause
-pub never_pauses : (tells : Type 0) (disk : OnDisk) (v w x : View) (t : ℕ) (o : Op) (why : Refusal)
+pub never_pauses : (tells : Type 0) (disk : OnDisk) {v w : View} (x : View) {t : ℕ} {o : Op} (why : Refusal)
     → 1 ≤ length v.forward → OnCall v w t o → Refuses tells disk w x t o why → words_lacked_by why ≡ None → NoPause why
-never_pauses tells disk v w x t o (refusal.Pause pause.Asked) some on is lacks = absurd (never_asked v w x t o on is)
-never_pauses tells disk v w x t o (refusal.Pause (pause.Space need)) some on is lacks = absurd (cc)
-never_pauses tells disk v w x t o (refusal.Pause pause.Forward) some on is lacks =
+never_pauses tells disk {v} {w} x {t} {o} (refusal.Pause pause.Asked) some on is lacks =
+    absurd (never_asked v w x t o on is)
+never_pauses tells disk {v} {w} x {t} {o} (refusal.Pause (pause.Space need)) some on is lacks = absurd (cc)
+never_pauses tells disk {v} {w} x {t} {o} (refusal.Pause pause.Forward) some on is lacks =
     absurd (never_full v w x t o some on is)
-never_pauses tells disk v w x t o refusal.DiskFault some on is lacks = tt
-never_pauses tells disk v w x t o (refusal.Damaged damaged) some on is lacks = tt
+never_pauses tells disk {v} {w} x {t} {o} refusal.DiskFault some on is lacks = tt
+never_pauses tells disk {v} {w} x {t} {o} (refusal.Damaged damaged) some on is lacks = tt
 
 -- what may be read of the disk in an event of the call
-pub call_reads : (told : Bool) (image : Option (List ℕ)) (finish : ℕ) (disk : OnDisk) (v w : View) (t : ℕ) (o : Op)
+pub call_reads : {told : Bool} {image : Option (List ℕ)} {finish : ℕ} {disk : OnDisk} {v w : View} {t : ℕ} {o : Op}
     (why : Refusal) → OnCall v w t o → Underlies told finish image disk → Standing told disk w
     → ((damaged : Damaged) → why ≡ refusal.Damaged damaged → IsDamage image finish w t damaged)
     → Begins told image disk w t o why
-call_reads told image finish disk v w t o why on under stands damage = record {
+call_reads {image} {w} {t} why on under stands damage = record {
   stands = stands;
   continued = on.continued;
   tells = under.tells;

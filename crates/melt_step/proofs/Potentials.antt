@@ -76,9 +76,9 @@ potential-less (x ∷ states) a b (suc t) s after at same less =
     omega (arith, potential-first x states a, potential-first x (set states t after) b, behind, here)
 
 -- what a thread has to do, told by what its mode and its operations are
-part_less : (s after : ThreadState) (c d : Option Call) (m k : Mode) (n p : ℕ) → s.mode ≡ m → length (left s) ≡ n
+part_less : (s after : ThreadState) (c d : Option Call) {m k : Mode} {n p : ℕ} → s.mode ≡ m → length (left s) ≡ n
     → after.mode ≡ k → length (left after) ≡ p → amount k p d < amount m n c → part after d < part s c
-part_less s after c d m k n p e f g h less = rw (e, f, g, h) less
+part_less s after c d e f g h less = rw (e, f, g, h) less
 
 -- a thread that waits from now on
 waits_less : (v w : View) (t : ℕ) (s after : ThreadState) (mode : Mode) → ThreadWaits v w t s after mode
@@ -87,19 +87,16 @@ waits_less v w t s after mode x =
     let to_come : length (left after) ≡ length (left s) = ap (λ (y : ThreadState). length (left y)) x.only in
     let now : after.mode ≡ mode = ap (λ (y : ThreadState). y.mode) x.only in
     elim x.before [
-      | inl own ↦ part_less s after (call_of v t) (call_of w t) Running Collecting (length (left s))
-          (length (left s)) own.0 refl (now ∙ own.2) to_come (omega arith)
-      | inr silent ↦ part_less s after (call_of v t) (call_of w t) Due Silent (length (left s))
-          (length (left s)) silent.0 refl (now ∙ silent.1) to_come (omega arith)
+      | inl own ↦ part_less s after (call_of v t) (call_of w t) own.0 refl (now ∙ own.2) to_come (omega arith)
+      | inr silent ↦ part_less s after (call_of v t) (call_of w t) silent.0 refl (now ∙ silent.1) to_come (omega arith)
     ]
 
 -- a call that goes on
 goes_less : (v w : View) (t : ℕ) (s after : ThreadState) → ThreadGoes v w t s after
     → part after (call_of w t) < part s (call_of v t)
 goes_less v w t s after x =
-    part_less s after (call_of v t) (call_of w t) Running Running (length (left s)) (length (left s)) x.running refl
-    (ap (λ (y : ThreadState). y.mode) x.same ∙ x.running) (ap (λ (y : ThreadState). length (left y)) x.same)
-    (omega (arith, x.nearer))
+    part_less s after (call_of v t) (call_of w t) x.running refl (ap (λ (y : ThreadState). y.mode) x.same ∙ x.running)
+    (ap (λ (y : ThreadState). length (left y)) x.same) (omega (arith, x.nearer))
 
 -- a call that was refused
 refused_less : (v w : View) (t : ℕ) (s after : ThreadState) → ThreadRefused v w t s after
@@ -109,10 +106,8 @@ refused_less v w t s after x =
     let now : after.mode ≡ mode_for (refusal.Pause x.cause) = ap (λ (y : ThreadState). y.mode) x.only in
     let n : ℕ = length (left s) in
     elim (paused_cases x.cause) [
-      | inl asked ↦ part_less s after (call_of v t) (call_of w t) Running Asked n n x.running refl (now ∙ asked) to_come
-          (omega arith)
-      | inr lacks ↦ part_less s after (call_of v t) (call_of w t) Running Lacking n n x.running refl
-          (now ∙ lacks) to_come (omega arith)
+      | inl asked ↦ part_less s after (call_of v t) (call_of w t) x.running refl (now ∙ asked) to_come (omega arith)
+      | inr lacks ↦ part_less s after (call_of v t) (call_of w t) x.running refl (now ∙ lacks) to_come (omega arith)
     ]
 
 -- One operation less. The next one takes fewer events than that outweighs.
@@ -121,10 +116,10 @@ reply_less : (s after : ThreadState) (c d : Option Call) (m : Mode) (n : ℕ) �
     × IsSome after.op ⊎ ((after.mode ≡ Due) ⊎ ((after.mode ≡ Ended end.Done) × (left after ≡ [])))
     → part after d < part s c
 reply_less s after c d m n is had to_come least over fits = elim fits [
-  | inl runs ↦ part_less s after c d m Running (suc n) n is had runs.0 to_come (rw over (omega (arith, least)))
+  | inl runs ↦ part_less s after c d is had runs.0 to_come (rw over (omega (arith, least)))
   | inr other ↦ elim other [
-    | inl due ↦ part_less s after c d m Due (suc n) n is had due to_come (omega (arith, least))
-    | inr ended ↦ part_less s after c d m (Ended end.Done) (suc n) n is had ended.0 to_come (omega (arith, least))
+    | inl due ↦ part_less s after c d is had due to_come (omega (arith, least))
+    | inr ended ↦ part_less s after c d is had ended.0 to_come (omega (arith, least))
   ]
 ]
 
@@ -154,9 +149,9 @@ ended_nothing Lacking count call over = absurd over
 ended_nothing (Ended e) count call over = refl
 
 -- one whose record could not be read, or is none
-lost_less : (told : Bool) (finish : ℕ) (v w : View) (t : ℕ) (s after : ThreadState) → MayGo s.mode
+lost_less : {told : Bool} {finish : ℕ} {v w : View} {t : ℕ} {s after : ThreadState} → MayGo s.mode
     → ThreadLost told finish v w t s after → part after (call_of w t) < part s (call_of v t)
-lost_less told finish v w t s after goes x =
+lost_less {told} {finish} {v} {w} {t} {s} {after} goes x =
     let over : IsEnded after.mode =
     subst IsEnded (sym (ap (λ (y : ThreadState). y.mode) x.only)) (lost_ends told finish x.refusal x.cause) in
     let none : part after (call_of w t) ≡ 0 = ended_nothing after.mode (length (left after)) (call_of w t) over in
@@ -170,11 +165,11 @@ lost_less told finish v w t s after goes x =
     omega (arith, none, some, here)
 
 -- an event of a thread that can go on
-pub step_nearer : (told : Bool) (script : Script) (config : Config) (disk : OnDisk) (v w : View)
-    (states : List ThreadState) (t : ℕ) (s after : ThreadState) → TableStands told script config disk v states
+pub step_nearer : {told : Bool} {script : Script} {config : Config} {disk : OnDisk} {v w : View}
+    {states : List ThreadState} {t : ℕ} {s after : ThreadState} → TableStands told script config disk v states
     → slice_get states t ≡ Some s → MayGo s.mode → ThreadStep told disk v w t s after → length w.calls ≡ length v.calls
     → potential (set states t after) w.calls < potential states v.calls
-step_nearer told script config disk v w states t s after table at goes step same =
+step_nearer {told} {v} {w} {states} {t} {s} {after} table at goes step same =
     potential-less states v.calls w.calls t s after at step.others.calls (elim step.what [
       | inl waits ↦ waits_less v w t s after waits.0 waits.1
       | inr a ↦ elim a [
@@ -182,7 +177,7 @@ step_nearer told script config disk v w states t s after table at goes step same
         | inr b ↦ elim b [
           | inl refused ↦ refused_less v w t s after refused
           | inr c ↦ elim c [
-            | inl lost ↦ lost_less told disk.end v w t s after goes lost
+            | inl lost ↦ lost_less goes lost
             | inr got ↦ told_less told v w t s after goes got
           ]
         ]
@@ -217,9 +212,9 @@ ended_jobs Lacking count over = absurd over
 ended_jobs (Ended e) count over = refl
 
 -- an event gives its thread no more to do
-pub step_jobs : (told : Bool) (disk : OnDisk) (v w : View) (t : ℕ) (s after : ThreadState) → MayGo s.mode
+pub step_jobs : {told : Bool} {disk : OnDisk} {v w : View} {t : ℕ} {s after : ThreadState} → MayGo s.mode
     → ThreadStep told disk v w t s after → jobs_of after ≤ jobs_of s
-step_jobs told disk v w t s after goes step =
+step_jobs {told} {disk} {s} {after} goes step =
     let n : ℕ = length (left s) in
     elim step.what [
       | inl waits ↦

@@ -117,11 +117,11 @@ module _ (v : View) (heap : Heap) (rest : Rest) (shown : Shown)
       record { beside = beside_of heap rest; held_is = sym was; names = names; may = may_still }
 
   -- and where they were, so was the core
-  pub lent_collects : (phase : Phase) (later : Shown) (new : Heap) (lent registers : List Registers)
+  pub lent_collects : (phase : Phase) (later : Shown) {new : Heap} {lent : List Registers} (registers : List Registers)
       (old plans : Collector) → lent ≡ rest.held.items → length registers ≡ length lent
       → CollectsHeap phase shown later heap new lent registers old plans → LeavesHeap heap new
       → CollectsCore phase shown later v (view (core_of new (with_held rest registers))) old plans
-  lent_collects phase later new lent registers old plans was count collects leaves =
+  lent_collects phase later {new} registers old plans was count collects leaves =
       let w : View = rest_view new (with_names_held (beside_of heap rest) new.names registers) in
       subst (λ (shows : View). CollectsCore phase shown later v shows old plans)
       (lent_view heap new rest registers (count ∙ ap length was))

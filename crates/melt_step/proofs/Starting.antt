@@ -69,13 +69,13 @@ tells_new image words globals forward heap rest small new_heap =
     })
 
 -- and so a new core stands over each
-pub bare_stands : (told : Bool) (image : Option (List ℕ)) (config : Config) (globals threads entries : ℕ) (heap : Heap)
-    (rest : Rest) → config.heap < 2 ^ 30 → threads ≤ 8 → IsNewHeap config.heap globals config.forward true heap
+pub bare_stands : (told : Bool) (image : Option (List ℕ)) (config : Config) {globals threads entries : ℕ} {heap : Heap}
+    {rest : Rest} → config.heap < 2 ^ 30 → threads ≤ 8 → IsNewHeap config.heap globals config.forward true heap
     → IsNewRest threads entries rest → Standing told (bare image) (view (core_of heap rest))
-bare_stands told image config globals threads entries heap rest small few new_heap new_rest =
+bare_stands told image config {globals} {heap} {rest} small few new_heap new_rest =
     let v : View = view (core_of heap rest) in
     let new : AtRest true no_homes_on heap rest =
-    start_at_rest true config.heap globals config.forward threads entries heap rest small few new_heap new_rest in
+    start_at_rest true small few new_heap new_rest in
     let s : Standing true no_homes_on v = new.stands in
     let over : Standing false (bare image) v =
     stands_over no_homes_on (bare image) v refl (stands_untold true no_homes_on v s) in
@@ -129,11 +129,10 @@ Stands_new t ops = record {
 }
 
 -- a thread stands before its first event
-Thread_new : (told : Bool) (script : Script) (entries t : ℕ) (heap : Heap) (rest : Rest) (s : ThreadState)
-    → AtRest true no_homes_on heap rest
-    → IsNewRest (length script.programs) entries rest → t < length script.programs
+Thread_new : (told : Bool) (script : Script) {entries : ℕ} (t : ℕ) {heap : Heap} {rest : Rest} {s : ThreadState}
+    → AtRest true no_homes_on heap rest → IsNewRest (length script.programs) entries rest → t < length script.programs
     → IsNewThread (operations script t) script.globals s → ThreadStands told script (view (core_of heap rest)) t s
-Thread_new told script entries t heap rest s at_rest new_rest below new =
+Thread_new told script {entries} t {heap} {rest} {s} at_rest new_rest below new =
     let v : View = view (core_of heap rest) in
     let ops : List Op = operations script t in
     let none : values_of v t ≡ replicate 16 Nil = values_new script entries t heap rest new_rest below in
@@ -162,31 +161,32 @@ Thread_new told script entries t heap rest s at_rest new_rest below new =
     }
 
 -- all threads stand before their first events
-pub Table_new : (told : Bool) (script : Script) (config : Config) (entries : ℕ) (image : Option (List ℕ)) (heap : Heap)
-    (rest : Rest) (states : List ThreadState) → config.heap < 2 ^ 30 → 1 ≤ config.forward
+pub Table_new : (told : Bool) {script : Script} (config : Config) {entries : ℕ} (image : Option (List ℕ)) {heap : Heap}
+    {rest : Rest} {states : List ThreadState} → config.heap < 2 ^ 30 → 1 ≤ config.forward
     → config.forward ≤ most_forwards → length script.programs ≤ 8
     → IsNewHeap config.heap script.globals config.forward true heap → IsNewRest (length script.programs) entries rest
     → AreNewThreads script states entries
     → TableStands told script config (bare image) (view (core_of heap rest)) states
-Table_new told script config entries image heap rest states small least most few new_heap new_rest new_states =
+Table_new told {script} config {entries} image {heap} {rest} {states} small least most few new_heap new_rest
+    new_states =
     let n : ℕ = length script.programs in
     let at_rest : AtRest true no_homes_on heap rest =
-    start_at_rest true config.heap script.globals config.forward n entries heap rest small few new_heap new_rest in
+    start_at_rest true small few new_heap new_rest in
     let forwards : length heap.forward ≡ config.forward =
     ap length new_heap.nothing_forwarded ∙ length-replicate config.forward 0 in
     record {
-      stands = bare_stands told image config script.globals n entries heap rest small few new_heap new_rest;
+      stands = bare_stands told image config small few new_heap new_rest;
       count = new_states.count;
       threads = ap length new_rest.held ∙ length-replicate n no_registers;
       globals = ap length new_heap.globals_hold_nothing ∙ length-replicate script.globals 0;
       words = new_heap.space.size;
       forwards = subst (λ (n : ℕ). n ≤ most_forwards) (sym forwards) most;
       some_forward = subst (λ (n : ℕ). 1 ≤ n) (sym forwards) least;
-      each = λ t s at. Thread_new told script entries t heap rest s at_rest new_rest
+      each = λ t s at. Thread_new told script t at_rest new_rest
           (let below : t < length states = slice_get_within states t s at in omega (arith, new_states.count))
           (new_states.each t s at);
       own = subst (All (λ (e : Entry). e.thread < n)) (sym new_rest.history) (All-nil (λ (e : Entry). e.thread < n));
-      ends = λ t s at. ends_new told script rest.log.items config entries t states s new_states at;
+      ends = λ t s at. ends_new told rest.log.items config t new_states at;
       due = λ t s at owes. absurd (elim (new_states.each t s at).mode [
         | inl runs ↦ let wrong : false ≡ true = ap owes_silent (sym runs.0) ∙ owes in cc
         | inr over ↦ let wrong : false ≡ true = ap owes_silent (sym over.0) ∙ owes in cc
@@ -227,24 +227,22 @@ pub record Begins (told : Bool) (script : Script) (config : Config) (image : Opt
   pub history : v.log ≡ []
 
 -- so it begins
-pub begins_new : (told : Bool) (script : Script) (config : Config) (entries globals threads : ℕ)
-    (image : Option (List ℕ)) (heap : Heap) (rest : Rest) (states : List ThreadState) → InRanges config
+pub begins_new : (told : Bool) {script : Script} {config : Config} {entries globals threads : ℕ}
+    (image : Option (List ℕ)) {heap : Heap} {rest : Rest} {states : List ThreadState} → InRanges config
     → globals ≡ script.globals → threads ≡ length script.programs → threads ≤ 8
     → IsNewHeap config.heap globals config.forward true heap → IsNewRest threads entries rest
     → AreNewThreads script states entries → Begins told script config image (view (core_of heap rest)) states
-begins_new told script config entries globals threads image heap rest states ranges all_globals all_threads eight
-    is_heap
+begins_new told {script} {config} {entries} {globals} image {heap} {rest} ranges all_globals all_threads eight is_heap
     is_rest new_states =
     let new_heap : IsNewHeap config.heap script.globals config.forward true heap =
     subst (λ (n : ℕ). IsNewHeap config.heap n config.forward true heap) all_globals is_heap in
     let new_rest : IsNewRest (length script.programs) entries rest =
     subst (λ (n : ℕ). IsNewRest n entries rest) all_threads is_rest in
     let at_rest : AtRest true no_homes_on heap rest =
-    start_at_rest true config.heap globals config.forward threads entries heap rest (omega (arith, ranges.heap_most))
-    eight is_heap is_rest in
+    start_at_rest true (omega (arith, ranges.heap_most)) eight is_heap is_rest in
     record {
-      table = Table_new told script config entries image heap rest states (omega (arith, ranges.heap_most))
-          ranges.forward_least ranges.forward_most (omega (arith, all_threads, eight)) new_heap new_rest new_states;
+      table = Table_new told config image (omega (arith, ranges.heap_most)) ranges.forward_least ranges.forward_most
+          (omega (arith, all_threads, eight)) new_heap new_rest new_states;
       quiet = at_rest.quiet;
       history = is_rest.history;
     }

@@ -59,17 +59,12 @@ gives orders states old now events left d (inr rest) = elim d.begun [
 ]
 
 -- the thread of the present line takes one of its events
-pub of_line :
-    (orders : List (ℕ × ℕ)) (states : List ThreadState) (old now new : Turns) (t events left : ℕ)
-    → Dropping orders states old now → slice_get orders now.line ≡ Some (t, events) → 1 ≤ events
-    → GoesAt states t
-    → ((now.left ≡ 0) × (left ≡ events)) ⊎ ((now.left ≢ 0) × (left ≡ now.left))
-    → new.left ≡ left - 1
-    → (new.left ≢ 0 → new.line ≡ now.line)
-    → (new.left ≡ 0 → new.line ≡ now.line + 1)
-    → new.turn ≡ now.turn
+pub of_line : {orders : List (ℕ × ℕ)} {states : List ThreadState} {old now : Turns} (new : Turns) {t events : ℕ}
+    (left : ℕ) → Dropping orders states old now → slice_get orders now.line ≡ Some (t, events) → 1 ≤ events
+    → GoesAt states t → ((now.left ≡ 0) × (left ≡ events)) ⊎ ((now.left ≢ 0) × (left ≡ now.left)) → new.left ≡ left - 1
+    → (new.left ≢ 0 → new.line ≡ now.line) → (new.left ≡ 0 → new.line ≡ now.line + 1) → new.turn ≡ now.turn
     → OfLine orders states old new t
-of_line orders states old now new t events left d is some goes which less stays over turn = record {
+of_line {orders} {states} {old} {now} new {events} left d is some goes which less stays over turn = record {
   k = now.line;
   events = events;
   count = left;

@@ -50,10 +50,10 @@ read_a_front input n few count =
     record { bytes = t.0; front = t.2; no_more = omega (arith, t.1) }
 
 -- the reading failed
-pub read_failed : (way : Way) (run : Run) (input : Change) (disk : DiskChange) (n : ℕ) (due : Status) (output : List ℕ)
+pub read_failed : (way : Way) (run : Run) (input : Change) {disk : DiskChange} (n : ℕ) {due : Status} {output : List ℕ}
     → n ≤ max_bytes + 1 → TakesCount input.before n input.after → Rose input.faults_before input.faults_after
     → IsUnused disk → due ≡ status.ReadFault → output ≡ read_fault_text → InputDue way run input disk due output
-read_failed way run input disk n due output few count rose unused is told =
+read_failed way run input n few count rose unused is told =
     let t = taken input.before input.after n count in
     inl (record {
       bytes = t.0;
@@ -69,10 +69,10 @@ read_failed way run input disk n due output few count rose unused is told =
 long_refused : (bytes : List ℕ) → max_bytes < length bytes → script_of bytes ≡ Err (0, 1)
 long_refused bytes long = cond-false (nat_le (length bytes) max_bytes) _ _ (lt-leb (length bytes) max_bytes long)
 
-pub too_long : (way : Way) (run : Run) (input : Change) (disk : DiskChange) (n : ℕ) (due : Status) (output : List ℕ)
+pub too_long : (way : Way) (run : Run) (input : Change) {disk : DiskChange} {n : ℕ} {due : Status} {output : List ℕ}
     → n ≡ max_bytes + 1 → TakesCount input.before n input.after → IsUnused disk → due ≡ status.Trace
     → output ≡ refused_text 0 1 → InputDue way run input disk due output
-too_long way run input disk n due output long count unused is told =
+too_long way run input {n} long count unused is told =
     let t = taken input.before input.after n count in
     inr (record {
       bytes = t.0;
@@ -207,9 +207,9 @@ outcome command input disk out status.Illegal may wrote = wrote
 
 -- everything that was due was written
 pub wrote_all : (command : Option Command) (input : Change) (disk : DiskChange) (out : Change) (due : Status)
-    (output bytes : List ℕ) → Due command input disk due output → bytes ≡ output → Appends out.before bytes out.after
+    {output bytes : List ℕ} → Due command input disk due output → bytes ≡ output → Appends out.before bytes out.after
     → Outcome command input disk out due
-wrote_all command input disk out due output bytes is same written =
+wrote_all command input disk out due {output} is same written =
     let appended = subst (λ (xs : List ℕ). Appends out.before xs out.after) same written in
     outcome command input disk out due (is_due command input disk due output is)
     (record { output = output; due = is; written = appended })
@@ -298,10 +298,10 @@ no_write_fault command input disk due output is e = subst MayBeDue e (is_due com
 -- ---- the disk
 
 -- a refused trace does not use it
-pub refused_trace : (way : Way) (run : Run) (bytes : List ℕ) (disk : DiskChange) (due : Status) (output : List ℕ)
-    (line reason : ℕ) → script_of bytes ≡ Err (line, reason) → IsUnused disk → due ≡ status.Trace
+pub refused_trace : (way : Way) (run : Run) (bytes : List ℕ) {disk : DiskChange} {due : Status} {output : List ℕ}
+    {line reason : ℕ} → script_of bytes ≡ Err (line, reason) → IsUnused disk → due ≡ status.Trace
     → output ≡ refused_text line reason → TraceDue way run bytes disk due output
-refused_trace way run bytes disk due output line reason bad unused is told = inl (record {
+refused_trace way run bytes {line} {reason} bad unused is told = inl (record {
   line = line;
   reason = reason;
   first_bad = bad;

@@ -299,25 +299,26 @@ items_lead threads script before (item.End ∷ items) (true ∷ blocks) few h =
 
 -- where a program may begin, a line is read by its first word
 standing_fields : (s : Stage) (threads : ℕ) (script : Script) (held : List Item) (blocks : List Bool) (first : List ℕ)
-    (fields : List (List ℕ)) (next : Place) → fits s blocks word.Thread ≡ true
+    (fields : List (List ℕ)) {next : Place} → fits s blocks word.Thread ≡ true
     → after_word (placed s threads script held blocks) (word_of first) fields ≡ Ok next
     → after_fields (placed s threads script held blocks) s (first ∷ fields) ≡ Ok next
-standing_fields stage.Version threads script held blocks first fields next stands e = absurd cc
-standing_fields stage.Threads threads script held blocks first fields next stands e = absurd cc
-standing_fields stage.Globals threads script held blocks first fields next stands e = absurd cc
-standing_fields stage.Orders threads script held blocks first fields next stands e = e
-standing_fields stage.Inside threads script held blocks first fields next stands e = e
-standing_fields stage.Between threads script held blocks first fields next stands e = e
-standing_fields stage.Over threads script held blocks first fields next stands e = absurd cc
+standing_fields stage.Version threads script held blocks first fields stands e = absurd cc
+standing_fields stage.Threads threads script held blocks first fields stands e = absurd cc
+standing_fields stage.Globals threads script held blocks first fields stands e = absurd cc
+standing_fields stage.Orders threads script held blocks first fields stands e = e
+standing_fields stage.Inside threads script held blocks first fields stands e = e
+standing_fields stage.Between threads script held blocks first fields stands e = e
+standing_fields stage.Over threads script held blocks first fields stands e = absurd cc
 
 -- a program, and what is wanted behind it
-program_leads : (s after : Stage) (threads : ℕ) (script : Script) (items : List Item) (held : List Item)
+program_leads : (s : Stage) {after : Stage} (threads : ℕ) (script : Script) (items : List Item) (held : List Item)
     (blocks : List Bool) → fits s blocks word.Thread ≡ true → script.globals ≤ 64 → length script.programs < 8
     → AreItems script.globals [] items → operation_count (script.programs ++ items ∷ []) ≤ 1048576
     → cond (eqb (length (script.programs ++ items ∷ [])) threads) stage.Over stage.Between ≡ after
-    → Leads (placed s threads script held blocks) (line (codes "thread") (length script.programs ∷ [])
-    ++ flat_map item_line items ++ line (codes "done") []) (placed after threads (with_program script items) [] [])
-program_leads s after threads script items held blocks stands few small h count is =
+    → Leads (placed s threads script held blocks)
+    (line (codes "thread") (length script.programs ∷ []) ++ flat_map item_line items ++ line (codes "done") [])
+    (placed after threads (with_program script items) [] [])
+program_leads s {after} threads script items held blocks stands few small h count is =
     let begun : Place = inside threads script [] [] in
     let whole : Place = inside threads script items [] in
     let next : Place = placed after threads (with_program script items) [] [] in
@@ -325,7 +326,7 @@ program_leads s after threads script items held blocks stands few small h count 
     let first : Leads (placed s threads script held blocks) (line (codes "thread") (t ∷ [])) begun =
     leads_line (placed s threads script held blocks) begun (codes "thread") (t ∷ [])
     (record { some = omega arith; plain = refl; shown = refl; words = (omega arith, tt) })
-    (standing_fields s threads script held blocks (codes "thread") (map decimal (t ∷ [])) begun stands
+    (standing_fields s threads script held blocks (codes "thread") (map decimal (t ∷ [])) stands
     (worded (placed s threads script held blocks) begun word.Thread (t ∷ []) stands (omega arith, omega arith, tt)
     (omega arith, tt) refl))
     in
@@ -348,23 +349,23 @@ count-front : (xs ys : List (List Item)) → operation_count xs ≤ operation_co
 count-front xs ys = omega (arith, sum_by-append (λ (items : List Item). length (expand items)) xs ys)
 
 programs_lead : (after : List (List Item)) (program : List Item) (before : List (List Item)) (s : Stage)
-    (held : List Item) (blocks : List Bool) (threads globals : ℕ) (orders : List (ℕ × ℕ))
+    (held : List Item) (blocks : List Bool) {threads globals : ℕ} (orders : List (ℕ × ℕ))
     → fits s blocks word.Thread ≡ true → globals ≤ 64 → threads ≤ 8 → threads ≡ length before + length (program ∷ after)
     → AllByRecursion (AreItems globals []) (program ∷ after) → operation_count (before ++ program ∷ after) ≤ 1048576
     → Leads (placed s threads (scripted globals orders before) held blocks)
-    (program_lines (length before) (program ∷ after)) (placed stage.Over threads
-    (scripted globals orders (before ++ program ∷ after)) [] [])
-programs_lead [] program before s held blocks threads globals orders stands few most count all total =
+    (program_lines (length before) (program ∷ after))
+    (placed stage.Over threads (scripted globals orders (before ++ program ∷ after)) [] [])
+programs_lead [] program before s held blocks {threads} {globals} orders stands few most count all total =
     let from : Place = placed s threads (scripted globals orders before) held blocks in
     let to : Place = placed stage.Over threads (scripted globals orders (before ++ program ∷ [])) [] [] in
     let text : List ℕ = line (codes "thread") (length before ∷ []) ++ flat_map item_line program
     ++ line (codes "done") [] in
     let whole : length (before ++ program ∷ []) ≡ threads = omega (arith, length_push before program) in
     leads_both from to to text []
-    (program_leads s stage.Over threads (scripted globals orders before) program held blocks stands few (omega arith)
-    all.0 total (ap (λ (t : Bool). cond t stage.Over stage.Between) (eq-eqb _ _ whole)))
+    (program_leads s threads (scripted globals orders before) program held blocks stands few (omega arith) all.0 total
+    (ap (λ (t : Bool). cond t stage.Over stage.Between) (eq-eqb _ _ whole)))
     (leads_none to)
-programs_lead (next ∷ after) program before s held blocks threads globals orders stands few most count all total =
+programs_lead (next ∷ after) program before s held blocks {threads} {globals} orders stands few most count all total =
     let from : Place = placed s threads (scripted globals orders before) held blocks in
     let more : List (List Item) = before ++ program ∷ [] in
     let middle : Place = placed stage.Between threads (scripted globals orders more) [] [] in
@@ -377,11 +378,11 @@ programs_lead (next ∷ after) program before s held blocks threads globals orde
     let part : operation_count more ≤ 1048576 =
     omega (arith, count-front more (next ∷ after), ap operation_count joined) in
     let first : Leads from text middle =
-    program_leads s stage.Between threads (scripted globals orders before) program held blocks stands few (omega arith)
-    all.0 part (ap (λ (t : Bool). cond t stage.Over stage.Between) (ne_eqb _ _ left))
+    program_leads s threads (scripted globals orders before) program held blocks stands few (omega arith) all.0 part
+    (ap (λ (t : Bool). cond t stage.Over stage.Between) (ne_eqb _ _ left))
     in
-    let rest = programs_lead after next more stage.Between [] [] threads globals orders refl few most (omega arith)
-    all.1 (omega (arith, ap operation_count joined)) in
+    let rest = programs_lead after next more stage.Between [] [] orders refl few most (omega arith) all.1
+    (omega (arith, ap operation_count joined)) in
     let others : Leads middle (program_lines (length before + 1) (next ∷ after))
     (placed stage.Over threads (scripted globals orders (before ++ program ∷ next ∷ after)) [] []) =
     subst (λ (programs : List (List Item)). Leads middle (program_lines (length before + 1) (next ∷ after))
@@ -484,8 +485,8 @@ script_leads globals orders (program ∷ programs) h =
     let opening : List ℕ = line (codes "melt") (1 ∷ []) ++ line (codes "threads") (threads ∷ [])
     ++ line (codes "globals") (globals ∷ []) in
     let ordered = orders_lead threads globals [] orders h.orders h.few (omega (arith, h.few_orders)) in
-    let lines = programs_lead programs program [] stage.Orders [] [] threads globals orders refl h.globals h.few
-    (omega arith) h.programs h.count in
+    let lines = programs_lead programs program [] stage.Orders [] [] orders refl h.globals h.few (omega arith)
+    h.programs h.count in
     leads_both first_place (ordering threads globals orders) over (opening ++ flat_map order_line orders)
     (program_lines 0 (program ∷ programs))
     (leads_both first_place (ordering threads globals []) (ordering threads globals orders) opening

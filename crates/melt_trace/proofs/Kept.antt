@@ -342,40 +342,40 @@ standing place w fields next e =
     (found.0, numbered place w fields next found.1)
 
 orders_kept : (w : Word) (threads : ℕ) (script : Script) (items : List Item) (blocks : List Bool)
-    (fields : List (List ℕ)) (next : Place) → IsAt stage.Orders threads script items blocks
+    (fields : List (List ℕ)) {next : Place} → IsAt stage.Orders threads script items blocks
     → after_word (placed stage.Orders threads script items blocks) (Some w) fields ≡ Ok next → IsPlace next
-orders_kept word.Thread threads script items blocks fields next h e =
+orders_kept word.Thread threads script items blocks fields {next} h e =
     let line = standing (placed stage.Orders threads script items blocks) word.Thread fields next e in
     thread_kept stage.Orders threads script items blocks next h.0 h.1 line.1.2
-orders_kept word.Order threads script items blocks fields next h e =
+orders_kept word.Order threads script items blocks fields {next} h e =
     let line = standing (placed stage.Orders threads script items blocks) word.Order fields next e in
     order_kept threads script items blocks line.1.0 next h line.1.1 line.1.2
-orders_kept w threads script items blocks fields next h e = absurd cc
+orders_kept w threads script items blocks fields {next} h e = absurd cc
 
 between_kept : (w : Word) (threads : ℕ) (script : Script) (items : List Item) (blocks : List Bool)
-    (fields : List (List ℕ)) (next : Place) → IsAt stage.Between threads script items blocks
+    (fields : List (List ℕ)) {next : Place} → IsAt stage.Between threads script items blocks
     → after_word (placed stage.Between threads script items blocks) (Some w) fields ≡ Ok next → IsPlace next
-between_kept word.Thread threads script items blocks fields next h e =
+between_kept word.Thread threads script items blocks fields {next} h e =
     let line = standing (placed stage.Between threads script items blocks) word.Thread fields next e in
     thread_kept stage.Between threads script items blocks next h.0 h.1 line.1.2
-between_kept w threads script items blocks fields next h e = absurd cc
+between_kept w threads script items blocks fields {next} h e = absurd cc
 
 inside_kept : (w : Word) (threads : ℕ) (script : Script) (items : List Item) (blocks : List Bool)
-    (fields : List (List ℕ)) (next : Place) → IsAt stage.Inside threads script items blocks
+    (fields : List (List ℕ)) {next : Place} → IsAt stage.Inside threads script items blocks
     → after_word (placed stage.Inside threads script items blocks) (Some w) fields ≡ Ok next → IsPlace next
-inside_kept word.Repeat threads script items blocks fields next h e =
+inside_kept word.Repeat threads script items blocks fields {next} h e =
     let line = standing (placed stage.Inside threads script items blocks) word.Repeat fields next e in
     repeat_kept threads script items blocks line.1.0 next h line.1.1 line.1.2
-inside_kept word.End threads script items blocks fields next h e =
+inside_kept word.End threads script items blocks fields {next} h e =
     let line = standing (placed stage.Inside threads script items blocks) word.End fields next e in
     end_kept threads script items blocks next h line.1.2
-inside_kept word.Done threads script items [] fields next h e =
+inside_kept word.Done threads script items [] fields {next} h e =
     let line = standing (placed stage.Inside threads script items []) word.Done fields next e in
     done_kept threads script items next h line.1.2
-inside_kept word.Done threads script items (b ∷ blocks) fields next h e = absurd cc
-inside_kept word.Thread threads script items blocks fields next h e = absurd cc
-inside_kept word.Order threads script items blocks fields next h e = absurd cc
-inside_kept w threads script items blocks fields next h e =
+inside_kept word.Done threads script items (b ∷ blocks) fields {next} h e = absurd cc
+inside_kept word.Thread threads script items blocks fields {next} h e = absurd cc
+inside_kept word.Order threads script items blocks fields {next} h e = absurd cc
+inside_kept w threads script items blocks fields {next} h e =
     let place = placed stage.Inside threads script items blocks in
     let line = standing place w fields next e in
     operation_kept threads script items blocks (operation_of w line.1.0) next h
@@ -384,29 +384,29 @@ inside_kept w threads script items blocks fields next h e =
 -- ---- any line
 
 word_kept : (s : Stage) (threads : ℕ) (script : Script) (items : List Item) (blocks : List Bool) (w : Option Word)
-    (fields : List (List ℕ)) (next : Place) → IsAt s threads script items blocks
+    (fields : List (List ℕ)) {next : Place} → IsAt s threads script items blocks
     → after_word (placed s threads script items blocks) w fields ≡ Ok next → IsPlace next
-word_kept s threads script items blocks None fields next h e = absurd cc
-word_kept stage.Orders threads script items blocks (Some w) fields next h e =
-    orders_kept w threads script items blocks fields next h e
-word_kept stage.Between threads script items blocks (Some w) fields next h e =
-    between_kept w threads script items blocks fields next h e
-word_kept stage.Inside threads script items blocks (Some w) fields next h e =
-    inside_kept w threads script items blocks fields next h e
-word_kept s threads script items blocks (Some w) fields next h e = absurd cc
+word_kept s threads script items blocks None fields h e = absurd cc
+word_kept stage.Orders threads script items blocks (Some w) fields h e =
+    orders_kept w threads script items blocks fields h e
+word_kept stage.Between threads script items blocks (Some w) fields h e =
+    between_kept w threads script items blocks fields h e
+word_kept stage.Inside threads script items blocks (Some w) fields h e =
+    inside_kept w threads script items blocks fields h e
+word_kept s threads script items blocks (Some w) fields h e = absurd cc
 
 fields_kept : (s : Stage) (threads : ℕ) (script : Script) (items : List Item) (blocks : List Bool)
-    (fields : List (List ℕ)) (next : Place) → IsAt s threads script items blocks
+    (fields : List (List ℕ)) {next : Place} → IsAt s threads script items blocks
     → after_fields (placed s threads script items blocks) s fields ≡ Ok next → IsPlace next
-fields_kept stage.Version threads script items blocks fields next h e =
+fields_kept stage.Version threads script items blocks fields {next} h e =
     let found = then_ok (heading (codes "melt") 1 1 3 fields) (λ n. Ok (placed stage.Threads 0 script [] [])) next e in
     subst IsPlace (same_Ok (placed stage.Threads 0 script [] []) next found.2) tt
-fields_kept stage.Threads threads script items blocks fields next h e =
+fields_kept stage.Threads threads script items blocks fields {next} h e =
     let found = then_ok (heading (codes "threads") 1 8 4 fields) (λ n. Ok (placed stage.Globals n script [] [])) next
     e in
     let range = heading_range (codes "threads") 1 8 4 fields found.0 found.1 in
     subst IsPlace (same_Ok (placed stage.Globals found.0 script [] []) next found.2) (omega (arith, range.0), range.1)
-fields_kept stage.Globals threads script items blocks fields next h e =
+fields_kept stage.Globals threads script items blocks fields {next} h e =
     let opened : ℕ → Script = λ n. record { globals = n; orders = []; programs = [] } in
     let found = then_ok (heading (codes "globals") 0 64 5 fields)
     (λ n. Ok (placed stage.Orders threads (opened n) [] [])) next e in
@@ -422,18 +422,18 @@ fields_kept stage.Globals threads script items blocks fields next h e =
       count = omega arith;
     } in
     subst IsPlace (same_Ok (placed stage.Orders threads (opened found.0) [] []) next found.2) (body, h.0)
-fields_kept stage.Orders threads script items blocks [] next h e = absurd cc
-fields_kept stage.Orders threads script items blocks (first ∷ fields) next h e =
-    word_kept stage.Orders threads script items blocks (word_of first) fields next h e
-fields_kept stage.Inside threads script items blocks [] next h e = absurd cc
-fields_kept stage.Inside threads script items blocks (first ∷ fields) next h e =
-    word_kept stage.Inside threads script items blocks (word_of first) fields next h e
-fields_kept stage.Between threads script items blocks [] next h e = absurd cc
-fields_kept stage.Between threads script items blocks (first ∷ fields) next h e =
-    word_kept stage.Between threads script items blocks (word_of first) fields next h e
-fields_kept stage.Over threads script items blocks [] next h e = absurd cc
-fields_kept stage.Over threads script items blocks (first ∷ fields) next h e =
-    word_kept stage.Over threads script items blocks (word_of first) fields next h e
+fields_kept stage.Orders threads script items blocks [] {next} h e = absurd cc
+fields_kept stage.Orders threads script items blocks (first ∷ fields) {next} h e =
+    word_kept stage.Orders threads script items blocks (word_of first) fields h e
+fields_kept stage.Inside threads script items blocks [] {next} h e = absurd cc
+fields_kept stage.Inside threads script items blocks (first ∷ fields) {next} h e =
+    word_kept stage.Inside threads script items blocks (word_of first) fields h e
+fields_kept stage.Between threads script items blocks [] {next} h e = absurd cc
+fields_kept stage.Between threads script items blocks (first ∷ fields) {next} h e =
+    word_kept stage.Between threads script items blocks (word_of first) fields h e
+fields_kept stage.Over threads script items blocks [] {next} h e = absurd cc
+fields_kept stage.Over threads script items blocks (first ∷ fields) {next} h e =
+    word_kept stage.Over threads script items blocks (word_of first) fields h e
 
 line_kept : (place : Place) (bytes : List ℕ) (next : Place) → IsPlace place → after place bytes ≡ Ok next → IsPlace next
 line_kept place bytes next h e =
@@ -442,15 +442,15 @@ line_kept place bytes next h e =
     (cond (is_skipped fields) (Ok place) (after_fields place place.stage fields)) 2 next e in
     elim (either_ok (is_skipped fields) (Ok place) (after_fields place place.stage fields) next printed.1) [
       | inl skipped ↦ subst IsPlace (same_Ok place next skipped) h
-      | inr taken ↦ fields_kept place.stage place.threads place.script place.items place.blocks fields next h taken
+      | inr taken ↦ fields_kept place.stage place.threads place.script place.items place.blocks fields h taken
     ]
 
 -- ---- a whole trace
 
 ended_kept : (n : ℕ) (s : Stage) (threads : ℕ) (script : Script) (items : List Item) (blocks : List Bool)
-    (whole : Script) → IsAt s threads script items blocks
+    {whole : Script} → IsAt s threads script items blocks
     → ◌≡◌ {A = Result Script (ℕ × ℕ)} (script_at_end n s script) (Ok whole) → IsScript whole
-ended_kept n stage.Over threads script items blocks whole h e =
+ended_kept n stage.Over threads script items blocks {whole} h e =
     let body = h.0 in
     let count : length script.programs ≡ threads = h.1 in
     let is_script : IsScript script = record {
@@ -465,7 +465,7 @@ ended_kept n stage.Over threads script items blocks whole h e =
     in
     let same : script ≡ whole = cc in
     subst IsScript same is_script
-ended_kept n s threads script items blocks whole h e = absurd cc
+ended_kept n s threads script items blocks {whole} h e = absurd cc
 
 next_kept : (n : ℕ) (lines : List (List ℕ)) (whole : Script) (r : Result Place ℕ)
     → ((next : Place) → r ≡ Ok next → IsPlace next) → ((next : Place) → IsPlace next
@@ -480,7 +480,7 @@ next_kept n lines whole (Err reason) kept rest e = absurd cc
 
 from_kept : (n : ℕ) (place : Place) (lines : List (List ℕ)) (whole : Script) → IsPlace place
     → ◌≡◌ {A = Result Script (ℕ × ℕ)} (script_from n place lines) (Ok whole) → IsScript whole
-from_kept n place [] whole h e = ended_kept n place.stage place.threads place.script place.items place.blocks whole h e
+from_kept n place [] whole h e = ended_kept n place.stage place.threads place.script place.items place.blocks h e
 from_kept n place (bytes ∷ lines) whole h e =
     next_kept n lines whole (after place bytes) (λ next is. line_kept place bytes next h is)
     (λ next k f. from_kept (n + 1) next lines whole k f) e

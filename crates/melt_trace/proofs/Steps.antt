@@ -19,11 +19,11 @@ abbrev pub at_place : Stage → ℕ → Script → List Item → List Bool → P
 at_place s threads script items blocks =
     record { stage = s; threads = threads; script = script; items = items; blocks = blocks }
 
-pub same_place : (s : Stage) (threads : ℕ) (script : Script) (items others : List Item) (blocks around : List Bool)
+pub same_place : (s : Stage) (threads : ℕ) (script : Script) {items others : List Item} {blocks around : List Bool}
     → items ≡ others → blocks ≡ around
     → ◌≡◌ {A = Result Place ℕ} (Ok (at_place s threads script items blocks))
     (Ok (at_place s threads script others around))
-same_place s threads script items others blocks around e f =
+same_place s threads script {others} {blocks} e f =
     ap (λ (i : List Item). Ok (at_place s threads script i blocks)) e
     ∙ ap (λ (b : List Bool). Ok (at_place s threads script others b)) f
 
@@ -92,15 +92,12 @@ pub programs_pushed : {V : Type 0} (f : V → List Item) (new old : List V) (p :
 programs_pushed f new old p items is same =
     ap (map f) is ∙ map_push f old p ∙ ap (λ (i : List Item). map f old ++ i ∷ []) same
 
-pub behind_done : (s other : Stage) (threads globals : ℕ) (orders : List (ℕ × ℕ)) (programs others : List (List Item))
-    (items : List Item) (blocks : List Bool) → other ≡ s → others ≡ programs → items ≡ [] → blocks ≡ []
-    → ◌≡◌ {A = Result Place ℕ} (Ok (at_place s threads (record {
-      globals = globals;
-      orders = orders;
-      programs = programs;
-    }) [] []))
+pub behind_done : {s other : Stage} (threads globals : ℕ) (orders : List (ℕ × ℕ)) {programs others : List (List Item)}
+    {items : List Item} {blocks : List Bool} → other ≡ s → others ≡ programs → items ≡ [] → blocks ≡ []
+    → ◌≡◌ {A = Result Place ℕ}
+    (Ok (at_place s threads (record { globals = globals; orders = orders; programs = programs }) [] []))
     (Ok (at_place other threads (record { globals = globals; orders = orders; programs = others }) items blocks))
-behind_done s other threads globals orders programs others items blocks e f g h =
+behind_done {s} threads globals orders {programs} {others} {items} {blocks} e f g h =
     sym (ap (λ (k : Stage). Ok (at_place k threads (record { globals = globals; orders = orders; programs = others })
     items blocks)) e
     ∙ ap (λ (k : List (List Item)). Ok (at_place s threads (record { globals = globals; orders = orders; programs = k })

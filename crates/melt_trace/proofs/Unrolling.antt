@@ -227,15 +227,13 @@ pub record Leads (globals : ℕ) (items : List Item) (blocks : List Block) (at :
   pub underway : IsUnderway globals items end.1 (unwrap_or end.0 (at + 1))
   pub smaller : lines_to_operation items (unwrap_or end.0 (at + 1)) < lines_to_operation items at
 
-leads : (globals : ℕ) (items : List Item) (block : Block) (blocks : List Block) (marks : List Bool) (at : ℕ)
+leads : {globals : ℕ} (items : List Item) (block : Block) (blocks : List Block) (marks : List Bool) (at : ℕ)
     (more : Bool) → ltb 0 block.turns ≡ more → slice_get items at ≡ Some item.End → is_entered items at ≡ false
     → AreItems globals (with_operation marks) (drop (at + 1) items)
     → AreOpen globals items (block ∷ blocks) (true ∷ marks) ([] ∷ levels (drop (at + 1) items))
-    → Leads globals items (block ∷ blocks) at (cond more (
-      Some block.start,
-      record { start = block.start; turns = block.turns - 1 } ∷ blocks,
-    ) (None, blocks))
-leads globals items block blocks marks at true more is old lines are =
+    → Leads globals items (block ∷ blocks) at
+    (cond more (Some block.start, record { start = block.start; turns = block.turns - 1 } ∷ blocks) (None, blocks))
+leads {globals} items block blocks marks at true more is old lines are =
     let rest : List Item = drop (at + 1) items in
     let e : drop at items ≡ item.End ∷ rest = drop-slice_get items at item.End is in
     let some : 0 < length (levels rest) = omega (arith, length-levels globals (with_operation marks) rest lines) in
@@ -259,7 +257,7 @@ leads globals items block blocks marks at true more is old lines are =
       };
       smaller = rw (entered, old) (omega arith);
     }
-leads globals items block blocks marks at false more is old lines are =
+leads {globals} items block blocks marks at false more is old lines are =
     let rest : List Item = drop (at + 1) items in
     let e : drop at items ≡ item.End ∷ rest = drop-slice_get items at item.End is in
     let some : 0 < length (levels rest) = omega (arith, length-levels globals (with_operation marks) rest lines) in
@@ -296,7 +294,7 @@ end_leads globals items blocks (false ∷ marks) at is lines are fresh = absurd 
 end_leads globals items [] (true ∷ marks) at is lines are fresh = absurd (cc)
 end_leads globals items (block ∷ blocks) (true ∷ marks) at is lines are fresh = (
   omega arith,
-  leads globals items block blocks marks at (ltb 0 block.turns) refl is
+  leads items block blocks marks at (ltb 0 block.turns) refl is
       (not_fresh items marks at (is_entered items at) refl fresh) lines are,
 )
 
@@ -373,10 +371,10 @@ behind_operation before globals items blocks at o way is =
       underway = step.underway;
     }
 
-pub behind_repeat : (before : Ahead) (globals : ℕ) (items : List Item) (blocks entered : List Block) (at n : ℕ)
+pub behind_repeat : {before : Ahead} {globals : ℕ} {items : List Item} {blocks entered : List Block} {at : ℕ} (n : ℕ)
     → IsAsBefore before globals items blocks at → slice_get items at ≡ Some (item.Repeat n)
     → entered ≡ record { start = at + 1; turns = n - 1 } ∷ blocks → IsAsBefore before globals items entered (at + 1)
-behind_repeat before globals items blocks entered at n way is same =
+behind_repeat {before} {globals} {items} {blocks} {at} n way is same =
     let step = at_repeat globals items blocks at n way.underway is in
     subst (λ (bs : List Block). IsAsBefore before globals items bs (at + 1)) (sym same)
     (record { globals_kept = way.globals_kept; left = step.left ∙ way.left; underway = step.underway })
@@ -392,20 +390,20 @@ next_place : (items : List Item) (blocks : List Block) (at : ℕ) (start : Optio
     → IsEnded items blocks at start after next → next ≡ unwrap_or (block_end blocks).0 (at + 1)
 next_place items blocks at start after next is = is.leads ∙ ap (λ (s : Option ℕ). unwrap_or s (at + 1)) is.starts
 
-pub behind_end : (before : Ahead) (globals : ℕ) (items : List Item) (blocks : List Block) (at : ℕ) (start : Option ℕ)
-    (after : List Block) (next : ℕ) → IsAsBefore before globals items blocks at → slice_get items at ≡ Some item.End
+pub behind_end : {before : Ahead} {globals : ℕ} {items : List Item} {blocks : List Block} {at : ℕ} {start : Option ℕ}
+    {after : List Block} {next : ℕ} → IsAsBefore before globals items blocks at → slice_get items at ≡ Some item.End
     → IsEnded items blocks at start after next → IsAsBefore before globals items after next
-behind_end before globals items blocks at start after next way is end =
+behind_end {before} {globals} {items} {blocks} {at} {start} {after} {next} way is end =
     let step = (at_end globals items blocks at way.underway is).1 in
     subst (λ (bs : List Block). IsAsBefore before globals items bs next) (sym end.leaves)
     (subst (λ (k : ℕ). IsAsBefore before globals items (block_end blocks).1 k)
     (sym (next_place items blocks at start after next end))
     (record { globals_kept = way.globals_kept; left = step.left ∙ way.left; underway = step.underway }))
 
-pub end_smaller : (globals : ℕ) (items : List Item) (blocks : List Block) (at : ℕ) (start : Option ℕ)
-    (after : List Block) (next : ℕ) → IsUnderway globals items blocks at → slice_get items at ≡ Some item.End
+pub end_smaller : {globals : ℕ} {items : List Item} {blocks : List Block} {at : ℕ} {start : Option ℕ}
+    {after : List Block} {next : ℕ} → IsUnderway globals items blocks at → slice_get items at ≡ Some item.End
     → IsEnded items blocks at start after next → lines_to_operation items next < lines_to_operation items at
-end_smaller globals items blocks at start after next way is end =
+end_smaller {globals} {items} {blocks} {at} {start} {after} {next} way is end =
     subst (λ (k : ℕ). lines_to_operation items k < lines_to_operation items at)
     (sym (next_place items blocks at start after next end))
     (at_end globals items blocks at way is).1.smaller

@@ -40,8 +40,8 @@ returns-clause-collected g c =
     let copied = c.in_ok-copied.copied in
     let OfCopy : Heap → Type 0 = λ h. CopiesHeap c.args.phase h c.args.held.now copied in
     let OfPut : Heap → Type 0 = λ h. IsPutBack h c.put_back.new.heap c.args.held.now c.put_back.new.held copied in
-    put_collects c.args.heap.now _ c.args.held.now c.put_back.new.held copied c.args.phase _ c.requires.phase
-    c.requires.settled (subst OfCopy c.room_for_copy.ensures c.in_ok-copied.ensures.copies)
+    put_collects c.requires.phase c.requires.settled
+    (subst OfCopy c.room_for_copy.ensures c.in_ok-copied.ensures.copies)
     (subst OfPut c.room_for_copy.ensures c.put_back.ensures.put) (record {
       held = refl;
       rest = record {

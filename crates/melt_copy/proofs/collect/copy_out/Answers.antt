@@ -38,13 +38,11 @@ returns-clause-copies g c =
       live = c.in_ok-live.live;
       held = c.in_ok-forwarding.field-0.held_words;
     } in
-    copies _ c.args.heap.now c.args.held.now c.heap.view_is c.in_ok-forwarding.field-0 c.in_ok-forwarding.ensures.finds
-    c.deref.result.now c.deref.ensures.value c.move_words.new.forwarding c.move_words.ensures.tracks c.args.phase
-    c.find_scions.new.forwarding c.copy_objects.new.forwarding c.in_ok-globals.globals.items c.move_words.new.out.items
-    copied c.move_words.ensures.grows c.in_ok-globals.ensures.items c.in_ok-move_words.ensures.extends
-    c.in_ok-move_words.ensures.moves c.find_scions.ensures.grows c.in_ok-find_scions.ensures.finds
-    c.find_scions.ensures.tracks c.copy_objects.ensures.grows c.in_ok-words.ensures.copied
-    c.deref-3.result.now c.deref-3.ensures.value c.in_ok-numbers.ensures.numbers refl refl refl
+    copies c.args.held.now c.heap.view_is c.in_ok-forwarding.ensures.finds c.deref.ensures.value
+    c.move_words.ensures.tracks copied c.move_words.ensures.grows c.in_ok-globals.ensures.items
+    c.in_ok-move_words.ensures.extends c.in_ok-move_words.ensures.moves c.find_scions.ensures.grows
+    c.in_ok-find_scions.ensures.finds c.find_scions.ensures.tracks c.copy_objects.ensures.grows
+    c.in_ok-words.ensures.copied c.deref-3.ensures.value c.in_ok-numbers.ensures.numbers refl refl refl
     c.in_ok-live.ensures.live c.live_scions.ensures.table
 
 -- what was found in the end takes no more words than all that can be reached

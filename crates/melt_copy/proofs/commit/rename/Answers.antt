@@ -28,8 +28,7 @@ loop-m-preserved-in-Some-number g c =
     let turn = turn_is g (goal.at.loop-m-preserved-in-Some-number g c).After-tick in
     let here = c.set.ensures.here ∙ (sym c.in-Some-number.is ∙ turn.1) in
     record {
-      names = name_after_more (name_at c.args.names.now) (name_at c.loop-m.names)
-          (name_at c.set.new.self) c.args.moves.now _ _ c.in-Some.m.now turn.0
+      names = name_after_more (name_at c.args.names.now) (name_at c.loop-m.names) (name_at c.set.new.self) turn.0
           (length_push c.loop-m.yielded _) c.loop-m.invariant.names here c.set.ensures.others;
       size = c.set.ensures.size ∙ c.loop-m.invariant.size;
       visits = let more = length_push c.loop-m.yielded (c.in-Some.m, c.in-Some.number) in
@@ -45,8 +44,7 @@ loop-m-preserved g c =
     let unnamed = unnamed_before (name_at c.args.names.now) c.args.moves.now _ m turn.0 in
     let here = c.loop-m.invariant.names m.to ∙ (unnamed ∙ (sym c.in_default.is ∙ turn.1)) in
     record {
-      names = name_after_more (name_at c.args.names.now) (name_at c.loop-m.names)
-          (name_at c.loop-m.names) c.args.moves.now _ _ m turn.0
+      names = name_after_more (name_at c.args.names.now) (name_at c.loop-m.names) (name_at c.loop-m.names) turn.0
           (length_push c.loop-m.yielded _) c.loop-m.invariant.names here (λ _ _. refl);
       size = c.loop-m.invariant.size;
       visits = let more = length_push c.loop-m.yielded (c.in-Some.m, c.in-Some.number) in

@@ -28,12 +28,10 @@ returns-in_err-extend_from_slice-2-clause-tracks g c =
 
 pub returns-clause-object : goal.returns-clause-object
 returns-clause-object g c = λ s of to.
-    object_copied c.args.phase c.args.held c.args.space.now s c.args.forwarding.now _ c.args.m
-    c.words_at-object.result.now c.args.out.now.items _ _ _ _ _ _
+    object_copied c.args.phase c.args.held _ c.args.out.now.items _
     (subst (λ n. AreWords c.args.space.now c.args.m.from n c.words_at-object.result.now) c.cost.ensures
     c.words_at-object.ensures) of to refl c.move_header-header.ensures refl c.in_ok-extend_from_slice.ensures.items
-    c.in_ok-move_words.ensures.extends c.in_ok-move_words.ensures.moves
-    (c.in_ok-extend_from_slice-2.ensures.items
+    c.in_ok-move_words.ensures.extends c.in_ok-move_words.ensures.moves (c.in_ok-extend_from_slice-2.ensures.items
     ∙ ap (λ l. c.move_words.new.out.items ++ l) (take_rest c.words_at-object.result.now (2 + c.args.m.shape.refs)))
 
 pub returns-clause-tracks : goal.returns-clause-tracks

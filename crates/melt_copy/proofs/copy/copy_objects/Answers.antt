@@ -36,11 +36,9 @@ loop-done-preserved g c = record {
       let of = next_object c.args.space.now s c.loop-done.forwarding c.loop-done.done
       c.index-m.result.now copied.tracks (omega
       (arith, c.loop-done-test.true, c.len.ensures, c.loop-done.forwarding.moves.ok.0)) c.index-m.ensures in
-      copied_more c.args.phase c.args.front c.args.space.now s c.loop-done.forwarding c.copy_object.new.forwarding
-      c.loop-done.words.items _ c.loop-done.done c.index-m.result.now copied
-      (omega (arith, c.loop-done-test.true, c.len.ensures, c.loop-done.forwarding.moves.ok.0)) c.index-m.ensures
-      c.copy_object.ensures.grows (c.copy_object.ensures.tracks s of) c.in_ok-copy_object.ensures.extends
-      (c.in_ok-copy_object.ensures.object s of);
+      copied_more copied (omega (arith, c.loop-done-test.true, c.len.ensures, c.loop-done.forwarding.moves.ok.0))
+      c.index-m.ensures c.copy_object.ensures.grows (c.copy_object.ensures.tracks s of)
+      c.in_ok-copy_object.ensures.extends (c.in_ok-copy_object.ensures.object s of);
   visits =
       let at = slice_get_read c.loop-done.forwarding.moves.items (length c.loop-done.forwarding.moves.items)
       c.loop-done.done c.index-m.result.now refl

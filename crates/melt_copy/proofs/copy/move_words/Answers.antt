@@ -23,8 +23,7 @@ loop-word-preserved g c = record {
       Extends-push c.args.out.now.items c.loop-word.out.items _ c.loop-word.word-index _ c.loop-word.invariant.extends
       c.in_ok-push.ensures.items;
   moves =
-      moves_push c.loop-word.forwarding c.move_word.new.self c.args.words.now c.args.out.now.items c.loop-word.out.items
-      _ c.loop-word.word-index _ c.loop-word.invariant.extends c.in_ok-push.ensures.items c.move_word.ensures.grows
+      moves_push c.args.words.now c.loop-word.invariant.extends c.in_ok-push.ensures.items c.move_word.ensures.grows
       c.loop-word.invariant.moves c.in_ok-move_word.ensures.moves;
   grows = Grows-more c.args.forwarding.now c.loop-word.forwarding c.move_word.new.self c.loop-word.invariant.grows
       c.move_word.ensures.grows;

@@ -28,9 +28,8 @@ loop-address-preserved g c =
           let after : HoldsSoFar c.args.space.now c.args.forwarding.now c.if-address-ne0.forwarding register (n + 1) =
           subst (λ (p : Forwarding). HoldsSoFar c.args.space.now c.args.forwarding.now p register (n + 1))
           (sym w.forwarding-is)
-          (holds_found c.args.space.now c.args.forwarding.now c.loop-address.forwarding w.find.new.self register n
-          before w.if-address-ne0.true _ w.in_ok-find.ensures.found.1 w.in_ok-find.ensures.found.0 w.find.ensures.grows
-          w.find.ensures.only w.find.ensures.tracks) in
+          (holds_found before w.if-address-ne0.true w.in_ok-find.ensures.found.1 w.in_ok-find.ensures.found.0
+          w.find.ensures.grows w.find.ensures.only w.find.ensures.tracks) in
           record {
             all = after.all;
             each = after.each;

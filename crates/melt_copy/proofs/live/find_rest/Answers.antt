@@ -36,8 +36,8 @@ loop-done-preserved g c =
     record {
       within = let more = longer c.loop-done.forwarding c.find_slots.new.forwarding c.find_slots.ensures.grows in
           omega (arith, more, below);
-      finds = λ s tracks. objects_more s c.loop-done.forwarding c.find_slots.new.forwarding c.loop-done.done
-          c.index-m.result.now c.find_slots.ensures.grows at (c.loop-done.invariant.finds s tracks)
+      finds = λ s tracks. objects_more s c.loop-done.done c.find_slots.ensures.grows at
+          (c.loop-done.invariant.finds s tracks)
           (c.in_ok-find_slots.ensures.finds s (next_object c.args.space.now s c.loop-done.forwarding c.loop-done.done
           c.index-m.result.now (c.loop-done.invariant.tracks s tracks) below c.index-m.ensures));
       grows = Grows-more c.args.forwarding.now c.loop-done.forwarding c.find_slots.new.forwarding

@@ -28,11 +28,10 @@ find_rest-requires g c =
 
 pub returns-clause-reaches : goal.returns-clause-reaches
 returns-clause-reaches g c =
-    reaches _ c.args.heap.now c.args.held.now c.heap.view_is c.in_ok-live.live c.in_ok-live.ensures.finds
-    c.deref.result.now c.deref.ensures.value c.find_words.new.forwarding c.find_words.ensures.tracks
-    c.find_scions.new.forwarding c.find_rest.new.forwarding c.find_words.ensures.grows c.in_ok-find_words.ensures.finds
-    c.find_scions.ensures.grows c.in_ok-find_scions.ensures.finds c.find_scions.ensures.tracks
-    c.find_rest.ensures.grows c.find_rest.ensures.tracks c.in_ok-find_rest.ensures.finds
+    reaches c.args.held.now c.heap.view_is c.in_ok-live.live c.in_ok-live.ensures.finds c.deref.ensures.value
+    c.find_words.ensures.tracks c.find_words.ensures.grows c.in_ok-find_words.ensures.finds c.find_scions.ensures.grows
+    c.in_ok-find_scions.ensures.finds c.find_scions.ensures.tracks c.find_rest.ensures.grows c.find_rest.ensures.tracks
+    c.in_ok-find_rest.ensures.finds
 
 -- what was found in the end takes no more words than all that can be reached
 few : (g : Over) (c : After-find_rest g) (objects : ℕ) → CountsReached c.args.heap.now c.args.held.now objects

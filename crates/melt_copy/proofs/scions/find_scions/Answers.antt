@@ -10,17 +10,13 @@ pub find-requires : goal.find-requires
 find-requires g c =
     let s = c.requires.tracks.0 in (
       s,
-      tracks_scion c.args.space.now s c.args.forwarding.now c.loop-scion.forwarding c.args.scions.now _
-          (c.in-Some.field-0-0, c.in-Some.address) c.requires.tracks.1
-          (c.loop-scion.invariant.tracks s c.requires.tracks.1)
+      tracks_scion _ c.requires.tracks.1 (c.loop-scion.invariant.tracks s c.requires.tracks.1)
           (sym c.get.ensures.pair ∙ c.in-Some.is),
     )
 
 pub returns-in_err-find-clause-tracks : goal.returns-in_err-find-clause-tracks
 returns-in_err-find-clause-tracks g c = λ s tracks.
-    c.find.ensures.tracks s (tracks_scion c.args.space.now s c.args.forwarding.now c.loop-scion.forwarding
-    c.args.scions.now _
-    (c.in-Some.field-0-0, c.in-Some.address) tracks (c.loop-scion.invariant.tracks s tracks)
+    c.find.ensures.tracks s (tracks_scion _ tracks (c.loop-scion.invariant.tracks s tracks)
     (sym c.get.ensures.pair ∙ c.in-Some.is))
 
 pub loop-scion-preserved : goal.loop-scion-preserved
@@ -33,14 +29,11 @@ loop-scion-preserved g c =
           let at : scion_at table (slice_index live n) ≡ Some (w.in-Some.field-0-0, w.in-Some.address) =
           sym c.get.ensures.pair ∙ w.in-Some.is in
           let after : IsFoundSoFar c.args.space.now c.args.forwarding.now w.find.new.self table live (n + 1) =
-          found_scion c.args.space.now c.args.forwarding.now c.loop-scion.forwarding w.find.new.self table live n
-          (w.in-Some.field-0-0, w.in-Some.address)
-          (record {
+          found_scion (record {
             finds = c.loop-scion.invariant.finds;
             grows = c.loop-scion.invariant.grows;
             tracks = c.loop-scion.invariant.tracks;
-          })
-          at _ w.in_ok-find.ensures.found.1 w.in_ok-find.ensures.found.0 w.find.ensures.grows w.find.ensures.tracks in
+          }) at w.in_ok-find.ensures.found.1 w.in_ok-find.ensures.found.0 w.find.ensures.grows w.find.ensures.tracks in
           let there =
           subst (λ (p : Forwarding). IsFoundSoFar c.args.space.now c.args.forwarding.now p table live (n + 1))
           (sym w.forwarding-is) after in

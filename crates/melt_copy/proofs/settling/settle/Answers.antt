@@ -50,8 +50,8 @@ returns-in_err-settle_one-clause-keeps g c =
     let new : Heap = c.settle_one.new.heap in
     let between = g.D.StaleDisk.image c.loop-place.space.disk.now in
     let after = g.D.StaleDisk.image c.settle_one.new.space.disk.now in
-    keeps_both c.args.heap.now now new c.args.space.now.end (g.D.StaleDisk.image c.args.space.now.disk.now) between
-    after c.loop-place.invariant.so_far.keeps
+    keeps_both now new c.args.space.now.end (g.D.StaleDisk.image c.args.space.now.disk.now) between after
+    c.loop-place.invariant.so_far.keeps
     (subst (λ (end : ℕ). Keeps now new end between after) c.loop-place.invariant.end c.settle_one.ensures.keeps)
 
 pub returns-in_err-settle_one-clause-stopped : goal.returns-in_err-settle_one-clause-stopped

@@ -32,9 +32,8 @@ returns-in-Err-clause-keeps g c =
     let now : Heap = c.args.heap.now in
     subst (λ (h : Heap). Keeps now h c.args.space.now.end (g.D.StaleDisk.image c.args.space.now.disk.now)
     (g.D.StaleDisk.image c.write_stub.new.self.disk.now)) (sym (returns-in-Err-clause-stays g c))
-    (keeps_failed now c.args.space.now.end c.args.place c.args.home c.args.address
-    (g.D.StaleDisk.image c.args.space.now.disk.now) (g.D.StaleDisk.image c.write_stub.new.self.disk.now)
-    c.requires.within c.requires.sends c.in-Err.ensures.others)
+    (keeps_failed now c.args.space.now.end c.args.place (g.D.StaleDisk.image c.args.space.now.disk.now)
+    (g.D.StaleDisk.image c.write_stub.new.self.disk.now) c.requires.within c.requires.sends c.in-Err.ensures.others)
 
 pub returns-clause-settles : goal.returns-clause-settles
 returns-clause-settles g c = search rules
@@ -56,7 +55,6 @@ returns-clause-keeps g c =
     → c.shape-shape.result ≡ k.shape =
     subst (λ (h : Heap). (k : Header) → IsHeader k → word_at h.space c.args.address ≡ header_word k
     → c.shape-shape.result ≡ k.shape) c.heap.view_is c.shape-shape.ensures in
-    keeps_settled old new c.args.space.now.end c.args.place c.args.home c.args.address c.shape-shape.result
-    (g.D.StaleDisk.image c.args.space.now.disk.now) (g.D.StaleDisk.image c.write_stub.new.self.disk.now)
-    c.requires.formed.made.scions c.requires.within c.requires.sends shape (returns-clause-settles g c)
-    c.in_default.ensures.written
+    keeps_settled c.args.space.now.end c.shape-shape.result (g.D.StaleDisk.image c.args.space.now.disk.now)
+    (g.D.StaleDisk.image c.write_stub.new.self.disk.now) c.requires.formed.made.scions c.requires.within
+    c.requires.sends shape (returns-clause-settles g c) c.in_default.ensures.written

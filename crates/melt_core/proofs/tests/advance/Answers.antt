@@ -3,7 +3,6 @@ use Rattle.std.proofs.Common.{refl}
 use Rattle.std.specs.Prelude.{[], Some}
 use Rattle.melt_scion.specs.Heaps.{no_homes_on}
 use Rattle.melt_core.specs.Advances.{TellsDisk}
-use Rattle.melt_core.specs.Views.{view}
 use Rattle.melt_core.proofs.NoHomes.{as_told_by}
 use Rattle.melt_core.proofs.tests.advance.Goals as goal
 
@@ -15,5 +14,4 @@ tells_nothing = (refl, λ k. refl)
 
 pub returns : goal.returns
 returns c =
-    as_told_by (TellsDisk (Some []) no_homes_on) no_homes_on (view c.args.core.now) (view c.advance.new.self)
-    c.args.thread c.args.op c.advance.result tells_nothing (c.advance.ensures.advances.over no_homes_on refl)
+    as_told_by tells_nothing (c.advance.ensures.advances.over no_homes_on refl)

@@ -9,5 +9,4 @@ use Rattle.melt_core.proofs.tests.new_core.Goals as goal
 pub returns-clause-stands : goal.returns-clause-stands
 returns-clause-stands c =
     subst (λ (core : Core). Standing false no_homes_on (view core)) (sym c.begin.ensures)
-    (start_at_rest false c.args.words 1 3 2 32 c.in_ok-heap.heap c.in_ok-rest.rest c.requires (omega arith)
-    c.in_ok-heap.ensures c.in_ok-rest.ensures).stands
+    (start_at_rest false c.requires (omega arith) c.in_ok-heap.ensures c.in_ok-rest.ensures).stands

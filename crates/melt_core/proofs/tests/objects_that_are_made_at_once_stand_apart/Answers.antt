@@ -27,8 +27,7 @@ advance-second-requires g c =
     let u = view c.in_ok-core.core in
     let made = c.in_ok-core.ensures in
     may_go_on u (view c.advance-first.new.core) 1 (2 * c.loop-events.events-counter + 1) c.new-op.result
-    (onward_event (Unit {0}) no_homes_on u (view c.loop-events.core) (view c.advance-first.new.core) 0 c.new-op.result
-    (2 * c.loop-events.events-counter) c.advance-first.result c.advance-first.ensures c.loop-events.invariant)
+    (onward_event c.advance-first.ensures c.loop-events.invariant)
     c.new-op.ensures (omega arith) made.threads made.history made.room (omega (arith, c.loop-events-test.true))
 
 pub loop-events-preserved : goal.loop-events-preserved
@@ -37,12 +36,9 @@ loop-events-preserved g c =
     let n = 2 * c.loop-events.events-counter in
     let o = c.new-op.result in
     let first : Onward no_homes_on u (view c.advance-first.new.core) o (n + 1) =
-    onward_event (Unit {0}) no_homes_on u (view c.loop-events.core) (view c.advance-first.new.core) 0 o n
-    c.advance-first.result
-    c.advance-first.ensures c.loop-events.invariant in
+    onward_event c.advance-first.ensures c.loop-events.invariant in
     let both : Onward no_homes_on u (view c.advance-second.new.core) o (n + 1 + 1) =
-    onward_event (Unit {0}) no_homes_on u (view c.advance-first.new.core) (view c.advance-second.new.core) 1 o (n + 1)
-    c.advance-second.result c.advance-second.ensures first in
+    onward_event c.advance-second.ensures first in
     subst (Onward no_homes_on u (view c.advance-second.new.core) o) (let e : n + 1 + 1 ≡ 2 *
     (c.loop-events.events-counter + 1) =
     omega arith in e) both

@@ -15,8 +15,7 @@ returns-in_default c =
     let t = c.args.thread in
     let kept = c.loop-events.invariant in
     let over : IsOver v w t =
-    event_over (Unit {0}) no_homes_on v w t c.args.op c.advance.result c.in_default.not-Going
-    c.advance.ensures.outcome in
+    event_over (Unit {0}) no_homes_on w t c.args.op c.advance.result c.in_default.not-Going c.advance.ensures.outcome in
     record {
       stands = c.advance.ensures.keeps false (λ told. tt) kept.0;
       others = KeepsOthers_both u v w t kept.1 c.advance.ensures.others;
@@ -32,7 +31,7 @@ loop-events-preserved c =
     let t = c.args.thread in
     let kept = c.loop-events.invariant in
     let is : c.advance.result ≡ Going = c.in-Going.is in
-    let goes : Goes no_homes_on v w t c.args.op = going (Unit {0}) no_homes_on v w t c.args.op c.advance.result is
+    let goes : Goes no_homes_on v w t c.args.op = going (Unit {0}) no_homes_on v w t c.args.op is
     c.advance.ensures.outcome in
     let few : length v.forward ≤ 16 = omega (arith, kept.1.forwards, c.requires.forwards) in (
       c.advance.ensures.keeps false (λ told. tt) kept.0,

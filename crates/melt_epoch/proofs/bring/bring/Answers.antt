@@ -41,5 +41,5 @@ returns-in_err-sought-clause-brings g c =
     rw (exit.1, exit.2)
     (subst (λ (n : ℕ). Brings words.start.began.told image c.args.heap.now.scions c.args.end faults faults
     v u c.args.search (2 * n + 130) (Err c.in_err-sought.field-0.0)) same
-    (sought_full words.start.began.told image c.args.heap.now.scions c.args.end faults faults v u c.args.search forwards
+    (sought_full words.start.began.told image c.args.heap.now.scions c.args.end faults faults v u c.args.search
     c.in_err-sought.field-0.0 c.requires.first (same ∙ began) c.in_err-sought.ensures.seeks))

@@ -14,10 +14,9 @@ copy_in-requires-clause-body g c =
     (take n c.in-Body.rest))
     (let first = c.from.ensures in let more = c.from-in-Body.ensures in
     let e : z.refs + z.nums ≡ c.from.result + c.from-in-Body.result = omega arith in e)
-    ((body_of image c.args.heap.now.scions c.args.end c.args.search.home
-    (g.R.RecordReader.faults c.args.reader.now) (g.R.RecordReader.faults c.read_record.new.reader)
-    c.in_ok-fetched.fetched z c.in-Body.rest
-    c.in-Body.is c.in_ok-fetched.ensures.fetches).has words.start.began
+    ((body_of c.args.heap.now.scions c.args.search.home (g.R.RecordReader.faults c.args.reader.now)
+    (g.R.RecordReader.faults c.read_record.new.reader) z c.in-Body.rest c.in-Body.is
+    c.in_ok-fetched.ensures.fetches).has words.start.began
     (of_disk words c.args.heap.now image c.args.end c.requires.fits c.requires.reader))
 
 pub returns-in-Stub-clause-misses : goal.returns-in-Stub-clause-misses

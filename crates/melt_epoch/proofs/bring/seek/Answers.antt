@@ -3,7 +3,6 @@ use Rattle.melt_core.specs.declared.call.Search.{Search}
 use Rattle.melt_core.specs.Stages.{further}
 use Rattle.melt_rule.specs.Seats.{knows_of}
 use Rattle.melt_rule.specs.declared.view.Doing.{Doing}
-use Rattle.melt_rule.specs.declared.view.Doing.TheVariants.{Missed, Searching}
 use Rattle.melt_rule.specs.declared.view.View.{View}
 use Rattle.melt_epoch.proofs.Toward.{searches_within, toward_filled, toward_goes, toward_on}
 use Rattle.melt_epoch.specs.Bringing.{in_use_at}
@@ -14,9 +13,7 @@ pub returns-in-None-clause-seeks : goal.returns-in-None-clause-seeks
 returns-in-None-clause-seeks c =
     let loop = c.loop-search.invariant in
     let t = c.loop-search.search.tried in (
-      toward_goes (knows_of c.args.seat.now) (knows_of c.loop-search.seat) (knows_of c.probe.new.seat) 0 0
-          (t - c.args.search.tried) (t + 1 - c.args.search.tried) (Missed c.loop-search.search)
-          (let f = loop.from in omega arith) loop.toward c.in-None.ensures.probes,
+      toward_goes (t + 1 - c.args.search.tried) (let f = loop.from in omega arith) loop.toward c.in-None.ensures.probes,
       loop.from,
       (let more = c.loop-search-test.true in omega arith),
       loop.search,
@@ -33,10 +30,7 @@ returns-in-Some-clause-seeks c =
     let most = c.args.forwards - c.args.search.tried in
     subst (λ (d : Doing). Goes v u 0 0 most d)
     (ap (λ (s : Search). in_use_at s c.in-Some.address) loop.search)
-    (toward_goes v (knows_of c.loop-search.seat) u 0 0 (t - c.args.search.tried) most
-    (in_use_at c.loop-search.search c.in-Some.address)
-    (let f = loop.from in let more = c.loop-search-test.true in omega arith)
-    loop.toward
+    (toward_goes most (let f = loop.from in let more = c.loop-search-test.true in omega arith) loop.toward
     (c.in-Some.ensures.probes.0 c.if-home-search.true))
 
 pub loop-search-preserved : goal.loop-search-preserved
@@ -46,9 +40,7 @@ loop-search-preserved c =
     let step = c.in-Some.ensures.probes.1 c.if-home-search.false in
     record {
       seat = c.in-Some.ensures.seat;
-      toward = toward_on (knows_of c.args.seat.now) (knows_of c.loop-search.seat) (knows_of c.probe.new.seat) 0 0
-          (t - c.args.search.tried) (t + 1 - c.args.search.tried) (Searching (further c.loop-search.search))
-          (let f = loop.from in omega arith) loop.toward step;
+      toward = toward_on (t + 1 - c.args.search.tried) (let f = loop.from in omega arith) loop.toward step;
       at = ap (λ (x : View). x.doing) step.is;
       read = let s = ap (λ (x : View). x.steps) step.is in let r = loop.read in let f = loop.from in omega arith;
       from = let f = loop.from in omega arith;

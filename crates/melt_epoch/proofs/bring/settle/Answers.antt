@@ -3,7 +3,6 @@ use Rattle.melt_core.specs.Stages.{retried}
 use Rattle.melt_core.specs.declared.call.Activation.{Activation}
 use Rattle.melt_rule.specs.Seats.{knows_of}
 use Rattle.melt_rule.specs.declared.view.Doing.{Doing}
-use Rattle.melt_rule.specs.declared.view.Doing.TheVariants.{Copied, Retrying}
 use Rattle.melt_rule.specs.declared.view.View.{View}
 use Rattle.melt_epoch.proofs.Settling.{finds_empty, finds_filled, finds_won, hand_within, spent, spent_again}
 use Rattle.melt_epoch.proofs.Settling.{spent_most}
@@ -28,10 +27,9 @@ returns-in-None-clause-settles c =
       one = omega arith;
       goes = subst (λ (d : Doing). Goes v u 0 1 most d)
           (ap (λ (b : Activation). in_use_at b.search a.address) loop.activation)
-          (toward_wins v w u 0 (spent c.loop-activation.empty passed) most a
+          (toward_wins most
           (let s = spent_most c.loop-activation.empty passed in let more = c.loop-activation-test.true in
-          let from = loop.from in omega arith)
-          loop.toward wins);
+          let from = loop.from in omega arith) loop.toward wins);
     }
 
 pub loop-activation-preserved-in-None-2 : goal.loop-activation-preserved-in-None-2
@@ -45,8 +43,8 @@ loop-activation-preserved-in-None-2 c =
     let more = loop.more c.if-empty.false in
     record {
       seat = c.in-None-2.ensures.seat;
-      toward = toward_on (knows_of c.args.seat.now) w u 0 0 (spent c.loop-activation.empty passed) (spent true passed)
-          (Copied a) (spent_again c.loop-activation.empty passed c.if-empty.false (omega arith)) loop.toward step;
+      toward = toward_on (spent true passed) (spent_again c.loop-activation.empty passed c.if-empty.false (omega arith))
+          loop.toward step;
       at = ap (λ (x : View). x.doing) step.is;
       read = let s = ap (λ (x : View). x.steps) step.is in let r = loop.read in omega arith;
       from = loop.from;
@@ -70,10 +68,9 @@ returns-in-Some-clause-settles c =
       one = omega arith;
       goes = subst (λ (d : Doing). Goes v u 0 0 most d)
           (ap (λ (b : Activation). in_use_at b.search c.in-Some.address) loop.activation)
-          (toward_goes v w u 0 0 (spent c.loop-activation.empty passed) most (in_use_at a.search c.in-Some.address)
+          (toward_goes most
           (let s = spent_most c.loop-activation.empty passed in let more = c.loop-activation-test.true in
-          let from = loop.from in omega arith)
-          loop.toward (finds.0 c.if-home-activation.true));
+          let from = loop.from in omega arith) loop.toward (finds.0 c.if-home-activation.true));
     }
 
 pub loop-activation-preserved : goal.loop-activation-preserved
@@ -88,8 +85,7 @@ loop-activation-preserved c =
     c.in-Some.ensures.finds).1 c.if-home-activation.false in
     record {
       seat = c.in-Some.ensures.seat;
-      toward = toward_on (knows_of c.args.seat.now) w u 0 0 (spent c.loop-activation.empty passed)
-          (spent false (a.search.tried + 1 - c.args.activation.search.tried)) (Retrying (retried a))
+      toward = toward_on (spent false (a.search.tried + 1 - c.args.activation.search.tried))
           (let s = spent_next c.loop-activation.empty passed in omega arith) loop.toward step;
       at = ap (λ (x : View). x.doing) step.is;
       read = let s = ap (λ (x : View). x.steps) step.is in let r = loop.read in omega arith;

@@ -1,6 +1,5 @@
 use Rattle.std.proofs.Common.{◌+◌, ◌∙◌, ap, arith}
 use Rattle.melt_rule.specs.Seats.{knows_of}
-use Rattle.melt_rule.specs.declared.view.Doing.TheVariants.{Copying}
 use Rattle.melt_rule.specs.declared.view.View.{View}
 use Rattle.melt_epoch.proofs.Toward.{toward_on}
 use Rattle.melt_epoch.proofs.copy.fill_copy.Goals as goal
@@ -12,8 +11,7 @@ loop-stored-preserved c =
     let step = c.fill_copy.ensures.fills in
     record {
       seat = c.fill_copy.ensures.seat;
-      toward = toward_on (knows_of c.args.seat.now) (knows_of c.loop-stored.seat) (knows_of c.fill_copy.new.seat) 0 0 k
-          (k + 1) (Copying c.args.activation (k + 1)) (omega arith) loop.toward step;
+      toward = toward_on (k + 1) (omega arith) loop.toward step;
       sees = λ some_. loop.toward.on (knows_of c.fill_copy.new.seat).seen step.sees;
       at = ap (λ (x : View). x.doing) step.is;
       rest = ap (λ (x : View). x.rest) step.is ∙ loop.rest;

@@ -39,7 +39,7 @@ loop-k-preserved g c =
       knows = c.give_seat-seat.ensures.gives ∙ (ap giver_view i.knows ∙ giver_next start k below);
       from_1 = omega arith;
       kept = map_set unseated ms k d new refl ∙ i.kept;
-      given = one_more (IsGiven c.args.words.now) ms 1 k new there i.given given;
+      given = one_more (IsGiven c.args.words.now) ms k new there i.given given;
     }
 
 pub returns-clause-given : goal.returns-clause-given

@@ -6,8 +6,7 @@ pub loop-k-preserved : goal.loop-k-preserved
 loop-k-preserved c = record {
   size = c.set_word.ensures.size ∙ c.loop-k.invariant.size;
   used = c.set_word.ensures.used ∙ c.loop-k.invariant.used;
-  stands = put_more c.loop-k.space c.set_word.new.self c.args.ended.now c.args.from c.loop-k.k c.word.result
-      c.set_word.ensures c.word.ensures c.loop-k.invariant.stands;
+  stands = put_more c.args.ended.now c.args.from c.loop-k.k c.set_word.ensures c.word.ensures c.loop-k.invariant.stands;
 }
 
 pub returns : goal.returns

@@ -17,7 +17,7 @@ returns-in_err-head-clause-fetches g c =
 pub returns-in-Err-clause-fetches : goal.returns-in-Err-clause-fetches
 returns-in-Err-clause-fetches g c =
     let image = g.R.RecordReader.image c.args.reader.now in
-    stub_dead image c.args.scions.now c.args.end c.args.home c.in-Stub.scion c.in_ok-head.head.shape c.in-Err.damaged
+    stub_dead c.in_ok-head.head.shape
     (head_of_kind image c.args.end c.args.home c.in_ok-head.head (Stub c.in-Stub.scion) c.in-Stub.is
     c.in_ok-head.ensures.head) c.in-Err.ensures.dead
 
@@ -37,9 +37,8 @@ returns-in_err-rest-in-Body-clause-fetches g c =
     let exit = err_from_is_err_and c.from_residual-in_err-rest-in-Body.result
     c.from_residual-in_err-rest-in-Body.ensures.1 in
     rw (exit.1, exit.2)
-    (rest_unread image c.args.scions.now c.args.end c.args.home
-    (g.R.RecordReader.faults c.args.reader.now) between after
-    c.in_ok-head.head.shape c.in_err-rest-in-Body.field-0.0 c.read_head.ensures.count c.read_rest.ensures.count
+    (rest_unread c.args.scions.now (g.R.RecordReader.faults c.args.reader.now) between after c.in_ok-head.head.shape
+    c.in_err-rest-in-Body.field-0.0 c.read_head.ensures.count c.read_rest.ensures.count
     (head_of_kind image c.args.end c.args.home c.in_ok-head.head Body c.in-Body.is c.in_ok-head.ensures.head)
     (subst (λ (i : Option (List ℕ)). ReadsRest i c.args.end c.args.home c.in_ok-head.head.shape between after
     (Err c.in_err-rest-in-Body.field-0.0))

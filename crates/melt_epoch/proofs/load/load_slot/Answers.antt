@@ -18,9 +18,8 @@ header : (g : Over) (c : After-load_header-shape g) (value : Value)
     → Opened (knows_of c.args.seat.now) (knows_of c.poll.new.seat) (knows_of c.load_header-shape.new.seat)
     c.args.address c.load_header-shape.result value
 header g c value names =
-    opened c.args.words.now c.args.seat.now (knows_of c.poll.new.seat) (knows_of c.load_header-shape.new.seat)
-    c.args.address c.load_header-shape.result value c.requires.seat names c.if-address-eq0.false c.if-poll.ensures.polls
-    c.load_header-shape.ensures.heads
+    opened (knows_of c.poll.new.seat) (knows_of c.load_header-shape.new.seat) c.args.address c.load_header-shape.result
+    value c.requires.seat names c.if-address-eq0.false c.if-poll.ensures.polls c.load_header-shape.ensures.heads
 
 some_header : (g : Over) (c : After-load_header-shape g)
     → Opened (knows_of c.args.seat.now) (knows_of c.poll.new.seat) (knows_of c.load_header-shape.new.seat)
@@ -86,9 +85,9 @@ resolve-requires-clause-no_cause g c =
 pub resolve-requires-clause-within : goal.resolve-requires-clause-within
 resolve-requires-clause-within g c =
     let h = some_header g (goal.at.resolve-requires-clause-within g c).After-load_header-shape in
-    found_before c.args.words.now (knows_of c.load_header-shape.new.seat) c.load_slot-found.new.seat
-    (slot.Field h.object c.args.i) (place.Field c.args.address c.args.i) c.load_slot-found.result c.args.heap.now
-    c.args.end c.requires.fits c.load_slot-found.ensures.seat (c.load_slot-found.ensures.looks h.object h.known)
+    found_before (knows_of c.load_header-shape.new.seat) (slot.Field h.object c.args.i)
+    (place.Field c.args.address c.args.i) c.load_slot-found.result c.requires.fits c.load_slot-found.ensures.seat
+    (c.load_slot-found.ensures.looks h.object h.known)
 
 pub returns-clause-seat : goal.returns-clause-seat
 returns-clause-seat g c =

@@ -1,7 +1,6 @@
 use Rattle.std.proofs.Common.{ap, arith}
 use Rattle.melt_word.specs.declared.reference.Ref.TheVariants.{Stale}
 use Rattle.melt_rule.specs.Seats.{knows_of}
-use Rattle.melt_rule.specs.declared.view.Doing.TheVariants.{Cleared, Looked}
 use Rattle.melt_rule.specs.declared.view.View.{View}
 use Rattle.melt_epoch.proofs.Loading.{stale_loads, stale_slot}
 use Rattle.melt_epoch.proofs.load.load_stale.Goals as goal
@@ -13,8 +12,5 @@ returns-clause-loads c = λ v s at looks.
     let target = c.args.target in
     let place = c.args.place in
     let clears = c.clear.ensures.clears place (Stale target) (ap (λ (y : View). y.doing) looks.is) in
-    stale_loads v w u (knows_of c.untag.new.seat) s (Looked place (Stale target) target)
-    (Cleared place (Stale target) target) 3 c.untag.result (omega arith) looks clears
-    (c.untag.ensures.reads s
-    (stale_slot v w u place s (Looked place (Stale target) target) (Cleared place (Stale target) target) looks clears
-    at))
+    stale_loads 3 (omega arith) looks clears (c.untag.ensures.reads s
+    (stale_slot place s looks clears at))

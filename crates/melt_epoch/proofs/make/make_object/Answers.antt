@@ -63,11 +63,10 @@ returns-clause-makes c =
     let is : c.cost-need.result ≡ cost_of c.args.shape = c.cost-need.ensures in
     let claims : Claims w u c.in-Some.address (cost_of c.args.shape) =
     subst (Claims w u c.in-Some.address) is c.in-Some.ensures.tells in
-    made_it v w u (knows_of c.fill.new.seat) (knows_of c.publish.new.seat) c.in-Some.address c.args.shape claims
-    c.requires.seat.sound c.if-poll.ensures.polls
+    made_it (knows_of c.fill.new.seat) (knows_of c.publish.new.seat) c.args.shape claims c.requires.seat.sound
+    c.if-poll.ensures.polls
     (subst (λ (n : ℕ). FillsRegion u (knows_of c.fill.new.seat) c.in-Some.address (n - 1)) is c.fill.ensures.fills)
-    c.publish.ensures.makes
-    (omega arith)
+    c.publish.ensures.makes (omega arith)
 
 pub returns-clause-seat : goal.returns-clause-seat
 returns-clause-seat c =

@@ -20,9 +20,8 @@ header : (c : After-load_header-shape) (value : Value)
     → Opened (knows_of c.args.seat.now) (knows_of c.poll.new.seat) (knows_of c.load_header-shape.new.seat)
     c.args.address c.load_header-shape.result value
 header c value names =
-    opened c.args.words.now c.args.seat.now (knows_of c.poll.new.seat) (knows_of c.load_header-shape.new.seat)
-    c.args.address c.load_header-shape.result value c.requires.seat names c.if-address-eq0.false c.if-poll.ensures.polls
-    c.load_header-shape.ensures.heads
+    opened (knows_of c.poll.new.seat) (knows_of c.load_header-shape.new.seat) c.args.address c.load_header-shape.result
+    value c.requires.seat names c.if-address-eq0.false c.if-poll.ensures.polls c.load_header-shape.ensures.heads
 
 some_header : (c : After-load_header-shape)
     → Opened (knows_of c.args.seat.now) (knows_of c.poll.new.seat) (knows_of c.load_header-shape.new.seat)
@@ -73,12 +72,9 @@ returns-clause-plain c rs src names =
     let act = Read (Cell h.object c.args.j) (Num c.load_number.result) in
     let behind = opened_ends x act h (c.load_number.ensures.reads h.object h.known) in
     record {
-      comes = adds_replies v x act rs rs (Get src c.args.j) (reply.Num c.load_number.result) behind.adds
-          (λ told. get_answers v.thread _ rs src c.args.j h.object c.load_number.result c.load_header-shape.result
-          (reply.Num c.load_number.result) _ rs h.is
-          (behind.shaped told)
-          (let b = c.if-j-shape.false in omega arith)
-          refl refl refl);
+      comes = adds_replies x rs rs (Get src c.args.j) (reply.Num c.load_number.result) behind.adds
+          (λ told. get_answers v.thread _ src c.args.j c.load_number.result c.load_header-shape.result h.is
+          (behind.shaped told) (let b = c.if-j-shape.false in omega arith) refl refl refl);
       counts = behind.counts;
       refused = tt;
     }

@@ -60,8 +60,8 @@ returns-clause-plain c rs src names =
     let act = Write (Global c.args.g) (value_in rs src) in
     let behind = ends_polled v w x act c.requires.seat.sound polls ends in
     record {
-      comes = adds_replies v x act rs rs (GStore c.args.g src) reply.Done behind.0
-          (λ told. gstore_answers v.thread _ rs c.args.g src (value_in rs src) reply.Done _ rs refl refl refl refl);
+      comes = adds_replies x rs rs (GStore c.args.g src) reply.Done behind.0
+          (λ told. gstore_answers v.thread _ c.args.g src refl refl refl refl);
       counts = behind.1;
       refused = tt;
     }

@@ -20,9 +20,8 @@ header : (c : After-load_header-shape) (value : Value)
     → Opened (knows_of c.args.seat.now) (knows_of c.poll.new.seat) (knows_of c.load_header-shape.new.seat)
     c.args.address c.load_header-shape.result value
 header c value names =
-    opened c.args.words.now c.args.seat.now (knows_of c.poll.new.seat) (knows_of c.load_header-shape.new.seat)
-    c.args.address c.load_header-shape.result value c.requires.seat names c.if-address-eq0.false c.if-poll.ensures.polls
-    c.load_header-shape.ensures.heads
+    opened (knows_of c.poll.new.seat) (knows_of c.load_header-shape.new.seat) c.args.address c.load_header-shape.result
+    value c.requires.seat names c.if-address-eq0.false c.if-poll.ensures.polls c.load_header-shape.ensures.heads
 
 some_header : (c : After-load_header-shape)
     → Opened (knows_of c.args.seat.now) (knows_of c.poll.new.seat) (knows_of c.load_header-shape.new.seat)
@@ -73,11 +72,9 @@ returns-clause-plain c rs obj names =
     let act = Write (Cell h.object c.args.j) (Num c.args.word) in
     let behind = opened_ends x act h (c.store_number.ensures.writes h.object h.known) in
     record {
-      comes = adds_replies v x act rs rs (Put obj c.args.j c.args.word) reply.Done behind.adds
-          (λ told. put_answers v.thread _ rs obj c.args.j c.args.word h.object c.load_header-shape.result
-          reply.Done _ rs h.is (behind.shaped told)
-          (let b = c.if-j-shape.false in omega arith)
-          refl refl refl);
+      comes = adds_replies x rs rs (Put obj c.args.j c.args.word) reply.Done behind.adds
+          (λ told. put_answers v.thread _ obj c.args.j c.args.word c.load_header-shape.result h.is (behind.shaped told)
+          (let b = c.if-j-shape.false in omega arith) refl refl refl);
       counts = behind.counts;
       refused = tt;
     }

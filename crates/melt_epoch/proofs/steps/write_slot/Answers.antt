@@ -20,9 +20,8 @@ header : (c : After-load_header-shape) (value : Value)
     → Opened (knows_of c.args.seat.now) (knows_of c.poll.new.seat) (knows_of c.load_header-shape.new.seat)
     c.args.address c.load_header-shape.result value
 header c value names =
-    opened c.args.words.now c.args.seat.now (knows_of c.poll.new.seat) (knows_of c.load_header-shape.new.seat)
-    c.args.address c.load_header-shape.result value c.requires.seat names c.if-address-eq0.false c.if-poll.ensures.polls
-    c.load_header-shape.ensures.heads
+    opened (knows_of c.poll.new.seat) (knows_of c.load_header-shape.new.seat) c.args.address c.load_header-shape.result
+    value c.requires.seat names c.if-address-eq0.false c.if-poll.ensures.polls c.load_header-shape.ensures.heads
 
 some_header : (c : After-load_header-shape)
     → Opened (knows_of c.args.seat.now) (knows_of c.poll.new.seat) (knows_of c.load_header-shape.new.seat)
@@ -90,12 +89,9 @@ returns-clause-plain c rs obj src names held =
     let act = Write (Field h.object c.args.i) value in
     let behind = opened_ends x act h (c.store_slot.ensures.writes h.object value h.known (still at value held)) in
     record {
-      comes = adds_replies v x act rs rs (Store obj c.args.i src) reply.Done behind.adds
-          (λ told. store_answers v.thread _ rs obj c.args.i src h.object c.load_header-shape.result
-          value reply.Done _ rs h.is
-          (behind.shaped told)
-          (let b = c.if-i-shape.false in omega arith)
-          refl refl refl refl);
+      comes = adds_replies x rs rs (Store obj c.args.i src) reply.Done behind.adds
+          (λ told. store_answers v.thread _ obj c.args.i src c.load_header-shape.result h.is (behind.shaped told)
+          (let b = c.if-i-shape.false in omega arith) refl refl refl refl);
       counts = behind.counts;
       refused = tt;
     }

@@ -14,7 +14,7 @@ loop-k-preserved c =
     c.gstore.result ∷ c.get.result ∷ [] in
     record {
       draws = next_state_is c.args.draws c.loop-k.k _ _ _ c.next_word-word.ensures state;
-      items = round_written [] [] round c.loop-k.k _ _ ops c.in_ok-push_all.ensures (search (rules, word))
+      items = round_written [] [] round c.loop-k.k {ops = ops} c.in_ok-push_all.ensures (search (rules, word))
           c.loop-k.invariant.items;
     }
 

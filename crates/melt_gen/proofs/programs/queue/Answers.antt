@@ -27,7 +27,7 @@ loop-k-preserved c =
     let back : k ≡ k + 1 - 1 = omega arith in
     record {
       draws = front.0 ∙ ap (state_behind c.args.draws) back;
-      items = round_written [] [] round k _ _ (object ++ more) both same c.loop-k.invariant.items;
+      items = round_written [] [] round k both same c.loop-k.invariant.items;
     }
 
 pub returns : goal.returns

@@ -30,8 +30,7 @@ loop-k-preserved c =
     let both = behind c.loop-k.items.items _ _ object more look.1 c.in_ok-push_all-2.ensures in
     record {
       draws = look.0;
-      items = round_written [] (table_start c.args.thread) round k _ _ (object ++ more) both same
-          c.loop-k.invariant.items;
+      items = round_written [] (table_start c.args.thread) round k both same c.loop-k.invariant.items;
     }
 
 pub returns : goal.returns

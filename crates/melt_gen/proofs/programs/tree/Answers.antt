@@ -14,8 +14,7 @@ loop-k-preserved c =
     let same = ap (λ (w : ℕ). tree_round c.args.thread w k) word in
     record {
       draws = next_state_is c.args.draws k _ _ _ c.next_word-word.ensures state;
-      items = round_written [] [] round k _ _ (tree_round c.args.thread c.next_word-word.result k)
-          c.in_ok-push_object.ensures same c.loop-k.invariant.items;
+      items = round_written [] [] round k c.in_ok-push_object.ensures same c.loop-k.invariant.items;
     }
 
 pub returns : goal.returns

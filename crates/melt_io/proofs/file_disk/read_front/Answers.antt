@@ -16,7 +16,7 @@ loop-filled-preserved g c =
         length-overwritten bytes c.read_at.new.buf at (length bytes - at) (omega arith) part,
         fits,
       );
-      read = reads-on _ bytes c.read_at.new.buf _ c.args.at at c.in_ok-taken.taken c.loop-filled.invariant.within fits
+      read = reads-on _ bytes c.read_at.new.buf _ c.args.at c.in_ok-taken.taken c.loop-filled.invariant.within fits
           c.loop-filled.invariant.read (rw c.loop-filled.invariant.kept at c.in_ok-taken.ensures.read);
       kept = c.in_ok-taken.ensures.kept ∙ c.loop-filled.invariant.kept;
       no_fault = c.in_ok-taken.ensures.no_fault ∙ c.loop-filled.invariant.no_fault;

@@ -13,7 +13,7 @@ loop-done-preserved g c =
     record {
       room = omega arith;
       within = omega (arith, length-overwritten words c.read_run.new.words done (end - done) (omega arith) run);
-      read = reads-more _ c.args.at words c.read_run.new.words _ done end (omega arith) c.loop-done.invariant.within run
+      read = reads-more _ c.args.at words c.read_run.new.words _ end (omega arith) c.loop-done.invariant.within run
           c.loop-done.invariant.read (rw (c.loop-done.invariant.kept, place, ← c.read_run.auto.words) at
           c.in_ok-read_run.ensures.words);
       kept = c.in_ok-read_run.ensures.kept ∙ c.loop-done.invariant.kept;

@@ -12,8 +12,8 @@ loop-done-preserved g c =
       made = c.in_ok-write_run.ensures.made;
       room = omega arith;
       within = omega arith;
-      written = writes-run _ _ _ c.args.at c.args.words.now c.loop-done.done c.min-end.result (omega arith)
-          (omega arith) c.loop-done.invariant.written (rw place at c.in_ok-write_run.ensures.written);
+      written = writes-run _ _ _ c.args.at c.args.words.now c.min-end.result (omega arith) (omega arith)
+          c.loop-done.invariant.written (rw place at c.in_ok-write_run.ensures.written);
       no_fault = c.in_ok-write_run.ensures.no_fault ∙ c.loop-done.invariant.no_fault;
     }
 

@@ -21,7 +21,6 @@ loop-k-preserved c =
     let told : d.reply ≡ get_or c.args.replies.now c.loop-k.k Done = search rules in
     let below : c.loop-k.k < length c.args.ops.now = c.in-Some.ensures.lookup.3.0 in
     let takes = c.if-not-takes.ensures in
-    let step = answered_drop c.args.history.now a c.args.ops.now c.args.replies.now c.loop-k.k c.in-Some.op.now Done d
-    c.places_left-left.result.now
-    below c.loop-k-test.true c.in-Some.ensures.lookup.1 is told (takes.0 refl) c.places_left-left.ensures in
+    let step = answered_drop c.args.history.now a c.args.ops.now c.args.replies.now c.loop-k.k Done below
+    c.loop-k-test.true c.in-Some.ensures.lookup.1 is told (takes.0 refl) c.places_left-left.ensures in
     (λ transcript. step.0 (c.loop-k.invariant.0 transcript), λ answered. c.loop-k.invariant.1 (step.1 answered))

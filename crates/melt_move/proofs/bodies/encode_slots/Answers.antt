@@ -17,7 +17,7 @@ returns-clause-slots g c =
 
 pub returns-clause-encodes : goal.returns-clause-encodes
 returns-clause-encodes g c = λ s departs.
-    slots_encode c.args.space.now s c.args.decision.now c.args.d _ _ c.encode_refs.new.words
+    slots_encode c.encode_refs.new.words
     (slots_cut c.args.space.now c.args.d _ _ _ c.words_at-object.ensures c.cost.ensures c.copy_from_slice.ensures.after)
     departs c.encode_refs.auto.words
     (c.encode_refs.ensures.becomes s (leaving_refs c.args.space.now s c.args.decision.now c.args.d _ _

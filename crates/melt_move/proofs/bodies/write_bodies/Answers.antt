@@ -60,9 +60,8 @@ loop-d-preserved g c =
     let more = c.in_ok-write_body.ensures in
     record {
       written = λ s image decided shows.
-          bodies_shown s (home_by s.word c.args.decision.now) c.args.disk.now.end c.loop-d.disk.end
-          c.args.decision.now.choice.leaving.items c.deref-d-items.result.now c.loop-d.d-index _ _ _ image
-          c.deref-d-items.ensures.value c.loop-d-test.true before.end (before.written s image decided shows)
+          bodies_shown _ _ _ c.deref-d-items.ensures.value c.loop-d-test.true before.end
+          (before.written s image decided shows)
           (λ mid now. more.written s mid (departs_in c.args.space.now s c.args.decision.now c.deref-d-items.result.now
           c.loop-d.d-index _ decided room c.deref-d-items.ensures.value c.loop-d-test.true) now);
       writes = rises_more c.loop-d.d-index (g.D.StaleDisk.writes c.args.disk.now.disk.now)

@@ -11,9 +11,8 @@ write_body-requires-clause-lies g c = λ lifetimes outlive.
 
 pub returns-clause-written : goal.returns-clause-written
 returns-clause-written g c =
-    body_shown c.write_body.result c.args.space.now c.args.decision.now c.args.d c.args.disk.now.end c.home_of.result
-    c.encode_slots.new.slots _ _ c.requires.end c.home_of.ensures (search rules) c.encode_slots.ensures.encodes
-    c.write_body.ensures.written
+    body_shown c.write_body.result c.args.decision.now c.args.d c.encode_slots.new.slots _ _ c.requires.end
+    c.home_of.ensures (search rules) c.encode_slots.ensures.encodes c.write_body.ensures.written
 
 pub returns-clause-keeps : goal.returns-clause-keeps
 returns-clause-keeps g c = record {

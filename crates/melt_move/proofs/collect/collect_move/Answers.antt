@@ -144,7 +144,7 @@ returns-clause-moves g c =
           let there = formed_same c.args.heap c.prepare.new.heap before maps c.args.held.now disk formed in
           let out = c.in-Ok-carry_out.ensures.carries maps disk end shows
           (maps_same c.args.heap c.prepare.new.heap before maps names) there in
-          moved_same c.args.heap c.prepare.new.heap before maps disk _ c.args.held.now c.carry_out.new.held _ _ _
+          moved_same c.args.heap c.prepare.new.heap before
           (has_moved maps disk c.prepare.new.heap _ c.args.held.now c.carry_out.new.held c.in-Ok.prepared.0 _ _ decided
           there
           out _ c.used.ensures.value refl (let len = c.len.ensures in let ok = c.in-Ok.prepared.0.choice.leaving.ok.0 in

@@ -64,8 +64,7 @@ loop-g-preserved g c =
           subst (λ (home : ℕ). home_name now home ≡ Some w.in-Some.number) there
           (home_set c.loop-g.names now c.loop-g.home w.in-Some.number w.set.ensures.names) in
           let more : NamesFirst homes (i + 1) number old (home_name now) =
-          names_more homes i w.in-Some.number _ c.get.result number old (home_name c.loop-g.names) (home_name now) at
-          c.loop-g.invariant.names c.get.ensures w.in-Some.is here
+          names_more (home_name now) at c.loop-g.invariant.names c.get.ensures w.in-Some.is here
           (λ q other. home_set_others c.loop-g.names now c.loop-g.home w.in-Some.number q w.set.ensures.names
           (λ same. other (same ∙ there))) in
           let falls = spare_falls _ c.loop-g.names.spare now.spare w.set.ensures.spare in
@@ -78,8 +77,7 @@ loop-g-preserved g c =
           }
       | in_default w ↦
           let same : NamesFirst homes (i + 1) number old (home_name c.loop-g.names) =
-          names_same homes i _ c.get.result number old (home_name c.loop-g.names) at c.loop-g.invariant.names
-          c.get.ensures w.in_default.is in
+          names_same at c.loop-g.invariant.names c.get.ensures w.in_default.is in
           record {
             home_is = next;
             names = subst (λ (n : NamedHomes). NamesFirst homes (i + 1) number old (home_name n)) (sym w.names-is) same;

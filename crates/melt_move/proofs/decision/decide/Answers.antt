@@ -24,9 +24,8 @@ returns-clause-decides g c = λ maps disk end formed.
     let live = c.in_ok-live.ensures.reaches maps disk formed in
     let seen = seen_live c.args.heap.now c.args.held.now disk c.in_ok-live.live live in
     let chosen = c.in_ok-choice.ensures.chooses s seen live in
-    is_decision maps c.args.heap.now c.args.held.now disk c.in_ok-live.live c.in_ok-choice.choice c.in_ok-homes.homes
-    c.requires.settled formed live chosen (c.in_ok-homes.ensures.gives s c.in_ok-live.live seen chosen)
-    (c.in_ok-homes.ensures.first ∙ sym end)
+    is_decision c.args.heap.now c.args.held.now disk c.requires.settled formed live chosen
+    (c.in_ok-homes.ensures.gives s c.in_ok-live.live seen chosen) (c.in_ok-homes.ensures.first ∙ sym end)
 
 -- what was found takes no more words than all that can be reached
 few : (g : Over) (c : In_ok-live g) (objects : ℕ) → CountsReached c.args.heap.now c.args.held.now objects

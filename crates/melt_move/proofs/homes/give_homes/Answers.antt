@@ -1,5 +1,4 @@
 use Rattle.std.proofs.Common.{length, sym, subst}
-use Rattle.melt_space.specs.Space.{word_at}
 use Rattle.melt_move.specs.GivingHomes.{HasMarks}
 use Rattle.melt_move.specs.Plans.{AreDepartures}
 use Rattle.melt_move.proofs.Giving.{gives_new, only_leaving}
@@ -11,8 +10,7 @@ give_leaving-requires-clause-chosen g c =
 
 pub give_named-requires-clause-leaving : goal.give_named-requires-clause-leaving
 give_named-requires-clause-leaving g c =
-    only_leaving c.args.space.now c.requires.0 (word_at c.args.space.now) c.args.choice.now.leaving.items
-    (length c.args.choice.now.leaving.items) c.in_ok-giving.giving c.give_leaving.new.self.homes
+    only_leaving c.args.choice.now.leaving.items (length c.args.choice.now.leaving.items)
     (c.in_ok-giving.ensures.all c.requires.0 c.requires.2) c.in_ok-giving.ensures.nobody
     c.in_ok-give_leaving.ensures.gives
 
@@ -31,6 +29,5 @@ returns-clause-gives g c = λ s live seen is.
     let has = c.in_ok-give_leaving.ensures.all s (c.in_ok-giving.ensures.all s seen) (live, is) in
     let marks = subst (HasMarks s) (sym c.deref-2.ensures.value)
     (c.in_ok-marks.ensures.marks s seen (subst (AreDepartures s) (sym c.deref.ensures.value) is.leave)) in
-    gives_new c.args.space.now s c.args.choice.now c.deref-2.result.now _ _ c.give_named.new.self
-    (c.in_ok-give_named.ensures.all s has (live, is) marks) (live, is) marks c.in_ok-give_leaving.ensures.gives
-    c.in_ok-give_named.ensures.gives
+    gives_new (c.in_ok-give_named.ensures.all s has (live, is) marks) (live, is) marks
+    c.in_ok-give_leaving.ensures.gives c.in_ok-give_named.ensures.gives

@@ -31,8 +31,7 @@ returns-in-Move-clause-formed g c =
     (λ (done : Heap × Journal). Moves c.args.heap done.0 c.args.held.now c.collect_move.new.held c.args.disk.now.end
     c.collect_move.new.disk.end before after done.1)
     (λ (done : Heap × Journal). IsFormedOn done.0 c.collect_move.new.held c.collect_move.new.disk.end)
-    (λ done moves. formed_moved c.args.heap done.0 c.args.held.now c.collect_move.new.held c.args.disk.now.end
-    c.collect_move.new.disk.end before after done.1 c.requires.formed moves) c.collect_move.ensures.moves
+    (λ done moves. formed_moved c.requires.formed moves) c.collect_move.ensures.moves
 
 pub returns-in-Move-clause-visits : goal.returns-in-Move-clause-visits
 returns-in-Move-clause-visits g c =
@@ -57,11 +56,9 @@ returns-in-Ok g c =
     let writes : ℕ = g.D.StaleDisk.writes c.args.disk.now.disk.now in
     record {
       collects =
-          collects_copied phase c.args.heap c.collect_copy.new.heap c.args.held.now c.collect_copy.new.held end end
-          image image journal copying (record { collects = collected; end_stays = refl; image_stays = refl });
+          collects_copied phase copying (record { collects = collected; end_stays = refl; image_stays = refl });
       formed =
-          formed_copied c.args.heap c.collect_copy.new.heap c.args.held.now c.collect_copy.new.held end phase journal
-          formed collected;
+          formed_copied formed collected;
       few = omega (arith, stubs);
       writes = subst (λ (n : ℕ). RisesBy n writes writes) none refl;
       fits = λ moving. absurd (subst IsCopying moving copying);
@@ -87,8 +84,7 @@ returns-in-Err g c =
       visits = copying_visits c.args.phase c.args.heap c.args.held.now c.args.steps.now c.collect_copy.new.steps copying
           c.collect_copy.ensures.visits;
       refused =
-          refuses_copied c.args.phase c.args.heap c.args.held.now c.collect_copy.new.held c.args.disk.now
-          c.args.disk.now (NoMemory c.collect_copy.new.heap) copying (record {
+          refuses_copied c.args.phase copying (record {
             no_memory = ap NoMemory stays;
             registers_stay = c.in-Err.ensures.registers_stay;
             end_stays = refl;

@@ -49,8 +49,7 @@ returns-in_err-heap-clause-refused g c =
     subst (λ (p : Phase). IsRefusedIn p c.settle.new.heap c.args.held.now c.collect_in.new.held c.settle.new.space
     c.collect_in.new.disk c.in_err-heap.field-0.0) c.phase-phase.ensures c.in_err-heap.ensures.refused in
     let exit = err_from_is_err_and c.from_residual.result c.from_residual.ensures.1 in
-    rw (exit.1, exit.2) (refused_settled image writes phase c.args.heap c.args.held.now c.collect_in.new.held
-    c.args.disk.now c.collect_in.new.disk c.in_err-heap.field-0.0 (record {
+    rw (exit.1, exit.2) (refused_settled c.in_err-heap.field-0.0 (record {
       mid = c.settle.new.heap;
       between = c.settle.new.space;
       settles = settled_to g ok;

@@ -29,5 +29,5 @@ returns-clause-written g c = λ image shows.
       some = omega (arith, is_scion.not_null);
       is = c.set_word.ensures.here ∙ c.encode_home-word.ensures;
     } in
-    stub_shows _ _ heap c.args.m c.args.home c.add-scion.result c.args.disk.now.end image shows
-    c.in_ok-write_stub.ensures.written c.requires.lies.shape c.requires.wants.within is_scion names
+    stub_shows _ _ heap c.args.m c.args.disk.now.end image shows c.in_ok-write_stub.ensures.written
+    c.requires.lies.shape c.requires.wants.within is_scion names

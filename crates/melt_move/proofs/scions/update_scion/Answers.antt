@@ -9,6 +9,5 @@ returns-clause-written g c = λ image shows.
     let wrote = c.in_ok-give_scion.ensures.written image shows in (
       wrote.0,
       wrote.1,
-      one_stub c.args.homes.now c.args.m c.give_scion.new.heap c.args.disk.now.end c.new_home-home.result image wrote.0
-          c.new_home-home.ensures c.if-home-eq0.false wrote.2,
+      one_stub c.args.homes.now c.new_home-home.ensures c.if-home-eq0.false wrote.2,
     )

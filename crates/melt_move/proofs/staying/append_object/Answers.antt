@@ -14,14 +14,12 @@ append_words-requires g c = (
 
 pub returns-clause-object : goal.returns-clause-object
 returns-clause-object g c = λ s of to.
-    object_stays c.args.held c.args.space.now s c.args.decision.now c.args.m c.words_at-object.result.now
-    c.args.out.now.items _ _ _ _ _ _
+    object_stays c.args.held c.args.out.now.items _
     (subst (λ n. AreWords c.args.space.now c.args.m.from n c.words_at-object.result.now) c.cost.ensures
     c.words_at-object.ensures) of to refl c.move_header-header.ensures refl c.in_ok-extend_from_slice.ensures.items
     c.in_ok-append_words.ensures.extends
     (c.in_ok-append_words.ensures.stay s (object_sources c.args.space.now s c.args.decision.now c.args.m
     c.words_at-object.result.now
     (subst (λ n. AreWords c.args.space.now c.args.m.from n c.words_at-object.result.now) c.cost.ensures
-    c.words_at-object.ensures) of))
-    (c.in_ok-extend_from_slice-2.ensures.items
+    c.words_at-object.ensures) of)) (c.in_ok-extend_from_slice-2.ensures.items
     ∙ ap (λ l. c.append_words.new.out.items ++ l) (take_rest c.words_at-object.result.now (2 + c.args.m.shape.refs)))

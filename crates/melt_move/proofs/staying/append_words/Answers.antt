@@ -17,9 +17,8 @@ loop-word-preserved g c = record {
       Extends-push c.args.out.now.items c.loop-word.out.items _ c.loop-word.word-index _ c.loop-word.invariant.extends
       c.in_ok-push.ensures.items;
   stay = λ s sources.
-      related_push (StaysAs s c.args.decision.now) c.args.words.now c.args.out.now.items c.loop-word.out.items _
-      c.loop-word.word-index _ c.loop-word.invariant.extends c.in_ok-push.ensures.items
-      (c.loop-word.invariant.stay s sources)
+      related_push (StaysAs s c.args.decision.now) c.args.words.now _ c.loop-word.invariant.extends
+      c.in_ok-push.ensures.items (c.loop-word.invariant.stay s sources)
       (c.stays_as.ensures s (source_at c.args.space.now s c.args.decision.now c.args.words.now c.loop-word.word-index
       sources (omega arith)));
   visits = omega (arith, c.loop-word.invariant.visits, c.tick.ensures);

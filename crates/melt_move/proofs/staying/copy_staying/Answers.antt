@@ -49,8 +49,7 @@ loop-k-preserved g c = record {
       let at = in_order c.args.decision.now.choice.stay.moves.items c.deref-m-items.result.now c.loop-k.k _
       c.deref-m-items.ensures.value c.loop-k-test.true in
       let stays = stays_in c.args.space.now s c.args.decision.now c.loop-k.k _ decided c.requires.room at in
-      stand_more c.args.space.now s c.args.decision.now c.loop-k.out.items c.append_object.new.out.items c.loop-k.k _
-      stays (c.loop-k.invariant.stand s decided) at c.in_ok-append_object.ensures.extends
+      stand_more stays (c.loop-k.invariant.stand s decided) at c.in_ok-append_object.ensures.extends
       (c.in_ok-append_object.ensures.object s stays);
   visits =
       let more = next g (goal.at.loop-k-preserved g c).After-tick in

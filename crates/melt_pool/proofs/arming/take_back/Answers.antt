@@ -50,12 +50,10 @@ loop-k-preserved g c =
       many = (let more : length c.push_reserved.new.self.items ≡ length c.loop-k.states.items + 1 =
           ap length c.push_reserved.ensures.items ∙ length-append c.loop-k.states.items (state ∷ []) in
           omega (arith, more, before));
-      brought = one_brought olds c.loop-k.states.items c.push_reserved.new.self.items k m state i.brought before
-          c.push_reserved.ensures.items at
+      brought = one_brought olds c.loop-k.states.items {state = state} i.brought before c.push_reserved.ensures.items at
           (record { worker = worker; there = c.disarm-reader.ensures.reader; state = refl });
       room = c.push_reserved.ensures.capacity ∙ i.room;
-      reads = reads_one g.D.Reader.RecordReader.faults olds k _ _ _ m worker i.reads at c.disarm-reader.ensures.reader
-          c.give_back.ensures.read_faults;
+      reads = reads_one olds k i.reads at c.disarm-reader.ensures.reader c.give_back.ensures.read_faults;
       image = c.give_back.ensures.image ∙ i.image;
       count = c.give_back.ensures.count ∙ i.count;
       lends = c.give_back.ensures.lends ∙ i.lends;

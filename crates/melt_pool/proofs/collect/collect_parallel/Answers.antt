@@ -41,10 +41,9 @@ collects : (g : Over) (c : In-Ok g) → CollectsCore (phase_done c.args.force c.
 collects g c =
     parts_collected (phase_done c.args.force c.args.collector.now.plan.next)
     (shown_by g.D.StaleDisk.image c.args.space.now) (shown_by g.D.StaleDisk.image c.collect_heap.new.space)
-    c.args.machine.heap c.in-Ok.heap c.args.machine.pass c.args.machine.registers.items c.deref_mut.result.now
-    c.collect_heap.new.registers (after g c) c.args.collector.now c.collect_heap.new.collector
-    c.deref_mut.ensures.value c.collect_heap.auto.registers (returned g c) c.args.machine.nameless (left_so g c)
-    c.in-Ok.ensures.collected c.requires.may
+    c.args.machine.pass c.args.collector.now c.collect_heap.new.collector c.deref_mut.ensures.value
+    c.collect_heap.auto.registers (returned g c) c.args.machine.nameless (left_so g c) c.in-Ok.ensures.collected
+    c.requires.may
 
 pub invariant_of-result : goal.invariant_of-result
 invariant_of-result g c =
@@ -52,11 +51,7 @@ invariant_of-result g c =
     ap length (returned g c) ∙ (c.collect_heap.auto.registers ∙ ap length c.deref_mut.ensures.value) in
     record {
       nameless = left_so g c;
-      away = away_collected (phase_done c.args.force c.args.collector.now.plan.next)
-          (shown_by g.D.StaleDisk.image c.args.space.now) (shown_by g.D.StaleDisk.image c.collect_heap.new.space)
-          (parallel_view c.args.machine) (parts_view c.in-Ok.heap c.args.machine.pass (after g c))
-          c.args.machine.registers.items (after g c) c.args.machine.mutators.items c.args.collector.now
-          c.collect_heap.new.collector same c.requires.may (collects g c) c.args.machine.away;
+      away = away_collected (after g c) same c.requires.may (collects g c) c.args.machine.away;
       none_stored = c.args.machine.none_stored;
     }
 
@@ -85,10 +80,8 @@ returns-in-Err-DiskFull g c =
     rw c.in-Err-DiskFull.field-0-is record {
       so = record {
         collected = tt;
-        refused = parts_full phase shown later c.args.machine.heap c.in-Err-DiskFull.heap c.args.machine.pass
-            c.args.machine.registers.items c.deref_mut.result.now c.left_of.result c.in-Err-DiskFull.full
-            c.deref_mut.ensures.value c.args.machine.nameless refused c.requires.may there
-            c.left_of.ensures.history;
+        refused = parts_full phase shown later c.left_of.result c.in-Err-DiskFull.full c.deref_mut.ensures.value
+            c.args.machine.nameless refused c.requires.may there c.left_of.ensures.history;
         stores = c.left_of.ensures.log ∙ c.args.machine.none_stored;
         journal_stays = c.in-Err-DiskFull.ensures.journal_stays;
         failed = λ left is. absurd (cc);

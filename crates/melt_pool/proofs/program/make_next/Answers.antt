@@ -28,8 +28,7 @@ returns-in-Running-Some-Collect-clause-works g c script works =
 pub returns-in-Running-Some-Collect-clause-goes_on : goal.returns-in-Running-Some-Collect-clause-goes_on
 returns-in-Running-Some-Collect-clause-goes_on g c script works =
     let runs : c.args.state.now.mode ≡ Running = search rules in
-    asked_goes c.args.every script c.args.epoch.now.words c.args.m.now c.wait_for.new.m c.args.state.now
-    c.wait_for.new.state Collecting works c.wait_for.ensures.seated c.wait_for.ensures.asked c.wait_for.ensures.waits
+    asked_goes c.args.every Collecting works c.wait_for.ensures.seated c.wait_for.ensures.asked c.wait_for.ensures.waits
     (sym (ap owes runs)) (collecting_few c.args.state.now runs)
 
 pub returns-in-Running-Some-Collect-clause-caused : goal.returns-in-Running-Some-Collect-clause-caused
@@ -103,10 +102,8 @@ returns-in_default-clause-goes_on g c script works =
           absurd
           (runs_some s.mode s.op w.in_default.is-0 w.in_default.is-1 c.requires.works.1.program.fits)
       | in_default-via-in_default w ↦
-          asked_goes c.args.every script c.args.epoch.now.words c.args.m.now c.wait_for-in_default.new.m s
-          c.wait_for-in_default.new.state Silent works c.wait_for-in_default.ensures.seated
-          c.wait_for-in_default.ensures.asked c.wait_for-in_default.ensures.waits
-          (due_owes s.mode c.requires.goes w.in_default.not-Running-0)
+          asked_goes c.args.every Silent works c.wait_for-in_default.ensures.seated c.wait_for-in_default.ensures.asked
+          c.wait_for-in_default.ensures.waits (due_owes s.mode c.requires.goes w.in_default.not-Running-0)
           (silent_few s c.requires.goes w.in_default.not-Running-0)
     ]
 

@@ -34,8 +34,6 @@ loop-is_announced-preserved g c =
       reader = c.make_next.ensures.reader;
       thread = c.make_next.ensures.thread ∙ before.thread;
       goes_on = λ script works.
-          goes_then c.args.every script c.args.m.now c.loop-is_announced.m c.make_next.new.m c.args.state.now
-          c.loop-is_announced.state c.make_next.new.state (before.goes_on script works)
-          (c.make_next.ensures.goes_on script (before.works script works));
+          goes_then (before.goes_on script works) (c.make_next.ensures.goes_on script (before.works script works));
       caused = λ goes. c.make_next.ensures.caused;
     }

@@ -32,10 +32,7 @@ are_armed : (g : Over) (c : After-hand_out g) → AreArmed g.D.Reader.RecordRead
     c.hand_out.new.mutators
 are_armed g c =
     let r = c.requires.ready in
-    armed g.D.Reader.RecordReader.image g.D.Reader.RecordReader.faults (g.D.StaleDisk.image c.args.space.now.disk.now)
-    (parts_view c.args.paused.heap c.args.paused.pass c.args.registers.now) c.args.states.now.items c.args.registers.now
-    r.before c.args.mutators.now c.hand_out.new.mutators r.away (c.requires.as_many ∙ r.lent.count) r.lent
-    c.hand_out.ensures.handed
+    armed r.away (c.requires.as_many ∙ r.lent.count) r.lent c.hand_out.ensures.handed
 
 -- and there is one at least
 some : (g : Over) (c : After-hand_out g) → 1 ≤ length c.hand_out.new.mutators
@@ -189,12 +186,11 @@ returns-clause-lost g c =
     let at = goal.at.returns-clause-lost g c in
     let may = c.requires.may in
     leaves_lost g.D.Reader.RecordReader.image g.D.Reader.RecordReader.faults
-    (shown_by g.D.StaleDisk.image c.args.space.now)
-    c.args.paused.told c.args.paused.heap c.args.paused.pass c.args.registers.now c.args.states.now.items
-    c.hand_out.new.mutators c.requires.nameless (are_armed g at.After-hand_out) (some g at.After-hand_out) c.args.every
-    c.in_ok-paused.paused.heap c.in_ok-paused.paused.pass c.go_on.new.mutators (rest g at.After-hand_out)
-    c.take_back.new.states.items c.take_back.new.registers c.take_back.new.mutators c.take_back.ensures.disarmed may.0
-    may.1 c.args.first c.in_ok-paused.lacks may.2 (ended g at.In_ok-paused)
+    (shown_by g.D.StaleDisk.image c.args.space.now) c.args.paused.told c.args.paused.heap c.args.paused.pass
+    c.args.registers.now c.args.states.now.items c.hand_out.new.mutators c.requires.nameless
+    (are_armed g at.After-hand_out) (some g at.After-hand_out) c.args.every c.in_ok-paused.paused.heap
+    c.in_ok-paused.paused.pass c.go_on.new.mutators (rest g at.After-hand_out) c.take_back.ensures.disarmed may.0 may.1
+    c.args.first c.in_ok-paused.lacks may.2 (ended g at.In_ok-paused)
     (leaves_ends g.D.Reader.RecordReader.image g.D.Reader.RecordReader.faults
     (shown_by g.D.StaleDisk.image c.args.space.now)
     c.args.paused.told c.args.paused.heap c.args.paused.pass c.args.registers.now c.args.states.now.items
@@ -202,9 +198,7 @@ returns-clause-lost g c =
     c.in_ok-paused.paused.heap c.in_ok-paused.paused.pass c.go_on.new.mutators (rest g at.After-hand_out) c.args.first
     c.in_ok-paused.lacks (ended g at.In_ok-paused) c.take_back.new.states.items c.take_back.new.registers
     c.take_back.new.mutators
-    c.take_back.ensures.disarmed (sized g at.After-hand_out) may.0 may.1 may.2)
-    (g.D.StaleDisk.read_faults c.args.space.now.disk.now) (g.D.StaleDisk.read_faults c.take_back.new.space.disk.now)
-    c.take_back.ensures.read_faults
+    c.take_back.ensures.disarmed (sized g at.After-hand_out) may.0 may.1 may.2) c.take_back.ensures.read_faults
 
 pub returns-clause-shown : goal.returns-clause-shown
 returns-clause-shown g c =

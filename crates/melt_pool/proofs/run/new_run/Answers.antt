@@ -18,8 +18,7 @@ returns-clause-stands g c = λ shown ends limits some.
     let n : ℕ = length c.args.trace.now.programs in
     let few : n ≤ 8 =
     omega (arith, m.away.count, m.away.few, ap length new.registers, length-replicate n no_registers) in
-    new_run_stands c.args.told c.args.trace.now c.args.config shown c.in_ok-states._entries m.heap m.registers.items
-    (row_of parallel_view (record {
+    new_run_stands shown (row_of parallel_view (record {
       machine = m;
       states = c.in_ok-states.states;
       collector = c.new.result;

@@ -91,9 +91,8 @@ returns-in-Err-Failed-clause-so g c =
       count = c.lend_all.ensures.count;
       lost = tt;
       stopped = λ told script config before.
-          stands_failed told script config (shown_by g.D.StaleDisk.image c.args.space.now)
-          (shown_by g.D.StaleDisk.image c.lend_all.new.space) (row_of parallel_view c.args.run) c.left_of-left.result
-          ended before.1 (c.left_of-left.ensures.heap, c.left_of-left.ensures.history) (record {
+          stands_failed (shown_by g.D.StaleDisk.image c.lend_all.new.space) before.1
+          (c.left_of-left.ensures.heap, c.left_of-left.ensures.history) (record {
             left_is = c.halt_run-ended.ensures.left;
             states = c.halt_run-ended.ensures.states;
             journal = ap (λ (v : Vec Journal Global). v.items) c.halt_run-ended.ensures.journal;

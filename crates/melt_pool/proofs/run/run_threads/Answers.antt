@@ -27,8 +27,7 @@ returns-clause-has_run g c =
     (c.in_ok-run.ensures.stands (shown_by g.D.StaleDisk.image c.args.space.now) c.requires.end c.requires.limit
     (λ is. sym c.tells.ensures ∙ is)) in
     IfOk-weaker c.run_epochs.result _ _
-    (λ done has told some. run_as_told (g.D.StaleDisk.image c.args.space.now.disk.now) told c.args.trace.now
-    c.args.config (shown_by g.D.StaleDisk.image c.run_epochs.new.space) done.0 done.1 some
+    (λ done has told some. run_as_told (g.D.StaleDisk.image c.args.space.now.disk.now) told some
     (has is_told c.args.trace.now c.args.config begun)) c.run_epochs.ensures.has_run
 
 pub returns-clause-lends : goal.returns-clause-lends

@@ -56,18 +56,14 @@ returns-clause-runs g c =
           subst (λ (x : Mutator _). Works script words x (made_again state)) (sym is)
           (works_with script words m (made_again state) (Some (record worker { state = None }))
           (subst (λ (y : ThreadState). Works script words m (made_again y)) same works)) in
-          has_run g.R.RecordReader.faults c.args.epoch.now.end c.args.every script words s c.run_program.new.state m r
-          c.set_reader-2.new.self (Some (record worker { state = None })) back now n_is
+          has_run g.R.RecordReader.faults c.args.epoch.now.end m (Some (record worker { state = None })) now n_is
           (c.run_program.ensures.works script began) c.run_program.ensures.waits
           (λ over. (c.run_program.ensures.ended (subst (λ (y : ThreadState). IsEnded y.mode) same over)).0 ∙ sym same)
           (λ over.
           let as_was = c.run_program.ensures.ended (subst (λ (y : ThreadState). IsEnded y.mode) same over) in
-          back_as_was m r c.set_reader-2.new.self worker back state c.run_program.new.state there had (as_was.1
-          ∙ is) now
-          n_is as_was.0)
-          (λ goes. c.run_program.ensures.ends script began
-          (λ over. goes (subst (λ (y : ThreadState). IsEnded y.mode) (sym same) over)))
-          (subst
+          back_as_was m there had (as_was.1
+          ∙ is) now n_is as_was.0) (λ goes. c.run_program.ensures.ends script began
+          (λ over. goes (subst (λ (y : ThreadState). IsEnded y.mode) (sym same) over))) (subst
           (λ (x : Mutator _). GoesOn c.args.every script x r s c.run_program.new.state) is
           (subst (λ (y : ThreadState). GoesOn c.args.every script c.set_reader.new.self r y c.run_program.new.state)
           (sym same) (c.run_program.ensures.goes_on script began)))

@@ -1,6 +1,5 @@
 -- What was planned for the heap and the registers was made of them, whatever stands beside the heap.
 use Rattle.std.proofs.Common.{sym, ◌∙◌}
-use Rattle.melt_move.specs.Planned.{phase_done}
 use Rattle.melt_safepoint.specs.Shown.{shown_by}
 use Rattle.melt_safepoint.proofs.Gathering.{collects_heap, leaves_planned, may_formed, when_pushed}
 use Rattle.melt_safepoint.proofs.Refused.{is_full}
@@ -12,31 +11,22 @@ collect_uncounted-requires-clause-formed g c κs within =
 
 pub returns-in-Ok-clause-collected : goal.returns-in-Ok-clause-collected
 returns-in-Ok-clause-collected g c =
-    collects_heap (phase_done c.args.force c.args.collector.now.plan.next)
-    (shown_by g.D.StaleDisk.image c.args.space.now) (shown_by g.D.StaleDisk.image c.collect_uncounted.new.space)
-    c.args.heap c.in-Ok.heap c.args.registers.now c.collect_uncounted.new.registers c.in-Ok.journal
-    c.args.collector.now (record { journal = c.push.new.self; plan = c.collect_uncounted.new.plan })
-    c.in-Ok.ensures.collects
-    (record {
+    collects_heap (shown_by g.D.StaleDisk.image c.args.space.now)
+    (shown_by g.D.StaleDisk.image c.collect_uncounted.new.space) c.args.collector.now
+    (record { journal = c.push.new.self; plan = c.collect_uncounted.new.plan }) c.in-Ok.ensures.collects (record {
       threads = c.collect_uncounted.auto.registers;
       before = c.in-Ok.ensures.before;
       after = c.in-Ok.ensures.after;
-    })
-    c.in-Ok.ensures.fits c.in-Ok.ensures.keeps.limit c.in-Ok.ensures.keeps.tells
+    }) c.in-Ok.ensures.fits c.in-Ok.ensures.keeps.limit c.in-Ok.ensures.keeps.tells
     (when_pushed c.push.result c.push.new.self.items c.args.collector.now.journal.items _
     (sym c.is_err.ensures.value ∙ c.if-is_err.false) c.push.ensures.items) c.in-Ok.ensures.plans
 
 pub returns-in-Ok-clause-leaves : goal.returns-in-Ok-clause-leaves
 returns-in-Ok-clause-leaves g c =
-    leaves_planned (phase_done c.args.force c.args.collector.now.plan.next)
-    (shown_by g.D.StaleDisk.image c.args.space.now) (shown_by g.D.StaleDisk.image c.collect_uncounted.new.space)
-    c.args.heap c.in-Ok.heap c.args.registers.now c.collect_uncounted.new.registers c.in-Ok.journal c.requires
-    c.in-Ok.ensures.collects
+    leaves_planned (shown_by g.D.StaleDisk.image c.args.space.now)
+    (shown_by g.D.StaleDisk.image c.collect_uncounted.new.space) c.requires c.in-Ok.ensures.collects
 
 pub returns-in-Err-DiskFull-clause-refused : goal.returns-in-Err-DiskFull-clause-refused
 returns-in-Err-DiskFull-clause-refused g c =
     let refused = rw c.in-Err-DiskFull.field-0-is at c.in-Err-DiskFull.ensures.refused in
-    is_full (phase_done c.args.force c.args.collector.now.plan.next) g.D.StaleDisk.image g.D.StaleDisk.writes
-    c.args.heap c.args.registers.now c.collect_uncounted.new.registers c.args.space.now
-    c.collect_uncounted.new.space c.in-Err-DiskFull.heap c.in-Err-DiskFull.full refused
-    c.in-Err-DiskFull.ensures.keeps.limit c.in-Err-DiskFull.ensures.keeps.tells
+    is_full refused c.in-Err-DiskFull.ensures.keeps.limit c.in-Err-DiskFull.ensures.keeps.tells

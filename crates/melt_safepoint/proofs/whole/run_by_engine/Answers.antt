@@ -70,7 +70,7 @@ pub returns-clause-counts : goal.returns-clause-counts
 returns-clause-counts g c =
     let at = (goal.at.returns-clause-counts g c).Joined-run_all in
     both_ok c.report.result _ _ _
-    (λ done lost halts. counts_faults c.args.run.states.items c.match-run_all.ended done.0 _ _ _ _
+    (λ done lost halts. counts_faults c.args.run.states.items c.match-run_all.ended done.0 _ _ _
     c.requires.begins.none_lost c.run_all.ensures.count (counted g at) lost halts)
     c.report.ensures.lost c.report.ensures.halt
 
@@ -92,9 +92,8 @@ pub returns-clause-lends : goal.returns-clause-lends
 returns-clause-lends g c =
     let at = (goal.at.returns-clause-lends g c).Joined-run_all in
     IfOk-weaker c.report.result _ _
-    (λ done journal n each script ends. counts_lends n script done.0 _ _
-    (journal_of (row_of g.E.Machine.view c.args.run)) c.match-run_all.ended.journal.items c.requires.begins.none_made
-    journal (lent g at n each) (λ none. c.run_all.ensures.idle (ends none))) c.report.ensures.journal
+    (λ done journal n each script ends. counts_lends script done.0 c.requires.begins.none_made journal
+    (lent g at n each) (λ none. c.run_all.ensures.idle (ends none))) c.report.ensures.journal
 
 -- what was stored of the history
 stored : (g : Over) (c : Joined-run_all g)

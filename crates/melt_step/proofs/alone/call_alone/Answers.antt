@@ -36,9 +36,7 @@ event_makes {image} {before} {finish} {u} {v} {w} {t} {o} {result} same makes ke
 
 pub advance-requires : goal.advance-requires
 advance-requires g c =
-    call_asks c.args.end (view c.args.core.now) (view c.loop-reply.core) c.args.thread c.args.state.now c.args.op
-    c.requires.ready c.loop-reply.invariant.on
-    (c.loop-reply.invariant.stands false c.requires.ready.disk
+    call_asks c.requires.ready c.loop-reply.invariant.on (c.loop-reply.invariant.stands false c.requires.ready.disk
     (under_untold c.args.end (g.R.RecordReader.image c.args.reader.now) c.requires.ready.disk c.requires.ready.ends)
     c.requires.ready.stands)
 
@@ -52,8 +50,7 @@ loop-reply-smaller g c =
 pub loop-reply-preserved : goal.loop-reply-preserved
 loop-reply-preserved g c = record {
   on =
-      call_goes (view c.args.core.now) (view c.loop-reply.core) (view c.advance.new.self) c.args.thread c.args.op _
-      c.requires.ready.disk c.requires.ready.none_forwarded c.loop-reply.invariant.on
+      call_goes c.requires.ready.none_forwarded c.loop-reply.invariant.on
       (c.in-Going.ensures.advances.over c.requires.ready.disk c.requires.ready.ends);
   stands = λ told disk under stands.
       (c.in-Going.ensures.advances.over disk under.ends).keeps told
@@ -81,10 +78,8 @@ pub returns-in-Answered-clause-called : goal.returns-in-Answered-clause-called
 returns-in-Answered-clause-called g c told disk under stands =
     let event = c.in-Answered.ensures.advances.over disk under.ends in
     let stood = c.loop-reply.invariant.stands told disk under stands in
-    call_told told disk (view c.args.core.now) (view c.loop-reply.core) (view c.advance.new.self)
-    (view c.answered.new.core) c.args.thread c.args.op c.in-Answered.reply c.args.state.now c.answered.new.state
-    c.requires.ready.waits c.requires.ready.next c.requires.ready.no_collect c.loop-reply.invariant.on stood
-    (event.keeps told
+    call_told (view c.answered.new.core) c.requires.ready.waits c.requires.ready.next c.requires.ready.no_collect
+    c.loop-reply.invariant.on stood (event.keeps told
     (subst (λ (image : Option (List ℕ)). told ≡ true → TellsDisk image disk)
     (sym c.loop-reply.invariant.image) under.tells)
     stood) event.others event.outcome (search rules) c.answered.ensures.drops
@@ -94,8 +89,7 @@ returns-in-Some-clause-called g c told disk under stands =
     let space = lacks_space c.in-Refused.refusal c.in-Some.need (sym c.words_lacked.ensures ∙ c.in-Some.is) in
     subst (λ (s : ThreadState). CalledOver told disk (view c.args.core.now) (view c.advance.new.self) c.args.thread
     c.args.state.now s c.args.op (Some c.in-Some.need)) (sym c.loop-reply.invariant.state)
-    (call_lacks told _ disk (view c.args.core.now) (view c.loop-reply.core) (view c.advance.new.self) c.args.thread
-    c.args.op c.in-Some.need _ c.args.state.now c.requires.ready.bounds c.requires.ready.none_forwarded
+    (call_lacks c.in-Some.need _ c.args.state.now c.requires.ready.bounds c.requires.ready.none_forwarded
     c.loop-reply.invariant.on (c.loop-reply.invariant.stands told disk under stands)
     (subst (λ (image : Option (List ℕ)). told ≡ true → TellsDisk image disk)
     (sym c.loop-reply.invariant.image) under.tells)
@@ -124,19 +118,15 @@ returns-in-None-clause-called g c told disk under stands =
     subst (λ (image : Option (List ℕ)). Underlies told c.args.end image disk)
     (sym c.loop-reply.invariant.image) under in
     let event = c.in-Refused.ensures.advances.over disk under.ends in
-    let no_pause = never_pauses _ disk (view c.args.core.now) (view c.loop-reply.core) (view c.advance.new.self)
-    c.args.thread c.args.op c.in-Refused.refusal c.requires.ready.some_forward c.loop-reply.invariant.on event.outcome
-    (sym c.words_lacked.ensures ∙ c.in-None.is) in
+    let no_pause = never_pauses _ disk (view c.advance.new.self) c.in-Refused.refusal c.requires.ready.some_forward
+    c.loop-reply.invariant.on event.outcome (sym c.words_lacked.ensures ∙ c.in-None.is) in
     subst (λ (after : ThreadState). CalledOver told disk (view c.args.core.now) (view c.refused.new.core) c.args.thread
     c.args.state.now after c.args.op None) (sym c.refused.ensures.waits)
     (subst (λ (s : ThreadState). CalledOver told disk (view c.args.core.now) (view c.refused.new.core) c.args.thread
     c.args.state.now (record s { mode = mode_for c.in-Refused.refusal }) c.args.op None)
     (sym c.loop-reply.invariant.state)
-    (call_lost told (g.R.RecordReader.image c.loop-reply.reader) disk (view c.args.core.now) (view c.loop-reply.core)
-    (view c.advance.new.self) (view c.refused.new.core) c.args.thread c.args.op c.args.state.now
-    c.in-Refused.refusal c.requires.ready.waits c.requires.ready.next no_pause c.loop-reply.invariant.on
-    (call_reads told (g.R.RecordReader.image c.loop-reply.reader) c.args.end disk (view c.args.core.now)
-    (view c.loop-reply.core) c.args.thread c.args.op c.in-Refused.refusal c.loop-reply.invariant.on seen
+    (call_lost (view c.refused.new.core) c.args.state.now c.requires.ready.waits c.requires.ready.next no_pause
+    c.loop-reply.invariant.on (call_reads c.in-Refused.refusal c.loop-reply.invariant.on seen
     (c.loop-reply.invariant.stands told disk under stands) damage) event c.refused.ensures.drops))
 
 pub returns-in-Answered-clause-makes : goal.returns-in-Answered-clause-makes

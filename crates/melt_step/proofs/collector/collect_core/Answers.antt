@@ -24,10 +24,9 @@ returns-in-Ok-clause-collected g c =
     subst (λ (core : Core). CollectsCore phase shown later (view c.args.core) (view core) c.args.collector.now
     c.collect_heap.new.collector) (sym c.begin.ensures)
     (lent_collects (view c.args.core) c.finish-heap.result.0 c.finish-heap.result.1 shown c.finish-heap.ensures.rests
-    c.finish-heap.ensures.finished c.requires phase later c.in-Ok.heap c.registers-registers.result.now
-    c.collect_heap.new.registers c.args.collector.now c.collect_heap.new.collector
-    c.registers-registers.ensures.value c.collect_heap.auto.registers c.in-Ok.ensures.collected
-    c.in-Ok.ensures.leaves)
+    c.finish-heap.ensures.finished c.requires phase later c.collect_heap.new.registers c.args.collector.now
+    c.collect_heap.new.collector c.registers-registers.ensures.value c.collect_heap.auto.registers
+    c.in-Ok.ensures.collected c.in-Ok.ensures.leaves)
 
 pub returns-in-Err-DiskFull-clause-refused : goal.returns-in-Err-DiskFull-clause-refused
 returns-in-Err-DiskFull-clause-refused g c =

@@ -58,8 +58,7 @@ makes g c shown ends shows = record {
   op = c.in-Some.op;
   was = lacking g (goal.at.After-call_alone g c).After-index_mut-state;
   next = c.in-Some.is;
-  called = called_by shown c.args.end (g.R.RecordReader.image c.args.reader.now) (view c.args.run.now.machine.core)
-      (view c.call_alone.new.core) c.args.thread c.index_mut-state.result.now c.call_alone.new.state c.in-Some.op
+  called = called_by shown c.args.thread c.index_mut-state.result.now c.call_alone.new.state c.in-Some.op
       c.call_alone.result ends shows c.call_alone.ensures.called;
   due = c.call_alone.ensures.due;
   makes = makes_by shown c.args.end (g.R.RecordReader.image c.args.reader.now) (view c.args.run.now.machine.core)

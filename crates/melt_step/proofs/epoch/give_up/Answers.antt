@@ -1,16 +1,14 @@
 -- All threads stand as they did, and are halted.
 use Rattle.std.proofs.Common.{◌≡◌, Vec, Global, ◌∙◌, ap}
 use Rattle.melt_model.specs.declared.reports.Journal.{Journal}
-use Rattle.melt_safepoint.specs.Rows.{row_of}
 use Rattle.melt_safepoint.proofs.Collected.{stands_failed}
 use Rattle.melt_safepoint.proofs.Halting.{halted_losses}
-use Rattle.melt_step.specs.Going.{core_view}
 use Rattle.melt_step.proofs.epoch.give_up.Goals as goal
 
 pub returns-clause-stands : goal.returns-clause-stands
 returns-clause-stands c = λ told script config unpaid shown stands.
-    stands_failed told script config shown shown (row_of core_view c.args.run) c.left_of.result c.halt_run.result stands
-    (c.left_of.ensures.heap, c.left_of.ensures.history ∙ c.finish-heap.ensures.finished.log) (record {
+    stands_failed shown stands (c.left_of.ensures.heap, c.left_of.ensures.history ∙ c.finish-heap.ensures.finished.log)
+    (record {
       left_is = c.halt_run.ensures.left;
       states = c.halt_run.ensures.states;
       journal = ap (λ (v : Vec Journal Global). v.items) c.halt_run.ensures.journal;

@@ -40,8 +40,7 @@ make_events-requires g c =
     let borrowed = here g at.After-index_mut-state c.requires.goes in
     let stands = c.requires.stands in
     record {
-      ready = table_ready stands.3.1 stands.3.2 stands.3.3.disk (view c.args.run.now.machine.core)
-          c.args.run.now.states.items c.args.thread _ _
+      ready = table_ready c.args.thread
           (Table_untold stands.3.0 stands.3.1 stands.3.2 stands.3.3.disk (view c.args.run.now.machine.core)
           c.args.run.now.states.items stands.3.3.table) (stands.3.3.under.ends ∙ stands.1) borrowed.0;
       goes = borrowed.1;
@@ -56,18 +55,15 @@ returns g c =
     let states : List ThreadState = c.args.run.now.states.items in
     let stands = c.requires.stands in
     record {
-      keeps = step_keeps c.args.end _ (row_of core_view c.args.run.now) _ c.args.thread s after borrowed.0 borrowed.1
+      keeps = step_keeps (row_of core_view c.args.run.now) _ c.args.thread after borrowed.0 borrowed.1
           c.make_events.ensures.step refl c.make_events.ensures.due c.make_events.ensures.makes refl refl refl refl;
       stop = stop_known (view c.args.run.now.machine.core)
           (view c.make_events.new.core) states c.args.thread s after c.requires.stop borrowed.0 borrowed.1
           c.make_events.ensures.stop;
       there = length-set states c.args.thread after;
-      nearer = step_less stands.3.0 stands.3.1 stands.3.2 stands.0 c.args.end _
-          (row_of core_view c.args.run.now)
-          (view c.make_events.new.core) c.args.thread s after stands.3.3 stands.1 borrowed.0 borrowed.1
+      nearer = step_less _ (view c.make_events.new.core) c.args.thread after stands.3.3 stands.1 borrowed.0 borrowed.1
           c.make_events.ensures.step;
-      less = step_to_do stands.3.0 stands.3.1 stands.3.2 stands.0 c.args.end _ (row_of core_view c.args.run.now)
-          (view c.make_events.new.core) c.args.thread s after stands.3.3 stands.1 borrowed.0 borrowed.1
+      less = step_to_do _ (view c.make_events.new.core) c.args.thread after stands.3.3 stands.1 borrowed.0 borrowed.1
           c.make_events.ensures.step;
       image = c.make_events.ensures.image;
       collector = refl;

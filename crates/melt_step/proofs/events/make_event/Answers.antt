@@ -18,8 +18,8 @@ use Rattle.melt_step.proofs.events.make_event.Goals as goal
 
 pub returns-in-Running-Some-Collect-clause-step : goal.returns-in-Running-Some-Collect-clause-step
 returns-in-Running-Some-Collect-clause-step g c told disk under stands =
-    waits_step told disk (view c.args.core.now) (view c.ask.new.self) c.args.thread c.args.state.now _ stands
-    c.ask.ensures (inl (c.in-Running-Some-Collect.is-0, search rules, refl))
+    waits_step c.args.thread c.args.state.now _ stands c.ask.ensures
+    (inl (c.in-Running-Some-Collect.is-0, search rules, refl))
 
 pub returns-in-Running-Some-Collect-clause-makes : goal.returns-in-Running-Some-Collect-clause-makes
 returns-in-Running-Some-Collect-clause-makes g c disk under stands =
@@ -46,9 +46,8 @@ refused-requires g c = record {
 pub returns-in-Going : goal.returns-in-Going
 returns-in-Going g c = record {
   step = λ told disk under stands.
-      goes_step told _ disk (view c.args.core.now) (view c.advance.new.self) c.args.thread c.in-Running-Some.op
-      c.args.state.now (search rules) (search rules) (search rules) stands under.tells c.requires.ready.forwards
-      (c.in-Going.ensures.advances.over disk under.ends);
+      goes_step c.args.state.now (search rules) (search rules) (search rules) stands under.tells
+      c.requires.ready.forwards (c.in-Going.ensures.advances.over disk under.ends);
   stop =
       goes_sets (view c.args.core.now) (view c.advance.new.self) c.args.state.now (search rules)
       (c.in-Going.ensures.advances.over c.requires.ready.disk c.requires.ready.ends).outcome.stop;
@@ -62,13 +61,11 @@ pub returns-in-Answered : goal.returns-in-Answered
 returns-in-Answered g c = record {
   step = λ told disk under stands.
       let event = c.in-Answered.ensures.advances.over disk under.ends in
-      told_step told disk (view c.args.core.now) (view c.advance.new.self) (view c.answered.new.core) c.args.thread
-      c.in-Running-Some.op c.in-Answered.reply c.args.state.now c.answered.new.state (search rules) (search rules)
-      (search rules) stands (event.keeps told under.tells stands) event.others event.outcome c.answered.ensures.takes
+      told_step (view c.answered.new.core) (search rules) (search rules) (search rules) stands
+      (event.keeps told under.tells stands) event.others event.outcome c.answered.ensures.takes
       c.answered.ensures.drops;
   stop =
       told_sets (view c.args.core.now) (view c.advance.new.self) (view c.answered.new.core) c.args.thread
-      c.args.state.now c.answered.new.state c.in-Answered.reply
       (c.in-Answered.ensures.advances.over c.requires.ready.disk c.requires.ready.ends).outcome.stop
       c.answered.ensures.takes c.answered.ensures.drops;
   due = c.answered.ensures.due;
@@ -93,17 +90,13 @@ returns-in-Refused g c =
           subst (TakesTurn c.args.end (g.R.RecordReader.image c.args.reader.now) (view c.args.core.now)
           (view c.refused.new.core) c.args.thread c.args.state.now) (sym c.refused.ensures.waits)
           (λ told disk under stands.
-          refused_step told (g.R.RecordReader.image c.args.reader.now) disk (view c.args.core.now)
-          (view c.advance.new.self) (view c.refused.new.core) c.args.thread c.in-Running-Some.op
-          c.args.state.now c.in-Refused.refusal (search rules) (search rules) (search rules)
-          (begins_ready told (g.R.RecordReader.image c.args.reader.now) c.args.end disk (view c.args.core.now)
-          c.args.thread c.in-Running-Some.op c.args.state.now c.in-Refused.refusal c.requires.ready (search rules)
-          under stands damage)
+          refused_step (view c.refused.new.core) c.args.state.now (search rules) (search rules) (search rules)
+          (begins_ready c.in-Refused.refusal c.requires.ready (search rules) under stands damage)
           (c.in-Refused.ensures.advances.over disk under.ends) drops);
       stop =
           subst (SetsStop (view c.args.core.now) (view c.refused.new.core)) (sym c.refused.ensures.waits)
-          (refused_sets _ c.requires.ready.disk (view c.args.core.now) (view c.advance.new.self)
-          (view c.refused.new.core) c.args.thread c.in-Running-Some.op c.args.state.now c.in-Refused.refusal
+          (refused_sets _ c.requires.ready.disk (view c.advance.new.self) c.args.thread c.in-Running-Some.op
+          c.args.state.now c.in-Refused.refusal
           (c.in-Refused.ensures.advances.over c.requires.ready.disk c.requires.ready.ends).outcome drops);
       due =
           subst (DueBy c.args.every c.args.state.now) (sym c.refused.ensures.waits)
@@ -122,9 +115,7 @@ returns-in-Refused g c =
 
 pub returns-in_default-clause-step : goal.returns-in_default-clause-step
 returns-in_default-clause-step g c told disk under stands =
-    waits_step told disk (view c.args.core.now)
-    (view c.ask-in_default.new.self) c.args.thread c.args.state.now _ stands c.ask-in_default.ensures
-    (search rules)
+    waits_step c.args.thread c.args.state.now _ stands c.ask-in_default.ensures (search rules)
 
 pub returns-in_default-clause-makes : goal.returns-in_default-clause-makes
 returns-in_default-clause-makes g c disk under stands =

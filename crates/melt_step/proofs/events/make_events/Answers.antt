@@ -31,8 +31,7 @@ last : (g : Over) (c : After-call_at_once g) (result : StepResult) → MovesOn (
     → Standing told disk (view c.args.core.now)
     → LastEvent told disk (view c.args.core.now) (view c.call_at_once.new.self) c.args.thread c.in-Some.op result
 last g c result on told disk stands =
-    last_event told disk on.more (view c.args.core.now) (view c.args.core.now) (view c.call_at_once.new.self)
-    c.args.thread c.in-Some.op result c.requires.ready.forwards
+    last_event on.more (view c.call_at_once.new.self) c.in-Some.op result c.requires.ready.forwards
     (gone_none told disk (view c.args.core.now) c.args.thread stands) on.moves
 
 -- and over the one for which the thread is ready
@@ -99,8 +98,8 @@ refused-requires-clause-no_call g c =
 
 pub returns-in-Going-clause-step : goal.returns-in-Going-clause-step
 returns-in-Going-clause-step g c told disk under stands =
-    at_once_goes told disk (view c.args.core.now) (view c.call_at_once.new.self) c.args.thread c.in-Some.op
-    c.args.state.now c.in-Some.ensures.running c.in-Some.ensures.next c.in-Some.ensures.no_collect c.requires.ready.forwards
+    at_once_goes c.args.state.now c.in-Some.ensures.running c.in-Some.ensures.next c.in-Some.ensures.no_collect
+    c.requires.ready.forwards
     (last g (goal.at.returns-in-Going-clause-step g c).After-call_at_once Going c.in-Going.ensures told disk stands)
 
 pub returns-in-Going-clause-stop : goal.returns-in-Going-clause-stop
@@ -112,34 +111,30 @@ returns-in-Going-clause-stop g c =
 
 pub returns-in-Going-clause-makes : goal.returns-in-Going-clause-makes
 returns-in-Going-clause-makes g c disk under stands =
-    all_made true disk (view c.args.core.now) (view c.call_at_once.new.self) c.args.thread c.in-Some.op Going
-    (last g (goal.at.returns-in-Going-clause-makes g c).After-call_at_once Going c.in-Going.ensures true disk stands) refl
+    all_made
+    (last g (goal.at.returns-in-Going-clause-makes g c).After-call_at_once Going c.in-Going.ensures true disk stands)
+    refl
 
 pub returns-in-Answered-clause-step : goal.returns-in-Answered-clause-step
 returns-in-Answered-clause-step g c told disk under stands =
-    at_once_told told disk (view c.args.core.now) (view c.call_at_once.new.self) (view c.answered.new.core)
-    c.args.thread c.in-Some.op c.in-Answered.reply c.args.state.now c.answered.new.state c.in-Some.ensures.running
-    c.in-Some.ensures.next c.in-Some.ensures.no_collect
+    at_once_told (view c.answered.new.core) c.in-Some.ensures.running c.in-Some.ensures.next
+    c.in-Some.ensures.no_collect
     (last g (goal.at.returns-in-Answered-clause-step g c).After-call_at_once (Answered c.in-Answered.reply)
-    c.in-Answered.ensures told disk stands)
-    c.answered.ensures.takes c.answered.ensures.drops
+    c.in-Answered.ensures told disk stands) c.answered.ensures.takes c.answered.ensures.drops
 
 pub returns-in-Answered-clause-stop : goal.returns-in-Answered-clause-stop
 returns-in-Answered-clause-stop g c =
     let at = (goal.at.returns-in-Answered-clause-stop g c).After-call_at_once in
     let event = here g at (Answered c.in-Answered.reply) c.in-Answered.ensures in
     told_sets (view c.args.core.now) (view c.call_at_once.new.self) (view c.answered.new.core) c.args.thread
-    c.args.state.now c.answered.new.state c.in-Answered.reply
-    (stops g at (Answered c.in-Answered.reply) event event.event.outcome.stop)
-    c.answered.ensures.takes c.answered.ensures.drops
+    (stops g at (Answered c.in-Answered.reply) event event.event.outcome.stop) c.answered.ensures.takes
+    c.answered.ensures.drops
 
 pub returns-in-Answered-clause-makes : goal.returns-in-Answered-clause-makes
 returns-in-Answered-clause-makes g c disk under stands past had =
     made_ended (view c.call_at_once.new.self) (view c.answered.new.core) c.args.thread c.answered.new.state.mode
     c.answered.ensures.drops past
-    (all_made true disk (view c.args.core.now) (view c.call_at_once.new.self) c.args.thread c.in-Some.op
-    (Answered c.in-Answered.reply)
-    (last g (goal.at.returns-in-Answered-clause-makes g c).After-call_at_once (Answered c.in-Answered.reply)
+    (all_made (last g (goal.at.returns-in-Answered-clause-makes g c).After-call_at_once (Answered c.in-Answered.reply)
     c.in-Answered.ensures true disk stands) refl past had)
 
 pub returns-in-Refused-clause-step : goal.returns-in-Refused-clause-step
@@ -150,8 +145,7 @@ returns-in-Refused-clause-step g c =
     let image = g.R.RecordReader.image c.args.reader.now in
     let advances : Advances c.args.end image (view c.args.core.now) (view c.call_at_once.new.self) c.args.thread
     c.in-Some.op (Refused c.in-Refused.refusal) =
-    moves_advance c.args.end image (view c.args.core.now) (view c.call_at_once.new.self) c.args.thread
-    c.in-Some.op (Refused c.in-Refused.refusal) may moves in
+    moves_advance image may moves in
     let damage : (damaged : Damage) → c.in-Refused.refusal ≡ Damaged damaged
     → IsDamage image c.args.end (view c.args.core.now) c.args.thread damaged =
     λ damaged is. absurd (no_damage c.args.end (view c.args.core.now) (view c.call_at_once.new.self) c.args.thread
@@ -159,11 +153,9 @@ returns-in-Refused-clause-step g c =
     subst (TakesTurn c.args.end image (view c.args.core.now) (view c.refused.new.core) c.args.thread
     c.args.state.now) (sym c.refused.ensures.waits)
     (λ told disk under stands.
-    refused_step told image disk (view c.args.core.now) (view c.call_at_once.new.self) (view c.refused.new.core)
-    c.args.thread c.in-Some.op c.args.state.now c.in-Refused.refusal c.in-Some.ensures.running
-    c.in-Some.ensures.next c.in-Some.ensures.no_collect
-    (begins_ready told image c.args.end disk (view c.args.core.now) c.args.thread c.in-Some.op
-    c.args.state.now c.in-Refused.refusal c.requires.ready c.in-Some.ensures.next under stands damage)
+    refused_step (view c.refused.new.core) c.args.state.now c.in-Some.ensures.running c.in-Some.ensures.next
+    c.in-Some.ensures.no_collect
+    (begins_ready c.in-Refused.refusal c.requires.ready c.in-Some.ensures.next under stands damage)
     (advances.over disk under.ends) c.refused.ensures.drops)
 
 pub returns-in-Refused-clause-stop : goal.returns-in-Refused-clause-stop
@@ -171,16 +163,13 @@ returns-in-Refused-clause-stop g c =
     let at = (goal.at.returns-in-Refused-clause-stop g c).After-call_at_once in
     let moves = only g at c.in-Refused.refusal c.in-Refused.ensures in
     subst (SetsStop (view c.args.core.now) (view c.refused.new.core)) (sym c.refused.ensures.waits)
-    (refused_sets _ c.requires.ready.disk (view c.args.core.now) (view c.call_at_once.new.self)
-    (view c.refused.new.core) c.args.thread c.in-Some.op c.args.state.now c.in-Refused.refusal
-    (moves.over c.requires.ready.disk c.requires.ready.stands).outcome c.refused.ensures.drops)
+    (refused_sets _ c.requires.ready.disk (view c.call_at_once.new.self) c.args.thread c.in-Some.op c.args.state.now
+    c.in-Refused.refusal (moves.over c.requires.ready.disk c.requires.ready.stands).outcome c.refused.ensures.drops)
 
 pub returns-in-Refused-clause-makes : goal.returns-in-Refused-clause-makes
 returns-in-Refused-clause-makes g c disk under stands past had =
     made_ended (view c.call_at_once.new.self) (view c.refused.new.core) c.args.thread _ c.refused.ensures.drops past
-    (all_made true disk (view c.args.core.now) (view c.call_at_once.new.self) c.args.thread c.in-Some.op
-    (Refused c.in-Refused.refusal)
-    (last g (goal.at.returns-in-Refused-clause-makes g c).After-call_at_once (Refused c.in-Refused.refusal)
+    (all_made (last g (goal.at.returns-in-Refused-clause-makes g c).After-call_at_once (Refused c.in-Refused.refusal)
     c.in-Refused.ensures true disk stands) refl past had)
 
 pub returns-in-Refused-clause-lost : goal.returns-in-Refused-clause-lost

@@ -91,8 +91,8 @@ returns-clause-runs g c =
       count = omega (arith, c.give_back.ensures.count, c.lend.ensures.count);
       lost = subst (CountsLosses states after _) (sym c.give_back.ensures.read_faults)
           (counts_back states after _ _ _
-          (fresh_counts states c.begin_epoch-run.result.states.items after _ _ _ _ begun.states
-          c.lend.ensures.read_faults c.in-Ok.ensures.no_fault_yet c.go_through-lacks.ensures.lost));
+          (fresh_counts begun.states c.lend.ensures.read_faults c.in-Ok.ensures.no_fault_yet
+          c.go_through-lacks.ensures.lost));
       stopped = tt;
       stop_counts = tt;
       stop_keeps = tt;

@@ -19,10 +19,8 @@ begun : (c : After-new-4) (shown : Shown)
 begun c shown =
     subst (λ (core : Core). Begins c.args.told c.args.trace.now c.args.config shown.image (view core)
     c.in_ok-states.states.items) (sym c.begin.ensures)
-    (begins_new c.args.told c.args.trace.now c.args.config c.in_ok-states.entries c.globals.result c.threads.result
-    shown.image c.in_ok-heap.heap c.in_ok-rest.rest c.in_ok-states.states.items c.requires.ranges
-    c.globals.ensures.value c.threads.ensures.count c.threads.ensures.within.1 c.in_ok-heap.ensures c.in_ok-rest.ensures
-    c.in_ok-states.ensures)
+    (begins_new c.args.told shown.image c.requires.ranges c.globals.ensures.value c.threads.ensures.count
+    c.threads.ensures.within.1 c.in_ok-heap.ensures c.in_ok-rest.ensures c.in_ok-states.ensures)
 
 pub returns-clause-stands : goal.returns-clause-stands
 returns-clause-stands c = λ shown ends limits some.

@@ -34,8 +34,7 @@ run_by_engine-requires g c κs = (
 pub returns-clause-has_run : goal.returns-clause-has_run
 returns-clause-has_run g c =
     IfOk-weaker c.run_by_engine.result _ _
-    (λ done has told some. run_as_told (g.D.StaleDisk.image c.args.space.now.disk.now) told c.args.trace.now
-    c.args.config (shown_by g.D.StaleDisk.image c.run_by_engine.new.space) done.0 done.1 some
+    (λ done has told some. run_as_told (g.D.StaleDisk.image c.args.space.now.disk.now) told some
     (subst (λ (told : Bool). HasRun told c.args.trace.now c.args.config
     (shown_by g.D.StaleDisk.image c.run_by_engine.new.space) done.0 done.1) c.tells.ensures
     (has c.tells.result c.args.trace.now c.args.config

@@ -9,16 +9,16 @@ pub returns-in-Err-Fault-clause-due : goal.returns-in-Err-Fault-clause-due
 returns-in-Err-Fault-clause-due g c =
     let f = c.in-Err-Fault.ensures.front in
     let rose = c.in-Err-Fault.ensures.fault (cc) in
-    IfOk-weaker c.line.result _ _ (λ answer h. read_failed c.args.way c.args.run _ _ f.0 answer.status answer.text.items
-    f.1 f.2 rose (record { words = refl; faults = refl; read_faults = refl }) h.0 h.1) c.line.ensures
+    IfOk-weaker c.line.result _ _ (λ answer h. read_failed c.args.way c.args.run _ f.0 f.1 f.2 rose
+    (record { words = refl; faults = refl; read_faults = refl }) h.0 h.1) c.line.ensures
 
 pub returns-in-Err-TooLong-clause-due : goal.returns-in-Err-TooLong-clause-due
 returns-in-Err-TooLong-clause-due g c =
     let f = c.in-Err-TooLong.ensures.front in
     let told = ap (λ (error : TraceError). refused_text error.line error.reason) c.too_long.ensures in
     let long = f.3.0 (cc) in
-    IfOk-weaker c.refused.result _ _ (λ answer h. too_long c.args.way c.args.run _ _ f.0 answer.status answer.text.items
-    long f.2 (record { words = refl; faults = refl; read_faults = refl }) h.0 (h.1 ∙ told)) c.refused.ensures
+    IfOk-weaker c.refused.result _ _ (λ answer h. too_long c.args.way c.args.run _ long f.2
+    (record { words = refl; faults = refl; read_faults = refl }) h.0 (h.1 ∙ told)) c.refused.ensures
 
 pub returns-in-Ok-clause-read : goal.returns-in-Ok-clause-read
 returns-in-Ok-clause-read g c =

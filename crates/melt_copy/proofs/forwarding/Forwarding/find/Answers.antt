@@ -37,7 +37,7 @@ overflow_add-self c =
     omega (arith, fits, small, c.cost.ensures)
 
 pub returns-clause-only : goal.returns-clause-only
-returns-clause-only c = find_only c.args.self.now.moves.items _ c.args.address _ _ c.in_ok-push.ensures.items
+returns-clause-only c = find_only c.args.self.now.moves.items c.args.address _ _ c.in_ok-push.ensures.items
 
 pub returns-clause-tracks : goal.returns-clause-tracks
 returns-clause-tracks c = λ s at.

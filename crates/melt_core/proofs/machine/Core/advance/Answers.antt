@@ -7,8 +7,7 @@ use Rattle.melt_core.proofs.machine.Core.advance.Goals as goal
 
 pub returns-in_default-clause-advances : goal.returns-in_default-clause-advances
 returns-in_default-clause-advances g c =
-    moves_advance c.args.end (g.R.RecordReader.image c.args.reader.now) (view c.args.self.now)
-    (view c.begin_call.new.self) c.args.thread c.args.op c.begin_call.result c.requires c.begin_call.ensures
+    moves_advance (g.R.RecordReader.image c.args.reader.now) c.requires c.begin_call.ensures
 
 pub returns-in_default-stage : goal.returns-in_default-stage
 returns-in_default-stage g c =
@@ -19,8 +18,7 @@ returns-in_default-stage g c =
     c.index.ensures
     c.in-Some.is c.in_default-stage.not-Missed c.in_default-stage.not-HeadRead in
     record {
-      advances = moves_advance c.args.end (g.R.RecordReader.image c.args.reader.now) v w c.args.thread c.args.op
-          c.after_stage.result c.requires c.after_stage.ensures;
+      advances = moves_advance (g.R.RecordReader.image c.args.reader.now) c.requires c.after_stage.ensures;
       uses = uses_nothing c.args.end v w c.args.thread c.args.op c.after_stage.result c.requires c.after_stage.ensures
           none
           (g.R.RecordReader.faults c.args.reader.now)

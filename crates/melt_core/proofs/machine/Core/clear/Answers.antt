@@ -20,9 +20,5 @@ returns c = record {
       let asks = asks_over (view c.args.self.now) c.args.thread c.args.op c.requires.asks disk stands in
       let v : View = view c.args.self.now in
       subst (λ (w : View). AdvancesOver disk v w c.args.thread c.args.op Going) (sym c.set_stage.ensures)
-      (clear_advances disk v c.set_word.new.self c.args.thread c.args.op c.args.looked.place c.args.looked.found
-      c.args.looked.target
-      c.args.looked.dst
-      c.encode_header.result c.shape.result asks c.requires.stage c.shape.ensures c.encode_header.ensures
-      c.set_word.ensures);
+      (clear_advances c.shape.result asks c.requires.stage c.shape.ensures c.encode_header.ensures c.set_word.ensures);
 }

@@ -5,8 +5,8 @@ use Rattle.melt_core.proofs.machine.Core.decode_stage.Goals as goal
 
 pub returns-clause-stage : goal.returns-clause-stage
 returns-clause-stage c =
-    behind_ok (view c.args.self.now) c.args.search c.args.end _ _ c.stage_behind.result c.in_ok-head.head
-    c.in_ok-head.ensures.ok c.stage_behind.ensures.stage
+    behind_ok (view c.args.self.now) c.args.search c.stage_behind.result c.in_ok-head.ensures.ok
+    c.stage_behind.ensures.stage
 
 pub returns-clause-damage : goal.returns-clause-damage
 returns-clause-damage c =

@@ -29,12 +29,8 @@ returns-then-is_within c = record {
           let asks = asks_over (view c.args.self.now) c.args.thread c.args.op c.requires.asks disk stands in
           let v : View = view c.args.self.now in
           subst (λ (w : View). AdvancesOver disk v w c.args.thread c.args.op Going) (sym c.set_stage.ensures)
-          (head_advances disk v c.args.thread c.args.op c.args.r c.register-address.result c.args.access
-          c.shape-shape.result
-          asks c.requires.stage c.register-address.ensures
-          (head_object disk v c.args.thread c.args.op c.args.r c.register-address.result c.args.access
-          c.shape-shape.result
-          asks c.requires.stage c.register-address.ensures c.shape-shape.ensures)
+          (head_advances asks c.requires.stage c.register-address.ensures
+          (head_object c.shape-shape.result asks c.requires.stage c.register-address.ensures c.shape-shape.ensures)
           (c.if-is_within.ensures.0 refl));
     },
     (let v : View = view c.args.self.now in
@@ -58,12 +54,9 @@ returns c = record {
         let v : View = view c.args.self.now in
         subst (λ (w : View). AdvancesOver disk v w c.args.thread c.args.op (Answered reply.Range))
         (sym c.set_call.ensures)
-        (range_advances disk v c.args.thread c.args.op c.args.r c.args.access c.shape-shape.result asks
-        c.requires.stage
+        (range_advances asks c.requires.stage
         (subst (λ a. IsObjectAt (maps v) (state disk v) a c.shape-shape.result) c.register-address.ensures
-        (head_object disk v c.args.thread c.args.op c.args.r c.register-address.result c.args.access
-        c.shape-shape.result
-        asks c.requires.stage c.register-address.ensures c.shape-shape.ensures))
+        (head_object c.shape-shape.result asks c.requires.stage c.register-address.ensures c.shape-shape.ensures))
         (λ part. let e = (c.if-is_within.ensures).1 part in cc));
   };
 }

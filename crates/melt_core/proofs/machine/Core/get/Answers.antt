@@ -20,10 +20,7 @@ returns c = record {
       (sym c.set_call.ensures)
       (subst (λ (m : View). AdvancesOver disk v (with_call m c.args.thread None) c.args.thread c.args.op
       (Answered (reply.Num c.word-number.result))) (sym c.note.ensures)
-      (get_advances disk v c.args.thread c.args.op c.args.cell.address c.args.cell.j c.number_at.result
-      c.word-number.result
-      c.args.cell.shape asks c.requires.stage c.number_at.ensures
-      (c.word-number.ensures ∙ ap (word_at v.space)
+      (get_advances asks c.requires.stage c.number_at.ensures (c.word-number.ensures ∙ ap (word_at v.space)
       (let e : _ ≡ number_place c.args.cell.address c.args.cell.shape c.args.cell.j =
       omega (arith, c.from.ensures, c.from-2.ensures) in e))));
 }

@@ -27,6 +27,4 @@ look-requires-clause-stage c = stands (goal.at.look-requires-clause-stage c).In-
 pub returns-in-Going : goal.returns-in-Going
 returns-in-Going c =
     let at = goal.at.returns-in-Going c in
-    last_on (view c.args.self.now) (view c.poll.new.self) (view c.look.new.self) c.args.thread c.args.op
-    c.look.result (Polled (LoadGlobal c.args.dst c.args.g)) (polls at.In-Going) (stands at.In-Going)
-    (polled_well (LoadGlobal c.args.dst c.args.g)) c.look.ensures
+    last_on (polls at.In-Going) (stands at.In-Going) (polled_well (LoadGlobal c.args.dst c.args.g)) c.look.ensures

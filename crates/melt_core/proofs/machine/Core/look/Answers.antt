@@ -21,8 +21,7 @@ returns-in-Stale c = record {
       let asks = asks_over (view c.args.self.now) c.args.thread c.args.op c.requires.asks disk stands in
       let v : View = view c.args.self.now in
       subst (λ (w : View). AdvancesOver disk v w c.args.thread c.args.op Going) (sym c.set_stage.ensures)
-      (look_advances disk v c.args.thread c.args.op c.args.place c.in-Stale.target c.args.dst asks c.requires.stage
-      (c.in-Stale.ensures disk));
+      (look_advances c.args.place c.args.dst asks c.requires.stage (c.in-Stale.ensures disk));
 }
 
 pub returns-in-Disk : goal.returns-in-Disk
@@ -31,8 +30,7 @@ returns-in-Disk c = record {
       let asks = asks_over (view c.args.self.now) c.args.thread c.args.op c.requires.asks disk stands in
       let v : View = view c.args.self.now in
       subst (λ (w : View). AdvancesOver disk v w c.args.thread c.args.op Going) (sym c.set_stage-in-Disk.ensures)
-      (home_advances disk v c.args.thread c.args.op c.args.place c.in-Disk.home c.args.dst asks c.requires.stage
-      (c.in-Disk.ensures disk));
+      (home_advances c.args.place c.args.dst asks c.requires.stage (c.in-Disk.ensures disk));
 }
 
 pub returns-in-Null : goal.returns-in-Null
@@ -41,8 +39,7 @@ returns-in-Null c = record {
       let asks = asks_over (view c.args.self.now) c.args.thread c.args.op c.requires.asks disk stands in
       let v : View = view c.args.self.now in
       let at = looks_at disk v c.args.thread c.args.op c.args.place c.args.dst asks c.requires.stage in
-      look_reads disk v (view c.read.new.self) c.args.thread c.args.op c.args.place c.args.dst 0 c.read.result asks
-      c.requires.stage
+      look_reads asks c.requires.stage
       (finds_null disk v c.args.thread c.args.op c.args.place c.args.dst stands at.0 at.1 (c.in-Null.ensures disk))
       (tagged_is _ _ (c.in-Null.ensures disk)) c.read.ensures;
 }
@@ -53,9 +50,7 @@ returns-in-Clean c = record {
       let asks = asks_over (view c.args.self.now) c.args.thread c.args.op c.requires.asks disk stands in
       let v : View = view c.args.self.now in
       let at = looks_at disk v c.args.thread c.args.op c.args.place c.args.dst asks c.requires.stage in
-      look_reads disk v (view c.read-in-Clean.new.self) c.args.thread c.args.op c.args.place c.args.dst
-      c.in-Clean.address
-      c.read-in-Clean.result asks c.requires.stage
-      (finds_clean disk v c.args.thread c.args.op c.args.place c.args.dst c.in-Clean.address stands at.0 at.1
-      (c.in-Clean.ensures disk)) (tagged_is _ _ (c.in-Clean.ensures disk)) c.read-in-Clean.ensures;
+      look_reads asks c.requires.stage
+      (finds_clean c.args.thread c.args.op c.args.place c.args.dst stands at.0 at.1 (c.in-Clean.ensures disk))
+      (tagged_is _ _ (c.in-Clean.ensures disk)) c.read-in-Clean.ensures;
 }

@@ -1,6 +1,6 @@
 -- The events are those of `poll`, `claim` and `fill`, each behind the one before.
 use Rattle.std.specs.Prelude.{◌≡◌, Some}
-use Rattle.melt_core.specs.declared.call.Stage.TheVariants.{Claimed, Polled}
+use Rattle.melt_core.specs.declared.call.Stage.TheVariants.{Claimed}
 use Rattle.melt_core.specs.declared.call.Task.TheVariants.{Make}
 use Rattle.melt_core.specs.Views.{stage_of, view}
 use Rattle.melt_core.proofs.AtOnce.{GoesOn, claimed_well, fewer_left, first_on, goes_there, last_on, may_on, next_on}
@@ -21,11 +21,10 @@ returns-in_default-claim c =
     let goes : GoesOn (view c.args.self.now) (view c.poll.new.self) c.args.thread c.args.op =
     first_on (view c.args.self.now) (view c.poll.new.self) c.args.thread c.args.op c.requires.asks
     c.in-Going.ensures in
-    last_on (view c.args.self.now) (view c.poll.new.self) (view c.claim.new.self) c.args.thread c.args.op
-    c.claim.result (Polled (Make c.args.dst c.args.shape)) goes
+    last_on goes
     (polled (view c.args.self.now) (view c.poll.new.self) c.args.thread c.args.op (Make c.args.dst c.args.shape)
-    c.requires.asks c.requires.first c.requires.task c.in-Going.ensures)
-    (polled_well (Make c.args.dst c.args.shape)) c.claim.ensures
+    c.requires.asks c.requires.first c.requires.task c.in-Going.ensures) (polled_well (Make c.args.dst c.args.shape))
+    c.claim.ensures
 
 pub loop-address-init : goal.loop-address-init
 loop-address-init c =
@@ -62,6 +61,4 @@ returns-in_default-fill c =
     let at = c.in-Some-Claimed in
     let stage : stage_of (view c.loop-address.self) c.args.thread
     ≡ Some (Claimed at.address at.shape at.stored at.dst) = cc in
-    last_on (view c.args.self.now) (view c.loop-address.self) (view c.fill.new.self) c.args.thread c.args.op
-    c.fill.result (Claimed at.address at.shape at.stored at.dst) c.loop-address.invariant stage
-    (claimed_well at.address at.shape at.stored at.dst) c.fill.ensures
+    last_on c.loop-address.invariant stage (claimed_well at.address at.shape at.stored at.dst) c.fill.ensures

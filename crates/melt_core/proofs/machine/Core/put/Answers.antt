@@ -19,9 +19,7 @@ returns c = record {
       (subst (λ (n : View). AdvancesOver disk v (with_call n c.args.thread None) c.args.thread c.args.op
       (Answered reply.Done))
       (sym c.note.ensures)
-      (put_advances disk v c.set_word.new.self c.args.thread c.args.op c.args.cell.address c.args.cell.j
-      c.number_at.result
-      c.args.number _ c.args.cell.shape asks c.requires.stage c.number_at.ensures
+      (put_advances asks c.requires.stage c.number_at.ensures
       (let e : _ ≡ number_place c.args.cell.address c.args.cell.shape c.args.cell.j =
       omega (arith, c.from.ensures, c.from-2.ensures) in e) c.set_word.ensures));
 }

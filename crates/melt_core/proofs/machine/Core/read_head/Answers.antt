@@ -33,9 +33,8 @@ pub returns-in-Ok-clause-uses : goal.returns-in-Ok-clause-uses
 returns-in-Ok-clause-uses g c =
     let v : View = view c.args.self.now in
     let disk = c.requires.asks.disk in
-    head_uses disk v (view c.set_stage.new.self) c.args.thread c.args.op c.args.search c.in-Ok.stage
-    c.in-Ok.ensures.stage.0 c.requires.asks.asks c.requires.stage c.set_stage.ensures (c.in-Ok.ensures.stage.2 disk)
-    c.read_at.ensures.count c.read_at.ensures.one_read
+    head_uses c.in-Ok.stage c.in-Ok.ensures.stage.0 c.requires.asks.asks c.requires.stage c.set_stage.ensures
+    (c.in-Ok.ensures.stage.2 disk) c.read_at.ensures.count c.read_at.ensures.one_read
 
 pub returns-in-Err-clause-advances : goal.returns-in-Err-clause-advances
 returns-in-Err-clause-advances g c =

@@ -20,9 +20,7 @@ slice_bounds-record-end g c =
 
 pub slice_bounds-words-end : goal.slice_bounds-words-end
 slice_bounds-words-end g c =
-    sym (front_size c.args.end (view c.args.self.now) c.args.thread c.args.op c.args.search c.args.shape
-    c.index.result.now (c.from.result + c.from-2.result) c.requires.asks c.requires.stage c.index.ensures
-    (omega (arith, c.from.ensures, c.from-2.ensures)))
+    sym (front_size c.requires.asks c.requires.stage c.index.ensures (omega (arith, c.from.ensures, c.from-2.ensures)))
 
 pub returns-then-is_err-clause-advances : goal.returns-then-is_err-clause-advances
 returns-then-is_err-clause-advances g c =
@@ -32,16 +30,14 @@ returns-then-is_err-clause-advances g c =
     (sym c.lose.ensures.over)
     (subst (Advances c.args.end image v (with_call v c.args.thread _) c.args.thread c.args.op)
     (sym c.lose.ensures.refused)
-    (head_fault c.args.end image v c.args.thread c.args.op c.args.search c.args.shape c.requires.asks
-    c.requires.stage))
+    (head_fault image c.requires.asks c.requires.stage))
 
 pub decode_rest-requires-clause-words : goal.decode_rest-requires-clause-words
 decode_rest-requires-clause-words g c =
     let whole : c.from.result + c.from-2.result ≡ c.args.shape.refs + c.args.shape.nums =
     omega (arith, c.from.ensures, c.from-2.ensures) in
     c.read_at.auto.words
-    ∙ (front_size c.args.end (view c.args.self.now) c.args.thread c.args.op c.args.search c.args.shape
-    c.index.result.now (c.from.result + c.from-2.result) c.requires.asks c.requires.stage c.index.ensures whole
+    ∙ (front_size c.requires.asks c.requires.stage c.index.ensures whole
     ∙ whole)
 
 pub returns-in-Err-clause-advances : goal.returns-in-Err-clause-advances
@@ -53,10 +49,9 @@ returns-in-Err-clause-advances g c =
     (subst (Advances c.args.end image v (with_call v c.args.thread _) c.args.thread c.args.op)
     (sym c.lose-in-Err.ensures.refused)
     (rest_damaged c.args.end image v c.args.thread c.args.op c.args.search c.args.shape c.read_at.new.words
-    (rest_read c.args.end image v c.args.thread c.args.op c.args.search c.args.shape c.index.result.now
-    c.read_at.new.words (c.from.result + c.from-2.result) c.read_at.result c.requires.asks c.requires.stage
-    c.index.ensures (omega (arith, c.from.ensures, c.from-2.ensures)) c.read_at.ensures.words
-    (sym c.is_err.ensures.value) c.if-is_err.false) c.in-Err.damaged c.in-Err.ensures.err))
+    (rest_read image c.read_at.new.words c.read_at.result c.requires.asks c.requires.stage c.index.ensures
+    (omega (arith, c.from.ensures, c.from-2.ensures)) c.read_at.ensures.words (sym c.is_err.ensures.value)
+    c.if-is_err.false) c.in-Err.damaged c.in-Err.ensures.err))
 
 pub returns-in-Err-clause-damage : goal.returns-in-Err-clause-damage
 returns-in-Err-clause-damage g c = λ damaged is.
@@ -65,10 +60,9 @@ returns-in-Err-clause-damage g c = λ damaged is.
     subst (IsDamage image c.args.end v c.args.thread)
     (is_damaged c.lose-in-Err.result c.in-Err.damaged damaged c.lose-in-Err.ensures.refused is)
     (rest_is_damage c.args.end image v c.args.thread c.args.op c.args.search c.args.shape c.read_at.new.words
-    (rest_read c.args.end image v c.args.thread c.args.op c.args.search c.args.shape c.index.result.now
-    c.read_at.new.words (c.from.result + c.from-2.result) c.read_at.result c.requires.asks c.requires.stage
-    c.index.ensures (omega (arith, c.from.ensures, c.from-2.ensures)) c.read_at.ensures.words
-    (sym c.is_err.ensures.value) c.if-is_err.false) c.in-Err.damaged c.in-Err.ensures.err)
+    (rest_read image c.read_at.new.words c.read_at.result c.requires.asks c.requires.stage c.index.ensures
+    (omega (arith, c.from.ensures, c.from-2.ensures)) c.read_at.ensures.words (sym c.is_err.ensures.value)
+    c.if-is_err.false) c.in-Err.damaged c.in-Err.ensures.err)
 
 pub returns-clause-advances : goal.returns-clause-advances
 returns-clause-advances g c =
@@ -78,16 +72,14 @@ returns-clause-advances g c =
     omega (arith, c.from.ensures, c.from-2.ensures) in
     subst (λ (w : View). Advances c.args.end image v w c.args.thread c.args.op Going) (sym c.set_stage.ensures)
     (rest_advances c.args.end image v c.args.thread c.args.op c.args.search c.args.shape c.read_at.new.words
-    (rest_read c.args.end image v c.args.thread c.args.op c.args.search c.args.shape c.index.result.now
-    c.read_at.new.words (c.from.result + c.from-2.result) c.read_at.result c.requires.asks c.requires.stage
-    c.index.ensures whole c.read_at.ensures.words (sym c.is_err.ensures.value) c.if-is_err.false)
+    (rest_read image c.read_at.new.words c.read_at.result c.requires.asks c.requires.stage c.index.ensures whole
+    c.read_at.ensures.words (sym c.is_err.ensures.value) c.if-is_err.false)
     _
     (begins_with c.read_at.new.words c.index.result.now (c.args.shape.refs + c.args.shape.nums)
     (c.from.result + c.from-2.result)
     (buffer_size c.args.end v c.args.thread c.args.op c.index.result.now c.requires.asks c.index.ensures)
     (c.read_at.auto.words
-    ∙ (front_size c.args.end v c.args.thread c.args.op c.args.search c.args.shape c.index.result.now
-    (c.from.result + c.from-2.result) c.requires.asks c.requires.stage c.index.ensures whole ∙ whole))
+    ∙ (front_size c.requires.asks c.requires.stage c.index.ensures whole ∙ whole))
     whole
     (rest_small c.args.end v c.args.thread c.args.op c.args.search c.args.shape c.requires.asks c.requires.stage))
     c.in_default.ensures.ok)

@@ -32,7 +32,6 @@ returns c = record {
       (subst (λ (x : Value). AdvancesOver disk v (written v m.space m.globals c.args.thread
       (Write c.slot_at-slot.result x))
       c.args.thread c.args.op (Answered reply.Done)) (sym c.value_at-value.ensures)
-      (store_advances disk v m.space m.globals c.args.thread c.args.op c.args.place c.slot_at-slot.result c.args.src
-      c.register-address.result asks c.requires.stage c.register-address.ensures c.slot_at-slot.ensures
-      changes))));
+      (store_advances m.space m.globals c.args.place c.slot_at-slot.result c.args.src asks c.requires.stage
+      c.register-address.ensures c.slot_at-slot.ensures changes))));
 }

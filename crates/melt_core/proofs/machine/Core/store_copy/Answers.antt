@@ -45,8 +45,7 @@ returns c = record {
             (subst (λ (g : Stage). AdvancesOver disk v (with_call (record v { space = w.set_word.new.self })
             c.args.thread (Some (record { op = c.args.op; stage = g }))) c.args.thread c.args.op Going)
             (sym w.stage-is)
-            (copy_word_advances disk v w.set_word.new.self c.args.thread c.args.op c.args.activation c.args.stored
-            w.word_of_copy-word.result asks c.requires.stage (omega (arith, w.if-next-cost.true, c.cost.ensures))
+            (copy_word_advances asks c.requires.stage (omega (arith, w.if-next-cost.true, c.cost.ensures))
             w.word_of_copy-word.ensures w.set_word.ensures))
         | else-next-cost w ↦
             subst (λ (x : Core). AdvancesOver disk v (with_call (view x) c.args.thread
@@ -56,8 +55,7 @@ returns c = record {
             (with_call (record v { space = w.set_word-else-next-cost.new.self })
             c.args.thread (Some (record { op = c.args.op; stage = g }))) c.args.thread c.args.op Going)
             (sym w.stage-is)
-            (copy_header_advances disk v w.set_word-else-next-cost.new.self c.args.thread c.args.op c.args.activation
-            c.args.stored w.encode_header.result asks c.requires.stage
+            (copy_header_advances asks c.requires.stage
             (let few : c.args.stored < cost_of c.args.activation.shape = known.1.few in
             omega (arith, w.if-next-cost.false, c.cost.ensures)) w.encode_header.ensures
             w.set_word-else-next-cost.ensures))

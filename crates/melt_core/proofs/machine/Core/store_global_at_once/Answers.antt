@@ -13,7 +13,8 @@ polls c =
     first_on (view c.args.self.now) (view c.poll.new.self) c.args.thread c.args.op c.requires.asks c.in-Going.ensures
 
 -- which has read the stop word
-stands : (c : In-Going) → stage_of (view c.poll.new.self) c.args.thread ≡ Some (Polled (StoreGlobal c.args.g c.args.src))
+stands : (c : In-Going) → stage_of (view c.poll.new.self) c.args.thread ≡ Some
+    (Polled (StoreGlobal c.args.g c.args.src))
 stands c =
     polled (view c.args.self.now) (view c.poll.new.self) c.args.thread c.args.op (StoreGlobal c.args.g c.args.src)
     c.requires.asks c.requires.first c.requires.task c.in-Going.ensures
@@ -27,6 +28,4 @@ store-requires-clause-stage c = stands (goal.at.store-requires-clause-stage c).I
 pub returns-in-Going : goal.returns-in-Going
 returns-in-Going c =
     let at = goal.at.returns-in-Going c in
-    last_on (view c.args.self.now) (view c.poll.new.self) (view c.store.new.self) c.args.thread c.args.op
-    c.store.result (Polled (StoreGlobal c.args.g c.args.src)) (polls at.In-Going) (stands at.In-Going)
-    (polled_well (StoreGlobal c.args.g c.args.src)) c.store.ensures
+    last_on (polls at.In-Going) (stands at.In-Going) (polled_well (StoreGlobal c.args.g c.args.src)) c.store.ensures

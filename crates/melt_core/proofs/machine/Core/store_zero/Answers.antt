@@ -20,7 +20,5 @@ returns c = record {
       let asks = asks_over (view c.args.self.now) c.args.thread c.args.op c.requires.asks disk stands in
       let v : View = view c.args.self.now in
       subst (λ (w : View). AdvancesOver disk v w c.args.thread c.args.op Going) (sym c.set_stage.ensures)
-      (store_zero_advances disk v c.set_word.new.self c.args.thread c.args.op c.args.claim.address
-      c.args.claim.stored c.args.claim.dst c.args.claim.shape asks c.requires.stage c.requires.few
-      c.set_word.ensures);
+      (store_zero_advances asks c.requires.stage c.requires.few c.set_word.ensures);
 }

@@ -52,8 +52,8 @@ returns-in-Clean c = record {
       c.args.looked.dst =
       record { asks = asks; at = c.requires.stage } in
       untag_lost disk is
-      (finds_clean disk v c.args.thread c.args.op c.args.looked.place c.args.looked.dst c.in-Clean.current
-      stands (cleared_loads disk is) (cleared_known disk is).0.at (c.in-Clean.ensures disk))
+      (finds_clean c.args.thread c.args.op c.args.looked.place c.args.looked.dst stands (cleared_loads disk is)
+      (cleared_known disk is).0.at (c.in-Clean.ensures disk))
       (tagged_is _ _ (c.in-Clean.ensures disk)) c.read-in-Clean.ensures;
 }
 

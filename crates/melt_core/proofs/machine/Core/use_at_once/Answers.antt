@@ -1,8 +1,6 @@
 -- The events are those of `poll_object` and `find_part`, and then the one on the part.
 use Rattle.std.specs.Prelude.{◌≡◌, Some}
-use Rattle.melt_model.specs.declared.operations.Reply.TheVariants.{Range}
-use Rattle.melt_core.specs.declared.answer.StepResult.TheVariants.{Answered}
-use Rattle.melt_core.specs.declared.call.Stage.TheVariants.{Headed, Polled}
+use Rattle.melt_core.specs.declared.call.Stage.TheVariants.{Polled}
 use Rattle.melt_core.specs.declared.call.Task.TheVariants.{Use}
 use Rattle.melt_core.specs.Views.{stage_of, view}
 use Rattle.melt_core.proofs.AtOnce.{GoesOn, first_on, headed_well, last_on, next_on, polled, polled_well}
@@ -31,9 +29,8 @@ find_part-requires-clause-stage c = stands (goal.at.find_part-requires-clause-st
 pub returns-in_default-find_part : goal.returns-in_default-find_part
 returns-in_default-find_part c =
     let at = goal.at.returns-in_default-find_part c in
-    last_on (view c.args.self.now) (view c.poll_object.new.self) (view c.find_part.new.self) c.args.thread c.args.op
-    (Answered Range) (Polled (Use c.args.r c.args.access)) (polls at.In-Going) (stands at.In-Going)
-    (polled_well (Use c.args.r c.args.access)) c.in_default-find_part.ensures.range
+    last_on (polls at.In-Going) (stands at.In-Going) (polled_well (Use c.args.r c.args.access))
+    c.in_default-find_part.ensures.range
 
 pub after_head-requires-clause-asks : goal.after_head-requires-clause-asks
 after_head-requires-clause-asks c =
@@ -47,6 +44,5 @@ returns c =
     let found : GoesOn (view c.args.self.now) (view c.find_part.new.self) c.args.thread c.args.op =
     next_on (view c.args.self.now) (view c.poll_object.new.self) (view c.find_part.new.self) c.args.thread c.args.op
     (polls at.In-Going) c.in-Some.ensures.there.0 in
-    last_on (view c.args.self.now) (view c.find_part.new.self) (view c.after_head.new.self) c.args.thread c.args.op
-    c.after_head.result (Headed c.in-Some.address c.in-Some.shape c.args.access) found c.in-Some.ensures.there.1
-    (headed_well c.in-Some.address c.in-Some.shape c.args.access) c.after_head.ensures
+    last_on found c.in-Some.ensures.there.1 (headed_well c.in-Some.address c.in-Some.shape c.args.access)
+    c.after_head.ensures

@@ -1,7 +1,6 @@
 use Rattle.std.proofs.Common.{◌≡◌, ◌+◌, ◌*◌, ◌++◌, refl, sym, ◌∙◌, ap, subst}
 use Rattle.std.specs.Prelude.{Some, slice_set}
 use Rattle.melt_core.proofs.Answers.{gload_answers}
-use Rattle.melt_model.specs.declared.history.Act.TheVariants.{Read}
 use Rattle.melt_model.specs.declared.history.Slot.TheVariants as slot
 use Rattle.melt_model.specs.declared.operations.Op.TheVariants.{GLoad}
 use Rattle.melt_rule.specs.Seats.{knows_of}
@@ -40,14 +39,12 @@ returns-clause-loaded g c s t p q at_s at_t at_p at_q =
     ap (λ (x : Mutator _). x.values) c.hold.ensures.holds
     ∙ ap (slice_set m.values c.args.dst) (value_read v w at most c.in_ok-target.target loads) in
     by_seats (λ (x y : View). HasLoaded x y m.values c.hold.new.self.values o at most c.reply_of.result)
-    seat new s t m.seat c.hold.new.self.seat c.in-Some-Some.ensures.value there at_s at_t
-    (record {
-      replies = adds_replies v w (Read at loads.value) m.values c.hold.new.self.values o c.reply_of.result loads.adds
+    c.in-Some-Some.ensures.value there at_s at_t (record {
+      replies = adds_replies w m.values c.hold.new.self.values o c.reply_of.result loads.adds
           (λ told. gload_answers v.thread (v.seen ++ loads.adds.between) m.values c.args.dst c.args.g loads.value
-          c.reply_of.result _ c.hold.new.self.values
           (reply_found w c.in_ok-target.target loads.value c.reply_of.result
-          c.in_ok-target.ensures.seat.is_seat.within loads.names c.reply_of.ensures.null c.reply_of.ensures.some)
-          values refl);
+          c.in_ok-target.ensures.seat.is_seat.within loads.names c.reply_of.ensures.null c.reply_of.ensures.some) values
+          refl);
       words = loads.words;
       wins = loads.wins;
       counts = loads.counts;
@@ -67,6 +64,5 @@ returns-in_err-target-clause-seated g c =
 pub returns-clause-holds : goal.returns-clause-holds
 returns-clause-holds g c =
     let new = c.load_global.new.seat in
-    holds_found c.args.m.now c.hold.new.self (Some new) (Some c.load_global.new.reader) c.args.dst c.in_ok-target.target
-    (last_given (knows_of new).seen) c.reply_of.result c.hold.ensures.holds c.reply_of.ensures.null
-    c.reply_of.ensures.some
+    holds_found c.args.m.now (Some new) (Some c.load_global.new.reader) c.args.dst (last_given (knows_of new).seen)
+    c.reply_of.result c.hold.ensures.holds c.reply_of.ensures.null c.reply_of.ensures.some

@@ -73,9 +73,8 @@ returns-in-Ok-Nil-clause-loaded g c s t p q at_s at_t at_p at_q =
     let is = c.in-Some-Some.ensures.value in
     let new = c.load_slot.new.seat in
     let loads = came_to g at c.in-Ok-Nil.field-0 loaded.Nil c.in-Ok-Nil.field-0-is c.in-Ok-Nil.ensures.loads in
-    by_seats (λ (v w : View). HasRead v w m.values m.values c.args.dst c.args.src c.args.i (most g at) reply.Nil)
-    seat new s t m.seat (Some new) is refl at_s at_t
-    (nil_read (before g at) (behind g at) m.values c.args.dst c.args.src c.args.i (most g at) loads.1
+    by_seats (λ (v w : View). HasRead v w m.values m.values c.args.dst c.args.src c.args.i (most g at) reply.Nil) is
+    refl at_s at_t (nil_read m.values c.args.dst c.args.src c.args.i (most g at) loads.1
     (idle_here c.args.self.now.words m c.requires.seated seat is).sound loads.0)
 
 pub returns-in-Ok-Range-clause-seated : goal.returns-in-Ok-Range-clause-seated
@@ -93,8 +92,7 @@ returns-in-Ok-Range-clause-loaded g c s t p q at_s at_t at_p at_q =
     let new = c.load_slot.new.seat in
     let loads = came_to g at c.in-Ok-Range.field-0 loaded.Range c.in-Ok-Range.field-0-is c.in-Ok-Range.ensures.loads in
     by_seats (λ (v w : View). HasRead v w m.values m.values c.args.dst c.args.src c.args.i (most g at) reply.Range)
-    c.in-Some-Some.seat.now new s t m.seat (Some new) c.in-Some-Some.ensures.value refl at_s at_t
-    (range_read (before g at) (behind g at) m.values c.args.dst c.args.src c.args.i loads.0 (most g at) loads.1 loads.2)
+    c.in-Some-Some.ensures.value refl at_s at_t (range_read m.values c.args.dst c.args.src loads.1 loads.2)
 
 pub returns-in-Ok-At-clause-seated : goal.returns-in-Ok-At-clause-seated
 returns-in-Ok-At-clause-seated g c =
@@ -123,12 +121,10 @@ returns-in-Ok-At-clause-loaded g c s t p q at_s at_t at_p at_q =
     ap (λ (x : Mutator _). x.values) c.hold.ensures.holds
     ∙ ap (slice_set m.values c.args.dst) (value_read v w (slot.Field loads.0 c.args.i) (most g at) target from) in
     by_seats (λ (x y : View). HasRead x y m.values n.values c.args.dst c.args.src c.args.i (most g at)
-    c.reply_of.result) c.in-Some-Some.seat.now new s t m.seat n.seat c.in-Some-Some.ensures.value there at_s at_t
-    (slot_read v w m.values n.values c.args.dst c.args.src c.args.i loads.0 (most g at) target c.reply_of.result loads.1
-    loads.2
+    c.reply_of.result) c.in-Some-Some.ensures.value there at_s at_t
+    (slot_read m.values c.args.dst c.args.src loads.1 loads.2
     (reply_found w target from.value c.reply_of.result c.in-Ok-At.ensures.seat.is_seat.within from.names
-    c.reply_of.ensures.null c.reply_of.ensures.some)
-    values)
+    c.reply_of.ensures.null c.reply_of.ensures.some) values)
 
 pub returns-in-Err-clause-seated : goal.returns-in-Err-clause-seated
 returns-in-Err-clause-seated g c =
@@ -154,13 +150,12 @@ returns-in-Err-clause-loaded g c s t p q at_s at_t at_p at_q =
     λ x y v w. SlotLoaded c.args.self.now.words.start.began.told (g.R.RecordReader.image x) c.args.self.now.heap.scions
     c.args.self.now.end (g.R.RecordReader.faults x) (g.R.RecordReader.faults y) v w m.values m.values c.args.dst
     c.args.src c.args.i (most g at) (Err c.in-Err.refusal) in
-    by_seats (Refused p q) c.in-Some-Some.seat.now new s t m.seat (Some new) c.in-Some-Some.ensures.value refl at_s at_t
+    by_seats (Refused p q) c.in-Some-Some.ensures.value refl at_s at_t
     (subst (λ (x : g.row.R.Denot). Refused x q (before g at) (behind g at)) from
     (subst (λ (y : g.row.R.Denot). Refused reader y (before g at) (behind g at)) to (refl, loads.0, loads.1, loads.2)))
 
 pub returns-in-Ok-At-clause-holds : goal.returns-in-Ok-At-clause-holds
 returns-in-Ok-At-clause-holds g c =
     let new = c.load_slot.new.seat in
-    holds_found c.args.m.now c.hold.new.self (Some new) (Some c.load_slot.new.reader) c.args.dst c.in-Ok-At.target
-    (last_given (knows_of new).seen) c.reply_of.result c.hold.ensures.holds c.reply_of.ensures.null
-    c.reply_of.ensures.some
+    holds_found c.args.m.now (Some new) (Some c.load_slot.new.reader) c.args.dst (last_given (knows_of new).seen)
+    c.reply_of.result c.hold.ensures.holds c.reply_of.ensures.null c.reply_of.ensures.some

@@ -1,4 +1,4 @@
-use Rattle.std.proofs.Common.{◌≡◌, ℕ, ◌+◌, ◌++◌, Ok, refl, sym, ◌∙◌, ap, subst, inl, inr}
+use Rattle.std.proofs.Common.{◌≡◌, ℕ, ◌++◌, Ok, refl, sym, ◌∙◌, ap, subst, inl, inr}
 use Rattle.std.specs.Prelude.{Some, slice_set}
 use Rattle.melt_core.proofs.Answers.{new_answers}
 use Rattle.melt_core.specs.Answering.{entry}
@@ -7,7 +7,6 @@ use Rattle.melt_model.specs.declared.history.Act.TheVariants.{Make}
 use Rattle.melt_model.specs.declared.history.Value.TheVariants.{Ref}
 use Rattle.melt_model.specs.declared.operations.Op.TheVariants.{New}
 use Rattle.melt_model.specs.declared.operations.Reply.TheVariants as reply
-use Rattle.melt_word.specs.Words.{cost_of}
 use Rattle.melt_word.specs.declared.header.Shape.{Shape}
 use Rattle.melt_rule.specs.Seats.{knows_of}
 use Rattle.melt_rule.specs.declared.view.View.{View}
@@ -49,9 +48,8 @@ returns-clause-seated g c =
     let is = c.in_ok-address.ensures.makes in
     let value = last_given (knows_of new).seen in
     subst (IsSeated words) (sym c.hold.ensures.holds)
-    (seated_held words m c.requires.seated seat c.in-Some.ensures.value new (cost_of z) 0 (cost_of z + 2) c.args.dst
-    c.in_ok-address.address value c.in_ok-address.ensures.seat is.counts c.hold.ensures.sixteen c.requires.register
-    (inr (
+    (seated_held words m c.requires.seated seat c.in-Some.ensures.value c.args.dst c.in_ok-address.address value
+    c.in_ok-address.ensures.seat is.counts c.hold.ensures.sixteen c.requires.register (inr (
       made ((knows_of seat).seen ++ is.adds.between),
       value_made (knows_of seat) (knows_of new) z
           c.in_ok-address.address is,
@@ -74,12 +72,11 @@ returns-clause-made g c = (
       (Ref (made ((knows_of seat).seen ++ is.adds.between))) =
       ap (λ (x : Mutator _). x.values) c.hold.ensures.holds
       ∙ ap (slice_set m.values c.args.dst) (value_made (knows_of seat) (knows_of new) z c.in_ok-address.address is) in
-      by_seats (λ (v w : View). MakesFor v w m.values c.hold.new.self.values o z (Ok reply.Done)) seat new s t m.seat
-      c.hold.new.self.seat c.in-Some.ensures.value there at_s at_t (
-        adds_replies (knows_of seat) (knows_of new) (Make z.refs z.nums) m.values c.hold.new.self.values o
-            reply.Done is.adds
+      by_seats (λ (v w : View). MakesFor v w m.values c.hold.new.self.values o z (Ok reply.Done))
+      c.in-Some.ensures.value there at_s at_t (
+        adds_replies (knows_of new) m.values c.hold.new.self.values o reply.Done is.adds
             (λ told. new_answers (knows_of seat).thread ((knows_of seat).seen ++ is.adds.between) m.values c.args.dst
-            c.args.refs c.args.nums reply.Done _ c.hold.new.self.values refl values refl),
+            c.args.refs c.args.nums refl values refl),
         is.counts,
       ),
 )
@@ -91,5 +88,5 @@ returns-clause-holds g c =
     let value = last_given (knows_of new).seen in (
       c.in_ok-address.address,
       value,
-      holds_only m c.hold.new.self (Some new) m.reader c.args.dst c.in_ok-address.address value c.hold.ensures.holds,
+      holds_only m (Some new) m.reader c.args.dst c.in_ok-address.address value c.hold.ensures.holds,
     )

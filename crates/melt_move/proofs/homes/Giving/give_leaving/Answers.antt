@@ -31,9 +31,8 @@ loop-d-preserved g c =
     ∙ slice_get-get_or c.deref-d-items.result.now c.loop-d.d-index no_departure (omega arith) in
     record {
       gives =
-          leaving_more (word_at c.args.space.now) c.args.choice.now.leaving.items c.loop-d.d-index _
-          c.args.self.now.homes c.loop-d.self.homes c.give_missing.new.self.homes at c.loop-d.invariant.gives
-          c.in_ok-give_missing.ensures.gives;
+          leaving_more c.args.choice.now.leaving.items c.loop-d.d-index c.give_missing.new.self.homes at
+          c.loop-d.invariant.gives c.in_ok-give_missing.ensures.gives;
       all = λ s has chosen.
           c.in_ok-give_missing.ensures.all s (c.loop-d.invariant.all s has chosen)
           (leaving_offered s c.args.choice.now chosen c.loop-d.d-index _ at);

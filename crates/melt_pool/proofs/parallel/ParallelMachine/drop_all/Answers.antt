@@ -14,10 +14,9 @@ invariant_of-self g c =
     let within : t < length ms = subst (λ (n : ℕ). t < n) (sym c.args.self.now.away.count) c.requires.thread in
     record {
       nameless = c.args.self.now.nameless;
-      away = away_dropped c.args.self.now.heap c.args.self.now.pass c.args.self.now.registers.items ms t m
-          c.drop_all.new.self c.requires.thread (slice_get_read ms (length ms) t m refl within
-          c.index_mut-2.ensures.value)
-          c.drop_all.ensures c.args.self.now.away;
+      away = away_dropped c.args.self.now.heap c.args.self.now.pass t c.requires.thread
+          (slice_get_read ms (length ms) t m refl within
+          c.index_mut-2.ensures.value) c.drop_all.ensures c.args.self.now.away;
       none_stored = c.args.self.now.none_stored;
     }
 

@@ -80,15 +80,11 @@ take_collection-requires g c =
     state_read c.args.self.states.items c.in_ok-run.run'.states.items c.args.thread s c.index_mut-state.result.now _ at
     c.in_ok-run.ensures.made.states c.index_mut-state.ensures.value in
     subst (λ (x : ThreadState). x.mode ≡ Collecting → length x.replies.items < vec_capacity x.replies) (sym same)
-    (collecting_room c.requires.stands.0 c.requires.stands.1 c.requires.stands.2 _ (row_of g.E.Machine.view c.args.self)
-    c.args.thread s c.requires.stands.3 at)
+    (collecting_room c.args.thread c.requires.stands.3 at)
 
 pub drop_if_ended-requires-clause-thread : goal.drop_if_ended-requires-clause-thread
 drop_if_ended-requires-clause-thread g c =
-    collected_thread c.requires.stands.0 c.requires.stands.1 c.requires.stands.2 _ _
-    (row_of g.E.Machine.view c.args.self)
-    (row_of g.E.Machine.view c.in_ok-run.run') c.args.thread c.requires.stands.3 c.in_ok-run.ensures.made
-    c.requires.thread
+    collected_thread c.args.thread c.requires.stands.3 c.in_ok-run.ensures.made c.requires.thread
 
 pub drop_if_ended-requires-clause-quiet : goal.drop_if_ended-requires-clause-quiet
 drop_if_ended-requires-clause-quiet g c = c.in_ok-run.ensures.made.collects.quiet
@@ -98,8 +94,7 @@ was : (g : Over) (c : After-drop_if_ended g)
     → WasCollected (row_of g.E.Machine.view c.args.self) (row_of g.E.Machine.view c.in_ok-run.run') c.args.thread
     c.index.result.now c.take_collection.new.self
 was g c =
-    was_collected (row_of g.E.Machine.view c.args.self) (row_of g.E.Machine.view c.in_ok-run.run') c.args.thread
-    c.index.result.now c.index_mut-state.result.now c.take_collection.new.self _
+    was_collected (row_of g.E.Machine.view c.args.self) (row_of g.E.Machine.view c.in_ok-run.run') c.args.thread _
     (read g (goal.at.returns-clause-keeps g c).After-index) c.in_ok-run.ensures.made.states
     c.index_mut-state.ensures.value c.in-Collecting.is (record {
       takes = c.take_collection.ensures.takes;
@@ -116,9 +111,7 @@ epoch g c =
 
 pub returns-clause-keeps : goal.returns-clause-keeps
 returns-clause-keeps g c =
-    keeps_taken _ _ (row_of g.E.Machine.view c.args.self) (row_of g.E.Machine.view c.in_ok-run.run') _ c.args.thread
-    c.index.result.now c.take_collection.new.self c.in_ok-run.ensures.made (was g c) c.drop_if_ended.ensures.drops
-    (rw c.drop_if_ended.ensures.only
+    keeps_taken c.in_ok-run.ensures.made (was g c) c.drop_if_ended.ensures.drops (rw c.drop_if_ended.ensures.only
     (record { states = refl; collector = refl; words = refl; every = refl; told = refl; epoch = epoch g c }))
 
 pub returns-clause-only : goal.returns-clause-only
@@ -132,9 +125,7 @@ returns-clause-only g c =
           (ap (λ (xs : List ThreadState). set xs c.args.thread after) c.in_ok-run.ensures.made.states),
       subst (λ (y : ThreadState). CollectedFor y after) (same_Some s x (sym by.at ∙ there))
           (taken_fewer c.in_ok-run.run'.every s after by.waits by.takes
-          (collecting_op c.requires.stands.0 c.requires.stands.1 c.requires.stands.2 _
-          (row_of g.E.Machine.view c.args.self)
-          c.args.thread s c.requires.stands.3 by.at)),
+          (collecting_op c.args.thread c.requires.stands.3 by.at)),
     )
 
 pub returns-clause-made : goal.returns-clause-made

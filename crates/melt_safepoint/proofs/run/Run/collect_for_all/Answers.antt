@@ -62,9 +62,7 @@ loop-t-preserved g c =
           c.in_ok-run.ensures.keeps told script config (c.loop-t.invariant.keeps told script config stands);
       below = collected_more states c.loop-t.run.states.items c.in_ok-run.run'.states.items c.loop-t.t below within
           c.in_ok-run.ensures.only;
-      made = below_more _ _ (row_of g.E.Machine.view c.args.self) (row_of g.E.Machine.view c.loop-t.run)
-          (row_of g.E.Machine.view c.in_ok-run.run') c.loop-t.t state.0 c.loop-t.invariant.made state.1
-          c.loop-t.invariant.keeps
+      made = below_more c.loop-t.invariant.made state.1 c.loop-t.invariant.keeps
           (c.in_ok-run.ensures.made state.0 (below.rest c.loop-t.t (omega arith) ∙ state.1));
       lost = c.in_ok-run.ensures.lost ∙ c.loop-t.invariant.lost;
       count = omega (arith, c.in_ok-run.ensures.count, c.loop-t.invariant.count);
@@ -84,8 +82,8 @@ pub returns-in_err-run-clause-stop_counts : goal.returns-in_err-run-clause-stop_
 returns-in_err-run-clause-stop_counts g c =
     let exit = err_from_is_err_and c.from_residual.result c.from_residual.ensures.1 in
     rw (exit.1, exit.2)
-    (stop_counts_then _ c.args.self.states.items c.loop-t.run.states.items _ _ _ _ _ _ c.loop-t.invariant.count
-    c.in_err-run.ensures.count (counts_same c.args.self.states.items c.loop-t.run.states.items _ _
+    (stop_counts_then _ _ _ _ _ c.loop-t.invariant.count c.in_err-run.ensures.count
+    (counts_same c.args.self.states.items c.loop-t.run.states.items _ _
     c.loop-t.invariant.lost (omega (arith, c.loop-t.invariant.read_faults))) c.in_err-run.ensures.stop_counts)
 
 pub returns-in_err-run-clause-stop_lends : goal.returns-in_err-run-clause-stop_lends

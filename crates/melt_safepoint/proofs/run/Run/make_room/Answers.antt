@@ -31,7 +31,7 @@ returns-in_err-run-clause-stopped g c =
 pub returns-in_err-run-clause-stop_lends : goal.returns-in_err-run-clause-stop_lends
 returns-in_err-run-clause-stop_lends g c =
     let exit = err_from_is_err_and c.from_residual.result c.from_residual.ensures.1 in
-    rw (exit.1, exit.2) (λ n by. stop_more _ 1 2 _ _ _ _ (omega arith)
+    rw (exit.1, exit.2) (λ n by. stop_more _ 2 _ _ _ _ (omega arith)
     (stop_one _ _ _ _ _ (c.run_epoch.ensures.lends n by) c.in_err-run.ensures.stop_keeps))
 
 -- what was seen of the disk is seen still
@@ -64,7 +64,7 @@ returns-in-None-clause-rests g c = (made g (goal.at.returns-in-None-clause-rests
 pub returns-in-None-clause-lends : goal.returns-in-None-clause-lends
 returns-in-None-clause-lends g c =
     let runs = made g (goal.at.returns-in-None-clause-lends g c).In-None in
-    λ n by. lends_more _ 1 2 _ _ _ _ (omega arith)
+    λ n by. lends_more 2 (omega arith)
     (lends_one _ _ _ _ _ (c.run_epoch.ensures.lends n by) (ap (λ (x : Collector). x.journal.items) runs.collector))
 
 -- the call lacked words
@@ -123,7 +123,7 @@ returns-in-Some-clause-lost g c =
 pub returns-in-Some-clause-lends : goal.returns-in-Some-clause-lends
 returns-in-Some-clause-lends g c =
     let lack = lacked g (goal.at.returns-in-Some-clause-lends g c).In-Some in
-    if_ok_from c.move_for.result _ _ (λ run lends n by. lends_then _ 1 1 _ _ _ _ _ _
+    if_ok_from c.move_for.result _ _ (λ run lends n by. lends_then
     (lends_one _ _ _ _ _ (c.run_epoch.ensures.lends n by) (ap (λ (x : Collector). x.journal.items) lack.collector))
     (lends n by))
     c.move_for.ensures.lends
@@ -136,14 +136,13 @@ returns-in-Some-clause-stopped g c =
 
 pub returns-in-Some-clause-stop_counts : goal.returns-in-Some-clause-stop_counts
 returns-in-Some-clause-stop_counts g c =
-    if_err_from c.move_for.result _ _ (λ stop counts. stop_counts_then stop c.args.self.states.items
-    c.in_ok-run.run'.states.items _ _ _ _ _ _ c.run_epoch.ensures.count c.move_for.ensures.count
-    c.in_ok-run.ensures.lost counts) c.move_for.ensures.stop_counts
+    if_err_from c.move_for.result _ _ (λ stop counts. stop_counts_then stop _ _ _ _ c.run_epoch.ensures.count
+    c.move_for.ensures.count c.in_ok-run.ensures.lost counts) c.move_for.ensures.stop_counts
 
 pub returns-in-Some-clause-stop_lends : goal.returns-in-Some-clause-stop_lends
 returns-in-Some-clause-stop_lends g c =
     let lack = lacked g (goal.at.returns-in-Some-clause-stop_lends g c).In-Some in
-    if_err_from c.move_for.result _ _ (λ stop lends n by. stop_then _ 1 1 _ _ _ _ _ _
+    if_err_from c.move_for.result _ _ (λ stop lends n by. stop_then 1 _ _
     (lends_one _ _ _ _ _ (c.run_epoch.ensures.lends n by) (ap (λ (x : Collector). x.journal.items) lack.collector))
     (lends n by))
     c.move_for.ensures.stop_lends

@@ -92,8 +92,7 @@ pub returns-in_err-next-clause-stopped : goal.returns-in_err-next-clause-stopped
 returns-in_err-next-clause-stopped g c =
     let exit = err_from_is_err_and c.from_residual-in_err-next.result c.from_residual-in_err-next.ensures.1 in
     rw (exit.1, exit.2) (λ told script config lacks.
-    forced_stops _ _ _ (row_of g.E.Machine.view c.loop-forced.run) (row_of g.E.Machine.view c.in_ok-moved.moved)
-    c.args.thread c.loop-forced.need c.loop-forced.forced _ c.in_ok-moved.ensures.made
+    forced_stops _ c.args.thread c.loop-forced.need c.loop-forced.forced _ c.in_ok-moved.ensures.made
     (c.may_move.ensures.some c.loop-forced-test.true) c.in_err-next.ensures.stopped told script config
     (c.loop-forced.invariant.lacks told script config lacks))
 
@@ -110,17 +109,16 @@ pub returns-in_err-next-clause-stop_counts : goal.returns-in_err-next-clause-sto
 returns-in_err-next-clause-stop_counts g c =
     let exit = err_from_is_err_and c.from_residual-in_err-next.result c.from_residual-in_err-next.ensures.1 in
     let at = (goal.at.returns-in_err-next-clause-stop_counts g c).In_ok-moved in
-    rw (exit.1, exit.2) (stop_counts_then _ c.args.self.states.items c.in_ok-moved.moved.states.items _ _ _ _ _ _
-    (omega (arith, c.loop-forced.invariant.count, c.collect.ensures.count)) c.run_epoch.ensures.count
-    (move_lost g at) c.in_err-next.ensures.stop_counts)
+    rw (exit.1, exit.2) (stop_counts_then _ _ _ _ _
+    (omega (arith, c.loop-forced.invariant.count, c.collect.ensures.count)) c.run_epoch.ensures.count (move_lost g at)
+    c.in_err-next.ensures.stop_counts)
 
 pub returns-in_err-next-clause-stop_lends : goal.returns-in_err-next-clause-stop_lends
 returns-in_err-next-clause-stop_lends g c =
     let exit = err_from_is_err_and c.from_residual-in_err-next.result c.from_residual-in_err-next.ensures.1 in
-    rw (exit.1, exit.2) (λ n by. stop_more _ 0 1 _ _ _ _ (omega arith)
-    (stop_then _ 0 0 _ _ _ _ (journal_of (row_of g.E.Machine.view c.loop-forced.run)) _
-    (c.loop-forced.invariant.lends n by)
-    (stop_after _ 0 _ _ _ _ (journal_of (row_of g.E.Machine.view c.in_ok-moved.moved)) _ c.collect.ensures.lends
+    rw (exit.1, exit.2) (λ n by. stop_more _ 1 _ _ _ _ (omega arith)
+    (stop_then 0 _ _ (c.loop-forced.invariant.lends n by)
+    (stop_after _ 0 _ _ (journal_of (row_of g.E.Machine.view c.in_ok-moved.moved)) _ c.collect.ensures.lends
     (omega (arith, journal_more c.in_ok-moved.ensures.made))
     (stop_one _ _ _ _ _ (c.run_epoch.ensures.lends n by) c.in_err-next.ensures.stop_keeps))))
 
@@ -149,10 +147,8 @@ once_lends : (g : Over) (c : In_ok-next g)
     (journal_of (row_of g.E.Machine.view c.args.self)) (journal_of (row_of g.E.Machine.view c.in_ok-next.next))
 once_lends g c same n by =
     let js = journal_of (row_of g.E.Machine.view c.in_ok-next.next) in
-    lends_then _ 0 0 _ _ _ _ (journal_of (row_of g.E.Machine.view c.loop-forced.run)) js
-    (c.loop-forced.invariant.lends n by)
-    (lends_after _ 0 _ _ _ _ (journal_of (row_of g.E.Machine.view c.in_ok-moved.moved)) js c.collect.ensures.lends
-    (omega (arith, journal_more c.in_ok-moved.ensures.made))
+    lends_then (c.loop-forced.invariant.lends n by)
+    (lends_after 0 _ c.collect.ensures.lends (omega (arith, journal_more c.in_ok-moved.ensures.made))
     (lends_one _ _ _ _ _ (c.run_epoch.ensures.lends n by) same))
 
 -- the call was made behind the Move
@@ -181,7 +177,7 @@ returns-in-None-clause-makes g c told script config lacks =
 pub returns-in-None-clause-lends : goal.returns-in-None-clause-lends
 returns-in-None-clause-lends g c =
     let at = goal.at.returns-in-None-clause-lends g c in
-    λ n by. lends_more _ 0 1 _ _ _ _ (omega arith)
+    λ n by. lends_more 1 (omega arith)
     (once_lends g at.In_ok-next (ap (λ (x : Collector). x.journal.items) (made g at.In-None).collector) n by)
 
 -- the call lacked words behind the Move too
@@ -304,8 +300,7 @@ returns-clause-rests g c =
 pub returns-clause-lends : goal.returns-clause-lends
 returns-clause-lends g c =
     if_ok_from c.go_on.result _ _ (λ run goes n by.
-    lends_then _ 0 1 _ _ _ _ (journal_of (row_of g.E.Machine.view c.loop-forced.run)) _
-    (c.loop-forced.invariant.lends n by) (lends_one _ _ _ _ _ (c.go_on.ensures.lends n by)
+    lends_then (c.loop-forced.invariant.lends n by) (lends_one _ _ _ _ _ (c.go_on.ensures.lends n by)
     (goes_journal _ (row_of g.E.Machine.view c.out_of_heap.result) (row_of g.E.Machine.view run) goes
     ∙ ap (λ (x : Collector). x.journal.items) c.out_of_heap.ensures.gone.collector))) c.go_on.ensures.goes
 
@@ -318,8 +313,8 @@ returns-clause-stopped g c =
 pub returns-clause-stop_counts : goal.returns-clause-stop_counts
 returns-clause-stop_counts g c =
     if_err_from c.go_on.result _ _ (λ stop counts.
-    stop_counts_then stop c.args.self.states.items c.out_of_heap.result.states.items _ _ _ _ _ _
-    c.loop-forced.invariant.count c.go_on.ensures.count (counts_then c.args.self.states.items
+    stop_counts_then stop _ _ _ _ c.loop-forced.invariant.count c.go_on.ensures.count
+    (counts_then c.args.self.states.items
     c.loop-forced.run.states.items c.out_of_heap.result.states.items _ _ _ c.loop-forced.invariant.lost
     (counts_same c.loop-forced.run.states.items c.out_of_heap.result.states.items _ _ c.out_of_heap.ensures.lost
     (omega arith))) counts) c.go_on.ensures.stop_counts
@@ -327,9 +322,8 @@ returns-clause-stop_counts g c =
 pub returns-clause-stop_lends : goal.returns-clause-stop_lends
 returns-clause-stop_lends g c =
     if_err_from c.go_on.result _ _ (λ stop keeps n by.
-    stop_then _ 0 1 _ _ _ _ (journal_of (row_of g.E.Machine.view c.loop-forced.run)) stop
-    (c.loop-forced.invariant.lends n by)
-    (stop_since _ 1 _ _ _ (journal_of (row_of g.E.Machine.view c.loop-forced.run))
+    stop_then 1 _ stop (c.loop-forced.invariant.lends n by)
+    (stop_since _ 1 _ (journal_of (row_of g.E.Machine.view c.loop-forced.run))
     (journal_of (row_of g.E.Machine.view c.out_of_heap.result)) stop refl
     (omega (arith, ap (λ (x : Collector). length x.journal.items) c.out_of_heap.ensures.gone.collector))
     (stop_one _ _ _ _ stop (c.go_on.ensures.lends n by) keeps))) c.go_on.ensures.stop_keeps

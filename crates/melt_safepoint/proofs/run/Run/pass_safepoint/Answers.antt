@@ -148,8 +148,8 @@ returns-in_default-clause-lends g c =
     let same = goes_journal _ (row_of g.E.Machine.view c.in_ok-run.run') (row_of g.E.Machine.view run) goes in
     lends_twice _ _ _ (journal_of (row_of g.E.Machine.view c.args.self)) js
     (omega (arith, own_more g at, ap length same))
-    (lends_since _ 1 _ _ _ _ (journal_of (row_of g.E.Machine.view c.in_ok-run.run')) js c.in_ok-run.ensures.lends
-    (omega (arith, own_more g at)) (lends_one _ _ _ _ _ (c.go_on.ensures.lends n by) same))) c.go_on.ensures.goes
+    (lends_since _ c.in_ok-run.ensures.lends (omega (arith, own_more g at))
+    (lends_one _ _ _ _ _ (c.go_on.ensures.lends n by) same))) c.go_on.ensures.goes
 
 pub returns-in_default-clause-stopped : goal.returns-in_default-clause-stopped
 returns-in_default-clause-stopped g c =
@@ -159,16 +159,16 @@ returns-in_default-clause-stopped g c =
 pub returns-in_default-clause-stop_counts : goal.returns-in_default-clause-stop_counts
 returns-in_default-clause-stop_counts g c =
     let at = (goal.at.returns-in_default-clause-stop_counts g c).In_ok-run in
-    if_err_from c.go_on.result _ _ (λ stop counts. stop_counts_then stop c.args.self.states.items
-    c.in_ok-run.run'.states.items _ _ _ _ _ _ c.in_ok-run.ensures.count c.go_on.ensures.count (lost g at) counts)
+    if_err_from c.go_on.result _ _ (λ stop counts. stop_counts_then stop _ _ _ _ c.in_ok-run.ensures.count
+    c.go_on.ensures.count (lost g at) counts)
     c.go_on.ensures.stop_counts
 
 pub returns-in_default-clause-stop_lends : goal.returns-in_default-clause-stop_lends
 returns-in_default-clause-stop_lends g c =
     let at = (goal.at.returns-in_default-clause-stop_lends g c).In_default in
     if_err_from c.go_on.result _ _ (λ stop keeps n by.
-    stop_twice _ _ _ _ (journal_of (row_of g.E.Machine.view c.in_ok-run.run')) stop c.in_ok-run.ensures.lends
-    (own_more g at) _ (stop_more _ 1 2 _ _ _ stop (omega arith)
+    stop_twice _ _ (journal_of (row_of g.E.Machine.view c.in_ok-run.run')) stop c.in_ok-run.ensures.lends
+    (own_more g at) _ (stop_more _ 2 _ _ _ stop (omega arith)
     (stop_one _ _ _ _ stop (c.go_on.ensures.lends n by) keeps))) c.go_on.ensures.stop_keeps
 
 pub collect-requires : goal.collect-requires
@@ -193,9 +193,8 @@ pub returns-in_err-run-2-clause-stop_counts : goal.returns-in_err-run-2-clause-s
 returns-in_err-run-2-clause-stop_counts g c =
     let exit = err_from_is_err_and c.from_residual-in_err-run-2.result c.from_residual-in_err-run-2.ensures.1 in
     rw (exit.1, exit.2)
-    (stop_counts_then _ c.args.self.states.items c.in_ok-run.run'.states.items _ _ _ _ _ _ c.in_ok-run.ensures.count
-    c.in_err-run-2.ensures.count (lost g (goal.at.returns-in_err-run-2-clause-stop_counts g c).In_ok-run)
-    c.in_err-run-2.ensures.stop_counts)
+    (stop_counts_then _ _ _ _ _ c.in_ok-run.ensures.count c.in_err-run-2.ensures.count
+    (lost g (goal.at.returns-in_err-run-2-clause-stop_counts g c).In_ok-run) c.in_err-run-2.ensures.stop_counts)
 
 pub returns-in_err-run-2-clause-stop_lends : goal.returns-in_err-run-2-clause-stop_lends
 returns-in_err-run-2-clause-stop_lends g c =
@@ -231,9 +230,8 @@ keeps_before : (g : Over) (c : Joined-len-made g) (told : Bool) (script : Script
     → AwaitsCall told script config (g.S.Space.sees.shown c.if-len-made.space) 0
     (row_of g.E.Machine.view c.if-len-made.run) c.in-Some.thread
 keeps_before g c =
-    awaits_call (collections_due c.args.self.states.items) _ _ _ (row_of g.E.Machine.view c.args.self)
-    (row_of g.E.Machine.view c.in_ok-run.run') (row_of g.E.Machine.view c.if-len-made.run) c.in-Some.thread
-    c.in_ok-run.ensures.keeps c.requires.rests.waits c.in_ok-run.ensures.all (before_call g c) c.in-Some.ensures.some
+    awaits_call c.in-Some.thread c.in_ok-run.ensures.keeps c.requires.rests.waits c.in_ok-run.ensures.all
+    (before_call g c) c.in-Some.ensures.some
 
 pub make_room-requires : goal.make_room-requires
 make_room-requires g c κs =
@@ -252,8 +250,8 @@ counts_before g c =
     let first = lost g (goal.at.Joined-len-made g c).In_ok-run in
     elim c.if-len-made.branch [
       | then-len-made+in_ok-run-2 w ↦ rw (w.space-is, w.run-is)
-          (counts_made states mid w.in_ok-run-2.run'.states.items _ _ _ _ _ _ w.in_ok-run-2.ensures.made.states
-          c.in_ok-run.ensures.count w.in_ok-run-2.ensures.count first w.in_ok-run-2.ensures.read_faults)
+          (counts_made _ _ _ w.in_ok-run-2.ensures.made.states c.in_ok-run.ensures.count w.in_ok-run-2.ensures.count
+          first w.in_ok-run-2.ensures.read_faults)
       | else-len-made w ↦ rw (w.space-is, w.run-is)
           (record { count = c.in_ok-run.ensures.count; lost = first })
     ]
@@ -351,8 +349,7 @@ returns-clause-lends g c =
     let js = journal_of (row_of g.E.Machine.view run) in
     lends_twice _ _ _ (journal_of (row_of g.E.Machine.view c.args.self)) js
     (omega (arith, before_longer g at, lends.grows))
-    (lends_after _ 1 _ _ _ _ (journal_of (row_of g.E.Machine.view c.if-len-made.run)) js (before_lends g at)
-    (before_longer g at) lends)) c.make_room.ensures.lends
+    (lends_after 1 _ (before_lends g at) (before_longer g at) lends)) c.make_room.ensures.lends
 
 pub returns-clause-same_disk : goal.returns-clause-same_disk
 returns-clause-same_disk g c =
@@ -372,13 +369,13 @@ returns-clause-stopped g c =
 pub returns-clause-stop_counts : goal.returns-clause-stop_counts
 returns-clause-stop_counts g c =
     let counts = counts_before g (goal.at.returns-clause-stop_counts g c).Joined-len-made in
-    if_err_from c.make_room.result _ _ (λ stop more. stop_counts_then stop c.args.self.states.items
-    c.if-len-made.run.states.items _ _ _ _ _ _ counts.count c.make_room.ensures.count counts.lost more)
+    if_err_from c.make_room.result _ _ (λ stop more. stop_counts_then stop _ _ _ _ counts.count
+    c.make_room.ensures.count counts.lost more)
     c.make_room.ensures.stop_counts
 
 pub returns-clause-stop_lends : goal.returns-clause-stop_lends
 returns-clause-stop_lends g c =
     let at = (goal.at.returns-clause-stop_lends g c).Joined-len-made in
     if_err_from c.make_room.result _ _ (λ stop lends n by.
-    stop_twice _ _ _ _ (journal_of (row_of g.E.Machine.view c.if-len-made.run)) stop (before_lends g at)
+    stop_twice _ _ (journal_of (row_of g.E.Machine.view c.if-len-made.run)) stop (before_lends g at)
     (before_longer g at) _ (lends n by)) c.make_room.ensures.stop_lends

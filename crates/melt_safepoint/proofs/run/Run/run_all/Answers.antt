@@ -1,7 +1,7 @@
 -- Epoch behind epoch, until all threads have ended.
 use Rattle.std.proofs.Common.{refl, sym, ◌∙◌, subst, arith}
 use Rattle.std.proofs.lemmas.Result.{err_from_is_err_and}
-use Rattle.melt_safepoint.specs.Rows.{Row, RunStands, journal_of, row_of}
+use Rattle.melt_safepoint.specs.Rows.{Row, RunStands, row_of}
 use Rattle.melt_safepoint.specs.Shown.{Shown}
 use Rattle.melt_safepoint.proofs.Composing.{stop_counts_then, stops_then}
 use Rattle.melt_safepoint.proofs.Epochs.{goes_ended, goes_journal, goes_keeps, goes_rests}
@@ -56,8 +56,7 @@ loop-alloc-preserved g c = record {
   rests = c.in_ok-run-2.ensures.rests;
   lost = counts_then c.args.self.states.items c.loop-alloc.run.states.items c.in_ok-run-2.run'.states.items _ _ _
       c.loop-alloc.invariant.lost c.in_ok-run-2.ensures.lost;
-  lends = λ n by. twice_then _ 1 0 _ _ _ _ (journal_of (row_of g.E.Machine.view c.loop-alloc.run)) _
-      (c.loop-alloc.invariant.lends n by) (c.in_ok-run-2.ensures.lends n by);
+  lends = λ n by. twice_then (c.loop-alloc.invariant.lends n by) (c.in_ok-run-2.ensures.lends n by);
   idle = λ all.
       absurd (all_not_some c.loop-alloc.run.states.items (c.has_ended.ensures.goes c.loop-alloc-test.true)
       (c.loop-alloc.invariant.idle all).0);
@@ -81,16 +80,14 @@ pub returns-in_err-run-2-clause-stop_counts : goal.returns-in_err-run-2-clause-s
 returns-in_err-run-2-clause-stop_counts g c =
     let exit = err_from_is_err_and c.from_residual-in_err-run-2.result c.from_residual-in_err-run-2.ensures.1 in
     rw (exit.1, exit.2)
-    (stop_counts_then _ c.args.self.states.items c.loop-alloc.run.states.items _ _ _ _ _ _
-    c.loop-alloc.invariant.count c.pass_safepoint.ensures.count c.loop-alloc.invariant.lost
+    (stop_counts_then _ _ _ _ _ c.loop-alloc.invariant.count c.pass_safepoint.ensures.count c.loop-alloc.invariant.lost
     c.in_err-run-2.ensures.stop_counts)
 
 pub returns-in_err-run-2-clause-stop_lends : goal.returns-in_err-run-2-clause-stop_lends
 returns-in_err-run-2-clause-stop_lends g c =
     let exit = err_from_is_err_and c.from_residual-in_err-run-2.result c.from_residual-in_err-run-2.ensures.1 in
     rw (exit.1, exit.2)
-    (λ n by. twice_stop_then _ 1 0 _ _ _ _ (journal_of (row_of g.E.Machine.view c.loop-alloc.run)) _
-    (c.loop-alloc.invariant.lends n by) (c.in_err-run-2.ensures.stop_lends n by))
+    (λ n by. twice_stop_then 0 _ _ (c.loop-alloc.invariant.lends n by) (c.in_err-run-2.ensures.stop_lends n by))
 
 pub end-requires : goal.end-requires
 end-requires g c =

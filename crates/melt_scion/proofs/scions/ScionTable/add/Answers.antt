@@ -15,19 +15,16 @@ index_mut-requires c =
 
 pub invariant_of-self : goal.invariant_of-self
 invariant_of-self c =
-    let done = added c.self.inside.pairs.items _ _ _ _ c.args.home c.args.address _ c.pop.ensures.items
-    c.unwrap-scion.ensures c.self.invariant in
+    let done = added _ c.args.home c.args.address c.pop.ensures.items c.unwrap-scion.ensures c.self.invariant in
     subst (IsKept _ _) (sym c.pop.ensures.capacity) done.1
 
 pub returns-clause-adds : goal.returns-clause-adds
 returns-clause-adds c =
-    let done = added c.self.inside.pairs.items _ _ _ _ c.args.home c.args.address _ c.pop.ensures.items
-    c.unwrap-scion.ensures c.self.invariant in
+    let done = added _ c.args.home c.args.address c.pop.ensures.items c.unwrap-scion.ensures c.self.invariant in
     let pairs = slice_set c.self.inside.pairs.items (c.unwrap-scion.result - 1) (Some (c.args.home, c.args.address)) in
     let new : Scions = table_of pairs (reverse c.pop.new.self.items) in
     subst (λ (old : Scions). Adds old new c.args.home c.args.address c.unwrap-scion.result) c.self.view_is done.0
 
 pub returns-clause-table : goal.returns-clause-table
 returns-clause-table c =
-    (added c.self.inside.pairs.items _ _ _ _ c.args.home c.args.address _ c.pop.ensures.items c.unwrap-scion.ensures
-    c.self.invariant).1.table
+    (added _ c.args.home c.args.address c.pop.ensures.items c.unwrap-scion.ensures c.self.invariant).1.table

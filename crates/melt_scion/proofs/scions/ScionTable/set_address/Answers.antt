@@ -8,14 +8,14 @@ invariant_of-self c =
     let live = subst (λ (table : Scions). IsLive table c.args.scion) (sym c.self.view_is) c.requires in
     let at = read_pair c.self.inside.pairs.items
     (reverse c.self.inside.unused.items) c.args.scion c.index.result.now live c.index.ensures ∙ c.in-Some.is in
-    (moved c.self.inside.pairs.items _ _ c.args.scion c.in-Some.home c.args.address _ c.self.invariant live at).1
+    (moved c.args.scion c.args.address c.self.invariant live at).1
 
 pub returns-in-Some-clause-sets : goal.returns-in-Some-clause-sets
 returns-in-Some-clause-sets c =
     let live = subst (λ (table : Scions). IsLive table c.args.scion) (sym c.self.view_is) c.requires in
     let at = read_pair c.self.inside.pairs.items
     (reverse c.self.inside.unused.items) c.args.scion c.index.result.now live c.index.ensures ∙ c.in-Some.is in
-    let done = moved c.self.inside.pairs.items _ _ c.args.scion c.in-Some.home c.args.address _ c.self.invariant live at
+    let done = moved c.args.scion c.args.address c.self.invariant live at
     in
     let pairs = slice_set c.self.inside.pairs.items (c.args.scion - 1) (Some (c.in-Some.home, c.args.address)) in
     let new : Scions = table_of pairs (reverse c.self.inside.unused.items) in
@@ -26,4 +26,4 @@ returns-in-Some-clause-table c =
     let live = subst (λ (table : Scions). IsLive table c.args.scion) (sym c.self.view_is) c.requires in
     let at = read_pair c.self.inside.pairs.items
     (reverse c.self.inside.unused.items) c.args.scion c.index.result.now live c.index.ensures ∙ c.in-Some.is in
-    (moved c.self.inside.pairs.items _ _ c.args.scion c.in-Some.home c.args.address _ c.self.invariant live at).1.table
+    (moved c.args.scion c.args.address c.self.invariant live at).1.table

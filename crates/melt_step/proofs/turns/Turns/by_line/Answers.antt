@@ -16,14 +16,11 @@ by_this : (c : Joined-self-eq0) (new : Turns) → new.left ≡ c.if-self-eq0.lef
     → new.turn ≡ c.loop-self.self.turn
     → OfLine c.args.trace.now.orders c.args.states.now c.args.self.now new c.order-thread.result.0
 by_this c new less stays over turn =
-    of_line _ _ _ c.loop-self.self new c.order-thread.result.0 c.order-thread.result.1 c.if-self-eq0.left
-    c.loop-self.invariant c.order-thread.ensures.value c.order-thread.ensures.events.0
-    (c.can_go.ensures.0 c.if-can_go.true)
-    (elim c.if-self-eq0.branch [
+    of_line new c.if-self-eq0.left c.loop-self.invariant c.order-thread.ensures.value c.order-thread.ensures.events.0
+    (c.can_go.ensures.0 c.if-can_go.true) (elim c.if-self-eq0.branch [
       | then-self-eq0 w ↦ inl (w.if-self-eq0.true, w.left-is)
       | else-self-eq0 w ↦ inr (w.if-self-eq0.false, w.left-is)
-    ])
-    less stays over turn
+    ]) less stays over turn
 
 pub returns-then-self-eq0-2-clause-line : goal.returns-then-self-eq0-2-clause-line
 returns-then-self-eq0-2-clause-line c =

@@ -91,9 +91,8 @@ loop-op-smaller-in-Repeat c =
 
 pub loop-op-preserved-in-Repeat : goal.loop-op-preserved-in-Repeat
 loop-op-preserved-in-Repeat c =
-    behind_repeat c.args.self.now c.loop-op.self-inside.globals c.loop-op.self-inside.items.now
-    c.loop-op.self-inside.open_blocks c.enter.new.self c.loop-op.self-inside.place c.in-Repeat.turns
-    c.loop-op.invariant (found_line c.loop-op.self-inside.items.now c.loop-op.self-inside.place
+    behind_repeat c.in-Repeat.turns c.loop-op.invariant
+    (found_line c.loop-op.self-inside.items.now c.loop-op.self-inside.place
     c.in_ok-op.field-0.now (item.Repeat c.in-Repeat.turns) c.in_ok-op.ensures.lookup.3.0 c.in_ok-op.ensures.lookup.1
     c.in-Repeat.is) c.enter.ensures
 
@@ -106,17 +105,13 @@ end-requires c =
 
 pub loop-op-smaller : goal.loop-op-smaller
 loop-op-smaller c =
-    end_smaller c.loop-op.self-inside.globals c.loop-op.self-inside.items.now c.loop-op.self-inside.open_blocks
-    c.loop-op.self-inside.place c.end.result c.end.new.self c.unwrap_or-self-inside.result
-    c.loop-op.invariant.underway (found_line c.loop-op.self-inside.items.now c.loop-op.self-inside.place
+    end_smaller c.loop-op.invariant.underway (found_line c.loop-op.self-inside.items.now c.loop-op.self-inside.place
     c.in_ok-op.field-0.now item.End c.in_ok-op.ensures.lookup.3.0 c.in_ok-op.ensures.lookup.1 c.in-End.is)
     (record { starts = c.end.ensures.start; leaves = c.end.ensures.after; leads = c.unwrap_or-self-inside.ensures })
 
 pub loop-op-preserved : goal.loop-op-preserved
 loop-op-preserved c =
-    behind_end c.args.self.now c.loop-op.self-inside.globals c.loop-op.self-inside.items.now
-    c.loop-op.self-inside.open_blocks c.loop-op.self-inside.place c.end.result c.end.new.self
-    c.unwrap_or-self-inside.result c.loop-op.invariant
+    behind_end c.loop-op.invariant
     (found_line c.loop-op.self-inside.items.now c.loop-op.self-inside.place c.in_ok-op.field-0.now item.End
     c.in_ok-op.ensures.lookup.3.0 c.in_ok-op.ensures.lookup.1 c.in-End.is)
     (record { starts = c.end.ensures.start; leaves = c.end.ensures.after; leads = c.unwrap_or-self-inside.ensures })

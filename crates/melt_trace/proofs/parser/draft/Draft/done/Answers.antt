@@ -35,8 +35,7 @@ returns c =
     c.len.ensures ∙ c.push.new.self.ok.0 ∙ ap length pushed
     in
     let next = c.behind-self.ensures ∙ ap (λ n. cond (eqb n draft.threads) stage.Over stage.Between) many in (
-      step.1 ∙ behind_done _ c.behind-self.result draft.threads draft.globals draft.orders.items _ new
-          c.replace-items.new.dest.items (blocks_of 0 draft.blocks.items) next pushed none (ap (blocks_of 0) closed),
+      step.1 ∙ behind_done draft.threads draft.globals draft.orders.items next pushed none (ap (blocks_of 0) closed),
       record {
         globals = c.requires.sound.globals;
         tallied = rw (none, closed) tallied_none;

@@ -18,7 +18,7 @@ returns c =
     filled)
     in (
       ends (place_of draft) draft.count block draft.blocks.items around is filled
-          ∙ same_place draft.stage draft.threads (place_of draft).script _ _ _ _ (sym c.in_ok-push.ensures.items)
+          ∙ same_place draft.stage draft.threads (place_of draft).script (sym c.in_ok-push.ensures.items)
           (blocks_with_operation block.before c.saturating_add-self.result around some),
       record {
         globals = c.requires.globals;

@@ -7,7 +7,7 @@ use Rattle.melt_trace.proofs.parser.draft.Draft.operation.Goals as goal
 pub returns : goal.returns
 returns c =
     let draft = c.args.self.now in (
-      same_place draft.stage draft.threads (place_of draft).script _ _ _ _ (sym c.in_ok-push.ensures.items)
+      same_place draft.stage draft.threads (place_of draft).script (sym c.in_ok-push.ensures.items)
           (blocks_with_operation draft.count c.saturating_add-self.result draft.blocks.items
           (omega (arith, c.saturating_add-self.ensures))),
       record {

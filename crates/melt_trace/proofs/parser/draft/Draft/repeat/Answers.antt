@@ -17,7 +17,7 @@ returns c =
     let shallow : length (blocks_of draft.count draft.blocks.items) < 4 =
     omega (arith, length-blocks draft.count draft.blocks.items, draft.blocks.ok.0, c.len.ensures) in (
       opens (place_of draft) c.args.times shallow
-          ∙ same_place draft.stage draft.threads (place_of draft).script _ _ _ _ (sym c.in_ok-push.ensures.items)
+          ∙ same_place draft.stage draft.threads (place_of draft).script (sym c.in_ok-push.ensures.items)
           (sym (ap (blocks_of 0) c.in_ok-push_front.ensures.items)),
       record {
         globals = c.requires.sound.globals;
