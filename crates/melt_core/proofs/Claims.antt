@@ -8,7 +8,7 @@ use Rattle.std.proofs.Math.ListN.{length-set}
 use Rattle.std.specs.Prelude.{Bool, true, false, map, sum, slice_set, Option, None, Some}
 use Rattle.melt_model.specs.declared.operations.Op.{Op}
 use Rattle.melt_scion.specs.State.{State}
-use Rattle.melt_scion.specs.Placed.{Maps}
+use Rattle.melt_scion.specs.Heaps.{OnDisk, register_in}
 use Rattle.melt_word.specs.Words.{cost_of}
 use Rattle.melt_core.specs.Stages.{Next, Lacks, Probes, reached, retried}
 use Rattle.melt_core.specs.declared.call.Stage.{Stage}
@@ -17,7 +17,7 @@ use Rattle.melt_core.specs.declared.call.Stage.TheVariants.{Polled, Headed, Look
 use Rattle.melt_core.specs.declared.call.Stage.TheVariants.{Searching, Missed, HeadRead, BodyRead, Copying, Copied}
 use Rattle.melt_core.specs.declared.call.Stage.TheVariants.{Retrying, LackingCopy}
 use Rattle.melt_core.specs.declared.call.Call.{Call}
-use Rattle.melt_core.specs.Views.{View, call_in, stage_in, claims_left, Bounded}
+use Rattle.melt_core.specs.Views.{View, maps, state, call_in, stage_in, claims_left, Bounded}
 
 -- how many claims past the last word these calls may still make
 abbrev pub claims_in : Bool → Option Call → ℕ
@@ -164,36 +164,38 @@ claims_probes stop s search empty another next {left} at_found at_empty at_anoth
 ]
 
 -- the next stage may make no more claims
-pub claims_next : (maps : Maps) (s : State) (register : ℕ → ℕ) (stop : Bool) (o : Op) (stage : Option Stage)
-    (next : Stage) → Next maps s register stop o stage next
-    → claims_left stop (Some next) ≤ claims_left stop stage
-claims_next maps s register stop o None next is =
-    let left : claims_left stop (Some next) ≡ 1 = ap (λ (x : Stage). claims_left stop (Some x)) is.3 in
-    let before : claims_left stop None ≡ 1 = ap (λ (b : Bool). claims_left b None) is.2 in
+pub claims_next : (disk : OnDisk) (v : View) (t : ℕ) (o : Op) (stage : Option Stage) (next : Stage)
+    → Next (maps v) (state disk v) (register_in v.held t) v.stop o stage next
+    → claims_left v.stop (Some next) ≤ claims_left v.stop stage
+claims_next disk v t o None next is =
+    let left : claims_left v.stop (Some next) ≡ 1 = ap (λ (x : Stage). claims_left v.stop (Some x)) is.3 in
+    let before : claims_left v.stop None ≡ 1 = ap (λ (b : Bool). claims_left b None) is.2 in
     omega arith
-claims_next maps s register stop o (Some (Polled task)) next is = claims_one stop (Some next)
-claims_next maps s register stop o (Some (Headed address shape access)) next is = claims_one stop (Some next)
-claims_next maps s register stop o (Some (Looked place found target dst)) next is =
-    claims_as stop next (Cleared place found target dst) (claims_left stop None) is (omega arith)
-claims_next maps s register stop o (Some (Cleared place found target dst)) next is = absurd is
-claims_next maps s register stop o (Some (Claimed address shape stored dst)) next is =
-    claims_as stop next (Claimed address shape (stored + 1) dst) (claims_left stop None) is.1 (omega arith)
-claims_next maps s register stop o (Some (Lacking need)) next is = absurd is
-claims_next maps s register stop o (Some (Searching search)) next is = claims_one stop (Some next)
-claims_next maps s register stop o (Some (Missed search)) next is = claims_one stop (Some next)
-claims_next maps s register stop o (Some (HeadRead search shape)) next is = claims_one stop (Some next)
-claims_next maps s register stop o (Some (BodyRead search shape)) next is = claims_one stop (Some next)
-claims_next maps s register stop o (Some (Copying a stored)) next is =
+claims_next disk v t o (Some (Polled task)) next is = claims_one v.stop (Some next)
+claims_next disk v t o (Some (Headed address shape access)) next is = claims_one v.stop (Some next)
+claims_next disk v t o (Some (Looked place found target dst)) next is =
+    claims_as v.stop next (Cleared place found target dst) (claims_left v.stop None) is (omega arith)
+claims_next disk v t o (Some (Cleared place found target dst)) next is = absurd is
+claims_next disk v t o (Some (Claimed address shape stored dst)) next is =
+    claims_as v.stop next (Claimed address shape (stored + 1) dst) (claims_left v.stop None) is.1 (omega arith)
+claims_next disk v t o (Some (Lacking need)) next is = absurd is
+claims_next disk v t o (Some (Searching search)) next is = claims_one v.stop (Some next)
+claims_next disk v t o (Some (Missed search)) next is = claims_one v.stop (Some next)
+claims_next disk v t o (Some (HeadRead search shape)) next is = claims_one v.stop (Some next)
+claims_next disk v t o (Some (BodyRead search shape)) next is = claims_one v.stop (Some next)
+claims_next disk v t o (Some (Copying a stored)) next is =
     elim (cases_lt (stored + 1) (cost_of a.shape)) [
-      | inl more ↦ claims_as stop next (Copying a (stored + 1)) (claims_left stop None) (is.0 more) (omega arith)
-      | inr all ↦ claims_as stop next (Copied a) (claims_left stop None) (is.1 all) (omega arith)
+      | inl more ↦ claims_as v.stop next (Copying a (stored + 1)) (claims_left v.stop None) (is.0 more) (omega arith)
+      | inr all ↦ claims_as v.stop next (Copied a) (claims_left v.stop None) (is.1 all) (omega arith)
     ]
-claims_next maps s register stop o (Some (Copied a)) next is =
-    claims_probes stop s a.search (reached a.search a.address) (Retrying (retried a)) next (omega arith) (omega arith)
+claims_next disk v t o (Some (Copied a)) next is =
+    claims_probes v.stop (state disk v) a.search (reached a.search a.address) (Retrying (retried a)) next (omega arith)
+    (omega arith)
     (omega arith) is
-claims_next maps s register stop o (Some (Retrying a)) next is =
-    claims_probes stop s a.search (Copied a) (Retrying (retried a)) next (omega arith) (omega arith) (omega arith) is
-claims_next maps s register stop o (Some (LackingCopy search shape)) next is = absurd is
+claims_next disk v t o (Some (Retrying a)) next is =
+    claims_probes v.stop (state disk v) a.search (Copied a) (Retrying (retried a)) next (omega arith) (omega arith)
+    (omega arith) is
+claims_next disk v t o (Some (LackingCopy search shape)) next is = absurd is
 
 -- the call is over, which did not lack words
 pub claims_ends : (stop : Bool) (stage : Option Stage) → ((need : ℕ) → Lacks stage need → ⊥) →

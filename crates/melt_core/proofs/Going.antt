@@ -80,7 +80,7 @@ goes_on {tells} {disk} {v} space records {t} {o} {stage} asks is =
           (next_fits (maps v) (state disk v) (register_in v.held t) v.stop o stage asks.continued
           (λ d at. s.fits t d at) is.next);
       unclaimed = is.unclaimed;
-      claims = claims_next (maps v) (state disk v) (register_in v.held t) v.stop o (stage_of v t) stage is.next;
+      claims = claims_next disk v t o (stage_of v t) stage is.next;
     } in
     advances_where Going asks (plain asks.thread p) refl is.applies
     (goes disk v w t o stage asks is.next refl (record { history = refl; registers = refl; values = refl }) refl) tt

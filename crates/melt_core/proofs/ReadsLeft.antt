@@ -11,7 +11,6 @@ use Rattle.melt_record.specs.declared.damage.Damaged.{Damaged}
 use Rattle.melt_record.specs.declared.head.Kind.{Kind}
 use Rattle.melt_record.specs.declared.head.Kind.TheVariants.{Body, Stub}
 use Rattle.melt_scion.specs.State.{State}
-use Rattle.melt_scion.specs.Placed.{Maps}
 use Rattle.melt_scion.specs.Heaps.{OnDisk, register_in}
 use Rattle.melt_core.specs.declared.answer.Refusal.TheVariants as refusal
 use Rattle.melt_core.specs.declared.answer.StepResult.{StepResult}
@@ -74,37 +73,39 @@ head_reads s search shape (Stub scion) next is =
     reads_as 1 next (Looked search.place (Disk search.home) is.0 search.dst) is.2 (omega arith)
 
 -- an event after which the call goes on leaves it no more reads
-reads_next : (maps : Maps) (s : State) (register : ℕ → ℕ) (stop : Bool) (o : Op) (stage : Option Stage) (next : Stage)
-    → Next maps s register stop o stage next → reads_left (Some next) ≤ reads_left stage
-reads_next maps s register stop o None next is = reads_most (Some next)
-reads_next maps s register stop o (Some (Polled task)) next is = reads_most (Some next)
-reads_next maps s register stop o (Some (Headed address shape access)) next is = reads_most (Some next)
-reads_next maps s register stop o (Some (Looked place found target dst)) next is =
+reads_next : (disk : OnDisk) (v : View) (t : ℕ) (o : Op) (stage : Option Stage) (next : Stage)
+    → Next (maps v) (state disk v) (register_in v.held t) v.stop o stage next
+    → reads_left (Some next) ≤ reads_left stage
+reads_next disk v t o None next is = reads_most (Some next)
+reads_next disk v t o (Some (Polled task)) next is = reads_most (Some next)
+reads_next disk v t o (Some (Headed address shape access)) next is = reads_most (Some next)
+reads_next disk v t o (Some (Looked place found target dst)) next is =
     reads_as 0 next (Cleared place found target dst) is (omega arith)
-reads_next maps s register stop o (Some (Cleared place found target dst)) next is = absurd is
-reads_next maps s register stop o (Some (Claimed address shape stored dst)) next is =
+reads_next disk v t o (Some (Cleared place found target dst)) next is = absurd is
+reads_next disk v t o (Some (Claimed address shape stored dst)) next is =
     reads_as 0 next (Claimed address shape (stored + 1) dst) is.1 (omega arith)
-reads_next maps s register stop o (Some (Lacking need)) next is = absurd is
-reads_next maps s register stop o (Some (Searching search)) next is = reads_most (Some next)
-reads_next maps s register stop o (Some (Missed search)) next is = reads_most (Some next)
-reads_next maps s register stop o (Some (HeadRead search shape)) next is =
+reads_next disk v t o (Some (Lacking need)) next is = absurd is
+reads_next disk v t o (Some (Searching search)) next is = reads_most (Some next)
+reads_next disk v t o (Some (Missed search)) next is = reads_most (Some next)
+reads_next disk v t o (Some (HeadRead search shape)) next is =
     reads_as 1 next (BodyRead search shape) is (omega arith)
-reads_next maps s register stop o (Some (BodyRead search shape)) next is =
-    elim (cases_lt (s.base.size + 1) (s.free + cost_of shape)) [
+reads_next disk v t o (Some (BodyRead search shape)) next is =
+    elim (cases_lt ((state disk v).base.size + 1) (v.free + cost_of shape)) [
       | inl past ↦ reads_as 0 next (LackingCopy search shape) (is.1 past) (omega arith)
-      | inr fits ↦ reads_as 0 next (Copying (record { search = search; address = s.free; shape = shape }) 0) (is.0 fits)
+      | inr fits ↦ reads_as 0 next (Copying (record { search = search; address = v.free; shape = shape }) 0) (is.0 fits)
           (omega arith)
     ]
-reads_next maps s register stop o (Some (Copying a stored)) next is =
+reads_next disk v t o (Some (Copying a stored)) next is =
     elim (cases_lt (stored + 1) (cost_of a.shape)) [
       | inl more ↦ reads_as 0 next (Copying a (stored + 1)) (is.0 more) (omega arith)
       | inr all ↦ reads_as 0 next (Copied a) (is.1 all) (omega arith)
     ]
-reads_next maps s register stop o (Some (Copied a)) next is =
-    reads_probes s a.search (reached a.search a.address) (Retrying (retried a)) next (omega arith) (omega arith) is
-reads_next maps s register stop o (Some (Retrying a)) next is =
-    reads_probes s a.search (Copied a) (Retrying (retried a)) next (omega arith) (omega arith) is
-reads_next maps s register stop o (Some (LackingCopy search shape)) next is = absurd is
+reads_next disk v t o (Some (Copied a)) next is =
+    reads_probes (state disk v) a.search (reached a.search a.address) (Retrying (retried a)) next (omega arith)
+    (omega arith) is
+reads_next disk v t o (Some (Retrying a)) next is =
+    reads_probes (state disk v) a.search (Copied a) (Retrying (retried a)) next (omega arith) (omega arith) is
+reads_next disk v t o (Some (LackingCopy search shape)) next is = absurd is
 
 -- the two stages from which the disk is read
 needs_none : (stage : Stage) → ((search : Search) → stage ≡ Missed search → ⊥)
@@ -159,7 +160,7 @@ reads_behind disk v w t o Going asks is =
     omega (
       arith,
       at,
-      reads_next (maps v) (state disk v) (register_in v.held t) v.stop o (stage_of v t) is.stage is.next,
+      reads_next disk v t o (stage_of v t) is.stage is.next,
     )
 reads_behind disk v w t o (Answered reply) asks is = omega arith
 reads_behind disk v w t o (Refused why) asks is = omega arith

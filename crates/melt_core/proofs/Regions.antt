@@ -139,60 +139,62 @@ read_nearer s most search shape (Stub scion) next is =
     (omega arith)
 
 -- an event that is not the last of its call brings it nearer to its end
-pub Next_nearer : (maps : Maps) (s : State) (rest : List ℕ) (register : ℕ → ℕ) (stop : Bool) (globals : ℕ) (o : Op)
-    (stage : Option Stage) (next : Stage) {most : ℕ} → s.base.forwards ≤ most → InBounds globals o
-    → AtStage maps s rest register o stage → Next maps s register stop o stage next
+pub Next_nearer : (disk : OnDisk) (v : View) (t : ℕ) (o : Op) (stage : Option Stage) (next : Stage)
+    {most : ℕ} → length v.forward ≤ most → InBounds (length v.globals) o
+    → AtStage (maps v) (state disk v) (rest_of v t) (register_in v.held t) o stage
+    → Next (maps v) (state disk v) (register_in v.held t) v.stop o stage next
     → events_left most (Some next) < events_left most stage
-Next_nearer maps s rest register stop globals o None next {most} few bounds at is =
+Next_nearer disk v t o None next {most} few bounds at is =
     left_is most (136 + 2 * most) next (Polled is.0) is.3 (omega arith)
-Next_nearer maps s rest register stop globals o (Some (Polled (Make dst shape))) next {most} few bounds at is =
-    let small : IsShape shape = made_small globals o dst shape bounds at.1.0 in
+Next_nearer disk v t o (Some (Polled (Make dst shape))) next {most} few bounds at is =
+    let small : IsShape shape = made_small (length v.globals) o dst shape bounds at.1.0 in
     let refs : shape.refs ≤ 62 = small.refs in
     let nums : shape.nums ≤ 62 = small.nums in
-    elim (cases_lt (s.base.size + 1) (s.free + cost_of shape)) [
+    elim (cases_lt ((state disk v).base.size + 1) (v.free + cost_of shape)) [
       | inl past ↦ left_is most (135 + 2 * most) next (Lacking (cost_of shape)) (is.1 past)
           (omega arith)
-      | inr fits ↦ left_is most (135 + 2 * most) next (Claimed s.free shape 0 dst) (is.0 fits)
+      | inr fits ↦ left_is most (135 + 2 * most) next (Claimed v.free shape 0 dst) (is.0 fits)
           (omega arith)
     ]
-Next_nearer maps s rest register stop globals o (Some (Polled (Use r access))) next {most} few bounds at is =
-    left_is most (135 + 2 * most) next (Headed (register r) is.0 access) is.3 (omega arith)
-Next_nearer maps s rest register stop globals o (Some (Polled (LoadGlobal dst g))) next {most} few bounds at is =
-    finds_nearer most (135 + 2 * most) (s.global g) (Global g) dst next (omega arith) is
-Next_nearer maps s rest register stop globals o (Some (Polled (StoreGlobal g src))) next {most} few bounds at is =
+Next_nearer disk v t o (Some (Polled (Use r access))) next {most} few bounds at is =
+    left_is most (135 + 2 * most) next (Headed (register_in v.held t r) is.0 access) is.3 (omega arith)
+Next_nearer disk v t o (Some (Polled (LoadGlobal dst g))) next {most} few bounds at is =
+    finds_nearer most (135 + 2 * most) ((state disk v).global g) (Global g) dst next (omega arith) is
+Next_nearer disk v t o (Some (Polled (StoreGlobal g src))) next {most} few bounds at is =
     absurd is
-Next_nearer maps s rest register stop globals o (Some (Headed address shape (Load dst i))) next {most} few bounds at
-    is =
-    finds_nearer most (134 + 2 * most) (s.word (address + 2 + i)) (Field address i) dst next
+Next_nearer disk v t o (Some (Headed address shape (Load dst i))) next {most} few bounds at is
+    =
+    finds_nearer most (134 + 2 * most) ((state disk v).word (address + 2 + i)) (Field address i) dst next
     (omega arith) is
-Next_nearer maps s rest register stop globals o (Some (Headed address shape access)) next {most} few bounds at is =
+Next_nearer disk v t o (Some (Headed address shape access)) next {most} few bounds at is =
     absurd is
-Next_nearer maps s rest register stop globals o (Some (Looked place found target dst)) next {most} few bounds at is =
+Next_nearer disk v t o (Some (Looked place found target dst)) next {most} few bounds at is =
     left_is most 3 next (Cleared place found target dst) is (omega arith)
-Next_nearer maps s rest register stop globals o (Some (Cleared place found target dst)) next {most} few bounds at is =
+Next_nearer disk v t o (Some (Cleared place found target dst)) next {most} few bounds at is =
     absurd is
-Next_nearer maps s rest register stop globals o (Some (Claimed address shape stored dst)) next {most} few bounds at is =
+Next_nearer disk v t o (Some (Claimed address shape stored dst)) next {most} few bounds at is =
     let below : stored + 1 < cost_of shape = is.0 in
     left_is most (cost_of shape - stored) next (Claimed address shape (stored + 1) dst) is.1 (omega arith)
-Next_nearer maps s rest register stop globals o (Some (Lacking need)) next {most} few bounds at is = absurd is
-Next_nearer maps s rest register stop globals o (Some (Searching search)) next {most} few bounds at is =
-    probes_nearer s search (Missed search) (Searching (further search)) next (133 + probes_left most search) few is
+Next_nearer disk v t o (Some (Lacking need)) next {most} few bounds at is = absurd is
+Next_nearer disk v t o (Some (Searching search)) next {most} few bounds at is =
+    probes_nearer (state disk v) search (Missed search) (Searching (further search)) next
+    (133 + probes_left most search) few is
     (omega arith) (λ less. omega arith) (λ less. omega arith)
-Next_nearer maps s rest register stop globals o (Some (Missed search)) next {most} few bounds at is =
-    read_nearer s most search is.0 is.1 next is.2
-Next_nearer maps s rest register stop globals o (Some (HeadRead search shape)) next {most} few bounds at is =
+Next_nearer disk v t o (Some (Missed search)) next {most} few bounds at is =
+    read_nearer (state disk v) most search is.0 is.1 next is.2
+Next_nearer disk v t o (Some (HeadRead search shape)) next {most} few bounds at is =
     left_is most (131 + probes_left most search) next (BodyRead search shape) is (omega arith)
-Next_nearer maps s rest register stop globals o (Some (BodyRead search shape)) next {most} few bounds at is =
+Next_nearer disk v t o (Some (BodyRead search shape)) next {most} few bounds at is =
     let small : IsShape shape = at.0.body.head.small in
     let refs : shape.refs ≤ 62 = small.refs in
     let nums : shape.nums ≤ 62 = small.nums in
-    elim (cases_lt (s.base.size + 1) (s.free + cost_of shape)) [
+    elim (cases_lt ((state disk v).base.size + 1) (v.free + cost_of shape)) [
       | inl past ↦ left_is most (130 + probes_left most search) next (LackingCopy search shape)
           (is.1 past) (omega arith)
       | inr fits ↦ left_is most (130 + probes_left most search) next
-          (Copying (record { search = search; address = s.free; shape = shape }) 0) (is.0 fits) (omega arith)
+          (Copying (record { search = search; address = v.free; shape = shape }) 0) (is.0 fits) (omega arith)
     ]
-Next_nearer maps s rest register stop globals o (Some (Copying a stored)) next {most} few bounds at is =
+Next_nearer disk v t o (Some (Copying a stored)) next {most} few bounds at is =
     let some : stored < cost_of a.shape = at.0.1.few in
     elim (cases_lt (stored + 1) (cost_of a.shape)) [
       | inl more ↦ left_is most (cost_of a.shape - stored + 2 + probes_left most a.search) next
@@ -200,15 +202,17 @@ Next_nearer maps s rest register stop globals o (Some (Copying a stored)) next {
       | inr all ↦ left_is most (cost_of a.shape - stored + 2 + probes_left most a.search) next
           (Copied a) (is.1 (omega arith)) (omega arith)
     ]
-Next_nearer maps s rest register stop globals o (Some (Copied a)) next {most} few bounds at is =
-    let within : a.search.tried < s.base.forwards = at.0.1 in
-    probes_nearer s a.search (reached a.search a.address) (Retrying (retried a)) next (2 + probes_left most a.search)
+Next_nearer disk v t o (Some (Copied a)) next {most} few bounds at is =
+    let within : a.search.tried < length v.forward = at.0.1 in
+    probes_nearer (state disk v) a.search (reached a.search a.address) (Retrying (retried a)) next
+    (2 + probes_left most a.search)
     few is (omega arith) (λ less. omega arith) (λ less. omega arith)
-Next_nearer maps s rest register stop globals o (Some (Retrying a)) next {most} few bounds at is =
-    probes_nearer s a.search (Copied a) (Retrying (retried a)) next (3 + probes_left most a.search) few is (omega arith)
+Next_nearer disk v t o (Some (Retrying a)) next {most} few bounds at is =
+    probes_nearer (state disk v) a.search (Copied a) (Retrying (retried a)) next (3 + probes_left most a.search) few is
+    (omega arith)
     (λ less. omega arith) (λ less. omega arith)
-Next_nearer maps s rest register stop globals o (Some (LackingCopy search shape)) next {most} few bounds at is =
-    absurd is
+Next_nearer disk v t o (Some (LackingCopy search shape)) next {most} few bounds at is
+    = absurd is
 
 -- what stands of a view is known of the call of a thread
 at_stage_in : (disk : OnDisk) (v : View) (t : ℕ) (o : Op) (call : Option Call) → Asks disk v t o → call_of v t ≡ call →
@@ -230,5 +234,5 @@ pub nearer_in : (disk : OnDisk) (v : View) (t : ℕ) (o : Op) (next : Stage) →
     Next (maps v) (state disk v) (register_in v.held t) v.stop o (stage_of v t) next → (most : ℕ) →
     length v.forward ≤ most → events_left most (Some next) < events_left most (stage_of v t)
 nearer_in disk v t o next may is most few =
-    Next_nearer (maps v) (state disk v) (rest_of v t) (register_in v.held t) v.stop _ o (stage_of v t) next few
+    Next_nearer disk v t o (stage_of v t) next few
     may.bounds (at_stage disk v t o may) is

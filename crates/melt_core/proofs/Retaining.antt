@@ -83,7 +83,7 @@ retains {disk} {v} {space} {t} {o} {before} {after} {mine} asks is =
         first = stands.first;
         bounded = bounded_is w (length v.space.list) v.free v.stop (set v.calls t (Some call)) is.words refl refl refl
             (bounded_call (length v.space.list) v.free v.stop v.calls t (Some call) within
-            (claims_next (maps v) (state disk v) (register_in v.held t) v.stop o (stage_of v t) after next)
+            (claims_next disk v t o (stage_of v t) after next)
             stands.bounded);
         may_hold = λ r. hold_stays (maps v) (maps w) (state disk v) (state disk w) 0 s.holds.formed evolves
             (register_in v.held t r) (s.registers t r);

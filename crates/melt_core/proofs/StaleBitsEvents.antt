@@ -149,7 +149,7 @@ module _ (disk : OnDisk) (u v w : View) (t : ℕ) (o : Op) (result : StepResult)
           goes.next));
       appears = λ a n at named.
           let waits : pending (Some goes.stage) ≡ Some a =
-          goes_appears (maps v) (state disk v) (register_in v.held t) v.stop o (stage_of v t) goes.stage goes.next
+          goes_appears disk v t o (stage_of v t) goes.stage goes.next
           at in (
             goes_fresh a n waits named,
             inr (record {
@@ -160,9 +160,9 @@ module _ (disk : OnDisk) (u v w : View) (t : ℕ) (o : Op) (result : StepResult)
             }),
           );
       clears = λ a some clears. ap pending at_next
-          ∙ goes_clears (maps v) (state disk v) (register_in v.held t) v.stop o (stage_of v t) goes.stage goes.next some
+          ∙ goes_clears disk v t o (stage_of v t) goes.stage goes.next some
           clears;
-      exchanges = λ a n waits named. absurd (goes_not_pending (maps v) (state disk v) (register_in v.held t) v.stop o
+      exchanges = λ a n waits named. absurd (goes_not_pending disk v t o
           (stage_of v t) goes.stage goes.next waits);
       gives = λ n x has gives. absurd (cc);
     }

@@ -7,6 +7,8 @@ use Rattle.melt_model.specs.declared.operations.Op.{Op}
 use Rattle.melt_word.specs.Words.{cost_of}
 use Rattle.melt_forward.specs.Forwarding.{Sends}
 use Rattle.melt_scion.specs.State.{State}
+use Rattle.melt_scion.specs.Heaps.{OnDisk, register_in}
+use Rattle.melt_core.specs.Views.{View, maps, state}
 use Rattle.melt_scion.specs.Placed.{Maps}
 use Rattle.melt_core.specs.declared.call.Access.TheVariants.{Load, Store, Get, Put}
 use Rattle.melt_core.specs.declared.call.Task.TheVariants.{Make, Use, LoadGlobal, StoreGlobal}
@@ -117,27 +119,28 @@ filled word home address sends empty =
     omega arith
 
 -- A call that goes on is about to read the slot of the object that it brought into use,
-pub goes_appears : (maps : Maps) (s : State) (register : ℕ → ℕ) (stop : Bool) (o : Op) (stage : Option Stage)
-    (next : Stage) {a : ℕ} → Next maps s register stop o stage next → AppearsAt s stage a → pending (Some next) ≡ Some a
-goes_appears maps s register stop o None next is at = absurd at
-goes_appears maps s register stop o (Some (Claimed address shape stored dst)) next is at =
+pub goes_appears : (disk : OnDisk) (v : View) (t : ℕ) (o : Op) (stage : Option Stage) (next : Stage)
+    {a : ℕ} → Next (maps v) (state disk v) (register_in v.held t) v.stop o stage next → AppearsAt (state disk v) stage a
+    → pending (Some next) ≡ Some a
+goes_appears disk v t o None next is at = absurd at
+goes_appears disk v t o (Some (Claimed address shape stored dst)) next is at =
     absurd (let more : stored + 1 < cost_of shape = is.0 in omega (arith, more, at.0))
-goes_appears maps s register stop o (Some (Copied x)) next is at = elim is.1 [
-  | inl here ↦ absurd (filled (next_forward s x.search) x.search.home here.0 here.1 at.0)
+goes_appears disk v t o (Some (Copied x)) next is at = elim is.1 [
+  | inl here ↦ absurd (filled (next_forward (state disk v) x.search) x.search.home here.0 here.1 at.0)
   | inr other ↦ elim other [
     | inl none ↦ ap (λ (g : Stage). pending (Some g)) none.1 ∙ ap Some (sym at.1)
-    | inr sent ↦ absurd (filled (next_forward s x.search) sent.0.0 sent.0.1 sent.0.3 at.0)
+    | inr sent ↦ absurd (filled (next_forward (state disk v) x.search) sent.0.0 sent.0.1 sent.0.3 at.0)
   ]
 ]
-goes_appears maps s register stop o stage next is at = absurd at
+goes_appears disk v t o stage next is at = absurd at
 
 -- and that of the object that it cleared,
-pub goes_clears : (maps : Maps) (s : State) (register : ℕ → ℕ) (stop : Bool) (o : Op) (stage : Option Stage)
-    (next : Stage) {a : ℕ} → Next maps s register stop o stage next → a ≢ 0 → cleared_by stage ≡ a
-    → pending (Some next) ≡ Some a
-goes_clears maps s register stop o (Some (Looked place found target dst)) next is some clears =
+pub goes_clears : (disk : OnDisk) (v : View) (t : ℕ) (o : Op) (stage : Option Stage) (next : Stage)
+    {a : ℕ} → Next (maps v) (state disk v) (register_in v.held t) v.stop o stage next → a ≢ 0
+    → cleared_by stage ≡ a → pending (Some next) ≡ Some a
+goes_clears disk v t o (Some (Looked place found target dst)) next is some clears =
     ap (λ (g : Stage). pending (Some g)) is ∙ ap Some clears
-goes_clears maps s register stop o stage next is some clears = absurd (some (sym clears))
+goes_clears disk v t o stage next is some clears = absurd (some (sym clears))
 
 -- by the last event of the call.
 pub pending_is : (stage : Option Stage) (a : ℕ) → pending stage ≡ Some a
@@ -146,11 +149,12 @@ pending_is (Some (Cleared place found target dst)) a is =
     (place, found, dst, ap (λ (x : ℕ). Some (Cleared place found x dst)) (same_Some target a is))
 pending_is stage a is = absurd (cc)
 
-pub goes_not_pending : (maps : Maps) (s : State) (register : ℕ → ℕ) (stop : Bool) (o : Op) (stage : Option Stage)
-    (next : Stage) {a : ℕ} → Next maps s register stop o stage next → pending stage ≡ Some a → ⊥
-goes_not_pending maps s register stop o stage next {a} is waits =
+pub goes_not_pending : (disk : OnDisk) (v : View) (t : ℕ) (o : Op) (stage : Option Stage) (next : Stage)
+    {a : ℕ} → Next (maps v) (state disk v) (register_in v.held t) v.stop o stage next
+    → pending stage ≡ Some a → ⊥
+goes_not_pending disk v t o stage next {a} is waits =
     let at = pending_is stage a waits in
-    subst (λ (g : Option Stage). Next maps s register stop o g next) at.3 is
+    subst (λ (g : Option Stage). Next (maps v) (state disk v) (register_in v.held t) v.stop o g next) at.3 is
 
 -- A call may be refused at the stage: its next event neither clears a bit, nor brings an object into use, nor reads the
 -- slot of its look.
