@@ -6,6 +6,7 @@ use Rattle.std.proofs.lemmas.Bool.{cases_lt}
 use Rattle.std.specs.Prelude.{Bool, true, false, ◌==◌, Option, None, Some, if◌then◌else◌}
 use Rattle.melt_model.specs.declared.operations.Op.{Op}
 use Rattle.melt_word.specs.Words.{cost_of}
+use Rattle.melt_word.specs.declared.reference.Ref.TheVariants.{Disk}
 use Rattle.melt_scion.specs.State.{State}
 use Rattle.melt_scion.specs.Placed.{Maps}
 use Rattle.melt_scion.specs.Heaps.{OnDisk, register_in}
@@ -73,15 +74,14 @@ finds_fits : (register : ℕ → ℕ) (o : Op) (word : ℕ) (place : Place) (dst
 finds_fits register o word place dst next loads (inl stale) = subst (Fits register o) (sym stale.2) loads
 finds_fits register o word place dst next loads (inr home) = subst (Fits register o) (sym home.2) loads
 
--- and so it does behind a forwarding word
-probes_fits : (s : State) (register : ℕ → ℕ) (o : Op) (search : Search) (empty another next : Stage)
-    → LoadsAt register o search.place search.dst → Fits register o empty → Fits register o another
-    → Probes s search empty another next → Fits register o next
-probes_fits s register o search empty another next loads at_empty at_another is = elim is.1 [
-  | inl here ↦ subst (Fits register o) (sym here.2) loads
+-- behind a forwarding word the stages at which it may leave a call are so, and so is the next
+probes_fits : (P : Stage → Type 0) (s : State) (search : Search) (empty another next : Stage)
+    → ((address : ℕ) → P (reached search address)) → P empty → P another → Probes s search empty another next → P next
+probes_fits P s search empty another next at_found at_empty at_another is = elim is.1 [
+  | inl here ↦ subst P (sym here.2) (at_found here.0)
   | inr other ↦ elim other [
-    | inl none ↦ subst (Fits register o) (sym none.1) at_empty
-    | inr sent ↦ subst (Fits register o) (sym sent.1) at_another
+    | inl none ↦ subst P (sym none.1) at_empty
+    | inr sent ↦ subst P (sym sent.1) at_another
   ]
 ]
 
@@ -92,11 +92,13 @@ body_fits register o search shape true loads = loads
 body_fits register o search shape false loads = loads
 
 -- and behind a head
-read_fits : (s : State) (register : ℕ → ℕ) (o : Op) (search : Search) (shape : Shape) (kind : Kind) (next : Stage)
-    → LoadsAt register o search.place search.dst → ReadAs s search shape kind next → Fits register o next
-read_fits s register o search shape Body next loads is =
-    subst (Fits register o) (sym is) (body_fits register o search shape (shape.refs + shape.nums == 0) loads)
-read_fits s register o search shape (Stub scion) next loads is = subst (Fits register o) (sym is.2) loads
+read_fits : (P : Stage → Type 0) (s : State) (search : Search) (shape : Shape) (kind : Kind) (next : Stage)
+    → ((whole : Bool) → P (if whole then BodyRead search shape else HeadRead search shape))
+    → ((target : ℕ) → P (Looked search.place (Disk search.home) target search.dst)) → ReadAs s search shape kind next
+    → P next
+read_fits P s search shape Body next at_body at_stub is =
+    subst P (sym is) (at_body (shape.refs + shape.nums == 0))
+read_fits P s search shape (Stub scion) next at_body at_stub is = subst P (sym is.2) (at_stub is.0)
 
 -- behind an event that goes on the call is one of its operation
 pub next_fits : (maps : Maps) (s : State) (register : ℕ → ℕ) (stop : Bool) (o : Op) {c : Option Call} (next : Stage)
@@ -131,9 +133,11 @@ next_fits maps s register stop o {c = Some c} next continued fits is =
         subst (Fits register o) (sym is.1) fits
     next_fits_at maps s register stop o (Lacking need) next fits is = absurd is
     next_fits_at maps s register stop o (Searching search) next fits is =
-        probes_fits s register o search (Missed search) (Searching (further search)) next fits fits fits is
+        probes_fits (Fits register o) s search (Missed search) (Searching (further search)) next (λ address. fits) fits
+        fits is
     next_fits_at maps s register stop o (Missed search) next fits is =
-        read_fits s register o search is.0 is.1 next fits is.2
+        read_fits (Fits register o) s search is.0 is.1 next
+        (λ whole. body_fits register o search is.0 whole fits) (λ target. fits) is.2
     next_fits_at maps s register stop o (HeadRead search shape) next fits is = subst (Fits register o) (sym is) fits
     next_fits_at maps s register stop o (BodyRead search shape) next fits is =
         elim (cases_lt (s.base.size + 1) (s.free + cost_of shape)) [
@@ -146,9 +150,10 @@ next_fits maps s register stop o {c = Some c} next continued fits is =
           | inr all ↦ subst (Fits register o) (sym (is.1 all)) fits
         ]
     next_fits_at maps s register stop o (Copied a) next fits is =
-        probes_fits s register o a.search (reached a.search a.address) (Retrying (retried a)) next fits fits fits is
+        probes_fits (Fits register o) s a.search (reached a.search a.address) (Retrying (retried a)) next
+        (λ address. fits) fits fits is
     next_fits_at maps s register stop o (Retrying a) next fits is =
-        probes_fits s register o a.search (Copied a) (Retrying (retried a)) next fits fits fits is
+        probes_fits (Fits register o) s a.search (Copied a) (Retrying (retried a)) next (λ address. fits) fits fits is
     next_fits_at maps s register stop o (LackingCopy search shape) next fits is = absurd is
 
 -- an event that clears a stale bit changes a word

@@ -298,17 +298,16 @@ items_lead threads script before (item.End ∷ items) (true ∷ blocks) few h =
 -- ---- programs
 
 -- where a program may begin, a line is read by its first word
-standing_fields : (s : Stage) (threads : ℕ) (script : Script) (held : List Item) (blocks : List Bool) (first : List ℕ)
-    (fields : List (List ℕ)) {next : Place} → fits s blocks word.Thread ≡ true
-    → after_word (placed s threads script held blocks) (word_of first) fields ≡ Ok next
-    → after_fields (placed s threads script held blocks) s (first ∷ fields) ≡ Ok next
-standing_fields stage.Version threads script held blocks first fields stands e = absurd cc
-standing_fields stage.Threads threads script held blocks first fields stands e = absurd cc
-standing_fields stage.Globals threads script held blocks first fields stands e = absurd cc
-standing_fields stage.Orders threads script held blocks first fields stands e = e
-standing_fields stage.Inside threads script held blocks first fields stands e = e
-standing_fields stage.Between threads script held blocks first fields stands e = e
-standing_fields stage.Over threads script held blocks first fields stands e = absurd cc
+standing_fields : (s : Stage) (place : Place) (blocks : List Bool) (first : List ℕ) (fields : List (List ℕ))
+    {next : Place} → fits s blocks word.Thread ≡ true → after_word place (word_of first) fields ≡ Ok next
+    → after_fields place s (first ∷ fields) ≡ Ok next
+standing_fields stage.Version place blocks first fields stands e = absurd cc
+standing_fields stage.Threads place blocks first fields stands e = absurd cc
+standing_fields stage.Globals place blocks first fields stands e = absurd cc
+standing_fields stage.Orders place blocks first fields stands e = e
+standing_fields stage.Inside place blocks first fields stands e = e
+standing_fields stage.Between place blocks first fields stands e = e
+standing_fields stage.Over place blocks first fields stands e = absurd cc
 
 -- a program, and what is wanted behind it
 program_leads : (s : Stage) {after : Stage} (threads : ℕ) (script : Script) (items : List Item) (held : List Item)
@@ -326,7 +325,7 @@ program_leads s {after} threads script items held blocks stands few small h coun
     let first : Leads (placed s threads script held blocks) (line (codes "thread") (t ∷ [])) begun =
     leads_line (placed s threads script held blocks) begun (codes "thread") (t ∷ [])
     (record { some = omega arith; plain = refl; shown = refl; words = (omega arith, tt) })
-    (standing_fields s threads script held blocks (codes "thread") (map decimal (t ∷ [])) stands
+    (standing_fields s (placed s threads script held blocks) blocks (codes "thread") (map decimal (t ∷ [])) stands
     (worded (placed s threads script held blocks) begun word.Thread (t ∷ []) stands (omega arith, omega arith, tt)
     (omega arith, tt) refl))
     in

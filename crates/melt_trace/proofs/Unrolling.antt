@@ -121,12 +121,12 @@ left_of-repeat items blocks start n k (block ∷ rest ∷ around) some e is =
     ap (λ (ops : List Op). left_of items blocks (((block ++ times (n - 1) ops) ++ rest) ∷ around)) is
     ∙ ap (λ (ops : List Op). left_of items blocks ((ops ++ rest) ∷ around)) (sym (times-first n block some))
 
-AreOpen-unrolled : (globals : ℕ) (items : List Item) (blocks : List Block) (marks : List Bool) (n k : ℕ)
-    (around : List (List Op)) → length around ≡ k + 2 → AreOpen globals items blocks marks (unrolled n around)
+AreOpen-unrolled : (globals : ℕ) (items : List Item) (blocks : List Block) (marks : List Bool) (n : ℕ)
+    (around : List (List Op)) → 2 ≤ length around → AreOpen globals items blocks marks (unrolled n around)
     → AreOpen globals items blocks marks (drop 1 around)
-AreOpen-unrolled globals items blocks marks n k [] e are = absurd (omega (arith, e))
-AreOpen-unrolled globals items blocks marks n k (block ∷ []) e are = absurd (omega (arith, e))
-AreOpen-unrolled globals items blocks marks n k (block ∷ rest ∷ around) e are =
+AreOpen-unrolled globals items blocks marks n [] e are = absurd (omega (arith, e))
+AreOpen-unrolled globals items blocks marks n (block ∷ []) e are = absurd (omega (arith, e))
+AreOpen-unrolled globals items blocks marks n (block ∷ rest ∷ around) e are =
     AreOpen-first globals items blocks marks (times n block ++ rest) rest around are
 
 left_of-leave : (items : List Item) (block : Block) (blocks : List Block) (around : List (List Op)) → 0 < length around
@@ -213,7 +213,7 @@ at_repeat globals items blocks at n way is =
         lines = lines.3;
         opened = (
           record { lines = lines.3; around = refl; entered = entered },
-          AreOpen-unrolled globals items blocks way.marks n (length way.marks) (levels rest) two opened,
+          AreOpen-unrolled globals items blocks way.marks n (levels rest) (omega (arith, two)) opened,
         );
         fresh = λ yes. tt;
       };
