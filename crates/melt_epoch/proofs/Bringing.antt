@@ -97,29 +97,6 @@ stub_brings v w search target most some_ clears = record {
   claims = inl (refl, refl);
 }
 
--- or a copy does
-pub copies_miss : (told : Bool) (image : Option (List ℕ)) (scions : Scions) (end before after : ℕ) (v w : View)
-    (search : Search) {z : Shape} {forwards : ℕ} (result : Result ℕ Refusal) → IsShape z → forwards ≡ v.began.forwards
-    → Copies v w search z forwards result
-    → Misses told image scions end before after v w search (128 + 2 * (forwards - search.tried)) result
-copies_miss told image scions end before after v w search {z} {forwards} (Ok address) small same copied = record {
-  words = cost_of z;
-  wins = copied.wins;
-  goes = goes_then (128 + 2 * (forwards - search.tried)) (let refs = small.refs in let nums = small.nums in omega arith)
-      (toward_itself v) copied.goes;
-  claims = inr (z, refl, copied.one, copied.object);
-}
-copies_miss told image scions end before after v w search {z} {forwards} (Err why) small same (inl full) =
-    inl (inl (record {
-      words = cost_of z;
-      full = toward_full (128 + 2 * (forwards - search.tried)) (omega arith)
-          (let refs = small.refs in let nums = small.nums in omega arith) (toward_itself v) full.full;
-      read = let all = full.read in omega arith;
-      claims = inr (z, refl, full.object);
-    }))
-copies_miss told image scions end before after v w search {z} {forwards} (Err why) small same (inr lacks) =
-    inl (inr (lacks_on search search.tried (128 + 2 * (forwards - search.tried)) (omega arith) (toward_itself v) lacks))
-
 pub paused_on : {v w : View} (u : View) (search : Search) (tried : ℕ) {m : ℕ} (n k : ℕ) (why : Refusal) → m + n ≤ k
     → Toward v w 0 0 m → search.tried ≤ tried → v.steps + (tried - search.tried) ≤ w.steps
     → LacksEither w u (tried_to search tried) n why → LacksEither v u search k why
@@ -159,51 +136,73 @@ brought_on {v} {w} {u} search tried k le toward brought = record {
   ];
 }
 
--- all forwarding words send other homes than that of a search
-pub sought_full : (told : Bool) (image : Option (List ℕ)) (scions : Scions) (end before after : ℕ) (v w : View)
-    (search : Search) {forwards : ℕ} (why : Refusal) → search.tried ≡ 0 → forwards ≡ v.began.forwards
-    → Seeks v w search forwards (Err why)
-    → Brings told image scions end before after v w search (2 * forwards + 130) (Err why)
-sought_full told image scions end before after v w search {forwards} why first same full = inl (inl (record {
-  words = 0;
-  full = toward_full (2 * forwards + 130) (omega arith) (omega arith) (toward_itself v) full.0;
-  read = let all = full.1 in omega arith;
-  claims = inl refl;
-}))
+module _ (told : Bool) (image : Option (List ℕ)) (scions : Scions) (end before after : ℕ) where
+  -- a home that a search missed is brought by a copy, or is not
+  pub copies_miss : (v w : View) (search : Search) {z : Shape} {forwards : ℕ} (result : Result ℕ Refusal) → IsShape z
+      → forwards ≡ v.began.forwards → Copies v w search z forwards result
+      → Misses told image scions end before after v w search (128 + 2 * (forwards - search.tried)) result
+  copies_miss v w search {z} {forwards} (Ok address) small same copied = record {
+    words = cost_of z;
+    wins = copied.wins;
+    goes = goes_then (128 + 2 * (forwards - search.tried))
+        (let refs = small.refs in let nums = small.nums in omega arith) (toward_itself v) copied.goes;
+    claims = inr (z, refl, copied.one, copied.object);
+  }
+  copies_miss v w search {z} {forwards} (Err why) small same (inl full) =
+      inl (inl (record {
+        words = cost_of z;
+        full = toward_full (128 + 2 * (forwards - search.tried)) (omega arith)
+            (let refs = small.refs in let nums = small.nums in omega arith) (toward_itself v) full.full;
+        read = let all = full.read in omega arith;
+        claims = inr (z, refl, full.object);
+      }))
+  copies_miss v w search {z} {forwards} (Err why) small same (inr lacks) =
+      inl (inr (lacks_on search search.tried (128 + 2 * (forwards - search.tried)) (omega arith) (toward_itself v)
+      lacks))
 
--- a home that a search missed was brought, or was not
-pub missed_brings : (told : Bool) (image : Option (List ℕ)) (scions : Scions) (end before after : ℕ) (v w u : View)
-    (search missed : Search) (forwards : ℕ) (result : Result ℕ Refusal) → search.tried ≡ 0
-    → Seeks v w search forwards (Ok (sought.Missed missed))
-    → Misses told image scions end before after w u missed (128 + 2 * (forwards - missed.tried)) result
-    → Brings told image scions end before after v u search (2 * forwards + 130) result
-missed_brings told image scions end before after v w u search missed forwards result first seeks misses =
-    brings result (subst (λ (s : Search). Misses told image scions end before after w u s most result) seeks.3 misses)
-  where
-    most : ℕ
-    most = 128 + 2 * (forwards - missed.tried)
+  -- all forwarding words send other homes than that of a search
+  pub sought_full : (v w : View) (search : Search) {forwards : ℕ} (why : Refusal) → search.tried ≡ 0
+      → forwards ≡ v.began.forwards → Seeks v w search forwards (Err why)
+      → Brings told image scions end before after v w search (2 * forwards + 130) (Err why)
+  sought_full v w search {forwards} why first same full = inl (inl (record {
+    words = 0;
+    full = toward_full (2 * forwards + 130) (omega arith) (omega arith) (toward_itself v) full.0;
+    read = let all = full.1 in omega arith;
+    claims = inl refl;
+  }))
 
-    toward : Toward v w 0 0 (missed.tried + 1 - search.tried)
-    toward = goes_toward v w 0 0 (missed.tried + 1 - search.tried) (Missed missed) seeks.0
+  -- a home that a search missed was brought, or was not
+  pub missed_brings : {v w : View} (u : View) (search : Search) {missed : Search} (forwards : ℕ)
+      (result : Result ℕ Refusal) → search.tried ≡ 0 → Seeks v w search forwards (Ok (sought.Missed missed))
+      → Misses told image scions end before after w u missed (128 + 2 * (forwards - missed.tried)) result
+      → Brings told image scions end before after v u search (2 * forwards + 130) result
+  missed_brings {v} {w} u search {missed} forwards result first seeks misses =
+      brings result (subst (λ (s : Search). Misses told image scions end before after w u s most result) seeks.3 misses)
+    where
+      most : ℕ
+      most = 128 + 2 * (forwards - missed.tried)
 
-    few : (missed.tried + 1 - search.tried) + (128 + 2 * (forwards - missed.tried)) ≤ 2 * forwards + 130
-    few = let below = seeks.2 in omega arith
+      toward : Toward v w 0 0 (missed.tried + 1 - search.tried)
+      toward = goes_toward v w 0 0 (missed.tried + 1 - search.tried) (Missed missed) seeks.0
 
-    brings : (result : Result ℕ Refusal)
-        → Misses told image scions end before after w u (tried_to search missed.tried)
-        (128 + 2 * (forwards - missed.tried)) result
-        → Brings told image scions end before after v u search (2 * forwards + 130) result
-    brings (Ok address) brought =
-        brought_on search missed.tried (2 * forwards + 130) few toward brought
-    brings (Err why) (inl paused) =
-        inl (paused_on u search missed.tried (128 + 2 * (forwards - missed.tried)) (2 * forwards + 130) why few toward
-        seeks.1 (let read = seeks.4 in let from = seeks.1 in omega arith) paused)
-    brings (Err why) (inr lost) = inr (
-      subst (λ (x : View). Stays v x (2 * forwards + 130)) (sym lost.0) (record {
-        sees = seeks.0.sees;
-        counts = counts_most v w 0 0 (missed.tried + 1 - search.tried) (2 * forwards + 130)
-            (let below = seeks.2 in omega arith) seeks.0.counts;
-        goes_on = ap is_bound seeks.0.at;
-      }),
-      lost.1,
-    )
+      few : (missed.tried + 1 - search.tried) + (128 + 2 * (forwards - missed.tried)) ≤ 2 * forwards + 130
+      few = let below = seeks.2 in omega arith
+
+      brings : (result : Result ℕ Refusal)
+          → Misses told image scions end before after w u (tried_to search missed.tried)
+          (128 + 2 * (forwards - missed.tried)) result
+          → Brings told image scions end before after v u search (2 * forwards + 130) result
+      brings (Ok address) brought =
+          brought_on search missed.tried (2 * forwards + 130) few toward brought
+      brings (Err why) (inl paused) =
+          inl (paused_on u search missed.tried (128 + 2 * (forwards - missed.tried)) (2 * forwards + 130) why few toward
+          seeks.1 (let read = seeks.4 in let from = seeks.1 in omega arith) paused)
+      brings (Err why) (inr lost) = inr (
+        subst (λ (x : View). Stays v x (2 * forwards + 130)) (sym lost.0) (record {
+          sees = seeks.0.sees;
+          counts = counts_most v w 0 0 (missed.tried + 1 - search.tried) (2 * forwards + 130)
+              (let below = seeks.2 in omega arith) seeks.0.counts;
+          goes_on = ap is_bound seeks.0.at;
+        }),
+        lost.1,
+      )

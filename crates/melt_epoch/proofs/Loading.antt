@@ -319,18 +319,18 @@ module _ (words : EpochWords) (v : View) (seat : Seat ℕ View) (s : Slot) (k : 
   idle_by : MayGoOn (knows_of seat) → Sees (knows_of seat) (knows_of seat).seen → IsIdle words seat
   idle_by goes_on sound = record { is_seat = is_seat; goes_on = goes_on; sound = sound; own = own }
 
-  pub resolved_idle : (told : Bool) (image : Option (List ℕ)) (scions : Scions) (end before after : ℕ)
-      (result : Result ℕ Refusal) → Resolves told image scions end before after v (knows_of seat) s k result
-      → IsIdle words seat
-  resolved_idle told image scions end before after (Ok address) loads =
-      idle_by (ap is_bound loads.over)
-      (sound_adds v (knows_of seat) (Read s loads.value) loads.adds loads.counts.began)
-  resolved_idle told image scions end before after (Err why) (inl full) =
-      idle_by (ap is_bound full.full.over) (sound_sees v (knows_of seat) full.full.sees full.full.filled.began)
-  resolved_idle told image scions end before after (Err why) (inr (inl lacks)) =
-      idle_by (ap is_bound lacks.over) (sound_sees v (knows_of seat) lacks.sees lacks.lacked.began)
-  resolved_idle told image scions end before after (Err why) (inr (inr lost)) =
-      idle_by lost.stays.goes_on (sound_sees v (knows_of seat) lost.stays.sees lost.stays.counts.began)
+  module _ (told : Bool) (image : Option (List ℕ)) (scions : Scions) (end before after : ℕ) where
+    pub resolved_idle : (result : Result ℕ Refusal)
+        → Resolves told image scions end before after v (knows_of seat) s k result → IsIdle words seat
+    resolved_idle (Ok address) loads =
+        idle_by (ap is_bound loads.over)
+        (sound_adds v (knows_of seat) (Read s loads.value) loads.adds loads.counts.began)
+    resolved_idle (Err why) (inl full) =
+        idle_by (ap is_bound full.full.over) (sound_sees v (knows_of seat) full.full.sees full.full.filled.began)
+    resolved_idle (Err why) (inr (inl lacks)) =
+        idle_by (ap is_bound lacks.over) (sound_sees v (knows_of seat) lacks.sees lacks.lacked.began)
+    resolved_idle (Err why) (inr (inr lost)) =
+        idle_by lost.stays.goes_on (sound_sees v (knows_of seat) lost.stays.sees lost.stays.counts.began)
 
 -- the stop word was set
 pub asked_load : (v w : View) (k : ℕ) → 1 ≤ k → Polls v w true → LoadAsked v w k (Pause Asked)
@@ -343,15 +343,15 @@ asked_load v w k some_ polls = record {
   };
 }
 
--- what a global was read as
-pub global_loads : (told : Bool) (image : Option (List ℕ)) (scions : Scions) (end before after : ℕ) {v u : View}
-    (x : View) (g : ℕ) {m : ℕ} (n : ℕ) {k : ℕ} (result : Result ℕ Refusal) → m + n ≤ k → Way v u 0 0 m
-    → Resolves told image scions end before after u x (slot.Global g) n result
-    → LoadsGlobal told image scions end before after v x g k result
-global_loads told image scions end before after {v} {u} x g {m} n {k} (Ok address) le way loads =
-    loads_on v u x (slot.Global g) m n k le way address loads
-global_loads told image scions end before after {v} {u} x g {m} n {k} (Err why) le way refused =
-    inr (refused_on v u x (slot.Global g) m n k le way told image scions end before after why refused)
+module _ (told : Bool) (image : Option (List ℕ)) (scions : Scions) (end before after : ℕ) where
+  -- what a global was read as
+  pub global_loads : {v u : View} (x : View) (g : ℕ) {m : ℕ} (n : ℕ) {k : ℕ} (result : Result ℕ Refusal) → m + n ≤ k
+      → Way v u 0 0 m → Resolves told image scions end before after u x (slot.Global g) n result
+      → LoadsGlobal told image scions end before after v x g k result
+  global_loads {v} {u} x g {m} n {k} (Ok address) le way loads =
+      loads_on v u x (slot.Global g) m n k le way address loads
+  global_loads {v} {u} x g {m} n {k} (Err why) le way refused =
+      inr (refused_on v u x (slot.Global g) m n k le way told image scions end before after why refused)
 
 -- a home that a call found lies before the end of the disk
 home_before : (words : EpochWords) (seat : Seat ℕ View) (search : Search) → IsSeat words seat

@@ -50,17 +50,6 @@ ends_later told script log more config u {mode = Ended (end.Damaged home place w
     (ends.0, subst (LoadsNext script u) (ap length (sym same)) ends.1, ends.2)
 ends_later told script log more config u {mode = Ended end.Halted} later at same is ends = absurd ends
 
--- a thread that has not ended need not say why
-pub ends_open : (told : Bool) (script : Script) (log : List Entry) (states : List ThreadState) (config : Config) (t : ℕ)
-    (mode : Mode) → (IsEnded mode → ⊥) → EndsSo told script log states config t mode
-ends_open told script log states config t Running free = tt
-ends_open told script log states config t Due free = tt
-ends_open told script log states config t Silent free = tt
-ends_open told script log states config t Collecting free = tt
-ends_open told script log states config t Asked free = tt
-ends_open told script log states config t Lacking free = tt
-ends_open told script log states config t (Ended e) free = absurd (free tt)
-
 -- how a thread whose call paused waits
 pub paused_cases : (cause : Pause)
     → (mode_for (refusal.Pause cause) ≡ Asked) ⊎ (mode_for (refusal.Pause cause) ≡ Lacking)
@@ -144,23 +133,6 @@ pub first_counts : (o : Option Op) (ops : List Op) → IsSome o → 0 < length (
 first_counts None ops is = absurd (cc)
 first_counts (Some o) ops is = omega arith
 
--- why a thread may have ended, untold
-pub ends_untold : (told : Bool) (script : Script) (log : List Entry) (states : List ThreadState) (config : Config)
-    (t : ℕ) (mode : Mode) → EndsSo told script log states config t mode → EndsSo false script log states config t mode
-ends_untold told script log states config t Running ends = tt
-ends_untold told script log states config t Due ends = tt
-ends_untold told script log states config t Silent ends = tt
-ends_untold told script log states config t Collecting ends = tt
-ends_untold told script log states config t Asked ends = tt
-ends_untold told script log states config t Lacking ends = tt
-ends_untold told script log states config t (Ended end.Done) ends = ends
-ends_untold told script log states config t (Ended (end.OutOfHeap held_words need)) ends =
-    λ (tells : false ≡ true). absurd (cc)
-ends_untold told script log states config t (Ended end.DiskFault) ends = ends
-ends_untold told script log states config t (Ended (end.Damaged home at word)) ends =
-    (λ (tells : false ≡ true). absurd (cc), ends.1, ends.2)
-ends_untold told script log states config t (Ended end.Halted) ends = absurd ends
-
 -- a mode that was set leaves each thread its replies
 pub later_mode : (states : List ThreadState) (t : ℕ) (s : ThreadState) (mode : Mode) → slice_get states t ≡ Some s
     → (IsEnded s.mode → ⊥) → Later states (set states t (record s { mode = mode }))
@@ -177,31 +149,59 @@ cuts_mode {script} config log states t {s} mode journal at goes have =
     subst (λ (h : List Entry). HaveCuts script h after config journal) (append-nil log)
     (HaveCuts_later script log [] config journal (later_mode states t s mode at goes) have)
 
--- why a thread ends is so when it has ended
-pub ends_gone : (told : Bool) (script : Script) (log : List Entry) (states : List ThreadState) (config : Config) (t : ℕ)
-    {s : ThreadState} (e : ThreadEnd) → slice_get states t ≡ Some s → (IsEnded s.mode → ⊥)
-    → EndsSo told script log states config t (Ended e)
-    → EndsSo told script log (set states t (record s { mode = Ended e })) config t (Ended e)
-ends_gone told script log states config t {s} end.Done at goes ends =
-    let after : ThreadState = record s { mode = Ended end.Done } in
-    ap length (replies_same states t s after at ∙ sym (replies_here states t s at)) ∙ ends
-ends_gone told script log states config t {s} (end.OutOfHeap held_words need) at goes ends = λ tells.
-    let after : ThreadState = record s { mode = Ended (end.OutOfHeap held_words need) } in
-    let later : Later states (set states t after) =
-    later_mode states t s (Ended (end.OutOfHeap held_words need)) at goes in
-    subst (λ (h : List Entry). LacksNow script h (set states t after) config t held_words need) (append-nil log)
-    (LacksNow_same [] later (replies_same states t s after at ∙ sym (replies_here states t s at)) (ends tells))
-ends_gone told script log states config t {s} end.DiskFault at goes ends =
-    let after : ThreadState = record s { mode = Ended end.DiskFault } in
-    subst (LoadsNext script t) (ap length (replies_here states t s at ∙ sym (replies_same states t s after at))) ends
-ends_gone told script log states config t {s} (end.Damaged home place word) at goes ends =
-    let after : ThreadState = record s { mode = Ended (end.Damaged home place word) } in (
-      ends.0,
-      subst (LoadsNext script t) (ap length (replies_here states t s at ∙ sym (replies_same states t s after at)))
-          ends.1,
-      ends.2,
-    )
-ends_gone told script log states config t {s} end.Halted at goes ends = absurd ends
+module _ (told : Bool) (script : Script) (config : Config) where
+  -- a thread that has not ended need not say why
+  pub ends_open : (log : List Entry) (states : List ThreadState) (t : ℕ) (mode : Mode) → (IsEnded mode → ⊥)
+      → EndsSo told script log states config t mode
+  ends_open log states t Running free = tt
+  ends_open log states t Due free = tt
+  ends_open log states t Silent free = tt
+  ends_open log states t Collecting free = tt
+  ends_open log states t Asked free = tt
+  ends_open log states t Lacking free = tt
+  ends_open log states t (Ended e) free = absurd (free tt)
+
+  -- why a thread may have ended, untold
+  pub ends_untold : (log : List Entry) (states : List ThreadState) (t : ℕ) (mode : Mode)
+      → EndsSo told script log states config t mode → EndsSo false script log states config t mode
+  ends_untold log states t Running ends = tt
+  ends_untold log states t Due ends = tt
+  ends_untold log states t Silent ends = tt
+  ends_untold log states t Collecting ends = tt
+  ends_untold log states t Asked ends = tt
+  ends_untold log states t Lacking ends = tt
+  ends_untold log states t (Ended end.Done) ends = ends
+  ends_untold log states t (Ended (end.OutOfHeap held_words need)) ends =
+      λ (tells : false ≡ true). absurd (cc)
+  ends_untold log states t (Ended end.DiskFault) ends = ends
+  ends_untold log states t (Ended (end.Damaged home at word)) ends =
+      (λ (tells : false ≡ true). absurd (cc), ends.1, ends.2)
+  ends_untold log states t (Ended end.Halted) ends = absurd ends
+
+  -- why a thread ends is so when it has ended
+  pub ends_gone : (log : List Entry) (states : List ThreadState) (t : ℕ) {s : ThreadState} (e : ThreadEnd)
+      → slice_get states t ≡ Some s → (IsEnded s.mode → ⊥) → EndsSo told script log states config t (Ended e)
+      → EndsSo told script log (set states t (record s { mode = Ended e })) config t (Ended e)
+  ends_gone log states t {s} end.Done at goes ends =
+      let after : ThreadState = record s { mode = Ended end.Done } in
+      ap length (replies_same states t s after at ∙ sym (replies_here states t s at)) ∙ ends
+  ends_gone log states t {s} (end.OutOfHeap held_words need) at goes ends = λ tells.
+      let after : ThreadState = record s { mode = Ended (end.OutOfHeap held_words need) } in
+      let later : Later states (set states t after) =
+      later_mode states t s (Ended (end.OutOfHeap held_words need)) at goes in
+      subst (λ (h : List Entry). LacksNow script h (set states t after) config t held_words need) (append-nil log)
+      (LacksNow_same [] later (replies_same states t s after at ∙ sym (replies_here states t s at)) (ends tells))
+  ends_gone log states t {s} end.DiskFault at goes ends =
+      let after : ThreadState = record s { mode = Ended end.DiskFault } in
+      subst (LoadsNext script t) (ap length (replies_here states t s at ∙ sym (replies_same states t s after at))) ends
+  ends_gone log states t {s} (end.Damaged home place word) at goes ends =
+      let after : ThreadState = record s { mode = Ended (end.Damaged home place word) } in (
+        ends.0,
+        subst (LoadsNext script t) (ap length (replies_here states t s at ∙ sym (replies_same states t s after at)))
+            ends.1,
+        ends.2,
+      )
+  ends_gone log states t {s} end.Halted at goes ends = absurd ends
 
 -- a thread that can go on does not wait
 pub goes_waits : (mode : Mode) → MayGo mode → Waits mode → ⊥

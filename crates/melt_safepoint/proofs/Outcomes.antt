@@ -1,5 +1,5 @@
 -- What a run reports of its threads when it has ended, or was halted.
-use Rattle.std.specs.Prelude.{Bool, Some, IsSome, slice_get, take, map, sum, if◌then◌else◌, false}
+use Rattle.std.specs.Prelude.{Bool, Some, IsSome, slice_get, take, map, sum, if◌then◌else◌, true, false}
 use Rattle.std.specs.List.{count_by, sum_by}
 use Rattle.std.proofs.Common.{◌≡◌, ℕ, ◌+◌, ◌<◌, ◌≤◌, zero, suc, List, [], ◌∷◌, length, refl, sym, ◌∙◌, ap, subst, arith}
 use Rattle.std.proofs.Common.{◌⊎◌, inl, inr}
@@ -202,10 +202,10 @@ told_less (s ∷ states) (r ∷ threads) count each =
     )
 
 -- a thread that has ended by itself is not halted
-pub not_halted : (told : Bool) (script : Script) (log : List Entry) (states : List ThreadState) (config : Config)
-    (t : ℕ) (e : ThreadEnd) → EndsSo told script log states config t (mode.Ended e) → is_halted e ≡ false
-not_halted told script log states config t end.Done ends = refl
-not_halted told script log states config t (end.OutOfHeap held_words need) ends = refl
-not_halted told script log states config t end.DiskFault ends = refl
-not_halted told script log states config t (end.Damaged home at word) ends = refl
-not_halted told script log states config t end.Halted ends = absurd ends
+pub not_halted : (script : Script) (log : List Entry) (states : List ThreadState) (config : Config) (t : ℕ)
+    (e : ThreadEnd) → EndsSo true script log states config t (mode.Ended e) → is_halted e ≡ false
+not_halted script log states config t end.Done ends = refl
+not_halted script log states config t (end.OutOfHeap held_words need) ends = refl
+not_halted script log states config t end.DiskFault ends = refl
+not_halted script log states config t (end.Damaged home at word) ends = refl
+not_halted script log states config t end.Halted ends = absurd ends

@@ -142,7 +142,7 @@ thread_left {script} {config} {v} {states} report t r {s} x table at (inl ends) 
     ap (λ (vs : List Value). value_in vs r) ((table.each t s at).dropped over)
     ∙ (get_or_replicate 16 r Nil
     ∙ sym (ap (λ (b : Bool). left_by script v.log t r b (length s.replies.items))
-    (not_halted true script v.log states config t x.end so)))
+    (not_halted script v.log states config t x.end so)))
 thread_left {script} {config} {v} {states} report t r {s} x table at (inr halts) =
     sym (held_left script v t r s (table.each t s at) halts.0)
     ∙ sym (ap (λ (e : ThreadEnd). left_by script v.log t r (is_halted e) (length s.replies.items)) halts.1)

@@ -122,7 +122,7 @@ Table_gone {told} {script} {config} {disk} {v} {w} {states} {t} {s} e table at g
       stands = gone_stands e (table.each t s at) dropped no_call;
       due = λ owes. absurd (let wrong : false ≡ true = owes in cc);
       ends = subst (λ (h : List Entry). EndsSo told script h (set states t after) config t (Ended e)) (sym history)
-          (ends_gone told script v.log states config t e at goes ends);
+          (ends_gone told script config v.log states t e at goes ends);
       entries = let same : length w.log ≡ length v.log = ap length history in omega arith;
     } in
     Table_moves table at goes (dropped.keeps told disk table.stands) (dropped_keeps v w t dropped) moves

@@ -210,7 +210,7 @@ same_moves {told} {script} config v {w} states {t} s mode due free history stand
       replies = sym (append-nil s.replies.items);
       stands = stands;
       due = due;
-      ends = ends_open told script w.log (set states t after) config t mode free;
+      ends = ends_open told script config w.log (set states t after) t mode free;
       entries = let same : length w.log ≡ length v.log = ap length history in omega arith;
     }
 
@@ -640,7 +640,7 @@ Table_untold told script config disk v states table = record {
       };
   own = table.own;
   due = table.due;
-  ends = λ t s at. ends_untold told script v.log states config t s.mode (table.ends t s at);
+  ends = λ t s at. ends_untold told script config v.log states t s.mode (table.ends t s at);
   entries = table.entries;
   few = table.few;
 }

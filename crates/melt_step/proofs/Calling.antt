@@ -403,29 +403,30 @@ refused_step {told} {image} {disk} {v} {w} x {t} {o} s {why} running next no_col
     by_cause (refusal.Damaged damaged) from is over =
         inr (inr (inr (inl (lost_state v w x s next (ap owes_silent running) alive refl tt from is over))))
 
--- what it does to the stop word
-pub refused_sets : (tells : Type 0) (disk : OnDisk) {v : View} (w : View) {x : View} (t : ℕ) (o : Op) (s : ThreadState)
-    (why : Refusal) → Refuses tells disk v w t o why → DropsIfEnded w x t (mode_for why)
-    → SetsStop v x (record s { mode = mode_for why })
-refused_sets tells disk {v} w {x} t o s (refusal.Pause cause) is drops =
-    subst (λ (y : View). SetsStop v y (record s { mode = mode_for (refusal.Pause cause) }))
-    (sym (pause_drops w x t cause drops)) (pause_sets v w t o s cause is)
-refused_sets tells disk {v} w {x} t o s refusal.DiskFault is drops =
-    stop_same v x (record s { mode = Ended end.DiskFault })
-    (stop_dropped w x t (Ended end.DiskFault) drops ∙ is.1.stop) (λ waits. waits) (λ asked. cc)
-refused_sets tells disk {v} w {x} t o s (refusal.Damaged damaged) is drops =
-    let over : Mode = mode_for (refusal.Damaged damaged) in
-    stop_same v x (record s { mode = over }) (stop_dropped w x t over drops ∙ is.lost.stop) (λ waits. waits)
-    (λ asked. cc)
+module _ (tells : Type 0) (disk : OnDisk) where
+  -- what it does to the stop word
+  pub refused_sets : {v : View} (w : View) {x : View} (t : ℕ) (o : Op) (s : ThreadState) (why : Refusal)
+      → Refuses tells disk v w t o why → DropsIfEnded w x t (mode_for why)
+      → SetsStop v x (record s { mode = mode_for why })
+  refused_sets {v} w {x} t o s (refusal.Pause cause) is drops =
+      subst (λ (y : View). SetsStop v y (record s { mode = mode_for (refusal.Pause cause) }))
+      (sym (pause_drops w x t cause drops)) (pause_sets v w t o s cause is)
+  refused_sets {v} w {x} t o s refusal.DiskFault is drops =
+      stop_same v x (record s { mode = Ended end.DiskFault })
+      (stop_dropped w x t (Ended end.DiskFault) drops ∙ is.1.stop) (λ waits. waits) (λ asked. cc)
+  refused_sets {v} w {x} t o s (refusal.Damaged damaged) is drops =
+      let over : Mode = mode_for (refusal.Damaged damaged) in
+      stop_same v x (record s { mode = over }) (stop_dropped w x t over drops ∙ is.lost.stop) (λ waits. waits)
+      (λ asked. cc)
 
--- the call is over
-pub refused_call : (tells : Type 0) (disk : OnDisk) (v w : View) (t : ℕ) (o : Op) (why : Refusal)
-    → Refuses tells disk v w t o why → call_of w t ≡ None
-refused_call tells disk v w t o (refusal.Pause pause.Asked) is = ap (λ (y : View). call_of y t) is.same ∙ is.first
-refused_call tells disk v w t o (refusal.Pause (pause.Space need)) is = is.call
-refused_call tells disk v w t o (refusal.Pause pause.Forward) is = is.call
-refused_call tells disk v w t o refusal.DiskFault is = is.1.call
-refused_call tells disk v w t o (refusal.Damaged damaged) is = is.lost.call
+  -- the call is over
+  pub refused_call : (v w : View) (t : ℕ) (o : Op) (why : Refusal)
+      → Refuses tells disk v w t o why → call_of w t ≡ None
+  refused_call v w t o (refusal.Pause pause.Asked) is = ap (λ (y : View). call_of y t) is.same ∙ is.first
+  refused_call v w t o (refusal.Pause (pause.Space need)) is = is.call
+  refused_call v w t o (refusal.Pause pause.Forward) is = is.call
+  refused_call v w t o refusal.DiskFault is = is.1.call
+  refused_call v w t o (refusal.Damaged damaged) is = is.lost.call
 
 -- the call in flight is that of the next operation
 pub continues_next : (now : Option Call) (next : Option Op) (o : Op) → ((c : Call) → now ≡ Some c → next ≡ Some c.op)

@@ -20,10 +20,9 @@ returns-in-Missed-clause-brings g c =
     let same : forwards ≡ words.start.began.forwards = search rules in
     subst (λ (n : ℕ). Brings words.start.began.told image c.args.heap.now.scions c.args.end before after
     v u c.args.search (2 * n + 130) c.bring_missed.result) same
-    (missed_brings words.start.began.told image c.args.heap.now.scions c.args.end before after v w u c.args.search
-    c.in-Missed.missed forwards c.bring_missed.result c.requires.first
-    (subst (λ (s : Sought). Seeks v w c.args.search forwards (Ok s)) c.in-Missed.is
-    c.in_ok-sought.ensures.seeks)
+    (missed_brings words.start.began.told image c.args.heap.now.scions c.args.end before after u c.args.search forwards
+    c.bring_missed.result c.requires.first
+    (subst (λ (s : Sought). Seeks v w c.args.search forwards (Ok s)) c.in-Missed.is c.in_ok-sought.ensures.seeks)
     c.bring_missed.ensures.misses)
 
 pub returns-in_err-sought-clause-brings : goal.returns-in_err-sought-clause-brings
