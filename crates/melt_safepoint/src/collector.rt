@@ -80,6 +80,7 @@ fn count_registers(registers: Registers)
 {}
 
 /// Each thread has 16 registers.
+// (a loop for the proof alone: it has no effect, so that nothing of it is left in the program)
 fn count_all_registers(all: &[Registers])
     ensures { All (λ each. length each.regs ≡ 16) all.now }
 {

@@ -22,9 +22,11 @@ pub enum Verb {
 }
 
 /// Why no options are read.
-#[derive(Clone, Copy, Debug)]
+#[derive(Clone, Copy, Debug, thiserror::Error)]
 pub enum WordsRefusal {
+    #[error("these are no words of the command")]
     Usage,
+    #[error("no memory is left for the words")]
     NoMemory,
 }
 
