@@ -18,8 +18,7 @@ use Rattle.melt_core.specs.declared.call.Task.{Task}
 use Rattle.melt_scion.specs.Heaps.{register_in}
 use Rattle.melt_core.specs.Advances.{AdvancesOver, Asks, Continues, Goes, InBounds, MayMove, Moves, MovesBy, MovesOn}
 use Rattle.melt_core.specs.Advances.{Refuses}
-use Rattle.melt_core.specs.Stages.{Lacks, Next, ReadsAt, SearchesOn, events_left, task_of}
-use Rattle.melt_core.proofs.Asked.{inside}
+use Rattle.melt_core.specs.Stages.{Lacks, Next, ReadsAt, SearchesOn, task_of}
 use Rattle.melt_core.specs.Views.{View, call_of, maps, stage_in, stage_of, state}
 
 -- an event over the disk for which a thread asks
@@ -104,10 +103,6 @@ pub record GoesOn (v w : View) (t : ℕ) (o : Op) : Type 0 where
   pub on : MovesOn v w t o Going
   pub may : MayMove w t o
 
--- its thread is there
-pub goes_there : (v w : View) (t : ℕ) (o : Op) → GoesOn v w t o → t < length w.calls
-goes_there v w t o goes = inside goes.may.disk w t o goes.may.asks
-
 -- behind its first event
 pub first_on : (v w : View) (t : ℕ) (o : Op) → MayMove v t o → Moves v w t o Going → GoesOn v w t o
 first_on v w t o may moves = record { on = one_event v w t o Going moves; may = may_on v w t o may moves }
@@ -138,14 +133,3 @@ last_on {v} {u} {w} {t} {o} {stage} goes is well moves = record {
   refused = λ why refused. absurd (not_refused u w t o why stage goes.may is well
       (subst (λ (r : StepResult). Moves u w t o r) refused moves));
 }
-
--- a call that goes on has fewer events behind it
-pub fewer_left : (v w : View) (t : ℕ) (o : Op) → MayMove v t o → Moves v w t o Going
-    → events_left (length w.forward) (stage_of w t) < events_left (length v.forward) (stage_of v t)
-fewer_left v w t o may moves =
-    let event : AdvancesOver may.disk v w t o Going = over v w t o Going may moves in
-    let goes : Goes may.disk v w t o = event.outcome in
-    let most : ℕ = length v.forward in
-    subst (λ (n : ℕ). events_left n (stage_of w t) < events_left most (stage_of v t)) (sym event.others.forwards)
-    (subst (λ (g : Option Stage). events_left most g < events_left most (stage_of v t)) (sym (ap stage_in goes.call))
-    (goes.nearer most (omega arith)))

@@ -9,24 +9,13 @@ ghost use Rattle.melt_core.specs.Stages.{task_of};
 ghost use Rattle.melt_core.specs.Views.{call_of, stage_of, view};
 
 use crate::answer::StepResult;
-use crate::call::{Access, Place, Stage, Task};
+use crate::call::{Access, Place, Task};
 use crate::machine::Core;
 use crate::make::Claim;
 use melt_model::{Op, Reply};
-use melt_word::Shape;
+use melt_word::{Shape, cost};
 
 impl Core {
-    /// The stage that the call of a thread has reached, if one is in flight.
-    fn stage(&self, thread: u32) -> Option<Stage>
-        requires { thread < length (view self.now).calls }
-        ensures { result ≡ stage_of (view self.now) thread }
-    {
-        match &self.rest.calls[thread as usize] {
-            Some(call) => Some(call.stage),
-            None => None,
-        }
-    }
-
     /// Whether no call of a thread is in flight.
     pub fn is_free(&self, thread: u32) -> bool
         requires { thread < length (view self.now).calls }
@@ -54,7 +43,7 @@ impl Core {
         self.after_head(thread, op, address, shape, access)
     }
 
-    /// Makes an object, up to its last word.
+    /// Makes an object, if its words do not end past the last word of the heap.
     fn make_at_once(&mut self, thread: u32, op: Op, shape: Shape, dst: u8) -> StepResult
         requires asks { MayMove (view self.old) thread op }
         requires first { call_of (view self.old) thread ≡ None }
@@ -65,33 +54,26 @@ impl Core {
             StepResult::Going => {}
             result => return result,
         }
-        match self.claim(thread, op, shape, dst) {
-            StepResult::Going => {}
-            result => return result,
-        }
-        loop {
-            let Some(
-                Stage::Claimed {
-                    address,
-                    shape,
-                    stored,
-                    dst,
-                },
-            ) = self.stage(thread)
-            else {
-                return StepResult::Going;
-            };
+        let Some(address) = self.claim_region(thread, op, shape, dst) else {
+            return StepResult::Going;
+        };
+        let last = cost(shape) - 1;
+        for stored in 0..last {
             let claim = Claim {
                 address,
                 shape,
                 stored,
                 dst,
             };
-            match self.fill(thread, op, claim) {
-                StepResult::Going => {}
-                result => return result,
-            }
+            self.store_zero(thread, op, claim);
         }
+        let claim = Claim {
+            address,
+            shape,
+            stored: last,
+            dst,
+        };
+        self.publish(thread, op, claim)
     }
 
     /// Loads a global.

@@ -2,7 +2,7 @@
 //!
 //! The claim moves the first free place on, and from then on the words belong to one thread. It stores 0 in all of them
 //! but the first, and the header last: with that word the object is there, whole.
-ghost use Rattle.std.specs.Prelude.{◌≡◌, ◌+◌, ◌<◌, Some};
+ghost use Rattle.std.specs.Prelude.{◌≡◌, ◌+◌, ◌<◌, Some, IfSome};
 ghost use Rattle.melt_word.specs.Words.{cost_of};
 ghost use Rattle.melt_core.specs.Advances.{Moves, MayMove};
 ghost use Rattle.melt_core.specs.Stages.{Lacks};
@@ -26,33 +26,52 @@ pub(crate) struct Claim {
 }
 
 impl Core {
-    /// Claims the words for an object.
+    /// Claims the words for an object, and answers their address, if they do not end past the last word of the heap.
+    pub(crate) fn claim_region(&mut self, thread: u32, op: Op, shape: Shape, dst: u8) -> Option<u32>
+        requires asks { MayMove (view self.old) thread op }
+        requires stage { stage_of (view self.old) thread ≡ Some (Stage.Polled (Task.Make dst shape)) }
+        ensures moves { Moves (view self.old) (view self.new) thread op StepResult.Going }
+        ensures claimed { IfSome result (λ address. stage_of (view self.new) thread
+            ≡ Some (Stage.Claimed address shape 0 dst)) }
+    {
+        let need = cost(shape);
+        match self.claim_words(need) {
+            Some(address) => {
+                let stage = Stage::Claimed {
+                    address,
+                    shape,
+                    stored: 0,
+                    dst,
+                };
+                self.set_stage(thread, op, stage);
+                Some(address)
+            }
+            None => {
+                self.set_stage(thread, op, Stage::Lacking { need });
+                None
+            }
+        }
+    }
+
+    /// The event of a call that claims the words for an object.
     pub(crate) fn claim(&mut self, thread: u32, op: Op, shape: Shape, dst: u8) -> StepResult
         requires asks { MayMove (view self.old) thread op }
         requires stage { stage_of (view self.old) thread ≡ Some (Stage.Polled (Task.Make dst shape)) }
         ensures { Moves (view self.old) (view self.new) thread op result }
     {
-        let need = cost(shape);
-        let stage = match self.claim_words(need) {
-            Some(address) => Stage::Claimed {
-                address,
-                shape,
-                stored: 0,
-                dst,
-            },
-            None => Stage::Lacking { need },
-        };
-        self.set_stage(thread, op, stage);
+        self.claim_region(thread, op, shape, dst);
         StepResult::Going
     }
 
     /// Stores 0 in the next word of the region of a call.
-    fn store_zero(&mut self, thread: u32, op: Op, claim: Claim) -> StepResult
+    pub(crate) fn store_zero(&mut self, thread: u32, op: Op, claim: Claim)
         requires asks { MayMove (view self.old) thread op }
         requires stage { stage_of (view self.old) thread
             ≡ Some (Stage.Claimed claim.address claim.shape claim.stored claim.dst) }
         requires few { claim.stored + 1 < cost_of claim.shape }
-        ensures { Moves (view self.old) (view self.new) thread op result }
+        ensures moves { Moves (view self.old) (view self.new) thread op StepResult.Going }
+        ensures stored { stage_of (view self.new) thread
+            ≡ Some (Stage.Claimed claim.address claim.shape (claim.stored + 1) claim.dst) }
     {
         let Claim {
             address,
@@ -68,11 +87,10 @@ impl Core {
             dst,
         };
         self.set_stage(thread, op, stage);
-        StepResult::Going
     }
 
     /// Stores the header: the words are an object now, which has the next number.
-    fn publish(&mut self, thread: u32, op: Op, claim: Claim) -> StepResult
+    pub(crate) fn publish(&mut self, thread: u32, op: Op, claim: Claim) -> StepResult
         requires asks { MayMove (view self.old) thread op }
         requires stage { stage_of (view self.old) thread
             ≡ Some (Stage.Claimed claim.address claim.shape claim.stored claim.dst) }
@@ -108,7 +126,8 @@ impl Core {
         ensures { Moves (view self.old) (view self.new) thread op result }
     {
         if claim.stored + 1 < cost(claim.shape) {
-            return self.store_zero(thread, op, claim);
+            self.store_zero(thread, op, claim);
+            return StepResult::Going;
         }
         self.publish(thread, op, claim)
     }

@@ -373,7 +373,6 @@ fn a_call_in_one_go_is_answered(rt: HostRuntime) -> Result<(), Fail> {
     assert!(rt; core.is_free(0));
     let result = core.call_at_once(0, new(0, 1, 2));
     assert_eq!(rt; result, StepResult::Answered(Reply::Done));
-    assert!(rt; core.is_free(0));
     assert_eq!(rt; core.used(), 5);
     let act = Act::Make { refs: 1, nums: 2 };
     let entries = [Entry { thread: 0, act }];

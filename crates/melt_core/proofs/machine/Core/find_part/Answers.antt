@@ -1,5 +1,5 @@
 -- The header that was read is that of the object in the register.
-use Rattle.std.proofs.Common.{◌≡◌, ◌∙◌, ap, refl, sym, subst}
+use Rattle.std.proofs.Common.{◌∙◌, ap, refl, sym, subst}
 use Rattle.std.proofs.lemmas.List.{get_or-set_same}
 use Rattle.std.specs.Prelude.{None, Some}
 use Rattle.melt_model.specs.declared.operations.Reply.TheVariants as reply

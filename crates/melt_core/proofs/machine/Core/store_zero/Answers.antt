@@ -14,8 +14,8 @@ set_stage-requires-clause-call c =
     let stage : Stage = Claimed c.args.claim.address c.args.claim.shape c.args.claim.stored c.args.claim.dst in
     (stage, call_at disk (view c.args.self.now) c.args.thread c.args.op stage c.requires.asks.asks c.requires.stage)
 
-pub returns : goal.returns
-returns c = record {
+pub returns-clause-moves : goal.returns-clause-moves
+returns-clause-moves c = record {
   over = λ disk stands.
       let asks = asks_over (view c.args.self.now) c.args.thread c.args.op c.requires.asks disk stands in
       let v : View = view c.args.self.now in
