@@ -55,7 +55,9 @@ pub record NoTurn (states : List ThreadState) (old new : Turns) : Type 0 where
   pub whole : old.left ≡ 0 → new ≡ old
   pub begun : old.left ≢ 0 → old.line < 4294967295 → new ≡ record old { line = old.line + 1; left = 0 }
 
--- No line of the trace is left, and no thread but this one can go on.
-pub record GivesAll (orders : List (ℕ × ℕ)) (states : List ThreadState) (turns : Turns) (t : ℕ) : Type 0 where
-  pub no_line : length orders ≤ turns.line
+-- A thread takes all further events: no line of the trace is left, and no other thread can go on. Behind them it is the
+-- turn of the next one.
+pub record GivesAll (orders : List (ℕ × ℕ)) (states : List ThreadState) (old new : Turns) (t : ℕ) : Type 0 where
+  pub no_line : length orders ≤ old.line
   pub alone : (u : ℕ) → GoesAt states u → u ≡ t
+  pub turn : new ≡ record old { turn = t + 1 }

@@ -183,7 +183,7 @@ fn give_events<R: RecordReader>(run: &mut Run<'_, Ordered<'_>>, end: u32, reader
 {
     let mut last = None;
     while let Some(thread) = take_turn(run, end, reader) {
-        let machine = &run.machine;
+        let machine = &mut run.machine;
         if last == Some(thread) && machine.turns.gives_all(machine.trace, &run.states, thread) {
             give_all(run, thread, end, reader);
         }

@@ -1,5 +1,5 @@
 //! The order in which threads take their events.
-ghost use Rattle.std.specs.Prelude.{◌≡◌, ◌↔◌, ℕ, ◌+◌, ◌<◌, ◌≤◌, ◌⊎◌, length, slice_get, true, Some, None, IfSome};
+ghost use Rattle.std.specs.Prelude.{◌≡◌, ◌↔◌, ℕ, ◌+◌, ◌<◌, ◌≤◌, ◌⊎◌, length, slice_get, false, true, Some, None, IfSome};
 ghost use Rattle.std.specs.Prelude.{IfNone};
 ghost use Rattle.melt_safepoint.specs.declared.thread.ThreadState.{ThreadState};
 ghost use Rattle.melt_safepoint.specs.Modes.{MayGo};
@@ -92,11 +92,12 @@ impl Turns {
         Some(first)
     }
 
-    /// Whether all further events are those of a thread, until it cannot go on: no line is left, and no other thread
-    /// can go on. While one goes on, none begins to.
-    pub fn gives_all(&self, trace: &Trace, states: &[ThreadState<'_>], thread: u32) -> bool
+    /// Gives all further events to a thread, until it cannot go on, if it is to have them: no line is left, and no other
+    /// thread can go on. While one goes on, none begins to. Behind them it is the turn of the next thread.
+    pub fn gives_all(&mut self, trace: &Trace, states: &[ThreadState<'_>], thread: u32) -> bool
         requires { length states.now ≤ 8 }
-        ensures { result ≡ true → GivesAll trace.now.orders states.now self.now thread }
+        ensures all { result ≡ true → GivesAll trace.now.orders states.now self.old self.new thread }
+        ensures none { result ≡ false → self.new ≡ self.old }
     {
         if self.line < trace.orders() {
             return false;
@@ -105,7 +106,15 @@ impl Turns {
         let Some(first) = first_from(states, 0, count) else {
             return false;
         };
-        first == thread && first_from(states, first + 1, count).is_none()
+        if first != thread {
+            return false;
+        }
+        let other = first_from(states, first + 1, count);
+        if other.is_some() {
+            return false;
+        }
+        self.turn = thread + 1;
+        true
     }
 }
 

@@ -1,5 +1,5 @@
 -- The first thread that can go on is the one, and none behind it can.
-use Rattle.std.proofs.Common.{◌≡◌, ℕ, ◌+◌, ◌<◌, ◌≤◌, rules, arith, inl, inr, subst, List}
+use Rattle.std.proofs.Common.{◌≡◌, ℕ, ◌+◌, ◌<◌, ◌≤◌, rules, arith, inl, inr, refl, subst, List}
 use Rattle.std.proofs.lemmas.Bool.{cases_eq, cases_lt}
 use Rattle.std.specs.Prelude.{IfNone, None, Option, Some, slice_get, true}
 use Rattle.melt_safepoint.specs.declared.thread.ThreadState.{ThreadState}
@@ -7,21 +7,22 @@ use Rattle.melt_safepoint.specs.Modes.{MayGo}
 use Rattle.melt_step.specs.Turns.{GivesAll, GoesAt}
 use Rattle.melt_step.proofs.turns.Turns.gives_all.Goals as goal
 
-pub returns-then-first-thread : goal.returns-then-first-thread
-returns-then-first-thread c none_is =
+pub returns-clause-all : goal.returns-clause-all
+returns-clause-all c given =
     let states : List ThreadState = c.args.states.now in
     let first : ℕ = c.in-Some.first in
-    let none : c.first_from-then-first-thread.result ≡ None = search rules in
+    let none : c.first_from-other.result ≡ None = search rules in
     let behind : (u : ℕ) (s : ThreadState) → first + 1 ≤ u → slice_get states u ≡ Some s → MayGo s.mode → ⊥ =
     subst (λ (found : Option ℕ). IfNone found ((u : ℕ) (s : ThreadState) → first + 1 ≤ u
-    → slice_get states u ≡ Some s → MayGo s.mode → ⊥)) none c.first_from-then-first-thread.ensures.none in
+    → slice_get states u ≡ Some s → MayGo s.mode → ⊥)) none c.first_from-other.ensures.none in
     record {
       no_line = search rules;
       alone = λ u goes. elim (cases_eq u first) [
-        | inl same ↦ omega (arith, same, c.if-first-thread.true)
+        | inl same ↦ omega (arith, same, c.if-first-thread.false)
         | inr other ↦ absurd (elim (cases_lt u first) [
           | inl below ↦ c.in-Some.ensures.first.1 u (omega arith) below goes
           | inr above ↦ behind u goes.0 (omega (arith, other, above)) goes.1 goes.2
         ])
       ];
+      turn = refl;
     }
