@@ -2,12 +2,10 @@
 use Rattle.std.proofs.Common.{◌≡◌, ℕ, ◌<◌, inl, inr, List, [], ◌∷◌, ◌++◌}
 use Rattle.std.proofs.Common.{length, refl, sym, ◌∙◌, ap, subst, arith}
 use Rattle.std.proofs.Math.ListN.{length-map}
-use Rattle.std.proofs.lemmas.Bool.{cond_both}
 use Rattle.std.proofs.lemmas.List.{get_or-set_same}
 use Rattle.std.proofs.lemmas.Option.{same_Some}
-use Rattle.std.specs.Prelude.{true, nat_lt, slice_set, Option, None, Some, unwrap_or}
-use Rattle.std.specs.Option.{option_map_or}
-use Rattle.melt_model.specs.History.{Shape, shape, given}
+use Rattle.std.specs.Prelude.{true, slice_set, Option, None, Some, unwrap_or}
+use Rattle.melt_model.specs.History.{Shape, given}
 use Rattle.melt_model.specs.Thread.{Deed, does, unchanged, on_part, found as reply_found, number, value_in}
 use Rattle.melt_model.specs.declared.history.Value.{Value}
 use Rattle.melt_model.specs.declared.history.Value.TheVariants.{Nil, Ref, Num}
@@ -20,6 +18,7 @@ use Rattle.melt_model.specs.declared.operations.Op.{Op}
 use Rattle.melt_model.specs.declared.operations.Op.TheVariants as op
 use Rattle.melt_model.specs.declared.operations.Reply.{Reply}
 use Rattle.melt_model.specs.declared.operations.Reply.TheVariants as reply
+use Rattle.melt_model.proofs.Transcripts.{number_at, on_part_is, reference_at}
 use Rattle.melt_word.specs.declared.reference.Ref as words
 use Rattle.melt_scion.specs.Heaps.{OnDisk, register_in}
 use Rattle.melt_core.specs.declared.call.Place.{Place}
@@ -46,15 +45,6 @@ sets_within globals (op.Copy dst src) r bounds is = omega (arith, bounds.0, is)
 sets_within globals (op.Drop dst) r bounds is = omega (arith, bounds, is)
 sets_within globals o r bounds is = absurd is
 
--- what an operation on a part does is one of three deeds
-on_part_is : (R : Deed → Type 0) (parts : Shape → ℕ) (h : List Entry) (rs : List Value) (v : Value) (k : ℕ)
-    (f : ℕ → Deed) → ((r : Reply) → R (unchanged rs r)) → ((n : ℕ) → R (f n)) → R (on_part parts h rs v k f)
-on_part_is R parts h rs Nil k f past there = past reply.Nil
-on_part_is R parts h rs (Num v) k f past there = past reply.Nil
-on_part_is R parts h rs (Ref n) k f past there =
-    cond_both (nat_lt k (option_map_or parts (shape h n) 0)) (f n) (unchanged rs reply.Range) R (λ e. there n)
-    (λ e. past reply.Range)
-
 module _ (h : List Entry) (rs : List Value) (n : ℕ) where
   -- the object that the act gives is what the operation puts into its register
   abbrev Puts : Op → Value → Deed → Type 0
@@ -78,7 +68,7 @@ module _ (h : List Entry) (rs : List Value) (n : ℕ) where
   puts : (o : Op) (x : Value) → Puts o x (does h rs o x)
   puts (op.New dst refs nums) x = λ act is gives_it. (dst, refl, refl)
   puts (op.Load dst src i) x =
-      on_part_is (Puts (op.Load dst src i) x) (λ (z : Shape). z.refs) h rs (value_in rs src) i
+      on_part_is (Puts (op.Load dst src i) x) (reference_at i) h rs (value_in rs src)
       (λ (m : ℕ). record {
         act = Some (Read (slot.Field m i) x);
         reply = reply_found x;
@@ -91,7 +81,7 @@ module _ (h : List Entry) (rs : List Value) (n : ℕ) where
         reply = reply.Done;
         registers = rs;
       } in
-      on_part_is (Puts (op.Store obj i src) x) (λ (z : Shape). z.refs) h rs (value_in rs obj) i writes
+      on_part_is (Puts (op.Store obj i src) x) (reference_at i) h rs (value_in rs obj) writes
       (λ r. no_act (op.Store obj i src) x (unchanged rs r) refl)
       (λ m. no_gift (op.Store obj i src) x (writes m) (Write (slot.Field m i) (value_in rs src)) refl
       (writes_nothing (slot.Field m i) (value_in rs src)))
@@ -101,7 +91,7 @@ module _ (h : List Entry) (rs : List Value) (n : ℕ) where
         reply = reply.Num (number x);
         registers = rs;
       } in
-      on_part_is (Puts (op.Get src j) x) (λ (z : Shape). z.nums) h rs (value_in rs src) j reads
+      on_part_is (Puts (op.Get src j) x) (number_at j) h rs (value_in rs src) reads
       (λ r. no_act (op.Get src j) x (unchanged rs r) refl)
       (λ m. no_gift (op.Get src j) x (reads m) (Read (slot.Cell m j) (Num (number x))) refl
       (reads_number (slot.Cell m j) (number x)))
@@ -111,7 +101,7 @@ module _ (h : List Entry) (rs : List Value) (n : ℕ) where
         reply = reply.Done;
         registers = rs;
       } in
-      on_part_is (Puts (op.Put obj j v) x) (λ (z : Shape). z.nums) h rs (value_in rs obj) j writes
+      on_part_is (Puts (op.Put obj j v) x) (number_at j) h rs (value_in rs obj) writes
       (λ r. no_act (op.Put obj j v) x (unchanged rs r) refl)
       (λ m. no_gift (op.Put obj j v) x (writes m) (Write (slot.Cell m j) (Num v)) refl
       (writes_nothing (slot.Cell m j) (Num v)))

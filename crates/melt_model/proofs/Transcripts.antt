@@ -1,6 +1,7 @@
 -- Laws of what one thread is told, while the history grows.
 use Rattle.std.proofs.Common.{◌≡◌, ◌≢◌, ℕ, ◌+◌, ◌<◌, zero, suc, true, false, cond, eqb, length-append, List, [], ◌∷◌}
 use Rattle.std.proofs.Common.{◌++◌, length, refl, sym, ◌∙◌, ap, subst, arith, append_assoc}
+use Rattle.std.proofs.lemmas.Bool.{cond_both}
 use Rattle.std.proofs.lemmas.List.{append-nil}
 use Rattle.std.proofs.Math.Seq.{take-append_seam}
 use Rattle.std.specs.Prelude.{fold, nat_lt, Option, None, Some, unwrap_or, replicate, if◌then◌else◌}
@@ -47,22 +48,45 @@ Answered_from h a b (o ∷ ops) more (r ∷ replies) reached none =
 Answered_from h a b [] more (r ∷ replies) reached none = absurd reached
 Answered_from h a b (o ∷ ops) more [] reached none = absurd reached
 
+-- A part of an object: how many such parts an object of a shape has, and which of them it is.
+pub record Part : Type 0 where
+  pub parts : Shape → ℕ
+  pub at : ℕ
+
+abbrev pub reference_at : ℕ → Part
+reference_at i = record { parts = λ z. z.refs; at = i }
+
+abbrev pub number_at : ℕ → Part
+number_at j = record { parts = λ z. z.nums; at = j }
+
+-- What an operation on a part does is one of three deeds.
+pub on_part_is : (R : Deed → Type 0) (p : Part) (h : List Entry) (registers : List Value) (v : Value) (f : ℕ → Deed)
+    → ((r : Reply) → R (unchanged registers r)) → ((n : ℕ) → R (f n)) → R (on_part p.parts h registers v p.at f)
+on_part_is R p h registers Nil f past there = past reply.Nil
+on_part_is R p h registers (Num v) f past there = past reply.Nil
+on_part_is R p h registers (Ref n) f past there =
+    cond_both (nat_lt p.at (option_map_or p.parts (shape h n) 0)) (f n) (unchanged registers reply.Range) R
+    (λ e. there n) (λ e. past reply.Range)
+
 -- An operation does the same by a longer history.
-on_part-append : (parts : Shape → ℕ) (h k : List Entry) (registers : List Value) (v : Value) (i : ℕ) (f : ℕ → Deed)
-    → IsReference h v → on_part parts (h ++ k) registers v i f ≡ on_part parts h registers v i f
-on_part-append parts h k registers Nil i f known = refl
-on_part-append parts h k registers (Num v) i f known = refl
-on_part-append parts h k registers (Ref n) i f known =
-    ap (λ (z : Option Shape). if nat_lt i (option_map_or parts z 0) then f n else unchanged registers reply.Range)
+on_part-append : (p : Part) (h k : List Entry) (registers : List Value) (v : Value) (f : ℕ → Deed) → IsReference h v
+    → on_part p.parts (h ++ k) registers v p.at f ≡ on_part p.parts h registers v p.at f
+on_part-append p h k registers Nil f known = refl
+on_part-append p h k registers (Num v) f known = refl
+on_part-append p h k registers (Ref n) f known =
+    ap (λ (z : Option Shape).
+    if nat_lt p.at (option_map_or p.parts z 0) then f n else unchanged registers reply.Range)
     (shape-append h k n known)
 
 pub does-append : (h k : List Entry) (registers : List Value) (o : Op) (x : Value) → HoldReferences h registers
     → does (h ++ k) registers o x ≡ does h registers o x
 does-append h k regs (op.New dst refs nums) x holds = refl
-does-append h k regs (op.Load dst src i) x holds = on_part-append _ h k regs (value_in regs src) i _ (holds src)
-does-append h k regs (op.Store obj i src) x holds = on_part-append _ h k regs (value_in regs obj) i _ (holds obj)
-does-append h k regs (op.Get src j) x holds = on_part-append _ h k regs (value_in regs src) j _ (holds src)
-does-append h k regs (op.Put obj j v) x holds = on_part-append _ h k regs (value_in regs obj) j _ (holds obj)
+does-append h k regs (op.Load dst src i) x holds =
+    on_part-append (reference_at i) h k regs (value_in regs src) _ (holds src)
+does-append h k regs (op.Store obj i src) x holds =
+    on_part-append (reference_at i) h k regs (value_in regs obj) _ (holds obj)
+does-append h k regs (op.Get src j) x holds = on_part-append (number_at j) h k regs (value_in regs src) _ (holds src)
+does-append h k regs (op.Put obj j v) x holds = on_part-append (number_at j) h k regs (value_in regs obj) _ (holds obj)
 does-append h k regs (op.GLoad dst g) x holds = refl
 does-append h k regs (op.GStore g src) x holds = refl
 does-append h k regs (op.Same a b) x holds = refl
@@ -71,13 +95,13 @@ does-append h k regs (op.Drop r) x holds = refl
 does-append h k regs op.Collect x holds = refl
 
 -- an operation without an entry does not look at what an entry gives
-on_part_local : (parts : Shape → ℕ) (h : List Entry) (registers : List Value) (v : Value) (i : ℕ) (f g : ℕ → Deed)
-    → ((n : ℕ) → (f n).act ≡ None → ⊥) → (on_part parts h registers v i f).act ≡ None
-    → on_part parts h registers v i g ≡ on_part parts h registers v i f
-on_part_local parts h registers Nil i f g has none = refl
-on_part_local parts h registers (Num v) i f g has none = refl
-on_part_local parts h registers (Ref n) i f g has nothing =
-    (elim (nat_lt i (option_map_or parts (shape h n) 0)) as
+on_part_local : (p : Part) (h : List Entry) (registers : List Value) (v : Value) (f g : ℕ → Deed)
+    → ((n : ℕ) → (f n).act ≡ None → ⊥) → (on_part p.parts h registers v p.at f).act ≡ None
+    → on_part p.parts h registers v p.at g ≡ on_part p.parts h registers v p.at f
+on_part_local p h registers Nil f g has none = refl
+on_part_local p h registers (Num v) f g has none = refl
+on_part_local p h registers (Ref n) f g has nothing =
+    (elim (nat_lt p.at (option_map_or p.parts (shape h n) 0)) as
     (λ b. (if b then f n else unchanged registers reply.Range).act ≡ None
     → (if b then g n else unchanged registers reply.Range) ≡ (if b then f n else unchanged registers reply.Range)) [
       | true ↦ λ none. absurd (has n none)
@@ -87,10 +111,13 @@ on_part_local parts h registers (Ref n) i f g has nothing =
 does_local : (h : List Entry) (registers : List Value) (o : Op) (x y : Value) → (does h registers o x).act ≡ None
     → does h registers o y ≡ does h registers o x
 does_local h regs (op.New dst refs nums) x y none = absurd (cc)
-does_local h regs (op.Load dst src i) x y none = on_part_local _ h regs (value_in regs src) i _ _ (λ n e. cc) none
-does_local h regs (op.Store obj i src) x y none = on_part_local _ h regs (value_in regs obj) i _ _ (λ n e. cc) none
-does_local h regs (op.Get src j) x y none = on_part_local _ h regs (value_in regs src) j _ _ (λ n e. cc) none
-does_local h regs (op.Put obj j v) x y none = on_part_local _ h regs (value_in regs obj) j _ _ (λ n e. cc) none
+does_local h regs (op.Load dst src i) x y none =
+    on_part_local (reference_at i) h regs (value_in regs src) _ _ (λ n e. cc) none
+does_local h regs (op.Store obj i src) x y none =
+    on_part_local (reference_at i) h regs (value_in regs obj) _ _ (λ n e. cc) none
+does_local h regs (op.Get src j) x y none = on_part_local (number_at j) h regs (value_in regs src) _ _ (λ n e. cc) none
+does_local h regs (op.Put obj j v) x y none =
+    on_part_local (number_at j) h regs (value_in regs obj) _ _ (λ n e. cc) none
 does_local h regs (op.GLoad dst g) x y none = absurd (cc)
 does_local h regs (op.GStore g src) x y none = absurd (cc)
 does_local h regs (op.Same a b) x y none = refl
@@ -143,12 +170,19 @@ HoldReferences-append : (h k : List Entry) (registers : List Value) → HoldRefe
     → HoldReferences (h ++ k) registers
 HoldReferences-append h k registers holds r = IsReference-append h k (value_in registers r) (holds r)
 
+-- What comes behind a history, and behind the places that a thread has in it.
+pub record Later : Type 0 where
+  pub entries : List Entry
+  pub places : List ℕ
+
 -- What a thread was told stays true when the history grows.
-pub Reaches-append : (h k : List Entry) (a b : Thread) (new : List ℕ) (ops : List Op) (replies : List Reply)
+pub Reaches-append : (h : List Entry) (later : Later) (a b : Thread) (ops : List Op) (replies : List Reply)
     → Within h a.places → Reaches h a ops replies b
-    → Reaches (h ++ k) (with_places a new) ops replies (with_places b new)
-Reaches-append h k a b new [] [] within reached = ap (λ (x : Thread). with_places x new) reached
-Reaches-append h k a b new (o ∷ ops) (r ∷ replies) within reached =
+    → Reaches (h ++ later.entries) (with_places a later.places) ops replies (with_places b later.places)
+Reaches-append h later a b [] [] within reached = ap (λ (x : Thread). with_places x later.places) reached
+Reaches-append h later a b (o ∷ ops) (r ∷ replies) within reached =
+    let k : List Entry = later.entries in
+    let new : List ℕ = later.places in
     let same : deed (h ++ k) (with_places a new) o ≡ deed h a o = deed-append h k a new o reached.0 within reached.2 in
     let takes : Takes (h ++ k) (deed h a o).act (a.places ++ new) =
     Takes-append h k (deed h a o).act a.places new within reached.2 in
@@ -160,15 +194,15 @@ Reaches-append h k a b new (o ∷ ops) (r ∷ replies) within reached =
     ∙ ap (λ (ps : List ℕ). let t : Thread = record { registers = (deed h a o).registers; places = ps } in
     t) (places_left-append h (deed h a o).act a.places new reached.2) in
     let rest : Reaches (h ++ k) (with_places (thread_after h a o) new) ops replies (with_places b new) =
-    Reaches-append h k (thread_after h a o) b new ops replies (Within_left h (deed h a o).act a.places within)
+    Reaches-append h later (thread_after h a o) b ops replies (Within_left h (deed h a o).act a.places within)
     reached.3 in (
       HoldReferences-append h k a.registers reached.0,
       ap (λ (d : Deed). d.reply) same ∙ reached.1,
       subst (λ (d : Deed). Takes (h ++ k) d.act (a.places ++ new)) (sym same) takes,
       subst (λ (t : Thread). Reaches (h ++ k) t ops replies (with_places b new)) (sym next) rest,
     )
-Reaches-append h k a b new [] (r ∷ replies) within reached = absurd reached
-Reaches-append h k a b new (o ∷ ops) [] within reached = absurd reached
+Reaches-append h later a b [] (r ∷ replies) within reached = absurd reached
+Reaches-append h later a b (o ∷ ops) [] within reached = absurd reached
 
 -- the places of the later entries of a history lie in it
 within_from : (h front rest : List Entry) (t : ℕ) → h ≡ front ++ rest → Within h (own_from (length front) rest t)
@@ -241,8 +275,8 @@ Stands_entry {h} {t} {ops} {replies} {registers} o e stands is act references =
     ap (λ (ps : List ℕ). let x : Thread = record { registers = replicate 16 Nil; places = ps } in
     x) (own-push_own h e t is) in
     let grown : Reaches k (with_places (beginning h t) (length h ∷ [])) ops replies b =
-    Reaches-append h (e ∷ []) (beginning h t) (record { registers = registers; places = [] }) (length h ∷ []) ops
-    replies (Within-own h t) stands.reached in
+    Reaches-append h (record { entries = e ∷ []; places = length h ∷ [] }) (beginning h t)
+    (record { registers = registers; places = [] }) ops replies (Within-own h t) stands.reached in
     let before : Reaches k (beginning k t) ops replies b =
     subst (λ (x : Thread). Reaches k x ops replies b) (sym start) grown in
     let same : deed k b o ≡ d =
@@ -274,7 +308,8 @@ Stands_other h t ops replies registers e stands differs =
     x) (own-push_other h e t differs ∙ sym (append-nil (own h t))) in
     record {
       reached = subst (λ (x : Thread). Reaches k x ops replies b) (sym start)
-          (Reaches-append h (e ∷ []) (beginning h t) b [] ops replies (Within-own h t) stands.reached);
+          (Reaches-append h (record { entries = e ∷ []; places = [] }) (beginning h t) b ops replies (Within-own h t)
+          stands.reached);
       references = HoldReferences-append h (e ∷ []) registers stands.references;
     }
 

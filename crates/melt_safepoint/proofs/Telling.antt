@@ -3,14 +3,12 @@ use Rattle.std.proofs.Common.{[], ◌≡◌, ◌≢◌, ℕ, ◌+◌, ◌<◌, �
 use Rattle.std.proofs.Common.{subst, arith, length-append}
 use Rattle.std.proofs.Math.ListN.{set}
 use Rattle.std.proofs.Math.Seq.{take-append_seam}
-use Rattle.std.proofs.lemmas.Bool.{cond_both}
 use Rattle.std.proofs.lemmas.List.{append-nil}
 use Rattle.std.proofs.lemmas.List.Elements.{All-push}
-use Rattle.std.specs.Prelude.{Option, None, Some, All, slice_set, nat_lt}
-use Rattle.std.specs.Option.{option_map_or}
-use Rattle.melt_model.specs.History.{Shape, shape, made, last, IsReference, MayFollow, Legal}
+use Rattle.std.specs.Prelude.{Option, None, Some, All, slice_set}
+use Rattle.melt_model.specs.History.{made, last, IsReference, MayFollow, Legal}
 use Rattle.melt_model.specs.Standing.{HoldReferences, Stands}
-use Rattle.melt_model.specs.Thread.{Deed, unchanged, on_part, found, number, value_in, does}
+use Rattle.melt_model.specs.Thread.{Deed, found, number, value_in, does}
 use Rattle.melt_model.specs.declared.history.Act.{Act}
 use Rattle.melt_model.specs.declared.history.Act.TheVariants.{Make, Read, Write}
 use Rattle.melt_model.specs.declared.history.Entry.{Entry}
@@ -24,7 +22,8 @@ use Rattle.melt_model.specs.declared.operations.Op.TheVariants.{New, Collect}
 use Rattle.melt_model.specs.declared.operations.Reply.{Reply}
 use Rattle.melt_model.specs.declared.operations.Reply.TheVariants as reply
 use Rattle.melt_model.proofs.Histories.{slice_get-append_seam, made-append, IsReference-append, last_holds}
-use Rattle.melt_model.proofs.Transcripts.{Stands_local, Stands_entry, Stands_other}
+use Rattle.melt_model.proofs.Transcripts.{Stands_local, Stands_entry, Stands_other, number_at, on_part_is}
+use Rattle.melt_model.proofs.Transcripts.{reference_at}
 use Rattle.melt_core.specs.Answering.{entry, with_entry, gives, Answers}
 use Rattle.melt_core.proofs.Values.{get_or_set_keeps}
 
@@ -32,16 +31,6 @@ use Rattle.melt_core.proofs.Values.{get_or_set_keeps}
 abbrev KeepsReferences : List Entry → ℕ → ℕ → Value → Deed → Type 0
 KeepsReferences h t globals x d = Legal (with_entry t h d.act) globals → gives h d.act ≡ x
     → HoldReferences (with_entry t h d.act) d.registers
-
--- what holds whether the object and its part are there or not
-on_part_both : (R : Deed → Type 0) (parts : Shape → ℕ) (h : List Entry) (regs : List Value) (v : Value) (k : ℕ)
-    (f : ℕ → Deed) → R (unchanged regs reply.Nil) → R (unchanged regs reply.Range) → ((n : ℕ) → R (f n))
-    → R (on_part parts h regs v k f)
-on_part_both R parts h regs Nil k f nothing past there = nothing
-on_part_both R parts h regs (Num v) k f nothing past there = nothing
-on_part_both R parts h regs (Ref n) k f nothing past there =
-    cond_both (nat_lt k (option_map_or parts (shape h n) 0)) (f n) (unchanged regs reply.Range) R (λ e. there n)
-    (λ e. past)
 
 -- registers that hold references do so by a longer history
 hold_more : (h k : List Entry) (regs : List Value) → HoldReferences h regs → HoldReferences (h ++ k) regs
@@ -71,32 +60,32 @@ does_references h t globals regs (op.New dst refs nums) x before holds = λ lega
     let new : IsReference (h ++ e ∷ []) (Ref (made h)) = omega (arith, made-append h (e ∷ [])) in
     hold_set (h ++ e ∷ []) regs dst x (subst (IsReference (h ++ e ∷ [])) is new) (hold_more h (e ∷ []) regs holds)
 does_references h t globals regs (op.Load dst src i) x before holds =
-    on_part_both (KeepsReferences h t globals x) (λ (z : Shape). z.refs) h regs (value_in regs src) i
+    on_part_is (KeepsReferences h t globals x) (reference_at i) h regs (value_in regs src)
     (λ (n : ℕ). record { act = Some (Read (Field n i) x); reply = found x; registers = slice_set regs dst x })
-    (λ legal is. holds) (λ legal is. holds)
+    (λ r legal is. holds)
     (λ n legal is.
     let e : Entry = entry t (Read (Field n i) x) in
     let reads : IsReference h x = subst (IsReference h) (sym (read_last_here h t globals (Field n i) x legal))
     (last_holds h globals before (Field n i)) in
     hold_set (h ++ e ∷ []) regs dst x (IsReference-append h (e ∷ []) x reads) (hold_more h (e ∷ []) regs holds))
 does_references h t globals regs (op.Store obj i src) x before holds =
-    on_part_both (KeepsReferences h t globals x) (λ (z : Shape). z.refs) h regs (value_in regs obj) i
+    on_part_is (KeepsReferences h t globals x) (reference_at i) h regs (value_in regs obj)
     (λ (n : ℕ). record { act = Some (Write (Field n i) (value_in regs src)); reply = reply.Done; registers = regs })
-    (λ legal is. holds) (λ legal is. holds)
+    (λ r legal is. holds)
     (λ n legal is. hold_more h (entry t (Write (Field n i) (value_in regs src)) ∷ []) regs holds)
 does_references h t globals regs (op.Get src j) x before holds =
-    on_part_both (KeepsReferences h t globals x) (λ (z : Shape). z.nums) h regs (value_in regs src) j
+    on_part_is (KeepsReferences h t globals x) (number_at j) h regs (value_in regs src)
     (λ (n : ℕ). record {
       act = Some (Read (Cell n j) (Num (number x)));
       reply = reply.Num (number x);
       registers = regs;
     })
-    (λ legal is. holds) (λ legal is. holds)
+    (λ r legal is. holds)
     (λ n legal is. hold_more h (entry t (Read (Cell n j) (Num (number x))) ∷ []) regs holds)
 does_references h t globals regs (op.Put obj j v) x before holds =
-    on_part_both (KeepsReferences h t globals x) (λ (z : Shape). z.nums) h regs (value_in regs obj) j
+    on_part_is (KeepsReferences h t globals x) (number_at j) h regs (value_in regs obj)
     (λ (n : ℕ). record { act = Some (Write (Cell n j) (Num v)); reply = reply.Done; registers = regs })
-    (λ legal is. holds) (λ legal is. holds)
+    (λ r legal is. holds)
     (λ n legal is. hold_more h (entry t (Write (Cell n j) (Num v)) ∷ []) regs holds)
 does_references h t globals regs (op.GLoad dst g) x before holds = λ legal is.
     let e : Entry = entry t (Read (Global g) x) in
