@@ -10,7 +10,6 @@ use Rattle.melt_core.proofs.Answers.{load_answers, range_answers}
 use Rattle.melt_model.specs.Thread.{found, value_in}
 use Rattle.melt_model.specs.declared.history.Act.TheVariants.{Read}
 use Rattle.melt_model.specs.declared.history.Slot.{Slot}
-use Rattle.melt_model.specs.declared.history.Slot.TheVariants as slot
 use Rattle.melt_model.specs.declared.history.Value.{Value}
 use Rattle.melt_model.specs.declared.history.Value.TheVariants.{Nil, Ref}
 use Rattle.melt_model.specs.declared.operations.Op.TheVariants.{Load}
@@ -68,21 +67,21 @@ module _ {R : Type 0} (words : EpochWords) (m : Mutator R) (seated : IsSeated wo
       (last_given (knows_of new).seen) idle loads.counts few below (subst (Names (knows_of new).known address)
       (sym (value_read (knows_of seat) (knows_of new) s most address loads)) loads.names)
 
-  module _ (told : Bool) (image : Option (List ℕ)) (scions : Scions) (end before after : ℕ) where
-    pub refused_seated : (s : Slot) (most : ℕ) (why : Refusal) → LoadAsked (knows_of seat) (knows_of new) most why
-        ⊎ LoadRefused told image scions end before after (knows_of seat) (knows_of new) s most why
-        → IsSeated words (record m { seat = Some new; reader = reader })
-    refused_seated s most why refused = elim refused [
-      | inl asked ↦ seated_by words (record m { reader = reader }) (seated_reader words m reader seated) seat is new
-          idle asked.stays.counts.thread asked.stays.counts.parts asked.stays.counts.away asked.stays.counts.known
-      | inr (inl full) ↦ seated_by words (record m { reader = reader }) (seated_reader words m reader seated) seat is
-          new idle full.full.filled.thread full.full.filled.parts full.full.filled.away full.full.filled.known
-      | inr (inr (inl lacks)) ↦ seated_by words (record m { reader = reader }) (seated_reader words m reader seated)
-          seat is new idle lacks.lacked.thread lacks.lacked.parts lacks.lacked.away lacks.lacked.known
-      | inr (inr (inr lost)) ↦ seated_by words (record m { reader = reader }) (seated_reader words m reader seated)
-          seat is new idle lost.stays.counts.thread lost.stays.counts.parts lost.stays.counts.away
-          lost.stays.counts.known
-    ]
+  pub refused_seated : {told : Bool} {image : Option (List ℕ)} {scions : Scions} {end before after : ℕ} {s : Slot}
+      {most : ℕ} {why : Refusal}
+      → LoadAsked (knows_of seat) (knows_of new) most why
+      ⊎ LoadRefused told image scions end before after (knows_of seat) (knows_of new) s most why
+      → IsSeated words (record m { seat = Some new; reader = reader })
+  refused_seated refused = elim refused [
+    | inl asked ↦ seated_by words (record m { reader = reader }) (seated_reader words m reader seated) seat is new idle
+        asked.stays.counts.thread asked.stays.counts.parts asked.stays.counts.away asked.stays.counts.known
+    | inr (inl full) ↦ seated_by words (record m { reader = reader }) (seated_reader words m reader seated) seat is new
+        idle full.full.filled.thread full.full.filled.parts full.full.filled.away full.full.filled.known
+    | inr (inr (inl lacks)) ↦ seated_by words (record m { reader = reader }) (seated_reader words m reader seated) seat
+        is new idle lacks.lacked.thread lacks.lacked.parts lacks.lacked.away lacks.lacked.known
+    | inr (inr (inr lost)) ↦ seated_by words (record m { reader = reader }) (seated_reader words m reader seated) seat
+        is new idle lost.stays.counts.thread lost.stays.counts.parts lost.stays.counts.away lost.stays.counts.known
+  ]
 
   -- a load that found no slot
   pub kept_seated : (most : ℕ) → Counts (knows_of seat) (knows_of new) 0 0 most

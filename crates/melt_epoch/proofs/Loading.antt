@@ -277,41 +277,41 @@ module _ (v u x : View) (s : Slot) (m n k : ℕ) (le : m + n ≤ k) (way : Way v
     over = loads.over;
   }
 
-  module _ (told : Bool) (image : Option (List ℕ)) (scions : Scions) (end before after : ℕ) where
-    pub refused_on : (why : Refusal) → LoadRefused told image scions end before after u x s n why
-        → LoadRefused told image scions end before after v x s k why
-    refused_on why (inl full) = inl (record {
-      words = full.words;
-      full = toward_full k (omega arith) le toward_way full.full;
-      read =
-          let began = ap (λ (b : Began). b.forwards) way.counts.began in
-          let before = way.counts.counted in
-          let all = full.read in
-          omega arith;
-      claims = elim full.claims [
-        | inl none ↦ inl none
-        | inr some_ ↦ inr (some_.0, some_.1, held_on some_.0 some_.2)
-      ];
-    })
-    refused_on why (inr (inl lacks)) = inr (inl (record {
-      shape = lacks.shape;
-      small = lacks.small;
-      held = held_on lacks.shape lacks.held;
-      is = lacks.is;
-      sees = toward_way.on x.seen lacks.sees;
-      lacked = toward_lacked k le toward_way lacks.lacked;
-      over = lacks.over;
-    }))
-    refused_on why (inr (inr lost)) = inr (inr (record {
-      home = lost.home;
-      below = lost.below;
-      stays = record {
-        sees = toward_way.on x.seen lost.stays.sees;
-        counts = counts_all 0 0 lost.stays.counts;
-        goes_on = lost.stays.goes_on;
-      };
-      lost = lost.lost;
-    }))
+  pub refused_on : {told : Bool} {image : Option (List ℕ)} {scions : Scions} {end before after : ℕ} {why : Refusal}
+      → LoadRefused told image scions end before after u x s n why
+      → LoadRefused told image scions end before after v x s k why
+  refused_on (inl full) = inl (record {
+    words = full.words;
+    full = toward_full k (omega arith) le toward_way full.full;
+    read =
+        let began = ap (λ (b : Began). b.forwards) way.counts.began in
+        let before = way.counts.counted in
+        let all = full.read in
+        omega arith;
+    claims = elim full.claims [
+      | inl none ↦ inl none
+      | inr some_ ↦ inr (some_.0, some_.1, held_on some_.0 some_.2)
+    ];
+  })
+  refused_on (inr (inl lacks)) = inr (inl (record {
+    shape = lacks.shape;
+    small = lacks.small;
+    held = held_on lacks.shape lacks.held;
+    is = lacks.is;
+    sees = toward_way.on x.seen lacks.sees;
+    lacked = toward_lacked k le toward_way lacks.lacked;
+    over = lacks.over;
+  }))
+  refused_on (inr (inr lost)) = inr (inr (record {
+    home = lost.home;
+    below = lost.below;
+    stays = record {
+      sees = toward_way.on x.seen lost.stays.sees;
+      counts = counts_all 0 0 lost.stays.counts;
+      goes_on = lost.stays.goes_on;
+    };
+    lost = lost.lost;
+  }))
 
 -- the seat behind a load
 module _ (words : EpochWords) (v : View) (seat : Seat ℕ View) (s : Slot) (k : ℕ) (is_seat : IsSeat words seat)
@@ -351,7 +351,7 @@ module _ (told : Bool) (image : Option (List ℕ)) (scions : Scions) (end before
   global_loads {v} {u} x g {m} n {k} (Ok address) le way loads =
       loads_on v u x (slot.Global g) m n k le way address loads
   global_loads {v} {u} x g {m} n {k} (Err why) le way refused =
-      inr (refused_on v u x (slot.Global g) m n k le way told image scions end before after why refused)
+      inr (refused_on v u x (slot.Global g) m n k le way refused)
 
 -- a home that a call found lies before the end of the disk
 home_before : (words : EpochWords) (seat : Seat ℕ View) (search : Search) → IsSeat words seat
@@ -413,13 +413,11 @@ module _ {v w u : View} {address : ℕ} {z : Shape} {value : Value} (h : Opened 
         shaped = λ told. shaped_before x h.object all.adds loads.adds opened_way.counts.thread (shaped_here told);
       }
 
-  module _ (told : Bool) (image : Option (List ℕ)) (scions : Scions) (end before after : ℕ) where
-    pub slot_refused : (x : View) (i m k : ℕ) (why : Refusal) → m + 2 ≤ k
-        → LoadRefused told image scions end before after u x (slot.Field h.object i) m why
-        → LoadRefused told image scions end before after v x (slot.Field h.object i) k why
-    slot_refused x i m k why le refused =
-        refused_on v u x (slot.Field h.object i) 2 m k (omega arith) opened_way told image scions end before after why
-        refused
+  pub slot_refused : {told : Bool} {image : Option (List ℕ)} {scions : Scions} {end before after : ℕ} (x : View)
+      (i m k : ℕ) {why : Refusal} → m + 2 ≤ k
+      → LoadRefused told image scions end before after u x (slot.Field h.object i) m why
+      → LoadRefused told image scions end before after v x (slot.Field h.object i) k why
+  slot_refused x i m k le refused = refused_on v u x (slot.Field h.object i) 2 m k (omega arith) opened_way refused
 
   -- what a look asks and leaves
   pub slot_cause : (x : View) (s : Slot) (place : Place) (found : word.Ref) → Looks u x s place found

@@ -136,11 +136,8 @@ returns-in_err-target-clause-loads g c = λ value names.
     rw (exit.1, exit.2) (
       h.object,
       h.is,
-      inr (slot_refused h c.args.words.now.start.began.told (g.R.RecordReader.image c.args.reader.now)
-          c.args.heap.now.scions c.args.end (g.R.RecordReader.faults c.args.reader.now)
-          (g.R.RecordReader.faults c.resolve.new.reader) (knows_of c.resolve.new.seat) c.args.i
-          (2 * c.args.words.now.start.began.forwards + 132) (2 * c.args.words.now.start.began.forwards + 134)
-          c.in_err-target.field-0.0 (omega arith)
+      inr (slot_refused h (knows_of c.resolve.new.seat) c.args.i (2 * c.args.words.now.start.began.forwards + 132)
+          (2 * c.args.words.now.start.began.forwards + 134) (omega arith)
           (c.in_err-target.ensures.resolves u s (h.object, h.known, refl)
           (c.load_slot-found.ensures.looks h.object h.known))),
     )

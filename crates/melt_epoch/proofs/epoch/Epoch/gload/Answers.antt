@@ -53,12 +53,8 @@ returns-clause-loaded g c s t p q at_s at_t at_p at_q =
 
 pub returns-in_err-target-clause-seated : goal.returns-in_err-target-clause-seated
 returns-in_err-target-clause-seated g c =
-    let words = c.args.self.now.words in
-    refused_seated words c.args.m.now c.requires.seated c.in-Some-Some.seat.now c.in-Some-Some.ensures.value
-    c.load_global.new.seat (Some c.load_global.new.reader) c.in_err-target.ensures.seat words.start.began.told
-    (g.R.RecordReader.image c.in-Some-Some.reader.now) c.args.self.now.heap.scions c.args.self.now.end
-    (g.R.RecordReader.faults c.in-Some-Some.reader.now) (g.R.RecordReader.faults c.load_global.new.reader)
-    (slot.Global c.args.g) (2 * words.start.began.forwards + 133) c.in_err-target.field-0.0
+    refused_seated c.args.self.now.words c.args.m.now c.requires.seated c.in-Some-Some.seat.now
+    c.in-Some-Some.ensures.value c.load_global.new.seat (Some c.load_global.new.reader) c.in_err-target.ensures.seat
     c.in_err-target.ensures.loads
 
 pub returns-clause-holds : goal.returns-clause-holds

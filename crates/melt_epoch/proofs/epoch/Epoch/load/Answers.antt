@@ -129,13 +129,9 @@ returns-in-Ok-At-clause-loaded g c s t p q at_s at_t at_p at_q =
 pub returns-in-Err-clause-seated : goal.returns-in-Err-clause-seated
 returns-in-Err-clause-seated g c =
     let at = (goal.at.returns-in-Err-clause-seated g c).After-load_slot in
-    let words = c.args.self.now.words in
     let loads = came g at (Err c.in-Err.refusal) c.in-Err.ensures.loads in
-    refused_seated words c.args.m.now c.requires.seated c.in-Some-Some.seat.now c.in-Some-Some.ensures.value
-    c.load_slot.new.seat (Some c.load_slot.new.reader) c.in-Err.ensures.seat words.start.began.told
-    (g.R.RecordReader.image c.in-Some-Some.reader.now) c.args.self.now.heap.scions c.args.self.now.end
-    (g.R.RecordReader.faults c.in-Some-Some.reader.now) (g.R.RecordReader.faults c.load_slot.new.reader)
-    (slot.Field loads.0 c.args.i) (most g at) c.in-Err.refusal loads.2
+    refused_seated c.args.self.now.words c.args.m.now c.requires.seated c.in-Some-Some.seat.now
+    c.in-Some-Some.ensures.value c.load_slot.new.seat (Some c.load_slot.new.reader) c.in-Err.ensures.seat loads.2
 
 pub returns-in-Err-clause-loaded : goal.returns-in-Err-clause-loaded
 returns-in-Err-clause-loaded g c s t p q at_s at_t at_p at_q =
