@@ -28,16 +28,6 @@ found_more a b register n grows before here =
     below_more (λ r. register r ≢ 0 → goes b (register r) ≢ 0) n
     (λ r below full. still_known a b (register r) grows (before r below full)) here
 
-pub each_more : (old a b : Forwarding) (register : ℕ → ℕ) (n : ℕ) {address : ℕ} → ((k : ℕ) (m : Relocation) → slice_get
-    a.moves.items k ≡ Some m → (slice_get old.moves.items k ≡ Some m) ⊎ ((r : ℕ) × (register r ≡ m.from))) → ((k : ℕ) (m
-    : Relocation) → slice_get b.moves.items k ≡ Some m → (slice_get a.moves.items k ≡ Some m) ⊎ (m.from ≡ address))
-    → register n ≡ address → (k : ℕ) (m : Relocation) → slice_get b.moves.items k ≡ Some m
-    → (slice_get old.moves.items k ≡ Some m) ⊎ ((r : ℕ) × (register r ≡ m.from))
-each_more old a b register n before only is k m at = elim (only k m at) [
-  | inl there ↦ before k m there
-  | inr new ↦ inr (n, is ∙ sym new)
-]
-
 -- what holds when the first registers, so many of them, were looked at
 pub record HoldsSoFar (space : SpaceWords) (old a : Forwarding) (register : ℕ → ℕ) (n : ℕ) : Type 0 where
   pub all : (r : ℕ) → r < n → register r ≢ 0 → goes a (register r) ≢ 0
@@ -54,7 +44,10 @@ pub holds_found : {space : SpaceWords} {old a b : Forwarding} {register : ℕ �
 holds_found {space} {old} {a} {b} {register} {n} before full there goes_there grows only tracks = record {
   all = found_more a b register n grows before.all
       (λ _ (nought : goes b (register n) ≡ 0). there (sym goes_there ∙ nought));
-  each = each_more old a b register n before.each only refl;
+  each = λ k m at. elim (only k m at) [
+    | inl there ↦ before.each k m there
+    | inr new ↦ inr (n, sym new)
+  ];
   grows = Grows-more old a b before.grows grows;
   tracks = λ s held. tracks s (tracks_register space s old a register n held (before.tracks s held) full);
 }

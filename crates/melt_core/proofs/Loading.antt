@@ -573,31 +573,6 @@ untag_place disk {v} {t} {o} {place} space globals is tagged changes =
     (evolves_event false v.log (maps v) (maps v) (state disk v) (state disk m) no_region 0 _ s.holds.formed
     (untag_event disk false m slot.0 is s slot.1 tagged changes)) place there
 
--- registers aside, the view behind a read is that before it
-behind_changes : (disk : OnDisk) (v m : View) (t : ℕ) (place : Place) (at : Slot) (dst address word : ℕ)
-    → PlaceChanges (state disk v) (state disk m) place word
-    → PlaceChanges (state disk v) (state disk (behind m t at dst address)) place word
-behind_changes disk v m t (Field object i) at dst address word changes =
-    record {
-      base = changes.base;
-      free = changes.free;
-      here = changes.here;
-      others = changes.others;
-      global =
-          changes.global;
-      forward = changes.forward;
-    }
-behind_changes disk v m t (Global g) at dst address word changes =
-    record {
-      base = changes.base;
-      free = changes.free;
-      word_stays = changes.word_stays;
-      here = changes.here;
-      others =
-          changes.others;
-      forward = changes.forward;
-    }
-
 changed_word : (s t : State) (place : Place) (word : ℕ) → PlaceChanges s t place word → word_in t place ≡ word
 changed_word s t (Field object i) word changes = changes.here
 changed_word s t (Global g) word changes = changes.here
@@ -619,7 +594,7 @@ untag_won disk {v} {w} {t} {o} {place} {found} {target} {dst} space globals is t
     let m : View = over v space globals in
     let after : PlaceChanges (state disk v) (state disk (behind m t read.slot dst target)) place
     (ref_word (Clean target)) =
-    behind_changes disk v m t place read.slot dst target (ref_word (Clean target)) changes in
+    behind_changes place (ref_word (Clean target)) changes in
     subst (λ (r : StepResult). AdvancesOver disk v w t o r) (sym read.told)
     (subst (λ (y : View). AdvancesOver disk v y t o (Answered (found_in (held_value v.names target)))) (sym read.is)
     (read_advances space globals is.asks (record {
@@ -636,3 +611,24 @@ untag_won disk {v} {w} {t} {o} {place} {found} {target} {dst} space globals is t
             is = changed_word (state disk v) (state disk m) place (ref_word (Clean target)) changes;
           }) later;
     })))
+  where
+    -- registers aside, the view behind a read is that before it
+    behind_changes : (place : Place) (word : ℕ)
+        → PlaceChanges (state disk v) (state disk (over v space globals)) place word
+        → PlaceChanges (state disk v) (state disk (behind (over v space globals) t read.slot dst target)) place word
+    behind_changes (Field object i) word changes = record {
+      base = changes.base;
+      free = changes.free;
+      here = changes.here;
+      others = changes.others;
+      global = changes.global;
+      forward = changes.forward;
+    }
+    behind_changes (Global g) word changes = record {
+      base = changes.base;
+      free = changes.free;
+      word_stays = changes.word_stays;
+      here = changes.here;
+      others = changes.others;
+      forward = changes.forward;
+    }

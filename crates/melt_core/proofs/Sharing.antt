@@ -46,9 +46,9 @@ forward_changes base old new at word replaces = record {
   others = replaces.others;
 }
 
-pub shared_laws : (told : Bool) (thread : ℕ) (h : List Entry) (maps : Maps) (base : Base) (old new : Table) →
-    SharedLaws told thread h maps base old new
-shared_laws told thread h maps base old new = record {
+pub shared_laws : {told : Bool} {thread : ℕ} {h : List Entry} {maps : Maps} (base : Base) (old new : Table)
+    → SharedLaws told thread h maps base old new
+shared_laws {told} {thread} {h} {maps} base old new = record {
   stores_slot = λ object i address at value before is where_at may value_is replaces.
       event_keeps told thread h maps maps (shown base old) (shown base new) no_region 0 _ before.legal before.holds
       (Event.writes_place (Field object i) at address value refl is where_at may value_is

@@ -29,14 +29,12 @@ use Rattle.melt_core.specs.declared.call.Stage.TheVariants.{Looked, Cleared, Cla
 use Rattle.melt_core.specs.Answering.{Answers, entry, with_entry}
 use Rattle.melt_core.specs.Known.{Known, word_in}
 use Rattle.melt_core.specs.Stages.{Applies, Next, Nothing, change_of, cleared_by, next_forward, reached}
-use Rattle.melt_core.specs.Advances.{Asks, AdvancesOver, AdvancesWhere, Goes, IsAnswered, MayMove, Refuses, TellsDisk}
+use Rattle.melt_core.specs.Advances.{Asks, AdvancesOver, Goes, IsAnswered, Refuses}
 use Rattle.melt_core.specs.Views.{View, Standing, maps, state, stage_of, stage_in, rest_of}
 use Rattle.melt_core.specs.Views.{values_of}
 use Rattle.melt_core.specs.StaleBits.{Passed, HasNoBit, HasRegisters, Look, look_of, pending, Pending, sight}
 use Rattle.melt_core.specs.StaleBits.{TiedTo, Watched}
-use Rattle.melt_core.proofs.Asked.{asks_over, fits_at, known_so}
-use Rattle.melt_core.proofs.Disks.{stands_untold}
-use Rattle.melt_core.proofs.NoHomes.{as_told_by}
+use Rattle.melt_core.proofs.Asked.{fits_at, known_so}
 use Rattle.melt_core.proofs.Tasks.{new_is}
 use Rattle.melt_core.proofs.Values.{named_made}
 use Rattle.melt_core.proofs.StaleBitsPassing.{used_push}
@@ -293,7 +291,7 @@ module _ (disk : OnDisk) (u v w : View) (t : ℕ) (o : Op) (result : StepResult)
     answered = tied_by (does v.log (values_of v t) o answers.value).act tied is_answered
 
 -- by its outcome
-event_tied : {disk : OnDisk} (u : View) {v w : View} {t : ℕ} {o : Op} (result : StepResult) → Standing true disk v
+pub event_tied : {disk : OnDisk} (u : View) {v w : View} {t : ℕ} {o : Op} (result : StepResult) → Standing true disk v
     → Asks disk v t o → HasRegisters v t → AdvancesOver disk v w t o result → TiedTo u v → TiedTo u w
 event_tied {disk} u {v} {w} {t} {o} Going s asks sixteen is tied =
     tied_by disk u v w t o Going s is None tied (goes_on disk u v w t o Going s is tied is.outcome)
@@ -301,9 +299,3 @@ event_tied {disk} u {v} {w} {t} {o} (Answered reply) s asks sixteen is tied =
     answered disk u v w t o (Answered reply) s is reply asks sixteen tied is.outcome
 event_tied {disk} u {v} {w} {t} {o} (Refused r) s asks sixteen is tied =
     tied_by disk u v w t o (Refused r) s is None tied (refuses disk u v w t o (Refused r) s is r is.outcome)
-
-pub advances_tied : (u : View) (image : Option (List ℕ)) (disk : OnDisk) (v w : View) (t : ℕ) (o : Op)
-    (result : StepResult) → Standing true disk v → MayMove v t o → HasRegisters v t → TellsDisk image disk
-    → AdvancesWhere (TellsDisk image disk) disk v w t o result → TiedTo u v → TiedTo u w
-advances_tied u image disk v w t o result s may sixteen told is tied =
-    event_tied u result s (asks_over v t o may disk (stands_untold true disk v s)) sixteen (as_told_by told is) tied

@@ -3,7 +3,6 @@ use Rattle.std.proofs.Common.{◌≡◌, ℕ, ◌+◌, ◌*◌, ◌-◌, ◌≤�
 use Rattle.std.proofs.Common.{refl, sym, ◌∙◌, ap, subst, arith}
 use Rattle.std.specs.Prelude.{Option, Some, Result}
 use Rattle.atomic_table.specs.declared.shared.Seat.{Seat}
-use Rattle.melt_word.specs.Words.{IsShape, cost_of}
 use Rattle.melt_word.specs.declared.header.Shape.{Shape}
 use Rattle.melt_scion.specs.Commits.{HasRecord}
 use Rattle.melt_scion.specs.GhostMaps.{named}
@@ -24,7 +23,7 @@ use Rattle.melt_rule.specs.declared.view.View.{View}
 use Rattle.melt_epoch.proofs.Following.{counts_most}
 use Rattle.melt_epoch.proofs.Toward.{Toward, goes_then, goes_toward, toward_full, toward_goes, toward_itself}
 use Rattle.melt_epoch.proofs.Toward.{toward_lacked}
-use Rattle.melt_epoch.specs.Bringing.{Brings, Brought, Copies, IsLost, LacksEither, LacksRoom, Misses, Seeks, Stays}
+use Rattle.melt_epoch.specs.Bringing.{Brings, Brought, IsLost, LacksEither, LacksRoom, Misses, Seeks, Stays}
 use Rattle.melt_epoch.specs.Bringing.{in_use_at, tried_to}
 use Rattle.melt_epoch.specs.Epochs.{Fits}
 use Rattle.melt_epoch.specs.Fetching.{BodyFetched, Fetches, IsUnread, OfDisk}
@@ -137,29 +136,6 @@ brought_on {v} {w} {u} search tried k le toward brought = record {
 }
 
 module _ (told : Bool) (image : Option (List ℕ)) (scions : Scions) (end before after : ℕ) where
-  -- a home that a search missed is brought by a copy, or is not
-  pub copies_miss : (v w : View) (search : Search) {z : Shape} {forwards : ℕ} (result : Result ℕ Refusal) → IsShape z
-      → forwards ≡ v.began.forwards → Copies v w search z forwards result
-      → Misses told image scions end before after v w search (128 + 2 * (forwards - search.tried)) result
-  copies_miss v w search {z} {forwards} (Ok address) small same copied = record {
-    words = cost_of z;
-    wins = copied.wins;
-    goes = goes_then (128 + 2 * (forwards - search.tried))
-        (let refs = small.refs in let nums = small.nums in omega arith) (toward_itself v) copied.goes;
-    claims = inr (z, refl, copied.one, copied.object);
-  }
-  copies_miss v w search {z} {forwards} (Err why) small same (inl full) =
-      inl (inl (record {
-        words = cost_of z;
-        full = toward_full (128 + 2 * (forwards - search.tried)) (omega arith)
-            (let refs = small.refs in let nums = small.nums in omega arith) (toward_itself v) full.full;
-        read = let all = full.read in omega arith;
-        claims = inr (z, refl, full.object);
-      }))
-  copies_miss v w search {z} {forwards} (Err why) small same (inr lacks) =
-      inl (inr (lacks_on search search.tried (128 + 2 * (forwards - search.tried)) (omega arith) (toward_itself v)
-      lacks))
-
   -- all forwarding words send other homes than that of a search
   pub sought_full : (v w : View) (search : Search) {forwards : ℕ} (why : Refusal) → search.tried ≡ 0
       → forwards ≡ v.began.forwards → Seeks v w search forwards (Err why)

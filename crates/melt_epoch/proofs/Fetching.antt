@@ -24,7 +24,7 @@ use Rattle.melt_rule.specs.Shown.{base_at}
 use Rattle.melt_rule.specs.declared.began.Began.{Began}
 use Rattle.melt_epoch.specs.Fetching.{BodyFetched, HeadBroken, HeadDamage, HeadRead, IsDamage, IsDamaged, IsDead}
 use Rattle.melt_epoch.specs.Fetching.{OfDisk}
-use Rattle.melt_epoch.specs.Fetching.{IsUnread, ReadsHead, ReadsRest, RestBroken, RestDamage, RestRead, WasRead}
+use Rattle.melt_epoch.specs.Fetching.{IsUnread, ReadsRest, RestBroken, RestDamage, RestRead, WasRead}
 use Rattle.melt_epoch.specs.Fetching.{rest_size}
 
 -- words that were read are those of the disk, where the epoch is told
@@ -155,15 +155,7 @@ rose_before before between after first more rose small = elim (cases_lt between 
   | inr past ↦ omega arith
 ]
 
--- no head was read, so no record
-pub head_unread : (image : Option (List ℕ)) (scions : Scions) (end home before after : ℕ) (refusal : Refusal)
-    → ReadsHead image end home before after (Err refusal) → IsUnread image scions end home before after refusal
-head_unread image scions end home before after refusal.DiskFault rose = rose
-head_unread image scions end home before after (refusal.Damaged damaged) bad =
-    head_broken image scions end home damaged bad
-head_unread image scions end home before after (refusal.Pause pause) none = none
-
--- or a head, and not the words behind it
+-- a head was read, and not the words behind it, so no record
 pub rest_unread : {image : Option (List ℕ)} (scions : Scions) {end home : ℕ} (before between after : ℕ) (z : Shape)
     (refusal : Refusal) → before ≤ between → between ≤ after
     → HeadRead image end home (record { shape = z; kind = Body })

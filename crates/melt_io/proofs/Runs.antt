@@ -127,17 +127,15 @@ keeps-behind (Some old) (Some mid) (Some new) at (byte ∷ first) n {all} fits o
     let written : SameOutside old at (length (byte ∷ first)) mid = rw one (with_words-outside old at (byte ∷ first)) in
     SameOutside-append all fits written two
 
--- a run that failed behind the words up to `done`
-pub keeps-run : (old mid new : Option (List ℕ)) (at : ℕ) (words : List ℕ) (done n : ℕ) → done + n ≤ length words
-    → WritesSoFar old (8 * at) (word_bytes (take done words)) mid → KeepsOthers mid (8 * (at + done)) (8 * n) new
-    → KeepsOthers old (8 * at) (8 * length words) new
-keeps-run old mid new at words done n fits one two =
-    let first : List ℕ = word_bytes (take done words) in
-    let len : length first ≡ 8 * done = length-word_bytes (take done words)
-    ∙ ap (λ n. 8 * n) (length-take-le done words (omega arith)) in
-    let place : 8 * (at + done) ≡ 8 * at + length first = omega arith in
+-- a run of words that failed behind the first `done`
+pub keeps-run : (old mid new : Option (List ℕ)) (at : ℕ) (first : List ℕ) (n : ℕ) {done all : ℕ} → length first ≡ done
+    → done + n ≤ all → WritesSoFar old (8 * at) (word_bytes first) mid → KeepsOthers mid (8 * (at + done)) (8 * n) new
+    → KeepsOthers old (8 * at) (8 * all) new
+keeps-run old mid new at first n {done} count fits one two =
+    let len : length (word_bytes first) ≡ 8 * done = length-word_bytes first ∙ ap (λ n. 8 * n) count in
+    let place : 8 * (at + done) ≡ 8 * at + length (word_bytes first) = omega arith in
     let P : ℕ → Type 0 = λ at. KeepsOthers mid at (8 * n) new in
-    keeps-behind old mid new (8 * at) first (8 * n) (omega arith) one (subst P place two)
+    keeps-behind old mid new (8 * at) (word_bytes first) (8 * n) (omega arith) one (subst P place two)
 
 -- n bytes more, behind the first `filled`
 pub reads-on : (told : Option (List ℕ)) (bytes buf behind : List ℕ) (at : ℕ) {filled : ℕ} (n : ℕ)

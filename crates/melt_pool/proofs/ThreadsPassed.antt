@@ -10,6 +10,7 @@ use mathlib.Core.Option.{some, some-injective, some-ne-none}
 use Rattle.melt_model.specs.declared.config.Config.{Config}
 use Rattle.melt_model.specs.declared.history.Entry.{Entry}
 use Rattle.melt_model.specs.declared.reports.Journal.{Journal}
+use Rattle.melt_model.specs.declared.reports.ThreadEnd.TheVariants as end
 use Rattle.melt_trace.specs.Script.{Script}
 use Rattle.melt_scion.specs.Heaps.{OnDisk}
 use Rattle.melt_scion.specs.declared.heap.Heap.{Heap}
@@ -25,9 +26,12 @@ use Rattle.melt_safepoint.specs.Endings.{EndsSo, HaveCuts}
 use Rattle.melt_safepoint.specs.Epochs.{RestsWell, to_do}
 use Rattle.melt_safepoint.specs.Losses.{CountsLosses, losses, open_faults}
 use Rattle.melt_safepoint.specs.Modes.{MayGo, Waits, lost, owes_silent}
-use Rattle.melt_safepoint.specs.Run.{total}
+use Rattle.melt_safepoint.specs.Run.{LoadsNext, total}
 use Rattle.melt_safepoint.specs.Tables.{TableStands, ThreadStands}
-use Rattle.melt_safepoint.specs.Threads.{Later, jobs_of, most_forwards, to_reply}
+use Rattle.melt_safepoint.specs.Threads.{Later, jobs_of, most_forwards, replies_of, to_reply}
+use Rattle.melt_safepoint.specs.declared.thread.Mode.{Mode}
+use Rattle.melt_safepoint.specs.declared.thread.Mode.TheVariants.{Running, Due, Silent, Collecting, Asked, Lacking}
+use Rattle.melt_safepoint.specs.declared.thread.Mode.TheVariants.{Ended}
 use Rattle.melt_safepoint.specs.declared.thread.ThreadState.{ThreadState}
 use Rattle.melt_safepoint.proofs.Counting.{counts_on, counts_paid}
 use Rattle.melt_safepoint.proofs.Cuts.{HaveCuts_later, gone_cases, replies_here}
@@ -39,7 +43,7 @@ use Rattle.melt_pool.specs.Programs.{EndsWell, IsToldBy, ProgramStands}
 use Rattle.melt_pool.specs.Workers.{Brings, faults_of}
 use Rattle.melt_pool.specs.declared.worker.Worker.{Worker}
 use Rattle.melt_pool.proofs.Passing.{all_at}
-use Rattle.melt_pool.proofs.ThreadsEnded.{ends_well, lost_counted}
+use Rattle.melt_pool.proofs.ThreadsEnded.{lost_counted}
 use Rattle.melt_pool.proofs.ThreadsOwn.{all_below, none_own}
 use Rattle.melt_pool.proofs.ThreadsRest.{armed_at, program_of, rests_at, threads_rest}
 use Rattle.melt_pool.proofs.ThreadsSums.{sums_within, total_list}
@@ -318,8 +322,24 @@ module _ {R : Type 0} (told : Bool) (script : Script) (config : Config) (disk : 
             subst (λ (n : ℕ). EndsWell told finish script n (length x.replies.items) faults_had x.mode) it.thread
             (subst (λ (c : Bool). EndsWell c finish script it.back.thread (length x.replies.items) faults_had x.mode)
             is_told ends) in
-            ends_well told script config h after t faults_had x.mode within (ap length (replies_here after t x is)) here
+            ends_well faults_had x.mode (ap length (replies_here after t x is)) here
       ]
+    where
+      -- what is said of a thread by its reader is so of the run
+      ends_well : (lost : ℕ) {count : ℕ} (mode : Mode) → length (replies_of after t) ≡ count
+          → EndsWell told finish script t count lost mode → EndsSo told script h after config t mode
+      ends_well lost Running same ends = tt
+      ends_well lost Due same ends = tt
+      ends_well lost Silent same ends = tt
+      ends_well lost Collecting same ends = tt
+      ends_well lost Asked same ends = tt
+      ends_well lost Lacking same ends = tt
+      ends_well lost (Ended end.Done) same ends = same ∙ ends
+      ends_well lost (Ended (end.OutOfHeap held need)) same ends = absurd ends
+      ends_well lost (Ended end.DiskFault) same ends = subst (LoadsNext script t) (sym same) ends.0
+      ends_well lost (Ended (end.Damaged home at word)) same ends =
+          (ends.0, subst (LoadsNext script t) (sym same) ends.1, ends.2 config within)
+      ends_well lost (Ended end.Halted) same ends = absurd ends
 
   -- no thread more was lost than reads failed
   lost_few : (t : ℕ) (s x : ThreadState) → slice_get states t ≡ Some s → slice_get after t ≡ Some x

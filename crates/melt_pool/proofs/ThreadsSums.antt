@@ -65,44 +65,6 @@ sums_within F G f g (x ∷ xs) (y ∷ ys) count each =
       sum_first g y ys,
     )
 
--- and less, where one has less
-pub sums_under : {A B : Type 0} (F G : ℕ → ℕ) (f : A → ℕ) (g : B → ℕ) (xs : List A) (ys : List B) (t : ℕ) {p : A}
-    {q : B} → length ys ≡ length xs → EachWithin F G f g xs ys → slice_get xs t ≡ Some p → slice_get ys t ≡ Some q
-    → F t + g q < G t + f p → total F (length xs) + sum (map g ys) < total G (length xs) + sum (map f xs)
-sums_under F G f g [] ys t {p} {q} count each at is less = absurd (let no : slice_get [] t ≡ Some p = at in cc)
-sums_under F G f g (x ∷ xs) [] t {p} {q} count each at is less = absurd (omega (arith, count))
-sums_under F G f g (x ∷ xs) (y ∷ ys) zero {p} {q} count each at is less =
-    let F' : ℕ → ℕ = λ t. F (suc t) in
-    let G' : ℕ → ℕ = λ t. G (suc t) in
-    let behind : total F' (length xs) + sum (map g ys) ≤ total G' (length xs) + sum (map f xs) =
-    sums_within F' G' f g xs ys (omega (arith, count)) (λ u a b there here. each (suc u) a b there here) in
-    omega (
-      arith,
-      less,
-      behind,
-      ap f (same_Some x p at),
-      ap g (same_Some y q is),
-      total_front F (length xs),
-      total_front G (length xs),
-      sum_first f x xs,
-      sum_first g y ys,
-    )
-sums_under F G f g (x ∷ xs) (y ∷ ys) (suc t) {p} {q} count each at is less =
-    let F' : ℕ → ℕ = λ t. F (suc t) in
-    let G' : ℕ → ℕ = λ t. G (suc t) in
-    let here : F 0 + g y ≤ G 0 + f x = each 0 x y refl refl in
-    let behind : total F' (length xs) + sum (map g ys) < total G' (length xs) + sum (map f xs) =
-    sums_under F' G' f g xs ys t (omega (arith, count)) (λ u a b there here. each (suc u) a b there here) at is less in
-    omega (
-      arith,
-      here,
-      behind,
-      total_front F (length xs),
-      total_front G (length xs),
-      sum_first f x xs,
-      sum_first g y ys,
-    )
-
 -- the same of what the elements have alone
 pub sum_rises : {A : Type 0} (f : A → ℕ) (xs ys : List A) → length ys ≡ length xs
     → ((t : ℕ) (x y : A) → slice_get xs t ≡ Some x → slice_get ys t ≡ Some y → f x ≤ f y)
@@ -113,14 +75,29 @@ sum_rises f xs ys count each =
     (λ t y x is at. let rises : f x ≤ f y = each t x y at is in omega (arith, rises)) in
     omega (arith, all)
 
+-- and less, where one has less
 pub sum_grows : {A : Type 0} (f : A → ℕ) (xs ys : List A) (t : ℕ) (p q : A) → length ys ≡ length xs
     → ((t : ℕ) (x y : A) → slice_get xs t ≡ Some x → slice_get ys t ≡ Some y → f x ≤ f y)
     → slice_get xs t ≡ Some p → slice_get ys t ≡ Some q → f p < f q → sum (map f xs) < sum (map f ys)
-sum_grows f xs ys t p q count each at is more =
-    let all : total (λ t. 0) (length ys) + sum (map f xs) < total (λ t. 0) (length ys) + sum (map f ys) =
-    sums_under (λ t. 0) (λ t. 0) f f ys xs t (sym count)
-    (λ t y x is at. let rises : f x ≤ f y = each t x y at is in omega (arith, rises)) is at (omega (arith, more)) in
-    omega (arith, all)
+sum_grows f [] ys t p q count each at is more = absurd (let no : slice_get [] t ≡ Some p = at in cc)
+sum_grows f (x ∷ xs) [] t p q count each at is more = absurd (omega (arith, count))
+sum_grows f (x ∷ xs) (y ∷ ys) zero p q count each at is more =
+    let behind : sum (map f xs) ≤ sum (map f ys) =
+    sum_rises f xs ys (omega (arith, count)) (λ u a b there here. each (suc u) a b there here) in
+    omega (
+      arith,
+      more,
+      behind,
+      ap f (same_Some x p at),
+      ap f (same_Some y q is),
+      sum_first f x xs,
+      sum_first f y ys,
+    )
+sum_grows f (x ∷ xs) (y ∷ ys) (suc t) p q count each at is more =
+    let here : f x ≤ f y = each 0 x y refl refl in
+    let behind : sum (map f xs) < sum (map f ys) =
+    sum_grows f xs ys t p q (omega (arith, count)) (λ u a b there here. each (suc u) a b there here) at is more in
+    omega (arith, here, behind, sum_first f x xs, sum_first f y ys)
 
 -- two sums, where what no one but one has differs
 total_but : (f g : ℕ → ℕ) (t n : ℕ) → t < n → ((u : ℕ) → u ≢ t → f u ≡ g u) → total f n + g t ≡ total g n + f t

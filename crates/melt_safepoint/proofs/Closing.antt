@@ -8,7 +8,6 @@ use Rattle.melt_model.specs.declared.history.Entry.{Entry}
 use Rattle.melt_model.specs.declared.reports.Journal.{Journal}
 use Rattle.melt_model.specs.declared.reports.Phase.TheVariants.{Inactive}
 use Rattle.melt_trace.specs.Script.{Script}
-use Rattle.melt_scion.specs.Heaps.{OnDisk}
 use Rattle.melt_scion.specs.declared.heap.Heap.{Heap}
 use Rattle.melt_core.specs.Views.{IsQuiet, View}
 use Rattle.melt_safepoint.specs.declared.thread.ThreadState.{ThreadState}
@@ -86,15 +85,6 @@ pub record Ends (run : Row) (ended : RunEnded) : Type 0 where
   pub journal : ended.journal.items ≡ run.collector.journal.items
   pub halt_is : ended.halt ≡ None
 
--- why it has ended, told by its parts
-ends_by : (told : Bool) (config : Config) (shown : Shown) (disk : OnDisk) (v : View) (run : Row) {heap : Heap}
-    (ended : RunEnded) → ended.halt ≡ None → ended.left.heap ≡ Some heap
-    → EndsBy told config shown disk v run.states ended None (Some heap)
-    → EndsBy told config shown disk v run.states ended ended.halt ended.left.heap
-ends_by told config shown disk v run {heap} ended none there by =
-    let By : Option Halt → Option Heap → Type 0 = λ h x. EndsBy told config shown disk v run.states ended h x in
-    subst (λ (h : Option Halt). By h ended.left.heap) (sym none) (subst (λ (x : Option Heap). By None x) (sym there) by)
-
 -- it stands so, where all its threads have ended
 pub ended_all : (told : Bool) (script : Script) (config : Config) (shown : Shown) (run : Row) (ended : RunEnded)
     → RunStands told script config shown run → AllEnded run.states → Ends run ended
@@ -105,6 +95,7 @@ ended_all told script config shown run ended stands over ends =
     let states : List ThreadState = run.states in
     let left = ends.left.stands told stands.disk stands.table.stands in
     let renewed : Renewed told stands.disk v w = left.0 in
+    let By : Option Halt → Option Heap → Type 0 = λ h x. EndsBy told config shown stands.disk w states ended h x in
     record {
       disk = stands.disk;
       v = w;
@@ -120,6 +111,6 @@ ended_all told script config shown run ended stands over ends =
       counts = subst (λ (js : List Journal). CountsCollections script config 0 states (length js)) (sym ends.journal)
           stands.counts;
       log = ends.left.log;
-      cause = ends_by told config shown stands.disk w run ended ends.halt_is ends.left.there
-          (over, ends.states, left.1, stands.under);
+      cause = subst (λ (h : Option Halt). By h ended.left.heap) (sym ends.halt_is)
+          (subst (By None) (sym ends.left.there) (over, ends.states, left.1, stands.under));
     }

@@ -20,7 +20,7 @@ use Rattle.melt_scion.specs.declared.registers.Registers.{Registers}
 use Rattle.melt_scion.proofs.Totals.{held_costs}
 use Rattle.melt_copy.specs.Settling.{with_image, StillTold}
 use Rattle.melt_move.specs.Collecting.{IsFormedOn}
-use Rattle.melt_move.specs.Planned.{CollectsIn, CollectsPlanned, plan_after}
+use Rattle.melt_move.specs.Planned.{CollectsPlanned, plan_after}
 use Rattle.melt_core.specs.Views.{View, maps, maps_of, state, value, values_of, InUse, Standing, IsQuiet}
 use Rattle.melt_core.proofs.Alive.{alive_sum}
 use Rattle.melt_core.proofs.Disks.{stands_over}
@@ -154,12 +154,13 @@ end_is {end} planned =
     ap (λ (j : Journal). j.end) planned.journal_is
 
 -- a collection that moves nothing leaves the end of the disk
-end_stays : {phase : Phase} (mid new : Heap) (held held_after : List Registers) {end end_after : ℕ}
-    (image image_after : Option (List ℕ)) (entry : Journal)
-    → CollectsIn phase mid new held held_after end end_after image image_after entry → phase ≢ Move → end_after ≡ end
-end_stays {phase = Inactive} mid new held held_after image image_after entry collects stays = collects.end_stays
-end_stays {phase = Mark} mid new held held_after image image_after entry collects stays = collects.end_stays
-end_stays {phase = Move} mid new held held_after image image_after entry collects stays = absurd (stays refl)
+end_stays : {phase : Phase} {heap new : Heap} {held held_after : List Registers} {end end_after : ℕ}
+    {image image_after : Option (List ℕ)} {entry : Journal}
+    → CollectsPlanned phase heap new held held_after end end_after image image_after entry → phase ≢ Move
+    → end_after ≡ end
+end_stays {phase = Inactive} planned stays = planned.collects.end_stays
+end_stays {phase = Mark} planned stays = planned.collects.end_stays
+end_stays {phase = Move} planned stays = absurd (stays refl)
 
 -- where a push did not fail, its value stands behind the others
 pub when_pushed : {T E : Type 0} (r : Result T E) (now was all : List Journal) → is_err r ≡ false
@@ -309,8 +310,7 @@ module _ (phase : Phase) (shown later : Shown) (heap new : Heap) (b : Beside) (n
         end = end_is made.planned;
         grows = omega (arith, grows, c.between_end, seen.ends, c.was.ends);
         fits = made.fits;
-        stays = end_stays {phase = phase} made.planned.mid new b.held registers {end = shown.end}
-            {end_after = later.end} made.planned.between later.image made.planned.alone made.planned.collects;
+        stays = end_stays made.planned;
         limit = made.limit;
         each = λ told disk under stands.
             made_over told disk.free_homes (seen_disk told shown.end shown.image disk v under stands)

@@ -18,12 +18,11 @@ use Rattle.melt_safepoint.specs.declared.thread.ThreadState.{ThreadState}
 use Rattle.melt_safepoint.specs.declared.thread.Mode.{Mode}
 use Rattle.melt_safepoint.specs.declared.thread.Mode.TheVariants as mode
 use Rattle.melt_safepoint.specs.Modes.{halted_mode, owes, lost, IsEnded}
-use Rattle.melt_safepoint.specs.Run.{silent_in, is_collect, is_halted, is_lost, replies_in, LoadsNext, MayEnd, collects}
+use Rattle.melt_safepoint.specs.Run.{silent_in, is_collect, is_halted, is_lost, collects}
 use Rattle.melt_safepoint.specs.Run.{collects_of, collections_of, collections}
 use Rattle.melt_safepoint.specs.Cuts.{Cut, IsCut, LacksRoom}
 use Rattle.melt_safepoint.specs.Counts.{answers}
 use Rattle.melt_safepoint.specs.Losses.{losses}
-use Rattle.melt_safepoint.specs.Threads.{replies_of}
 use Rattle.melt_safepoint.specs.Endings.{EndsSo}
 use Rattle.melt_safepoint.proofs.Reporting.{Reported}
 
@@ -41,7 +40,7 @@ IsCut_same script log a b config cut same is = record {
 }
 
 -- the next operation had no room, by other lists of the same replies
-LacksRoom_same : {script : Script} {log : List Entry} {a : ℕ → List Reply} (b : ℕ → List Reply) {config : Config}
+pub LacksRoom_same : {script : Script} {log : List Entry} {a : ℕ → List Reply} (b : ℕ → List Reply) {config : Config}
     {t held_words need : ℕ} → ((u : ℕ) → a u ≡ b u) → LacksRoom script log a config t held_words need
     → LacksRoom script log b config t held_words need
 LacksRoom_same {script} {log} {a} b {config} {t} same lacks = record {
@@ -100,19 +99,6 @@ halted_cases (mode.Ended e) = inl refl
 -- how a thread ended that is Ended twice
 pub same_end : (a b : ThreadEnd) → mode.Ended a ≡ mode.Ended b → a ≡ b
 same_end a b is = cc
-
--- why a thread may end so
-pub may_end : (told : Bool) (script : Script) (config : Config) (report : Report) (states : List ThreadState) (t : ℕ)
-    (e : ThreadEnd) → ((u : ℕ) → replies_of states u ≡ replies_in report u)
-    → EndsSo told script report.history states config t (mode.Ended e) → MayEnd told script config report t e
-may_end told script config report states t end.Done same ends = ap length (sym (same t)) ∙ ends
-may_end told script config report states t (end.OutOfHeap held_words need) same ends = λ is.
-    LacksRoom_same (replies_in report) same (ends is).0
-may_end told script config report states t end.DiskFault same ends =
-    subst (LoadsNext script t) (ap length (same t)) ends
-may_end told script config report states t (end.Damaged home at word) same ends =
-    (ends.0, subst (LoadsNext script t) (ap length (same t)) ends.1, ends.2)
-may_end told script config report states t end.Halted same ends = absurd ends
 
 -- two counts, of which the first has no more than the second for each thread
 pub counts_less : (f : ThreadState → ℕ) (p : ThreadReport → Bool) (states : List ThreadState)

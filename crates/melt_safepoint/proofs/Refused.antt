@@ -16,7 +16,7 @@ use Rattle.melt_scion.specs.declared.heap.Heap.{Heap}
 use Rattle.melt_scion.specs.declared.registers.Registers.{Registers}
 use Rattle.melt_copy.specs.Settling.{with_image, StillTold}
 use Rattle.melt_move.specs.Collecting.{IsAsBefore, IsRefused, LacksDisk, SameNames}
-use Rattle.melt_move.specs.Planned.{IsRefusedIn, IsRefusedSettled, Settles}
+use Rattle.melt_move.specs.Planned.{IsRefusedSettled, Settles}
 use Rattle.melt_move.specs.Plans.{WantsHome}
 use Rattle.melt_move.specs.declared.collect.MoveRefusal.TheVariants.{DiskFull}
 use Rattle.melt_move.proofs.AsBefore.{state_same, maps_same}
@@ -29,15 +29,13 @@ use Rattle.melt_safepoint.proofs.Gathering.{SeenDisk, renewed_by, seen_disk}
 use Rattle.melt_safepoint.proofs.PlannedRest.{SettledOver, keeps_made, keeps_then, settled_on}
 
 -- only a Move asks the disk for room
-pub refused_move : {Disk : Type 0} {phase : Phase} (mid : Heap) (held held_after : List Registers)
-    (between later : Stale Disk) (back : Heap) (full : disk_full.DiskFull)
-    → IsRefusedIn phase mid held held_after between later (DiskFull back full)
-    → (phase ≡ Move) × IsRefused mid held held_after between later (DiskFull back full)
-refused_move {phase = Inactive} mid held held_after between later back full refused =
-    let no = refused.no_memory in absurd (cc)
-refused_move {phase = Mark} mid held held_after between later back full refused =
-    let no = refused.no_memory in absurd (cc)
-refused_move {phase = Move} mid held held_after between later back full refused = (refl, refused)
+refused_move : {Disk : Type 0} {image : Disk → Option (List ℕ)} {writes : Disk → ℕ} {phase : Phase} {heap : Heap}
+    {held registers : List Registers} {before behind : Stale Disk} {back : Heap} {full : disk_full.DiskFull}
+    → (settled : IsRefusedSettled image writes phase heap held registers before behind (DiskFull back full))
+    → (phase ≡ Move) × IsRefused settled.mid held registers settled.between behind (DiskFull back full)
+refused_move {phase = Inactive} settled = let no = settled.refused.no_memory in absurd (cc)
+refused_move {phase = Mark} settled = let no = settled.refused.no_memory in absurd (cc)
+refused_move {phase = Move} settled = (refl, settled.refused)
 
 -- the same names are for as many addresses
 keeps_same : (old new : Option name_table.Names) → SameNames old new → KeepsNames old new
@@ -178,7 +176,7 @@ is_full {phase} {image} {writes} {heap} {held} {registers} {before} {behind} {ba
     let settled : IsRefusedSettled image writes phase heap b.held registers before behind (DiskFull back full) =
     subst (λ (lent : List Registers).
     IsRefusedSettled image writes phase heap lent registers before behind (DiskFull back full)) (sym was) refused in
-    let found = refused_move settled.mid b.held registers settled.between behind back full settled.refused in
+    let found = refused_move settled in
     let same : IsAsBefore settled.mid back = found.1.0 in
     let lacks : LacksDisk settled.mid b.held settled.between.end settled.between.limit full = found.1.4 in
     let stays : settled.between.end ≡ before.end = settled.end_stays in

@@ -269,22 +269,19 @@ has_run told script config shown ended report stands is =
     ran stands is ended.halt ended.left.heap is.halt stands.cause
 
 -- all threads have ended by then
-over_by : (told : Bool) (config : Config) (shown : Shown) (disk : OnDisk) (v : View) (states : List ThreadState)
-    (ended : Ended) (why : Option Halt) (heap : Option Heap) → EndsBy told config shown disk v states ended why heap
-    → AllEnded ended.states.items
-over_by told config shown disk v states ended None (Some heap) cause = subst AllEnded (sym cause.1) cause.0
-over_by told config shown disk v states ended (Some (halt.DiskFull finish need limit)) (Some heap) cause =
-    halted_ended states ended.states.items cause.0
-over_by told config shown disk v states ended (Some halt.DiskFault) None cause =
-    halted_ended states ended.states.items cause
-over_by told config shown disk v states ended None None cause = absurd cause
-over_by told config shown disk v states ended (Some (halt.DiskFull finish need limit)) None cause = absurd cause
-over_by told config shown disk v states ended (Some halt.DiskFault) (Some heap) cause = absurd cause
-
 pub all_over : (told : Bool) (script : Script) (config : Config) (shown : Shown) (ended : Ended)
     → EndedStands told script config shown ended → AllEnded ended.states.items
-all_over told script config shown ended stands =
-    over_by told config shown stands.disk stands.v stands.states ended ended.halt ended.left.heap stands.cause
+all_over told script config shown ended stands = over_by ended.halt ended.left.heap stands.cause
+  where
+    over_by : (why : Option Halt) (heap : Option Heap)
+        → EndsBy told config shown stands.disk stands.v stands.states ended why heap → AllEnded ended.states.items
+    over_by None (Some heap) cause = subst AllEnded (sym cause.1) cause.0
+    over_by (Some (halt.DiskFull finish need limit)) (Some heap) cause =
+        halted_ended stands.states ended.states.items cause.0
+    over_by (Some halt.DiskFault) None cause = halted_ended stands.states ended.states.items cause
+    over_by None None cause = absurd cause
+    over_by (Some (halt.DiskFull finish need limit)) None cause = absurd cause
+    over_by (Some halt.DiskFault) (Some heap) cause = absurd cause
 
 -- what a run leaves of the counts of a disk, of which so many writes and lends failed
 -- and so many reads, before and after

@@ -28,8 +28,8 @@ use Rattle.melt_safepoint.specs.declared.thread.Mode.TheVariants as mode
 use Rattle.melt_safepoint.specs.Threads.{AreHalted, halted, owing, replies_of}
 use Rattle.melt_safepoint.specs.Modes.{halted_mode, owes}
 use Rattle.melt_safepoint.specs.Journals.{IsJournalOf}
-use Rattle.melt_safepoint.specs.Run.{is_halted, replies_in, halted_in, MayEnd, MayHalt, HasCuts, HasHistory, collects}
-use Rattle.melt_safepoint.specs.Run.{collections, replies_told, IsStepReport}
+use Rattle.melt_safepoint.specs.Run.{is_halted, replies_in, halted_in, LoadsNext, MayEnd, MayHalt, HasCuts, HasHistory}
+use Rattle.melt_safepoint.specs.Run.{collects, collections, replies_told, IsStepReport}
 use Rattle.melt_safepoint.specs.Cuts.{IsCut, IsCollectedAt}
 use Rattle.melt_safepoint.specs.Endings.{EndsSo, HasCut, HaveCuts}
 use Rattle.melt_safepoint.specs.Made.{MakesWithin}
@@ -38,7 +38,7 @@ use Rattle.melt_safepoint.proofs.Cuts.{replies_here, replies_past}
 use Rattle.melt_safepoint.proofs.Halting.{halted_at}
 use Rattle.melt_safepoint.proofs.Reporting.{Reported}
 use Rattle.melt_safepoint.proofs.Outcomes.{IsCut_same, collections_same, asked_same, state_at, EndsAs, halted_cases}
-use Rattle.melt_safepoint.proofs.Outcomes.{same_end, may_end, counts_less, owes_ended, told_less}
+use Rattle.melt_safepoint.proofs.Outcomes.{LacksRoom_same, same_end, counts_less, owes_ended, told_less}
 use Rattle.melt_safepoint.specs.declared.ending.Ended.{Ended}
 use Rattle.melt_safepoint.specs.Ended.{EndedStands}
 use Rattle.melt_safepoint.specs.Tables.{TableStands}
@@ -104,13 +104,30 @@ replies_same states ended report reports t =
           ∙ sym (ap by w.1)
     ]
 
+-- why a thread may end so
+may_end : (told : Bool) (script : Script) (config : Config) {states : List ThreadState} {ended : Ended}
+    {report : Report} (t : ℕ) (e : ThreadEnd) → Reports states ended report
+    → EndsSo told script report.history states config t (mode.Ended e) → MayEnd told script config report t e
+may_end told script config {states} {ended} {report} t end.Done reports ends =
+    ap length (sym (replies_same states ended report reports t)) ∙ ends
+may_end told script config {states} {ended} {report} t (end.OutOfHeap held_words need) reports ends = λ is.
+    LacksRoom_same (replies_in report) (replies_same states ended report reports) (ends is).0
+may_end told script config {states} {ended} {report} t end.DiskFault reports ends =
+    subst (LoadsNext script t) (ap length (replies_same states ended report reports t)) ends
+may_end told script config {states} {ended} {report} t (end.Damaged home at word) reports ends = (
+  ends.0,
+  subst (LoadsNext script t) (ap length (replies_same states ended report reports t)) ends.1,
+  ends.2,
+)
+may_end told script config t end.Halted reports ends = absurd ends
+
 -- so of each thread of the report
 reported_end : (told : Bool) (script : Script) (config : Config) {ended : Ended} {report : Report}
     {states : List ThreadState} (t : ℕ) (s : ThreadState) (r : ThreadReport) → Reports states ended report
     → EndsSo told script report.history states config t s.mode → EndsAs report s r
     → MayEnd told script config report t r.end
 reported_end told script config {ended} {report} {states} t s r reports so (inl ends) =
-    may_end told script config report states t r.end (replies_same states ended report reports)
+    may_end told script config t r.end reports
     (subst (λ (m : Mode). EndsSo told script report.history states config t m) ends so)
 reported_end told script config {ended} {report} {states} t s r reports so (inr halts) =
     subst (λ (e : ThreadEnd). MayEnd told script config report t e) (sym halts.1) halts.2

@@ -23,7 +23,7 @@ use Rattle.melt_safepoint.specs.Rows.{AwaitsCall, LacksBy, LacksWords, LeftBy, R
 use Rattle.melt_safepoint.specs.Makes.{MovesBehind, MovesOnce}
 use Rattle.std.specs.Prelude.{Some}
 use Rattle.melt_safepoint.specs.Rows.{MakesCollection, NoRoom, StandsBut}
-use Rattle.melt_safepoint.specs.Rows.{StopsBut, StopsForced, StopsFrom}
+use Rattle.melt_safepoint.specs.Rows.{StopsBut, StopsFrom}
 use Rattle.melt_safepoint.specs.declared.ending.Stop.{Stop}
 use Rattle.melt_safepoint.proofs.Collected.{just_collected, stands_collected}
 
@@ -116,13 +116,6 @@ pub forced_stops : {shown mid : Shown} (later : Shown) {old run : Row} (t need f
     → StopsFrom (λ told script config. LacksWords told script config shown forced old t need) later stop
 forced_stops later t need forced stop made few stops told script config lacks =
     stops told script config (suc (suc forced), (awaits_again few lacks made).stands)
-
--- or before it
-pub unforced_stops : (shown later : Shown) (old : Row) (t need forced : ℕ) (stop : Stop)
-    → StopsForced true shown later old stop
-    → StopsFrom (λ told script config. LacksWords told script config shown forced old t need) later stop
-unforced_stops shown later old t need forced stop stops told script config lacks =
-    stops told script config ((suc forced, lacks.stands), λ is. lacks.tight)
 
 -- a run that was stopped before the call was made
 pub stops_first : (shown later : Shown) (run : Row) (t : ℕ) (stop : Stop) → StopsBut shown later run stop

@@ -10,12 +10,10 @@ use Rattle.melt_model.specs.declared.reports.ThreadEnd.TheVariants as end
 use Rattle.melt_trace.specs.Script.{Script}
 use Rattle.melt_scion.specs.Heaps.{OnDisk}
 use Rattle.melt_scion.specs.declared.heap.Heap.{Heap}
-use Rattle.melt_core.specs.Views.{View}
 use Rattle.melt_safepoint.specs.Ended.{EndedStands, EndsBy}
 use Rattle.melt_safepoint.specs.Run.{HasRun, IsLeft, IsStepReport, HasLeft, MayEnd}
 use Rattle.melt_safepoint.specs.Shown.{Shown, Underlies}
 use Rattle.melt_safepoint.specs.declared.ending.Ended.{Ended}
-use Rattle.melt_safepoint.specs.declared.thread.ThreadState.{ThreadState}
 use Rattle.melt_safepoint.proofs.Tables.{Table_untold}
 
 -- why a thread may end
@@ -86,29 +84,6 @@ under_untold : {told : Bool} {finish : ℕ} {image : Option (List ℕ)} {disk : 
 under_untold {told} {finish} {image} {disk} under =
     record { ends = under.ends; tells = λ (is : false ≡ true). absurd (cc) }
 
--- why a run has ended
-by_untold : (told : Bool) (config : Config) (shown : Shown) (disk : OnDisk) (v : View) (states : List ThreadState)
-    (ended : Ended) (h : Option Halt) (heap : Option Heap) → EndsBy told config shown disk v states ended h heap
-    → EndsBy false config shown disk v states ended h heap
-by_untold told config shown disk v states ended None (Some heap) by = (by.0, by.1, by.2, under_untold by.3)
-by_untold told config shown disk v states ended (Some (halt.DiskFull end need limit)) (Some heap) by = (
-  by.0,
-  by.1,
-  under_untold by.2,
-  record {
-    end_is = by.3.end_is;
-    end_last = by.3.end_last;
-    limit_is = by.3.limit_is;
-    above = by.3.above;
-    may_move = by.3.may_move;
-    needs = λ (is : false ≡ true). absurd (cc);
-  },
-)
-by_untold told config shown disk v states ended (Some halt.DiskFault) None by = by
-by_untold told config shown disk v states ended None None by = by
-by_untold told config shown disk v states ended (Some (halt.DiskFull end need limit)) None by = by
-by_untold told config shown disk v states ended (Some halt.DiskFault) (Some heap) by = by
-
 -- what has ended
 pub ended_untold : {told : Bool} {script : Script} {config : Config} {shown : Shown} {ended : Ended}
     → EndedStands told script config shown ended → EndedStands false script config shown ended
@@ -123,5 +98,27 @@ ended_untold {told} {script} {config} {shown} {ended} stands = record {
   unpaid = stands.unpaid;
   counts = stands.counts;
   log = stands.log;
-  cause = by_untold told config shown stands.disk stands.v stands.states ended ended.halt ended.left.heap stands.cause;
+  cause = by_untold ended.halt ended.left.heap stands.cause;
 }
+  where
+    by_untold : (h : Option Halt) (heap : Option Heap)
+        → EndsBy told config shown stands.disk stands.v stands.states ended h heap
+        → EndsBy false config shown stands.disk stands.v stands.states ended h heap
+    by_untold None (Some heap) by = (by.0, by.1, by.2, under_untold by.3)
+    by_untold (Some (halt.DiskFull end need limit)) (Some heap) by = (
+      by.0,
+      by.1,
+      under_untold by.2,
+      record {
+        end_is = by.3.end_is;
+        end_last = by.3.end_last;
+        limit_is = by.3.limit_is;
+        above = by.3.above;
+        may_move = by.3.may_move;
+        needs = λ (is : false ≡ true). absurd (cc);
+      },
+    )
+    by_untold (Some halt.DiskFault) None by = by
+    by_untold None None by = by
+    by_untold (Some (halt.DiskFull end need limit)) None by = by
+    by_untold (Some halt.DiskFault) (Some heap) by = by

@@ -227,15 +227,6 @@ by_read {v} {x} s {search} shape Body next is reads =
     behind false = is
 by_read {v} {x} s {search} shape (Stub scion) next is reads = subst (λ (g : Stage). By v x (Some g)) (sym reads.2) tt
 
--- a word of the copy was stored
-copied_on : {w x : View} (disk : OnDisk) (m n : Maps) {search : Search} (last : Bool) (at word to other : ℕ)
-    → IsCopied w search → Applies m n (state disk w) (state disk x) (if last then Word at word else Word to other)
-    → IsCopied x search
-copied_on disk m n true at word to other is applies =
-    record { tried = is.tried; none = λ p. applies.1.forward p ∙ is.none p }
-copied_on disk m n false at word to other is applies =
-    record { tried = is.tried; none = λ p. applies.1.forward p ∙ is.none p }
-
 by_copied : (v x : View) (a : Activation) (stored : ℕ) (next : Stage) → IsCopied x a.search
     → (stored + 1 < cost_of a.shape → next ≡ Copying a (stored + 1))
     → (cost_of a.shape ≤ stored + 1 → next ≡ Copied a) → By v x (Some next)
@@ -243,61 +234,6 @@ by_copied v x a stored next is more all = elim (cases_lt (stored + 1) (cost_of a
   | inl goes ↦ subst (λ (g : Stage). By v x (Some g)) (sym (more goes)) is
   | inr over ↦ subst (λ (g : Stage). By v x (Some g)) (sym (all over)) is
 ]
-
--- what is known of the call stays known with each event behind which it goes on
-by_goes : (v w x : View) (disk : OnDisk) (register : ℕ → ℕ) (rest : List ℕ) (stop : Bool) (o : Op)
-    (from : Option Stage) (next : Stage) → NoneForwarded v → length w.space.list ≡ length v.space.list
-    → By v w from → Next (maps w) (state disk w) register stop o from next
-    → Applies (maps w) (maps x) (state disk w) (state disk x) (change_of (state disk w) register rest from)
-    → By v x (Some next)
-by_goes v w x disk register rest stop o None next none words is goes applies =
-    subst (λ (g : Stage). By v x (Some g)) (sym goes.3) (untouched_same v w x disk applies.0 applies.1 is)
-by_goes v w x disk register rest stop o (Some (Polled (Make dst shape))) next none words is goes applies =
-    by_made x disk dst shape next is words applies.0 applies.1 goes.0 goes.1
-by_goes v w x disk register rest stop o (Some (Polled (Use r access))) next none words is goes applies =
-    subst (λ (g : Stage). By v x (Some g)) (sym goes.3) (untouched_same v w x disk applies.0 applies.1 is)
-by_goes v w x disk register rest stop o (Some (Polled (LoadGlobal dst g))) next none words is goes applies =
-    by_found x disk (Global g) dst next is applies.0 applies.1 goes
-by_goes v w x disk register rest stop o (Some (Polled (StoreGlobal g src))) next none words is goes applies =
-    absurd goes
-by_goes v w x disk register rest stop o (Some (Headed object shape (Load dst i))) next none words is goes applies =
-    by_found x disk (Field object i) dst next is applies.0 applies.1 goes
-by_goes v w x disk register rest stop o (Some (Headed object shape (Store i src))) next none words is goes applies =
-    absurd goes
-by_goes v w x disk register rest stop o (Some (Headed object shape (Get j))) next none words is goes applies =
-    absurd goes
-by_goes v w x disk register rest stop o (Some (Headed object shape (Put j n))) next none words is goes applies =
-    absurd goes
-by_goes v w x disk register rest stop o (Some (Looked place found target dst)) next none words is goes applies =
-    subst (λ (g : Stage). By v x (Some g)) (sym goes) tt
-by_goes v w x disk register rest stop o (Some (Cleared place found target dst)) next none words is goes applies =
-    absurd goes
-by_goes v w x disk register rest stop o (Some (Claimed address shape stored dst)) next none words is goes applies =
-    subst (λ (g : Stage). By v x (Some g)) (sym goes.1) tt
-by_goes v w x disk register rest stop o (Some (stage.Lacking need)) next none words is goes applies = absurd goes
-by_goes v w x disk register rest stop o (Some (Searching search)) next none words is goes applies =
-    subst (λ (g : Stage). By v x (Some g))
-    (sym (probes_empty (state disk w) search (Missed search) (Searching (further search)) next
-    (none_kept v w none is.0.keeps _) goes))
-    (untouched_same v w x disk applies.0 applies.1 is.0, first_same v w x disk search applies.1 is.1)
-by_goes v w x disk register rest stop o (Some (Missed search)) next none words is goes applies =
-    by_read (state disk w) goes.0 goes.1 next
-    (untouched_same v w x disk applies.0 applies.1 is.0, first_same v w x disk search applies.1 is.1) goes.2
-by_goes v w x disk register rest stop o (Some (HeadRead search shape)) next none words is goes applies =
-    subst (λ (g : Stage). By v x (Some g)) (sym goes)
-    (untouched_same v w x disk applies.0 applies.1 is.0, first_same v w x disk search applies.1 is.1)
-by_goes v w x disk register rest stop o (Some (BodyRead search shape)) next none words is goes applies =
-    by_fetched x disk shape next none is.0 is.1 words applies.0 applies.1 goes.0 goes.1
-by_goes v w x disk register rest stop o (Some (Copying a stored)) next none words is goes applies =
-    by_copied v x a stored next
-    (copied_on disk (maps w) (maps x) (stored + 1 == cost_of a.shape) _ _ _ _ is applies) goes.0 goes.1
-by_goes v w x disk register rest stop o (Some (Copied a)) next none words is goes applies =
-    subst (λ (g : Stage). By v x (Some g))
-    (sym
-    (probes_empty (state disk w) a.search (reached a.search a.address) (Retrying (retried a)) next (is.none _) goes))
-    tt
-by_goes v w x disk register rest stop o (Some (Retrying a)) next none words is goes applies = absurd is
-by_goes v w x disk register rest stop o (Some (LackingCopy search shape)) next none words is goes applies = absurd goes
 
 -- A thread makes its call alone: so far neither the others nor history and registers saw anything of it, and nobody set
 -- the stop word.
@@ -324,10 +260,71 @@ call_goes {v} {w} {x} {t} {o} {disk} none on advances =
       values = goes.own.values ∙ on.values;
       stop = goes.stop ∙ on.stop;
       by = subst (By v x) (sym after)
-          (by_goes v w x disk (register_in w.held t) (rest_of w t) w.stop o
-          (stage_of w t) goes.stage none on.others.words
-          on.by goes.next advances.changes);
+          (by_goes (stage_of w t) goes.stage on.by goes.next advances.changes);
     }
+  where
+    -- a word of the copy was stored
+    copied_on : {search : Search} (last : Bool) (at word to other : ℕ) → IsCopied w search
+        → Applies (maps w) (maps x) (state disk w) (state disk x) (if last then Word at word else Word to other)
+        → IsCopied x search
+    copied_on true at word to other is applies =
+        record { tried = is.tried; none = λ p. applies.1.forward p ∙ is.none p }
+    copied_on false at word to other is applies =
+        record { tried = is.tried; none = λ p. applies.1.forward p ∙ is.none p }
+
+    -- what is known of the call stays known with each event behind which it goes on
+    by_goes : (from : Option Stage) (next : Stage) → By v w from
+        → Next (maps w) (state disk w) (register_in w.held t) w.stop o from next
+        → Applies (maps w) (maps x) (state disk w) (state disk x)
+        (change_of (state disk w) (register_in w.held t) (rest_of w t) from)
+        → By v x (Some next)
+    by_goes None next is goes applies =
+        subst (λ (g : Stage). By v x (Some g)) (sym goes.3) (untouched_same v w x disk applies.0 applies.1 is)
+    by_goes (Some (Polled (Make dst shape))) next is goes applies =
+        by_made x disk dst shape next is on.others.words applies.0 applies.1 goes.0 goes.1
+    by_goes (Some (Polled (Use r access))) next is goes applies =
+        subst (λ (g : Stage). By v x (Some g)) (sym goes.3) (untouched_same v w x disk applies.0 applies.1 is)
+    by_goes (Some (Polled (LoadGlobal dst g))) next is goes applies =
+        by_found x disk (Global g) dst next is applies.0 applies.1 goes
+    by_goes (Some (Polled (StoreGlobal g src))) next is goes applies =
+        absurd goes
+    by_goes (Some (Headed object shape (Load dst i))) next is goes applies =
+        by_found x disk (Field object i) dst next is applies.0 applies.1 goes
+    by_goes (Some (Headed object shape (Store i src))) next is goes applies =
+        absurd goes
+    by_goes (Some (Headed object shape (Get j))) next is goes applies =
+        absurd goes
+    by_goes (Some (Headed object shape (Put j n))) next is goes applies =
+        absurd goes
+    by_goes (Some (Looked place found target dst)) next is goes applies =
+        subst (λ (g : Stage). By v x (Some g)) (sym goes) tt
+    by_goes (Some (Cleared place found target dst)) next is goes applies =
+        absurd goes
+    by_goes (Some (Claimed address shape stored dst)) next is goes applies =
+        subst (λ (g : Stage). By v x (Some g)) (sym goes.1) tt
+    by_goes (Some (stage.Lacking need)) next is goes applies = absurd goes
+    by_goes (Some (Searching search)) next is goes applies =
+        subst (λ (g : Stage). By v x (Some g))
+        (sym (probes_empty (state disk w) search (Missed search) (Searching (further search)) next
+        (none_kept v w none is.0.keeps _) goes))
+        (untouched_same v w x disk applies.0 applies.1 is.0, first_same v w x disk search applies.1 is.1)
+    by_goes (Some (Missed search)) next is goes applies =
+        by_read (state disk w) goes.0 goes.1 next
+        (untouched_same v w x disk applies.0 applies.1 is.0, first_same v w x disk search applies.1 is.1) goes.2
+    by_goes (Some (HeadRead search shape)) next is goes applies =
+        subst (λ (g : Stage). By v x (Some g)) (sym goes)
+        (untouched_same v w x disk applies.0 applies.1 is.0, first_same v w x disk search applies.1 is.1)
+    by_goes (Some (BodyRead search shape)) next is goes applies =
+        by_fetched x disk shape next none is.0 is.1 on.others.words applies.0 applies.1 goes.0 goes.1
+    by_goes (Some (Copying a stored)) next is goes applies =
+        by_copied v x a stored next
+        (copied_on (stored + 1 == cost_of a.shape) _ _ _ _ is applies) goes.0 goes.1
+    by_goes (Some (Copied a)) next is goes applies =
+        subst (λ (g : Stage). By v x (Some g))
+        (sym (probes_empty (state disk w) a.search (reached a.search a.address) (Retrying (retried a)) next
+        (is.none _) goes)) tt
+    by_goes (Some (Retrying a)) next is goes applies = absurd is
+    by_goes (Some (LackingCopy search shape)) next is goes applies = absurd goes
 
 -- what the stage says of the call's search
 searches_first : (v w : View) (from : Option Stage) (search : Search) → By v w from → SearchesOn from search

@@ -255,16 +255,16 @@ end_leads threads script items blocks =
     (worded (inside threads script items (true ∷ blocks)) _ word.End [] refl tt tt refl)
 
 -- one item, and those behind it
-then_items : (threads : ℕ) (script : Script) (before : List Item) (i : Item) (items : List Item)
-    (blocks next : List Bool) (x y : List ℕ)
-    → Leads (inside threads script before blocks) x (inside threads script (before ++ i ∷ []) next)
-    → Leads (inside threads script (before ++ i ∷ []) next) y (inside threads script ((before ++ i ∷ []) ++ items) [])
-    → Leads (inside threads script before blocks) (x ++ y) (inside threads script (before ++ i ∷ items) [])
-then_items threads script before i items blocks next x y f g =
-    subst (λ (all : List Item). Leads (inside threads script before blocks) (x ++ y) (inside threads script all []))
-    (append_assoc before (i ∷ []) items)
-    (leads_both (inside threads script before blocks) (inside threads script (before ++ i ∷ []) next)
-    (inside threads script ((before ++ i ∷ []) ++ items) []) x y f g)
+then_items : (from : Place) (i : Item) (items : List Item) (next : List Bool)
+    → Leads from (item_line i) (record from { items = from.items ++ i ∷ []; blocks = next })
+    → Leads (record from { items = from.items ++ i ∷ []; blocks = next }) (flat_map item_line items)
+    (record from { items = (from.items ++ i ∷ []) ++ items; blocks = [] })
+    → Leads from (flat_map item_line (i ∷ items)) (record from { items = from.items ++ i ∷ items; blocks = [] })
+then_items from i items next f g =
+    subst (λ (all : List Item). Leads from (flat_map item_line (i ∷ items)) (record from { items = all; blocks = [] }))
+    (append_assoc from.items (i ∷ []) items)
+    (leads_both from (record from { items = from.items ++ i ∷ []; blocks = next })
+    (record from { items = (from.items ++ i ∷ []) ++ items; blocks = [] }) (item_line i) (flat_map item_line items) f g)
 
 items_lead : (threads : ℕ) (script : Script) (before items : List Item) (blocks : List Bool) → script.globals ≤ 64
     → AreItems script.globals blocks items
@@ -276,22 +276,19 @@ items_lead threads script before [] blocks few h =
     (subst (λ (all : List Item). Leads (inside threads script before []) [] (inside threads script all []))
     (sym (append-nil before)) (leads_none (inside threads script before [])))
 items_lead threads script before (item.Op o ∷ items) blocks few h =
-    then_items threads script before (item.Op o) items blocks (with_operation blocks) (op_line o)
-    (flat_map item_line items)
+    then_items (inside threads script before blocks) (item.Op o) items (with_operation blocks)
     (leads_once (inside threads script before blocks)
     (inside threads script (before ++ item.Op o ∷ []) (with_operation blocks)) (op_line o)
     (operation_leads threads script before blocks o few h.0))
     (items_lead threads script (before ++ item.Op o ∷ []) items (with_operation blocks) few h.1)
 items_lead threads script before (item.Repeat n ∷ items) blocks few h =
-    then_items threads script before (item.Repeat n) items blocks (false ∷ blocks) (line (codes "repeat") (n ∷ []))
-    (flat_map item_line items)
+    then_items (inside threads script before blocks) (item.Repeat n) items (false ∷ blocks)
     (repeat_leads threads script before blocks n h.0 h.1 h.2)
     (items_lead threads script (before ++ item.Repeat n ∷ []) items (false ∷ blocks) few h.3)
 items_lead threads script before (item.End ∷ items) [] few h = absurd h
 items_lead threads script before (item.End ∷ items) (false ∷ blocks) few h = absurd h
 items_lead threads script before (item.End ∷ items) (true ∷ blocks) few h =
-    then_items threads script before item.End items (true ∷ blocks) (with_operation blocks) (line (codes "end") [])
-    (flat_map item_line items)
+    then_items (inside threads script before (true ∷ blocks)) item.End items (with_operation blocks)
     (end_leads threads script before blocks)
     (items_lead threads script (before ++ item.End ∷ []) items (with_operation blocks) few h)
 
@@ -310,23 +307,23 @@ standing_fields stage.Between place blocks first fields stands e = e
 standing_fields stage.Over place blocks first fields stands e = absurd cc
 
 -- a program, and what is wanted behind it
-program_leads : (s : Stage) {after : Stage} (threads : ℕ) (script : Script) (items : List Item) (held : List Item)
-    (blocks : List Bool) → fits s blocks word.Thread ≡ true → script.globals ≤ 64 → length script.programs < 8
+program_leads : (s : Stage) {after : Stage} (threads : ℕ) (script : Script) (items : List Item)
+    → fits s [] word.Thread ≡ true → script.globals ≤ 64 → length script.programs < 8
     → AreItems script.globals [] items → operation_count (script.programs ++ items ∷ []) ≤ 1048576
     → cond (eqb (length (script.programs ++ items ∷ [])) threads) stage.Over stage.Between ≡ after
-    → Leads (placed s threads script held blocks)
+    → Leads (placed s threads script [] [])
     (line (codes "thread") (length script.programs ∷ []) ++ flat_map item_line items ++ line (codes "done") [])
     (placed after threads (with_program script items) [] [])
-program_leads s {after} threads script items held blocks stands few small h count is =
+program_leads s {after} threads script items stands few small h count is =
     let begun : Place = inside threads script [] [] in
     let whole : Place = inside threads script items [] in
     let next : Place = placed after threads (with_program script items) [] [] in
     let t = length script.programs in
-    let first : Leads (placed s threads script held blocks) (line (codes "thread") (t ∷ [])) begun =
-    leads_line (placed s threads script held blocks) begun (codes "thread") (t ∷ [])
+    let first : Leads (placed s threads script [] []) (line (codes "thread") (t ∷ [])) begun =
+    leads_line (placed s threads script [] []) begun (codes "thread") (t ∷ [])
     (record { some = omega arith; plain = refl; shown = refl; words = (omega arith, tt) })
-    (standing_fields s (placed s threads script held blocks) blocks (codes "thread") (map decimal (t ∷ [])) stands
-    (worded (placed s threads script held blocks) begun word.Thread (t ∷ []) stands (omega arith, omega arith, tt)
+    (standing_fields s (placed s threads script [] []) [] (codes "thread") (map decimal (t ∷ [])) stands
+    (worded (placed s threads script [] []) begun word.Thread (t ∷ []) stands (omega arith, omega arith, tt)
     (omega arith, tt) refl))
     in
     let last : Leads whole (line (codes "done") []) next =
@@ -335,9 +332,9 @@ program_leads s {after} threads script items held blocks stands few small h coun
     (rw (le-leb (operation_count (script.programs ++ items ∷ [])) 1048576 count)
     (ap (λ (k : Stage). Ok (placed k threads (with_program script items) [] [])) is)))
     in
-    leads_both (placed s threads script held blocks) whole next
+    leads_both (placed s threads script [] []) whole next
     (line (codes "thread") (t ∷ []) ++ flat_map item_line items) (line (codes "done") [])
-    (leads_both (placed s threads script held blocks) begun whole (line (codes "thread") (t ∷ []))
+    (leads_both (placed s threads script [] []) begun whole (line (codes "thread") (t ∷ []))
     (flat_map item_line items) first (items_lead threads script [] items [] few h))
     last
 
@@ -348,24 +345,24 @@ count-front : (xs ys : List (List Item)) → operation_count xs ≤ operation_co
 count-front xs ys = omega (arith, sum_by-append (λ (items : List Item). length (expand items)) xs ys)
 
 programs_lead : (after : List (List Item)) (program : List Item) (before : List (List Item)) (s : Stage)
-    (held : List Item) (blocks : List Bool) {threads globals : ℕ} (orders : List (ℕ × ℕ))
-    → fits s blocks word.Thread ≡ true → globals ≤ 64 → threads ≤ 8 → threads ≡ length before + length (program ∷ after)
+    {threads globals : ℕ} (orders : List (ℕ × ℕ))
+    → fits s [] word.Thread ≡ true → globals ≤ 64 → threads ≤ 8 → threads ≡ length before + length (program ∷ after)
     → AllByRecursion (AreItems globals []) (program ∷ after) → operation_count (before ++ program ∷ after) ≤ 1048576
-    → Leads (placed s threads (scripted globals orders before) held blocks)
+    → Leads (placed s threads (scripted globals orders before) [] [])
     (program_lines (length before) (program ∷ after))
     (placed stage.Over threads (scripted globals orders (before ++ program ∷ after)) [] [])
-programs_lead [] program before s held blocks {threads} {globals} orders stands few most count all total =
-    let from : Place = placed s threads (scripted globals orders before) held blocks in
+programs_lead [] program before s {threads} {globals} orders stands few most count all total =
+    let from : Place = placed s threads (scripted globals orders before) [] [] in
     let to : Place = placed stage.Over threads (scripted globals orders (before ++ program ∷ [])) [] [] in
     let text : List ℕ = line (codes "thread") (length before ∷ []) ++ flat_map item_line program
     ++ line (codes "done") [] in
     let whole : length (before ++ program ∷ []) ≡ threads = omega (arith, length_push before program) in
     leads_both from to to text []
-    (program_leads s threads (scripted globals orders before) program held blocks stands few (omega arith) all.0 total
+    (program_leads s threads (scripted globals orders before) program stands few (omega arith) all.0 total
     (ap (λ (t : Bool). cond t stage.Over stage.Between) (eq-eqb _ _ whole)))
     (leads_none to)
-programs_lead (next ∷ after) program before s held blocks {threads} {globals} orders stands few most count all total =
-    let from : Place = placed s threads (scripted globals orders before) held blocks in
+programs_lead (next ∷ after) program before s {threads} {globals} orders stands few most count all total =
+    let from : Place = placed s threads (scripted globals orders before) [] [] in
     let more : List (List Item) = before ++ program ∷ [] in
     let middle : Place = placed stage.Between threads (scripted globals orders more) [] [] in
     let text : List ℕ = line (codes "thread") (length before ∷ []) ++ flat_map item_line program
@@ -377,10 +374,10 @@ programs_lead (next ∷ after) program before s held blocks {threads} {globals} 
     let part : operation_count more ≤ 1048576 =
     omega (arith, count-front more (next ∷ after), ap operation_count joined) in
     let first : Leads from text middle =
-    program_leads s threads (scripted globals orders before) program held blocks stands few (omega arith) all.0 part
+    program_leads s threads (scripted globals orders before) program stands few (omega arith) all.0 part
     (ap (λ (t : Bool). cond t stage.Over stage.Between) (ne_eqb _ _ left))
     in
-    let rest = programs_lead after next more stage.Between [] [] orders refl few most (omega arith) all.1
+    let rest = programs_lead after next more stage.Between orders refl few most (omega arith) all.1
     (omega (arith, ap operation_count joined)) in
     let others : Leads middle (program_lines (length before + 1) (next ∷ after))
     (placed stage.Over threads (scripted globals orders (before ++ program ∷ next ∷ after)) [] []) =
@@ -484,7 +481,7 @@ script_leads globals orders (program ∷ programs) h =
     let opening : List ℕ = line (codes "melt") (1 ∷ []) ++ line (codes "threads") (threads ∷ [])
     ++ line (codes "globals") (globals ∷ []) in
     let ordered = orders_lead threads globals [] orders h.orders h.few (omega (arith, h.few_orders)) in
-    let lines = programs_lead programs program [] stage.Orders [] [] orders refl h.globals h.few (omega arith)
+    let lines = programs_lead programs program [] stage.Orders orders refl h.globals h.few (omega arith)
     h.programs h.count in
     leads_both first_place (ordering threads globals orders) over (opening ++ flat_map order_line orders)
     (program_lines 0 (program ∷ programs))

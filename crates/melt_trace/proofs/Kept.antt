@@ -383,17 +383,12 @@ inside_kept w threads script items blocks fields {next} h e =
 
 -- ---- any line
 
-word_kept : (s : Stage) (threads : ℕ) (script : Script) (items : List Item) (blocks : List Bool) (w : Option Word)
-    (fields : List (List ℕ)) {next : Place} → IsAt s threads script items blocks
-    → after_word (placed s threads script items blocks) w fields ≡ Ok next → IsPlace next
-word_kept s threads script items blocks None fields h e = absurd cc
-word_kept stage.Orders threads script items blocks (Some w) fields h e =
-    orders_kept w threads script items blocks fields h e
-word_kept stage.Between threads script items blocks (Some w) fields h e =
-    between_kept w threads script items blocks fields h e
-word_kept stage.Inside threads script items blocks (Some w) fields h e =
-    inside_kept w threads script items blocks fields h e
-word_kept s threads script items blocks (Some w) fields h e = absurd cc
+-- one that begins with a word, where all words lead to a place
+word_kept : (place : Place) (w : Option Word) (fields : List (List ℕ)) {next : Place}
+    → ((x : Word) → after_word place (Some x) fields ≡ Ok next → IsPlace next) → after_word place w fields ≡ Ok next
+    → IsPlace next
+word_kept place None fields kept e = absurd cc
+word_kept place (Some w) fields kept e = kept w e
 
 fields_kept : (s : Stage) (threads : ℕ) (script : Script) (items : List Item) (blocks : List Bool)
     (fields : List (List ℕ)) {next : Place} → IsAt s threads script items blocks
@@ -424,16 +419,19 @@ fields_kept stage.Globals threads script items blocks fields {next} h e =
     subst IsPlace (same_Ok (placed stage.Orders threads (opened found.0) [] []) next found.2) (body, h.0)
 fields_kept stage.Orders threads script items blocks [] {next} h e = absurd cc
 fields_kept stage.Orders threads script items blocks (first ∷ fields) {next} h e =
-    word_kept stage.Orders threads script items blocks (word_of first) fields h e
+    word_kept (placed stage.Orders threads script items blocks) (word_of first) fields
+    (λ w. orders_kept w threads script items blocks fields h) e
 fields_kept stage.Inside threads script items blocks [] {next} h e = absurd cc
 fields_kept stage.Inside threads script items blocks (first ∷ fields) {next} h e =
-    word_kept stage.Inside threads script items blocks (word_of first) fields h e
+    word_kept (placed stage.Inside threads script items blocks) (word_of first) fields
+    (λ w. inside_kept w threads script items blocks fields h) e
 fields_kept stage.Between threads script items blocks [] {next} h e = absurd cc
 fields_kept stage.Between threads script items blocks (first ∷ fields) {next} h e =
-    word_kept stage.Between threads script items blocks (word_of first) fields h e
+    word_kept (placed stage.Between threads script items blocks) (word_of first) fields
+    (λ w. between_kept w threads script items blocks fields h) e
 fields_kept stage.Over threads script items blocks [] {next} h e = absurd cc
 fields_kept stage.Over threads script items blocks (first ∷ fields) {next} h e =
-    word_kept stage.Over threads script items blocks (word_of first) fields h e
+    word_kept (placed stage.Over threads script items blocks) (word_of first) fields (λ w is. absurd (cc)) e
 
 line_kept : (place : Place) (bytes : List ℕ) (next : Place) → IsPlace place → after place bytes ≡ Ok next → IsPlace next
 line_kept place bytes next h e =

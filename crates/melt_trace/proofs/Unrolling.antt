@@ -87,20 +87,22 @@ AreOpen-with_operation globals items (block ∷ blocks) [] around are = absurd a
 AreOpen-with_operation globals items (block ∷ blocks) (mark ∷ marks) around are = are
 
 -- what is left of the innermost block does not matter
-AreOpen-first : (globals : ℕ) (items : List Item) (blocks : List Block) (marks : List Bool) (ops others : List Op)
-    (around : List (List Op)) → AreOpen globals items blocks marks (ops ∷ around)
-    → AreOpen globals items blocks marks (others ∷ around)
-AreOpen-first globals items [] marks ops others around are = are
-AreOpen-first globals items (block ∷ blocks) [] ops others around are = are
-AreOpen-first globals items (block ∷ blocks) (mark ∷ marks) ops others around are =
-    (record { lines = are.0.lines; around = are.0.around; entered = are.0.entered }, are.1)
+AreOpen-first : (globals : ℕ) (items : List Item) (blocks : List Block) (marks : List Bool)
+    (here others : List (List Op)) → drop 1 here ≡ drop 1 others → AreOpen globals items blocks marks here
+    → AreOpen globals items blocks marks others
+AreOpen-first globals items [] marks here others same are = are
+AreOpen-first globals items (block ∷ blocks) [] here others same are = are
+AreOpen-first globals items (block ∷ blocks) (mark ∷ marks) here others same are = (
+  record { lines = are.0.lines; around = are.0.around ∙ same; entered = are.0.entered },
+  subst (AreOpen globals items blocks marks) same are.1,
+)
 
 AreOpen-before_first : (globals : ℕ) (items : List Item) (blocks : List Block) (marks : List Bool) (o : Op)
     (around : List (List Op)) → AreOpen globals items blocks marks (before_first o around)
     → AreOpen globals items blocks marks around
 AreOpen-before_first globals items blocks marks o [] are = are
 AreOpen-before_first globals items blocks marks o (ops ∷ around) are =
-    AreOpen-first globals items blocks marks (o ∷ ops) ops around are
+    AreOpen-first globals items blocks marks ((o ∷ ops) ∷ around) (ops ∷ around) refl are
 
 -- ---- a block, and its end
 
@@ -127,7 +129,7 @@ AreOpen-unrolled : (globals : ℕ) (items : List Item) (blocks : List Block) (ma
 AreOpen-unrolled globals items blocks marks n [] e are = absurd (omega (arith, e))
 AreOpen-unrolled globals items blocks marks n (block ∷ []) e are = absurd (omega (arith, e))
 AreOpen-unrolled globals items blocks marks n (block ∷ rest ∷ around) e are =
-    AreOpen-first globals items blocks marks (times n block ++ rest) rest around are
+    AreOpen-first globals items blocks marks ((times n block ++ rest) ∷ around) (rest ∷ around) refl are
 
 left_of-leave : (items : List Item) (block : Block) (blocks : List Block) (around : List (List Op)) → 0 < length around
     → block.turns ≡ 0 → left_of items blocks around ≡ left_of items (block ∷ blocks) ([] ∷ around)

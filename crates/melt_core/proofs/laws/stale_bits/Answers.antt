@@ -1,6 +1,6 @@
 use Rattle.std.proofs.Common.{◌≡◌, ℕ, zero, suc, refl, sym, ap, subst, List}
 use Rattle.std.proofs.Math.Path.{fun_ext}
-use Rattle.std.specs.Prelude.{Option, slice_index, slice_set}
+use Rattle.std.specs.Prelude.{Option, slice_index, slice_set, true}
 use Rattle.melt_model.specs.declared.history.Entry.{Entry}
 use Rattle.melt_space.specs.Space.{SpaceWords, word_at}
 use Rattle.melt_scion.specs.declared.heap.Names as heap
@@ -8,8 +8,11 @@ use Rattle.melt_core.specs.declared.call.Call.{Call}
 use Rattle.melt_core.specs.Epochs.{HasDropped, HasFinished, no_registers}
 use Rattle.melt_core.specs.Views.{View, call_in, maps_of, stage_in}
 use Rattle.melt_core.specs.StaleBits.{Tied, TiedTo, sight}
+use Rattle.melt_core.proofs.Asked.{asks_over}
+use Rattle.melt_core.proofs.Disks.{stands_untold}
+use Rattle.melt_core.proofs.NoHomes.{as_told_by}
 use Rattle.melt_core.proofs.StaleBitsTying.{tied_first, tied_tells}
-use Rattle.melt_core.proofs.StaleBitsEvents.{advances_tied}
+use Rattle.melt_core.proofs.StaleBitsEvents.{event_tied}
 use Rattle.melt_core.proofs.laws.stale_bits.Goals as goal
 
 -- registers are not looked at
@@ -36,7 +39,8 @@ finished u v w is tied =
 pub returns : goal.returns
 returns c u = record {
   begins = λ quiet. tied_first (sight u) (λ t. ap stage_in (quiet t));
-  advances = advances_tied u;
+  advances = λ image disk v w t o result s may sixteen told is tied.
+      event_tied u result s (asks_over v t o may disk (stands_untold true disk v s)) sixteen (as_told_by told is) tied;
   asked = λ v tied. tied;
   dropped = dropped u;
   finished = finished u;

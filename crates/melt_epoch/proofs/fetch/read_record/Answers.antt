@@ -2,17 +2,28 @@ use Rattle.std.proofs.Common.{ℕ, List, Err, subst}
 use Rattle.std.proofs.lemmas.Result.{err_from_is_err_and}
 use Rattle.std.specs.Prelude.{Option}
 use Rattle.melt_record.specs.declared.head.Kind.TheVariants.{Body, Stub}
-use Rattle.melt_epoch.proofs.Fetching.{body_fetched, head_of_kind, head_unread, rest_unread, stub_dead}
-use Rattle.melt_epoch.specs.Fetching.{ReadsRest, RestRead}
+use Rattle.melt_core.specs.declared.answer.Refusal.{Refusal}
+use Rattle.melt_core.specs.declared.answer.Refusal.TheVariants as refusal
+use Rattle.melt_epoch.proofs.Fetching.{body_fetched, head_broken, head_of_kind, rest_unread, stub_dead}
+use Rattle.melt_epoch.specs.Fetching.{IsUnread, ReadsHead, ReadsRest, RestRead}
 use Rattle.melt_epoch.proofs.fetch.read_record.Goals as goal
 
 pub returns-in_err-head-clause-fetches : goal.returns-in_err-head-clause-fetches
 returns-in_err-head-clause-fetches g c =
     let exit = err_from_is_err_and c.from_residual.result c.from_residual.ensures.1 in
     rw (exit.1, exit.2)
-    (head_unread (g.R.RecordReader.image c.args.reader.now) c.args.scions.now c.args.end c.args.home
-    (g.R.RecordReader.faults c.args.reader.now) (g.R.RecordReader.faults c.read_head.new.reader) c.in_err-head.field-0.0
-    c.in_err-head.ensures.head)
+    (unread c.in_err-head.field-0.0 c.in_err-head.ensures.head)
+  where
+    -- no head was read, so no record
+    unread : (why : Refusal)
+        → ReadsHead (g.R.RecordReader.image c.args.reader.now) c.args.end c.args.home
+        (g.R.RecordReader.faults c.args.reader.now) (g.R.RecordReader.faults c.read_head.new.reader) (Err why)
+        → IsUnread (g.R.RecordReader.image c.args.reader.now) c.args.scions.now c.args.end c.args.home
+        (g.R.RecordReader.faults c.args.reader.now) (g.R.RecordReader.faults c.read_head.new.reader) why
+    unread refusal.DiskFault rose = rose
+    unread (refusal.Damaged damaged) bad =
+        head_broken (g.R.RecordReader.image c.args.reader.now) c.args.scions.now c.args.end c.args.home damaged bad
+    unread (refusal.Pause pause) none = none
 
 pub returns-in-Err-clause-fetches : goal.returns-in-Err-clause-fetches
 returns-in-Err-clause-fetches g c =

@@ -1,5 +1,5 @@
 use Rattle.std.proofs.Common.{arith, rules, ◌≡◌, ◌<◌, ◌-◌, ◌*◌, ◌∙◌, length, take, drop, length-take, length-drop}
-use Rattle.std.proofs.lemmas.List.{take_all}
+use Rattle.std.proofs.lemmas.List.{length-take-le, take_all}
 use Rattle.melt_io.specs.Outside.{KeepsOthers}
 use Rattle.melt_io.specs.Words.{word_bytes}
 use Rattle.melt_io.proofs.Runs.{keeps-run, length-word_bytes, so_far-writes, writes-run}
@@ -27,7 +27,8 @@ returns-in_err-write_run-clause-others g c =
     simp (length-take, length-drop) (omega arith) in
     let kept : KeepsOthers (g.F.PositionedFile.bytes c.args.file.now) (8 * c.args.at) (8 * length words)
     (g.F.PositionedFile.bytes c.write_run.new.file)
-    = keeps-run _ _ _ c.args.at words done (length (take (end - done) (drop done words))) (omega (arith, run))
+    = keeps-run _ _ _ c.args.at (take done words) (length (take (end - done) (drop done words)))
+    (length-take-le done words (omega arith)) (omega (arith, run))
     c.loop-done.invariant.written (rw place at c.in_err-write_run.ensures.others) in
     search rules
 

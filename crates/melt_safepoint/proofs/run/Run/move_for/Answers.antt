@@ -23,7 +23,7 @@ use Rattle.melt_safepoint.proofs.Lends.{lends_more, lends_none, lends_one, lends
 use Rattle.melt_safepoint.proofs.Losses.{counts_same, counts_then}
 use Rattle.melt_safepoint.proofs.StopLends.{stop_after, stop_more, stop_one, stop_since, stop_then}
 use Rattle.melt_safepoint.proofs.TwoMoves.{awaits_again, forced_stops, if_err_from, if_ok_from, no_room_left}
-use Rattle.melt_safepoint.proofs.TwoMoves.{moved_again, moved_none, unforced_stops}
+use Rattle.melt_safepoint.proofs.TwoMoves.{moved_again, moved_none}
 use Rattle.melt_safepoint.proofs.run.Run.move_for.Given.{Over}
 use Rattle.melt_safepoint.proofs.run.Run.move_for.Goals as goal
 use Rattle.melt_safepoint.proofs.run.Run.move_for.Goals.{After-out_of_heap, In_ok-moved, In_ok-next, In-None, In-Some}
@@ -63,9 +63,9 @@ pub returns-in_err-moved-clause-stopped : goal.returns-in_err-moved-clause-stopp
 returns-in_err-moved-clause-stopped g c =
     let exit = err_from_is_err_and c.from_residual.result c.from_residual.ensures.1 in
     rw (exit.1, exit.2) (λ told script config lacks.
-    unforced_stops _ _ (row_of g.E.Machine.view c.loop-forced.run) c.args.thread c.loop-forced.need c.loop-forced.forced
-    _
-    c.in_err-moved.ensures.stopped told script config (c.loop-forced.invariant.lacks told script config lacks))
+    let still = c.loop-forced.invariant.lacks told script config lacks in
+    c.in_err-moved.ensures.stopped told script config
+    ((suc c.loop-forced.forced, still.stands), λ is. still.tight))
 
 -- behind one Move more the thread awaits its call
 awaits : (g : Over) (c : In_ok-moved g) (told : Bool) (script : Script) (config : Config)
