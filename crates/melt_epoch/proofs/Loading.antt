@@ -181,48 +181,48 @@ module _ (v w : View) (s : Slot) (place : Place) (home : ℕ) (finds : Finds v w
       ])
 
   -- or was not
-  module _ (told : Bool) (image : Option (List ℕ)) (scions : Scions) (end before after : ℕ) where
-    pub home_refused : (u : View) (n most : ℕ) (why : Refusal) → home < end → n + 1 ≤ most
-        → Brings told image scions end before after w u (search_for place home) n (Err why)
-        → Resolves told image scions end before after v u s most (Err why)
-    home_refused u n most why below few (inl (inl found)) = inl (record {
-      words = found.words;
-      full = toward_full most (omega arith) (omega arith) looked_toward found.full;
-      read =
-          let began = ap (λ (b : Began). b.forwards) looked_toward.counts.began in
-          let look = ap (λ (x : View). x.steps) finds.reaches.is in
-          let all = found.read in
-          omega arith;
-      claims = elim found.claims [
-        | inl none ↦ inl none
-        | inr some_ ↦ inr (
-          some_.0,
-          some_.1,
-          held_has u some_.0 finds looked_toward.counts.began found.full.sees.begins some_.2,
-        )
-      ];
-    })
-    home_refused u n most why below few (inl (inr lacks)) = inr (inl (record {
-      shape = lacks.shape;
-      small = lacks.small;
-      held = held_has u lacks.shape finds looked_toward.counts.began lacks.sees.begins lacks.object;
-      is = lacks.is;
-      sees = looked_toward.on u.seen lacks.sees;
-      lacked = toward_lacked most (omega arith) looked_toward lacks.lacked;
-      over = lacks.over;
-    }))
-    home_refused u n most why below few (inr lost) = inr (inr (record {
-      home = home;
-      below = below;
-      stays = record {
-        sees = looked_toward.on u.seen lost.0.sees;
-        counts = subst (λ (c : ℕ). Counts v u c 0 most) (let e : 0 + 0 ≡ 0 = omega arith in e)
-            (subst (λ (d : ℕ). Counts v u (0 + 0) d most) (let e : 0 + 0 ≡ 0 = omega arith in e)
-            (toward_counts most (omega arith) looked_toward lost.0.counts));
-        goes_on = lost.0.goes_on;
-      };
-      lost = lost.1;
-    }))
+  pub home_refused : {told : Bool} {image : Option (List ℕ)} {scions : Scions} {end before after : ℕ} (u : View)
+      (n most : ℕ) (why : Refusal) → home < end → n + 1 ≤ most
+      → Brings told image scions end before after w u (search_for place home) n (Err why)
+      → Resolves told image scions end before after v u s most (Err why)
+  home_refused u n most why below few (inl (inl found)) = inl (record {
+    words = found.words;
+    full = toward_full most (omega arith) (omega arith) looked_toward found.full;
+    read =
+        let began = ap (λ (b : Began). b.forwards) looked_toward.counts.began in
+        let look = ap (λ (x : View). x.steps) finds.reaches.is in
+        let all = found.read in
+        omega arith;
+    claims = elim found.claims [
+      | inl none ↦ inl none
+      | inr some_ ↦ inr (
+        some_.0,
+        some_.1,
+        held_has u some_.0 finds looked_toward.counts.began found.full.sees.begins some_.2,
+      )
+    ];
+  })
+  home_refused u n most why below few (inl (inr lacks)) = inr (inl (record {
+    shape = lacks.shape;
+    small = lacks.small;
+    held = held_has u lacks.shape finds looked_toward.counts.began lacks.sees.begins lacks.object;
+    is = lacks.is;
+    sees = looked_toward.on u.seen lacks.sees;
+    lacked = toward_lacked most (omega arith) looked_toward lacks.lacked;
+    over = lacks.over;
+  }))
+  home_refused u n most why below few (inr lost) = inr (inr (record {
+    home = home;
+    below = below;
+    stays = record {
+      sees = looked_toward.on u.seen lost.0.sees;
+      counts = subst (λ (c : ℕ). Counts v u c 0 most) (let e : 0 + 0 ≡ 0 = omega arith in e)
+          (subst (λ (d : ℕ). Counts v u (0 + 0) d most) (let e : 0 + 0 ≡ 0 = omega arith in e)
+          (toward_counts most (omega arith) looked_toward lost.0.counts));
+      goes_on = lost.0.goes_on;
+    };
+    lost = lost.1;
+  }))
 
 -- a look leaves the causes
 pub looks_cause : (v w : View) (s : Slot) (place : Place) (found : word.Ref) → Looks v w s place found

@@ -40,9 +40,7 @@ pub returns-in_err-target-clause-resolves : goal.returns-in_err-target-clause-re
 returns-in_err-target-clause-resolves g c = λ v s at looks.
     let exit = err_from_is_err_and c.from_residual.result c.from_residual.ensures.1 in
     rw (exit.1, exit.2)
-    (home_refused v (knows_of c.args.seat.now) s c.args.place c.args.home looks c.args.words.now.start.began.told
-    (g.R.RecordReader.image c.args.reader.now) c.args.heap.now.scions c.args.end
-    (g.R.RecordReader.faults c.args.reader.now) (g.R.RecordReader.faults c.bring.new.reader)
-    (knows_of c.bring.new.seat) (2 * c.args.words.now.start.began.forwards + 130)
-    (2 * c.args.words.now.start.began.forwards + 132) c.in_err-target.field-0.0 c.requires.within (omega arith)
+    (home_refused v (knows_of c.args.seat.now) s c.args.place c.args.home looks (knows_of c.bring.new.seat)
+    (2 * c.args.words.now.start.began.forwards + 130) (2 * c.args.words.now.start.began.forwards + 132)
+    c.in_err-target.field-0.0 c.requires.within (omega arith)
     c.in_err-target.ensures.brings)
