@@ -181,13 +181,14 @@ fn give_events<R: RecordReader>(run: &mut Run<'_, Ordered<'_>>, end: u32, reader
         (R.faults reader.new) }
     ensures collector { run.new.collector ≡ run.old.collector }
 {
-    let mut last = None;
+    // (no thread has this number)
+    let mut last = u32::MAX;
     while let Some(thread) = take_turn(run, end, reader) {
         let machine = &mut run.machine;
-        if last == Some(thread) && machine.turns.gives_all(machine.trace, &run.states, thread) {
+        if thread == last && machine.turns.gives_all(machine.trace, &run.states, thread) {
             give_all(run, thread, end, reader);
         }
-        last = Some(thread);
+        last = thread;
     }
 }
 

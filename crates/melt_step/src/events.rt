@@ -19,6 +19,8 @@ use melt_model::{Op, Reply};
 use melt_safepoint::{Mode, ThreadState, mode_after};
 
 /// Makes the next event of a thread that can go on.
+// (inlined for the same reason as `make_turn`)
+#[inline(always)]
 fn make_event<R: RecordReader>(
     core: &mut Core,
     state: &mut ThreadState<'_>,
