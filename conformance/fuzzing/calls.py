@@ -3,7 +3,7 @@ import itertools
 import random
 
 from fuzzing import moving
-from fuzzing.damage import CHANGES, SELDOM
+from fuzzing.damage import BEHIND, CHANGES, SELDOM
 from fuzzing.traces import KINDS
 from modelling.traces import LARGEST_INPUT, Refusal, operations_in, script_of
 from modelling.words import FLAGS, STEP_RANGES, Step, meant
@@ -59,6 +59,17 @@ def wrong_words(rng, words):
                                     "4194304", "4194305", "4294967297", "18446744073709551616", "016", "+16", "-1", "1e3",
                                     "", " 16", "16 ", "\u0661", "2", "65536", "65537", "268435456", "268435457"])]
     return words
+
+
+def with_border(rng, words):
+    """The words of a call with one option at a border of its range, or right past it."""
+    name = rng.choice(list(STEP_RANGES))
+    low, high = STEP_RANGES[name]
+    flag, value = f"--{name}", str(rng.choice([low - 1, low, high, high + 1]))
+    if flag not in words:
+        return [*words, flag, value]
+    at = words.index(flag) + 1
+    return [*words[:at], value, *words[at + 1:]]
 
 
 def words_of_gen(rng):
@@ -117,7 +128,16 @@ def damaged(rng):
             if lines:
                 rng.choice(CHANGES)(rng, lines, rng.randrange(len(lines)))
     data = "".join(line + "\n" for line in lines) + last
-    return words, data[:-1 if rng.random() < 0.05 else None].encode("utf-8" if rng.random() < 0.1 else "latin-1")
+    data = data[:-1 if rng.random() < 0.05 else None].encode("utf-8" if rng.random() < 0.1 else "latin-1")
+    data = changed_behind(rng, data) if rng.random() < 0.2 else data
+    return with_border(rng, words) if rng.random() < 0.1 else words, data
+
+
+def changed_behind(rng, data):
+    """The same bytes with one line more that is changed, in two of its fields or in its spaces too."""
+    lines = data.decode("latin-1").split("\n")
+    rng.choice(BEHIND)(rng, lines, rng.randrange(len(lines)))
+    return "\n".join(lines).encode("latin-1")
 
 
 def made(rng):

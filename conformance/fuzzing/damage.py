@@ -92,6 +92,23 @@ def long_input(rng, lines, at):
     lines.append("#" + "x" * (16_777_216 - size - 2 + rng.randint(-1, 2)))
 
 
+def two_numbers(rng, lines, at):
+    """Two numbers of a line, of which both may be wrong: it is told of one."""
+    fields = lines[at].split()
+    for place in rng.sample(range(1, len(fields)), min(2, len(fields) - 1)) if fields else []:
+        fields[place] = rng.choice(NUMBERS)
+    lines[at] = " ".join(fields)
+
+
+def last_number(rng, lines, at):
+    """One of the last numbers that a field may have, or one past them, in a line with wide spaces."""
+    fields = lines[at].split()
+    if len(fields) > 1:
+        fields[rng.randrange(1, len(fields))] = rng.choice(["15", "62", "63", "63", "64"])
+        lines[at] = "  ".join(fields)
+
+
 CHANGES = [change_number, change_number, change_number, change_word, change_word, change_fields, change_fields, change_byte,
            change_byte, drop_line, drop_line, drop_rest, double_line, swap_lines, put_line, put_line, put_blocks]
 SELDOM = [*[wrong_blocks] * 5, *[many_orders] * 6, long_input]
+BEHIND = [two_numbers, last_number]   # in a trace that was changed otherwise, or not
