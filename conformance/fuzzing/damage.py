@@ -101,7 +101,10 @@ def two_numbers(rng, lines, at):
 
 
 def last_number(rng, lines, at):
-    """One of the last numbers that a field may have, or one past them, in a line with wide spaces."""
+    """One of the last numbers that a field may have, or one past them, in a line with wide spaces. It is one of a part of
+    an object, where there is one."""
+    parts = [place for place, line in enumerate(lines) if line.split()[:1] in (["load"], ["store"], ["get"], ["put"])]
+    at = rng.choice(parts) if parts else at
     fields = lines[at].split()
     if len(fields) > 1:
         fields[rng.randrange(1, len(fields))] = rng.choice(["15", "62", "63", "63", "64"])
