@@ -1,32 +1,33 @@
-"""A heap, and the disk to which its objects move.
+"""A heap: its objects, which lead to each other, and what counts its words.
 
-Objects are words in a dictionary, by their addresses. An object has a header, a word for its home, its slots, and its
-number words. On the disk it has a record, and its home is the number of the first word there.
+An object takes words one after the other: a header, a word for its home, its slots, and its number words. The words
+themselves are not kept: an object has what they say, and the address of the first.
 """
-import itertools
-from typing import NamedTuple, Optional
+from dataclasses import dataclass
+from typing import NamedTuple
 
 
-class Header(NamedTuple):
-    """The first word of an object. A stale one was not used since objects were marked last."""
-    slots: int
-    numbers: int
-    name: int             # the number that a history has for the object; the program keeps it beside the words
+def words_of(slots, numbers):
+    """How many words an object takes, in the heap and on the disk."""
+    return 2 + slots + numbers
+
+
+@dataclass(eq=False, slots=True)
+class Object:
+    """An object in the heap. A stale one was not used since objects were marked last."""
+    address: int
+    words: int            # how many it takes
+    name: int             # the number that a history has for it; the program keeps it beside the words
+    slots: list
+    numbers: list
+    home: int = 0         # 0 where it has none
+    scion: int = 0        # 0 where it has no home, or came back since the last collection
     stale: bool = False
-
-    def words(self):
-        return 2 + self.slots + self.numbers
-
-
-class HomeWord(NamedTuple):
-    """The second word of an object that has a home. The scion is 0 where it came back since the last collection."""
-    home: int
-    scion: int = 0
 
 
 class Reference(NamedTuple):
-    """What a slot or a global holds of an object in the heap. A register holds the address alone."""
-    address: int
+    """What a slot or a global holds of an object in the heap. A register holds the object alone."""
+    object: Object
     marked: bool = False
 
 
@@ -36,83 +37,37 @@ class Away(NamedTuple):
 
 
 class Forwarding(NamedTuple):
-    """What stands in a forwarding word: the object of this home is back, at this address."""
+    """What stands in a forwarding word: the object of this home is back, and is this one."""
     home: int
-    address: int
-
-
-class Body(NamedTuple):
-    """The record of an object that is on the disk. A slot holds nothing or a home."""
-    header: Header
-    slots: tuple
-    numbers: tuple
-
-
-class Stub(NamedTuple):
-    """The record of an object that is back in the heap."""
-    scion: int
-
-
-class Full(Exception):
-    """The disk has no room for these new homes."""
-
-    def __init__(self, end, need, limit):
-        super().__init__(end, need, limit)
-        self.end, self.need, self.limit = end, need, limit
-
-
-class Failed(Exception):
-    """The disk did not write, or did not read."""
-
-
-class Disk:
-    """Homes, one behind the other from word 1 on, each with its record."""
-
-    def __init__(self, limit):
-        self.limit, self.end, self.records = limit, 1, {}
-
-    def have_room(self, need):
-        """Raises Full where homes of so many words have no room."""
-        if self.end + need > self.limit:
-            raise Full(self.end, need, self.limit)
-
-    def reserve(self, words):
-        home = self.end
-        self.end += words
-        return home
-
-    def write(self, home, record):
-        self.records[home] = record
-
-    def read(self, home):
-        """Reads the first two words of a record."""
-        return self.records[home]
-
-    def read_rest(self, home):
-        """Reads the other words of a record whose first ones were read."""
+    object: Object
 
 
 class Scions:
-    """Numbered places, each with the home of a Stub and the address of its object."""
+    """Places that are numbered from 1 on, each for an object whose home has a Stub."""
 
     def __init__(self):
-        self.live, self.given_back, self.first_new = {}, [], 1
+        self.places, self.given_back = [None], []
 
-    def add(self, home, address):
+    def add(self, obj):
         """Gives the number that was given back last, or the lowest that was never given."""
         if self.given_back:
-            scion = self.given_back.pop()
+            obj.scion = self.given_back.pop()
+            self.places[obj.scion] = obj
         else:
-            scion, self.first_new = self.first_new, self.first_new + 1
-        self.live[scion] = Forwarding(home, address)
-        return scion
+            obj.scion = len(self.places)
+            self.places.append(obj)
 
     def give_back(self, scion):
-        del self.live[scion]
+        self.places[scion] = None
         self.given_back.append(scion)
 
-    def move(self, scion, address):
-        self.live[scion] = self.live[scion]._replace(address=address)
+    def live(self):
+        """The objects that have one, by ascending numbers."""
+        return [obj for obj in self.places if obj is not None]
+
+    def object_of(self, scion):
+        """The object of a number, or None."""
+        return self.places[scion] if scion < len(self.places) else None
 
 
 class Heap:
@@ -120,10 +75,11 @@ class Heap:
 
     def __init__(self, size, globals_, forward):
         self.size = size
-        self.words = {}
         self.free = 1
         self.globals = [None] * globals_
-        self.forward = [None] * forward
+        self.forward = []     # the forwarding words that are filled, which are the first ones
+        self.places = {}      # the place of each of these, by its home
+        self.most_forward = forward
         self.scions = Scions()
 
     def begin(self):
@@ -131,36 +87,30 @@ class Heap:
         self.free = min(self.free, self.size + 1)
 
     def claim(self, words):
-        """Takes words from the first free place on, also past the end; answers the first, or None where they do not fit."""
+        """Takes words from the first free place on, also past the end: the first, or None where they do not fit."""
         first = self.free
         self.free += words
         return first if self.free <= self.size + 1 else None
 
-    def slots(self, address):
-        """The places of the slots of an object."""
-        return range(address + 2, address + 2 + self.words[address].slots)
-
-    def numbers(self, address):
-        """The places of its number words."""
-        header = self.words[address]
-        return range(address + 2 + header.slots, address + header.words())
-
-    def home(self, address) -> Optional[HomeWord]:
-        return self.words[address + 1]
+    def fill_forward(self, home, obj):
+        """Fills the first empty forwarding word."""
+        self.places[home] = len(self.forward)
+        self.forward.append(Forwarding(home, obj))
 
     def settle(self, disk):
-        """Gives each object that came back since the last collection a scion, and its home a Stub; how many there were."""
-        count = len(self.forward) - self.forward.count(None)    # so that all the others need not be looked at
-        settled = list(itertools.islice((place for place, word in enumerate(self.forward) if word is not None), count))
-        for place in settled:
-            home, address = self.forward[place]
-            scion = self.scions.add(home, address)
-            disk.write(home, Stub(scion))
-            self.words[address + 1] = HomeWord(home, scion)
-            self.forward[place] = None
-        return len(settled)
+        """Gives each object that came back since the last collection a scion, and its home a Stub: how many."""
+        for _, obj in self.forward:
+            self.scions.add(obj)
+            disk.write_stub(obj)
+        settled = len(self.forward)
+        self.forward, self.places = [], {}
+        return settled
 
-    def held(self, threads):
-        """The words of the objects that registers hold, each counted once."""
-        addresses = {address for thread in threads for address in thread.registers if address is not None}
-        return sum(self.words[address].words() for address in addresses)
+
+def held_by(threads):
+    """The objects that registers hold, each once, in the order of the registers."""
+    return list(dict.fromkeys(obj for thread in threads for obj in thread.registers if obj is not None))
+
+
+def words_held(threads):
+    return sum(obj.words for obj in held_by(threads))

@@ -3,7 +3,7 @@ from modelling.running import Report
 from modelling.traces import LARGEST_NUMBER
 from modelling.words import Step
 
-DONE, USAGE, TRACE, READ_FAULT, DISK_FAULT, OUT_OF_HEAP, DISK_FULL, WRITE_FAULT = 0, 1, 2, 3, 4, 5, 6, 7
+DONE, USAGE, TRACE, READ_FAULT, DISK_FAULT, OUT_OF_HEAP, DISK_FULL, WRITE_FAULT, DAMAGED = 0, 1, 2, 3, 4, 5, 6, 7, 9
 
 
 def text(lines):
@@ -38,6 +38,8 @@ def status_of(report: Report):
     lines = [*(thread.end for thread in report.threads), report.halt]
     if "end disk-fault" in lines or "halt disk-fault" in lines:
         return DISK_FAULT
+    if any(line.startswith("end damaged") for line in lines):
+        return DAMAGED
     if report.halt:
         return DISK_FULL
     return OUT_OF_HEAP if any(line.startswith("end out-of-heap") for line in lines) else DONE

@@ -4,7 +4,8 @@ from typing import NamedTuple
 
 from modelling.calls import ALL_FILLED, ASKED, LACKING, Calls, Refused
 from modelling.collecting import INACTIVE, MARK, MOVE, collect, next_phase
-from modelling.heap import Disk, Failed, Full, Heap
+from modelling.disk import Damaged, Disk, Failed, Full
+from modelling.heap import Heap, words_held
 from modelling.traces import REGISTERS, written_out
 
 RUNS = "runs"                  # can have an event
@@ -56,12 +57,10 @@ class Turns:
 
     def give(self):
         """The thread of the next event, or None where no thread can have one."""
-        if not any(thread.can_go_on() for thread in self.threads):
-            return None
         if self.left:
             self.left -= 1
             return self.begun
-        while self.orders:
+        while self.orders and any(thread.can_go_on() for thread in self.threads):
             number, events = self.orders.popleft()
             if self.threads[number].can_go_on():
                 self.begun, self.left = self.threads[number], events - 1
@@ -69,11 +68,12 @@ class Turns:
         return self.in_turn()
 
     def in_turn(self):
-        while not self.threads[self.next].can_go_on():
+        for _ in self.threads:
+            thread = self.threads[self.next]
             self.next = (self.next + 1) % len(self.threads)
-        thread = self.threads[self.next]
-        self.next = (self.next + 1) % len(self.threads)
-        return thread
+            if thread.can_go_on():
+                return thread
+        return None
 
     def had(self, thread):
         """The thread has had its event. A line ends where its thread comes to wait or to its end."""
@@ -92,12 +92,13 @@ class Report(NamedTuple):
 class Run:
     """A run of a script."""
 
-    def __init__(self, script, options, say=None, disk=None):
+    def __init__(self, script, options, words_on_disk, say=None):
         self.options, self.say = options, say
-        self.disk = disk or Disk(options.disk)
+        self.disk = Disk(options.disk, words_on_disk)
         self.heap = Heap(options.heap, script.globals, options.forward)
-        self.calls = Calls(self.heap, self.disk, say)
         self.threads = [Thread(number, program) for number, program in enumerate(script.programs)]
+        self.is_alone = len(self.threads) == 1 and not say   # nobody sees that a call is made of events
+        self.calls = Calls(self.heap, self.disk, say, self.is_alone)
         self.turns = Turns(script.orders, self.threads)
         self.planned = INACTIVE
         self.journal = []
@@ -107,13 +108,12 @@ class Run:
         """Runs to the end, or to where a collection is not made."""
         halt = ""
         try:
-            while not all(thread.mode is ENDED for thread in self.threads):
-                thread = self.turns.give()
-                if thread is None:
-                    self.all_wait()
-                else:
+            while (thread := self.turns.give()) or not self.is_over():
+                if thread:
                     self.event(thread)
                     self.turns.had(thread)
+                else:
+                    self.all_wait()
         except Full as full:
             halt = f"halt disk-full {full.end} {full.need} {full.limit}"
         except Failed:
@@ -122,6 +122,9 @@ class Run:
             if thread.mode is not ENDED:
                 thread.finish("end halted")
         return Report(self.threads, halt, self.journal, self.calls.history)
+
+    def is_over(self):
+        return all(thread.mode is ENDED for thread in self.threads)
 
     # events
 
@@ -141,19 +144,25 @@ class Run:
         self.tell(thread, text)
 
     def call_event(self, thread):
-        """One event of the operation that a thread is at."""
+        """One event of the operation that a thread is at; or all of them, where nobody sees them."""
         if thread.call is None:
             thread.call = self.call_of(thread)
         try:
             text = next(thread.call)
+            while self.is_alone:
+                next(thread.call)
             if self.say:
                 self.tell(thread, text)
         except StopIteration as over:
             thread.call = None
             self.over(thread, over.value)
-        except Failed:
-            self.tell(thread, "ends: the disk does not read")
-            thread.finish("end disk-fault")
+        except (Failed, Damaged) as fault:
+            self.lose(thread, fault)
+
+    def lose(self, thread, fault):
+        """Ends a thread that reads no record."""
+        self.tell(thread, f"reads no record, and ends: {fault}")
+        thread.finish(f"end {fault}")
 
     def call_of(self, thread):
         return getattr(self.calls, thread.operation.word)(thread, *thread.operation.numbers)
@@ -191,6 +200,8 @@ class Run:
             if not collected:
                 self.collect(f"for thread {lacking.number}")
             self.serve(lacking)
+        if self.is_over():
+            return
         if lacking is None or self.calls.stop:
             self.calls.begin()
         for thread in self.threads:
@@ -210,14 +221,16 @@ class Run:
         return bool(waiting)
 
     def serve(self, thread):
-        """Makes the call of a thread that lacked room or an empty forwarding word as a whole, or ends the thread where what
-        registers hold leaves it no room."""
+        """Makes the call of a thread that lacked room or an empty forwarding word as a whole, or ends the thread where
+        what registers hold leaves it no room. A disk that lies can leave none behind two Moves either."""
+        moves = 0
         while not self.is_made(thread):
-            held = self.heap.held(self.threads)
-            if held + thread.need > self.heap.size:
+            held = words_held(self.threads)
+            if held + thread.need > self.heap.size or moves == 2:
                 self.end_out_of_heap(thread, held)
                 return
             self.collect(f"for thread {thread.number} once more", MOVE)
+            moves += 1
 
     def is_made(self, thread):
         """Makes a call alone in a new epoch, from its beginning; whether it was answered, or ended its thread."""
@@ -228,8 +241,8 @@ class Run:
                 next(call)
         except StopIteration as over:
             answer = over.value
-        except Failed:
-            thread.finish("end disk-fault")
+        except (Failed, Damaged) as fault:
+            self.lose(thread, fault)
             return True
         if isinstance(answer, Refused):
             thread.mode, thread.need = answer
@@ -250,8 +263,9 @@ class Run:
         self.journal.append(entry)
         self.planned = next_phase(entry, self.options)
         if self.say:
-            disk = f"; {entry.bodies} Bodies and {entry.stubs} Stubs, the disk ends before word {entry.end}" if entry.end > 1 else ""
-            self.say(f"       collection {why}: {entry.phase}; {entry.live} words in use, {entry.held} held{disk}; the next is {self.planned}")
+            records = f"; {entry.bodies} Bodies and {entry.stubs} Stubs, the disk ends before word {entry.end}"
+            self.say(f"       collection {why}: {entry.phase}; {entry.live} words in use, {entry.held} held"
+                     f"{records if entry.end > 1 else ''}; the next is {self.planned}")
 
     def tell(self, thread, text):
         if self.say:
