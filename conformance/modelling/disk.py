@@ -67,6 +67,13 @@ class WordsInMemory:
     def read(self, first, count):
         return [self.words.get(at, 0) for at in range(first, first + count)]
 
+    def content(self):
+        """What a file of these words holds, or None where nothing was written."""
+        if not self.words:
+            return None
+        count = max(self.words) + 1
+        return struct.pack(f"<{count}Q", *self.read(0, count))
+
 
 class WordsInFile:
     """Words in a file, which is made or emptied at the first write. What is past its end is read as 0."""
