@@ -12,7 +12,7 @@ from modelling.program import answer
 
 HERE = pathlib.Path(__file__).resolve().parent.parent
 TOP = HERE.parent
-ROUNDS = (150, 600)        # after so many traces it is seen whether a wrong program was found; each round builds anew
+ROUNDS = (30, 150, 600)        # after so many traces it is seen whether a wrong program was found; each round builds anew
 LARGEST_CASE = 1_000_000  # bytes of a trace that a wrong program is run on
 
 
