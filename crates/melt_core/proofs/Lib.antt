@@ -1,3 +1,6 @@
+pub mod Nameless
+pub mod Naming
+pub mod Noting
 pub mod Values
 pub mod Answers
 pub mod Staying

@@ -134,6 +134,13 @@ in_flight disk v t o found call asks there is no_head no_rest =
     get_or_default v.calls t None found (inside disk v t o asks) ∙ (sym there ∙ is) in
     subst NeedsNoRead (sym (ap stage_in at)) (needs_none call.stage no_head no_rest)
 
+-- nor does an event that begins a call
+pub none_in_flight : (disk : OnDisk) (v : View) (t : ℕ) (o : Op) (found : Option Call) → Asks disk v t o
+    → found ≡ get_or v.calls t found → found ≡ None → NeedsNoRead (stage_of v t)
+none_in_flight disk v t o found asks there is =
+    let at : call_of v t ≡ None = get_or_default v.calls t None found (inside disk v t o asks) ∙ (sym there ∙ is) in
+    subst NeedsNoRead (sym (ap stage_in at)) tt
+
 -- an event from a stage that reads the disk is none of the others
 reads_nothing : (stage : Option Stage) (home : ℕ) → NeedsNoRead stage → ReadsAt stage home → ⊥
 reads_nothing None home none reads = reads

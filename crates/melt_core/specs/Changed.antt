@@ -1,5 +1,5 @@
 -- The small changes of which events are made, as changes of a view.
-use Rattle.std.specs.Prelude.{◌≡◌, ℕ, ◌<◌, true, false, [], ◌∷◌, ◌++◌, length, slice_index, slice_set, Option, None}
+use Rattle.std.specs.Prelude.{◌≡◌, ◌≢◌, ℕ, ◌<◌, true, false, [], ◌∷◌, ◌++◌, length, slice_index, slice_set, Option, None}
 use Rattle.std.specs.Prelude.{Some, IsSome}
 use Rattle.melt_model.specs.Thread.{found}
 use Rattle.melt_model.specs.declared.history.Entry.{Entry}
@@ -8,6 +8,7 @@ use Rattle.melt_model.specs.declared.history.Slot.{Slot}
 use Rattle.melt_word.specs.Words.{IsRef, ref_word}
 use Rattle.melt_word.specs.declared.reference.Ref.{Ref}
 use Rattle.melt_forward.specs.Forwarding.{Sends, SendsAnother, forward_word, probe}
+use Rattle.melt_space.specs.Space.{SetsWord}
 use Rattle.melt_scion.specs.Changes.{NameAppears}
 use Rattle.melt_scion.specs.Heaps.{OnDisk}
 use Rattle.melt_core.specs.declared.call.Search.{Search}
@@ -47,6 +48,22 @@ with_register v t r address =
 -- the history has one entry more
 abbrev pub noted : View → Entry → View
 noted v e = record v { log = v.log ++ e ∷ [] }
+
+-- a word of the space is replaced
+pub record HasSetWord (v w : View) (at word : ℕ) : Type 0 where
+  pub sets : SetsWord v.space w.space at word
+  pub only : w ≡ record v { space = w.space }
+
+-- the object at the address has this number
+pub record HasNamed (v w : View) (address number : ℕ) : Type 0 where
+  pub named : IsSome w.names
+  pub size : length (numbers_of w.names) ≡ length (numbers_of v.names)
+  pub appears : NameAppears (maps v) (maps w) address number
+  pub only : w ≡ record v { names = w.names }
+
+-- the address is 0, or that of an object
+abbrev pub IsNamedOrNone : View → ℕ → Type 0
+IsNamedOrNone v address = address ≢ 0 → IsSome ((maps v).address address)
 
 -- only words of the space and globals differ
 abbrev pub OnlyWords : View → View → Type 0

@@ -1,7 +1,8 @@
 -- How a core begins and ends.
 use Rattle.std.specs.Prelude.{◌≡◌, ◌≢◌, ℕ, ◌+◌, ◌-◌, ◌≤◌, min, length, Bool}
-use Rattle.std.specs.Prelude.{false, [], replicate, slice_set, vec_capacity, None}
+use Rattle.std.specs.Prelude.{false, [], replicate, slice_set, vec_capacity, None, Some}
 use Rattle.melt_model.specs.declared.history.Value.TheVariants.{Nil}
+use Rattle.melt_scion.specs.GhostMaps.{named}
 use Rattle.melt_scion.specs.Heaps.{OnDisk}
 use Rattle.melt_scion.specs.declared.registers.Registers.{Registers}
 use Rattle.melt_scion.specs.declared.heap.Heap.{Heap}
@@ -19,6 +20,7 @@ pub record IsNewRest (threads entries : ℕ) (rest : Rest) : Type 0 where
   pub calls : rest.calls.items ≡ replicate threads None
   pub records : rest.records.items ≡ replicate threads (replicate max_rest 0)
   pub history : rest.log.items ≡ []
+  pub told : rest.told ≡ []
   pub room : entries ≤ vec_capacity rest.log
   pub made : rest.made ≡ 0
 
@@ -30,6 +32,11 @@ core_of heap rest = record { heap = heap; rest = rest; free = heap.space.used + 
 pub record AtRest (told : Bool) (disk : OnDisk) (heap : Heap) (rest : Rest) : Type 0 where
   pub stands : Standing told disk (view (core_of heap rest))
   pub quiet : IsQuiet (view (core_of heap rest))
+
+-- where a heap keeps no names, its maps name addresses of its words alone
+abbrev pub NamesWithin : Heap → Type 0
+NamesWithin heap = (address n : ℕ) → named heap.maps.addresses address ≡ Some n
+    → (1 ≤ address) × (address ≤ length heap.space.list)
 
 -- A core became a heap and a rest: the history stays and the registers do, and so do the words. Those before the first
 -- free place are in use, or all of them where a claim ended past the last one.

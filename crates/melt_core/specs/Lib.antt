@@ -5,6 +5,7 @@ pub mod Stages
 pub mod Views
 pub mod Made
 pub mod Changed
+pub mod Noted
 pub mod Advances
 pub mod Epochs
 pub mod Lending

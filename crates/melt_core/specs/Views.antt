@@ -1,8 +1,10 @@
 -- What a core shows, and when it stands for its history.
-use Rattle.std.specs.Prelude.{◌≡◌, ◌≢◌, ◌⊎◌, ℕ, ◌+◌, ◌*◌, ◌<◌, ◌≤◌, Bool, true, List, [], length, map}
+use Rattle.std.specs.Prelude.{◌≡◌, ◌≢◌, ◌⊎◌, ℕ, zero, suc, ◌+◌, ◌*◌, ◌^◌, ◌<◌, ◌≤◌, Bool, true, List, [], ◌∷◌}
+use Rattle.std.specs.Prelude.{length, map}
 use Rattle.std.specs.Prelude.{sum, slice_index, slice_index_or, vec_capacity}
 use Rattle.std.specs.Prelude.{Option, None, Some, IsSome, unwrap_or, if◌then◌else◌}
-use Rattle.std.specs.FinMap.{empty}
+use Rattle.std.specs.FinMap.{empty, from_entries}
+use Rattle.std.specs.Option.{is_some}
 use Rattle.melt_model.specs.History.{made as makes, Legal}
 use Rattle.melt_model.specs.Thread.{value_in}
 use Rattle.melt_model.specs.Alive.{words_of, CostsSum}
@@ -15,15 +17,18 @@ use Rattle.melt_scion.specs.Placed.{Maps, MayHold, value_at, Holds}
 use Rattle.melt_scion.specs.Regions.{Apart}
 use Rattle.melt_scion.specs.Names.{name_at}
 use Rattle.melt_scion.specs.HomeNames.{NamedHomes, home_name}
+use Rattle.melt_scion.specs.GhostMaps.{NamePairs, named}
 use Rattle.melt_scion.specs.Scions.{Scions}
 use Rattle.melt_scion.specs.Heaps.{AreScionsFor, OnDisk, scion_in, register_in}
 use Rattle.melt_scion.specs.declared.registers.Registers.{Registers}
 use Rattle.melt_scion.specs.declared.heap.Names as heap
+use Rattle.melt_scion.specs.declared.heap.Heap.{Heap}
 use Rattle.melt_core.specs.declared.call.Stage.{Stage}
 use Rattle.melt_core.specs.declared.call.Stage.TheVariants.{Polled, Headed, Lacking, Searching, Missed, HeadRead}
 use Rattle.melt_core.specs.declared.call.Stage.TheVariants.{BodyRead, LackingCopy}
 use Rattle.melt_core.specs.declared.call.Call.{Call}
 use Rattle.melt_core.specs.declared.machine.Core.{Core}
+use Rattle.melt_core.specs.declared.machine.Rest.{Rest}
 use Rattle.melt_core.specs.Known.{Known, region_of}
 use Rattle.melt_core.specs.Stages.{Fits}
 
@@ -45,18 +50,46 @@ pub record View : Type 0 where
   pub free : ℕ
   pub stop : Bool
 
+-- the names that pairs give to so many addresses from this one on
+abbrev pub names_along : List (ℕ × ℕ) → (most from : ℕ) → List (Option ℕ)
+names_along pairs zero from = []
+names_along pairs (suc most) from = named pairs from ∷ names_along pairs most (suc from)
+
+-- the names that a heap of so many words would keep
+abbrev pub names_for : ℕ → NamePairs → heap.Names
+names_for words pairs = record {
+  addresses = names_along pairs.addresses words 1;
+  homes = record { names = from_entries pairs.homes; spare = 0 };
+}
+
+-- the names of a heap: those that it keeps, and where it keeps none those of its maps
+abbrev pub names_in : Heap → heap.Names
+names_in h = unwrap_or h.names (names_for (length h.space.list) h.maps)
+
+-- A history that is not stored has room for more entries than any vector.
+abbrev pub unbounded : ℕ
+unbounded = 2 ^ 64
+
+-- the history, which is stored or not, and how many entries it has room for
+abbrev pub history_in : Bool → Rest → List Entry
+history_in stored rest = if stored then rest.log.items else rest.told
+
+abbrev pub room_in : Bool → Rest → ℕ
+room_in stored rest = if stored then vec_capacity rest.log else unbounded
+
+-- The history is stored where the heap keeps names.
 abbrev pub view : Core → View
 view core = record {
   space = core.heap.space;
   scions = core.heap.scions;
   globals = core.heap.globals;
   forward = core.heap.forward;
-  names = core.heap.names;
+  names = Some (names_in core.heap);
   held = core.rest.held.items;
   calls = core.rest.calls.items;
   records = core.rest.records.items;
-  log = core.rest.log.items;
-  capacity = vec_capacity core.rest.log;
+  log = history_in (is_some core.heap.names) core.rest;
+  capacity = room_in (is_some core.heap.names) core.rest;
   made = core.rest.made;
   free = core.free;
   stop = core.stop;

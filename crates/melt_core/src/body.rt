@@ -75,7 +75,7 @@ impl Core {
         let next = stored + 1;
         let stage = if next < cost(shape) {
             let word = self.word_of_copy(thread, activation, next);
-            self.heap.space.set_word(address + next, word);
+            self.set_word(address + next, word);
             Stage::Copying {
                 activation,
                 stored: next,
@@ -85,7 +85,7 @@ impl Core {
                 shape,
                 stale: false,
             };
-            self.heap.space.set_word(address, encode_header(header));
+            self.set_word(address, encode_header(header));
             Stage::Copied { activation }
         };
         self.set_stage(thread, op, stage);

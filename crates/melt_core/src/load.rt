@@ -9,7 +9,7 @@
 ghost use Rattle.std.specs.Prelude.{◌≡◌, ◌<◌, length, Some, None, IfSome, IfNone};
 ghost use Rattle.melt_scion.specs.Heaps.{OnDisk};
 ghost use Rattle.melt_core.specs.Advances.{Moves, MayMove};
-ghost use Rattle.melt_core.specs.Changed.{HasPlace, HasRead, HoldsRef, StandsAt};
+ghost use Rattle.melt_core.specs.Changed.{HasPlace, HasRead, HasRoomForEntry, HoldsRef, IsNamedOrNone, StandsAt};
 ghost use Rattle.melt_core.specs.Known.{word_in};
 ghost use Rattle.melt_core.specs.Stages.{LooksFrom};
 ghost use Rattle.melt_core.specs.Views.{stage_of, state, view};
@@ -17,8 +17,8 @@ ghost use Rattle.melt_core.specs.Views.{stage_of, state, view};
 use crate::answer::StepResult;
 use crate::call::{Access, Place, Search, Stage, Task};
 use crate::machine::Core;
-use crate::parts::{Cell, found, reference, value_at};
-use melt_model::{Act, Op, Reply, Slot, Value};
+use crate::parts::{Cell, Deed, Touched, reference, reply_for};
+use melt_model::{Op, Reply};
 use melt_word::{Header, Ref, Shape, encode_header, encode_ref};
 
 /// What a load found that takes the slow path: a reference with a tag at the place, for register `dst`. Its object is
@@ -87,9 +87,12 @@ impl Core {
         let Cell { address, shape, j } = cell;
         let at = address + 2 + u32::from(shape.refs) + u32::from(j);
         let number = self.heap.space.word(at);
-        let slot = Slot::Cell(self.number_at(address), j);
-        let value = Value::Num(number);
-        self.note(thread, Act::Read { slot, value });
+        let touched = Touched::Number {
+            object: address,
+            j,
+            number,
+        };
+        self.note(thread, Deed::Read { touched });
         self.set_call(thread, None);
         StepResult::Answered(Reply::Num(number))
     }
@@ -108,16 +111,16 @@ impl Core {
         requires calls { thread < length (view self.old).calls }
         requires small { thread < 256 }
         requires register { dst < 16 }
-        requires room { length (view self.old).log < (view self.old).capacity }
+        requires room { HasRoomForEntry (view self.old) }
         requires place { HasPlace (view self.old) place }
+        requires named { IsNamedOrNone (view self.old) address }
         ensures { HasRead (view self.old) (view self.new) thread place dst address result }
     {
-        let slot = self.slot_at(place);
-        let value = value_at(&self.heap.names, address);
-        self.note(thread, Act::Read { slot, value });
+        let touched = Touched::Reference { place, address };
+        self.note(thread, Deed::Read { touched });
         self.set_register(thread, dst, address);
         self.set_call(thread, None);
-        StepResult::Answered(found(value))
+        StepResult::Answered(reply_for(address))
     }
 
     /// Looks at the word at a place.
@@ -174,7 +177,7 @@ impl Core {
             shape: self.heap.space.shape(target),
             stale: false,
         };
-        self.heap.space.set_word(target, encode_header(header));
+        self.set_word(target, encode_header(header));
         let stage = Stage::Cleared {
             place,
             found,

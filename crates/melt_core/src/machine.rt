@@ -3,28 +3,33 @@ ghost use Rattle.std.specs.Prelude.{◌≡◌, ◌+◌, ◌-◌, ◌<◌, Bool, 
 ghost use Rattle.std.specs.Borrow.{sem};
 ghost use Rattle.melt_scion.specs.Heaps.{IsSettled, OnDisk};
 ghost use Rattle.melt_core.specs.Views.{IsQuiet, Standing, call_of, view};
+ghost use Rattle.melt_core.specs.Epochs.{NamesWithin};
 ghost use Rattle.melt_core.specs.Epochs.{AtRest, HasDropped, HasFinished, IsNewRest, core_of};
 ghost use Rattle.melt_core.specs.Lending.{LendsHeld};
 
 use crate::call::{Call, MAX_REST};
-use melt_model::{Entries, Entry, NoMemory};
-use melt_scion::{Heap, Registers};
+use melt_model::{Entries, Entry, Ghost, NoMemory};
+use melt_scion::{GhostMaps, Heap, Registers};
 use std::alloc::Global;
 
 /// What a core has beside its heap: the registers of all threads, their calls in flight with a buffer each for what
 /// they read of a record behind its head, and the history with the number of objects that were made in it.
+///
+/// The history is stored in `log` where the heap keeps names, without which no entry can be written down. Else it is
+/// `told`, to contracts alone.
 #[derive(Debug, Drop)]
 pub struct Rest {
     pub(crate) held: Vec<Registers>,
     pub(crate) calls: Vec<Option<Call>>,
     pub(crate) records: Vec<[u64; MAX_REST]>,
     pub(crate) log: Vec<Entry>,
+    pub(crate) told: Ghost<Entries>,
     pub(crate) made: u64,
 }
 
 impl Rest {
     /// The rest of so many threads, at most 8, whose registers hold nothing. The history is empty, and has room for so
-    /// many entries.
+    /// many entries where it is stored.
     pub fn new(alloc: Global, threads: u32, entries: u64) -> Result<Rest, NoMemory>
         ensures { IfOk result (IsNewRest threads entries) }
     {
@@ -34,6 +39,7 @@ impl Rest {
             calls: vec![in alloc; None; threads as usize]?,
             records: vec![in alloc; [0; MAX_REST]; threads as usize]?,
             log: Vec::with_capacity(alloc, entries as usize)?,
+            told: Ghost::pick(&()),
             made: 0,
         })
     }
@@ -46,7 +52,7 @@ impl Rest {
         &mut self.held
     }
 
-    /// The entries of the history.
+    /// The entries that are stored.
     pub fn into_history(self) -> Entries
         ensures { result ≡ self.log.items }
     {
@@ -66,10 +72,9 @@ pub struct Core {
 }
 
 impl Core {
-    /// Begins an epoch with the stop word not set. The words behind those in use are free. The heap has names, since
-    /// the history speaks of objects by their numbers, and no forwarding word is filled.
+    /// Begins an epoch with the stop word not set. The words behind those in use are free, and no forwarding word is
+    /// filled. The history is stored where the heap keeps names, since it speaks of objects by their numbers.
     pub fn begin(heap: Heap, rest: Rest) -> Core
-        requires names { IsSome heap.names }
         requires settled { IsSettled heap }
         ensures { result ≡ core_of heap rest }
     {
@@ -120,6 +125,7 @@ impl Core {
         ensures rests { (told : Bool) (disk : OnDisk) → Standing told disk (view self)
             → AtRest told disk result.0 result.1 }
         ensures finished { HasFinished (view self) (view (core_of result.0 result.1)) }
+        ensures within { NamesWithin result.0 }
     {
         let Core {
             mut heap,
@@ -129,6 +135,7 @@ impl Core {
         } = self;
         let used = free.saturating_sub(1).min(heap.space.words());
         heap.space.set_used(used);
+        heap.maps = GhostMaps::pick(&heap);
         (heap, rest)
     }
 }

@@ -11,8 +11,8 @@ ghost use Rattle.melt_core.specs.Views.{stage_of, view};
 use crate::answer::{Pause, Refusal, StepResult};
 use crate::call::{Stage, Task};
 use crate::machine::Core;
-use crate::parts::set_name;
-use melt_model::{Act, Op, Reply};
+use crate::parts::{Deed, Naming};
+use melt_model::{Op, Reply};
 use melt_word::{Header, Shape, cost, encode_header};
 
 /// The words that a call claimed, from the address on, for a new object of the shape, which is to come into register
@@ -79,7 +79,7 @@ impl Core {
             stored,
             dst,
         } = claim;
-        self.heap.space.set_word(address + 1 + stored, 0);
+        self.set_word(address + 1 + stored, 0);
         let stage = Stage::Claimed {
             address,
             shape,
@@ -107,12 +107,12 @@ impl Core {
             shape,
             stale: false,
         };
-        self.heap.space.set_word(address, encode_header(header));
+        self.set_word(address, encode_header(header));
         // (each object has an entry in the history, of fewer than 2^32, so that its number fits)
-        set_name(&mut self.heap.names, address, self.rest.made as u32);
+        let number = self.rest.made as u32;
+        self.name(address, Naming::Own { number });
         self.rest.made += 1;
-        let Shape { refs, nums } = shape;
-        self.note(thread, Act::Make { refs, nums });
+        self.note(thread, Deed::Make { shape });
         self.set_register(thread, dst, address);
         self.set_call(thread, None);
         StepResult::Answered(Reply::Done)

@@ -1,20 +1,22 @@
 //! Steps on the parts of a core, each of which changes one of them and says nothing of the others' meaning.
-ghost use Rattle.std.specs.Prelude.{◌≡◌, ℕ, ◌+◌, ◌*◌, ◌^◌, ◌<◌, ◌≤◌, length, slice_set, Some, None, IsSome};
-ghost use Rattle.std.specs.Prelude.{MatchOption};
-ghost use Rattle.melt_model.specs.Thread.{found as found_in};
+ghost use Rattle.std.specs.Prelude.{◌≡◌, ℕ, ◌+◌, ◌*◌, ◌^◌, ◌<◌, ◌≤◌, length, slice_set, Some, None, MatchOption};
+ghost use Rattle.std.specs.Prelude.{unwrap_or};
 ghost use Rattle.melt_word.specs.declared.reference.Ref.{Ref};
-ghost use Rattle.melt_scion.specs.Changes.{NameAppears};
+ghost use Rattle.melt_space.specs.Space.{IsWord};
 ghost use Rattle.melt_scion.specs.Heaps.{OnDisk, register_in};
+ghost use Rattle.melt_scion.specs.Names.{name_at};
 ghost use Rattle.melt_core.specs.Answering.{entry};
-ghost use Rattle.melt_core.specs.Changed.{HasPlace, HoldsRef, OnlyWords, StandsAt, noted, with_call, with_register};
+ghost use Rattle.melt_core.specs.Changed.{HasNamed, HasRoomForEntry, HasSetWord, HoldsRef, OnlyWords, StandsAt};
+ghost use Rattle.melt_core.specs.Changed.{noted, with_call, with_register};
 ghost use Rattle.melt_core.specs.Events.{PlaceChanges};
-ghost use Rattle.melt_core.specs.Known.{SlotAt, word_in};
+ghost use Rattle.melt_core.specs.Known.{word_in};
+ghost use Rattle.melt_core.specs.Noted.{act_named, found_at, number_given, slot_named, touched_slot, touched_value};
 ghost use Rattle.melt_core.specs.Views.{call_of, held_value, maps, maps_of, numbers_of, state, view};
 
 use crate::call::{Call, Place, Stage};
 use crate::machine::Core;
-use melt_model::{Act, Entry, Op, Reply, Slot, Value};
-use melt_scion::{Globals, Names};
+use melt_model::{Act, Entry, Ghost, Op, Reply, Slot, Value};
+use melt_scion::{GhostMaps, Globals, Names};
 use melt_word::{Ref, Shape, decode_ref, encode_ref};
 
 /// A number word of the object at the address, which has this shape.
@@ -25,28 +27,95 @@ pub(crate) struct Cell {
     pub(crate) j: u8,
 }
 
-/// The value that an address in a register stands for.
-pub(crate) fn value_at(names: &Option<Names>, address: u32) -> Value
-    ensures { result ≡ held_value names.now address }
+/// What an event reads or writes, by addresses: a slot of an object or a global with the address that stands there, or
+/// a number word of an object with its number.
+#[derive(Clone, Copy)]
+pub(crate) enum Touched {
+    Reference { place: Place, address: u32 },
+    Number { object: u32, j: u8, number: u64 },
+}
+
+/// What an event of a call does to the heap, by addresses. An entry of the history says the same by numbers of objects.
+#[derive(Clone, Copy)]
+pub(crate) enum Deed {
+    Make { shape: Shape },
+    Read { touched: Touched },
+    Write { touched: Touched },
+}
+
+/// Which number an object gets that has none yet: one of its own, or that of the object of a home.
+#[derive(Clone, Copy)]
+pub(crate) enum Naming {
+    Own { number: u32 },
+    Home { home: u32 },
+}
+
+/// The number of the object at an address, or 0 where there is none.
+fn number_at(names: &Names, address: u32) -> u64
+    ensures { result ≡ unwrap_or (name_at names.now.addresses address) 0 }
 {
-    let names = names.as_ref();
-    match names.and_then(|names| names.addresses.get(address)) {
+    u64::from(names.addresses.get(address).unwrap_or(0))
+}
+
+/// The value that an address in a register stands for.
+fn value_at(names: &Names, address: u32) -> Value
+    ensures { result ≡ held_value (Some names.now) address }
+{
+    match names.addresses.get(address) {
         Some(number) => Value::Ref(u64::from(number)),
         None => Value::Nil,
     }
 }
 
-/// Gives an address its name.
-pub(crate) fn set_name(names: &mut Option<Names>, address: u32, number: u32)
-    requires named { IsSome names.old }
-    requires first { 1 ≤ address }
-    requires last { address ≤ length (numbers_of names.old) }
-    ensures named { IsSome names.new }
-    ensures size { length (numbers_of names.new) ≡ length (numbers_of names.old) }
-    ensures appears { NameAppears (maps_of names.old) (maps_of names.new) address number }
+/// The slot that a place is.
+fn slot_of(names: &Names, place: Place) -> Slot
+    ensures { result ≡ slot_named (maps_of (Some names.now)) place }
 {
-    if let Some(names) = names {
-        names.addresses.set(address, number);
+    match place {
+        Place::Field { object, i } => Slot::Field(number_at(names, object), i),
+        Place::Global { g } => Slot::Global(g),
+    }
+}
+
+/// The slot that is read or written, and the value in it.
+fn access(names: &Names, touched: Touched) -> (Slot, Value)
+    ensures slot { result.0 ≡ touched_slot (maps_of (Some names.now)) touched }
+    ensures value { result.1 ≡ touched_value (maps_of (Some names.now)) touched }
+{
+    match touched {
+        Touched::Reference { place, address } => (slot_of(names, place), value_at(names, address)),
+        Touched::Number { object, j, number } => {
+            (Slot::Cell(number_at(names, object), j), Value::Num(number))
+        }
+    }
+}
+
+/// What the entry of the history says.
+fn act_of(names: &Names, deed: Deed) -> Act
+    ensures { result ≡ act_named (maps_of (Some names.now)) deed }
+{
+    match deed {
+        Deed::Make {
+            shape: Shape { refs, nums },
+        } => Act::Make { refs, nums },
+        Deed::Read { touched } => {
+            let (slot, value) = access(names, touched);
+            Act::Read { slot, value }
+        }
+        Deed::Write { touched } => {
+            let (slot, value) = access(names, touched);
+            Act::Write { slot, value }
+        }
+    }
+}
+
+/// The number that an object gets.
+fn number_for(names: &Names, naming: Naming) -> u32
+    ensures { result ≡ number_given (Some names.now) naming }
+{
+    match naming {
+        Naming::Own { number } => number,
+        Naming::Home { home } => names.homes.get(home).unwrap_or(0),
     }
 }
 
@@ -69,14 +138,13 @@ pub(crate) fn set_global_word(globals: &mut Globals, g: u8, word: u64)
     globals.items[g as usize] = word;
 }
 
-/// What a load that found this value replies.
-pub(crate) fn found(value: Value) -> Reply
-    ensures { result ≡ found_in value }
+/// What a load that found this address replies.
+pub(crate) fn reply_for(address: u32) -> Reply
+    ensures { result ≡ found_at address }
 {
-    match value {
-        Value::Nil => Reply::Null,
-        // (no address stands for a number)
-        Value::Ref(_) | Value::Num(_) => Reply::Ref,
+    match address {
+        0 => Reply::Null,
+        _ => Reply::Ref,
     }
 }
 
@@ -118,38 +186,43 @@ impl Core {
         }
     }
 
-    /// Writes the entry of a call into the history: the only place where it grows. Its room was taken when the core was
-    /// made, so that an event takes no memory.
-    pub(crate) fn note(&mut self, thread: u32, act: Act)
+    /// Writes the entry of a call into the history: the only place where it grows. Where it is stored, its room was taken
+    /// when the core was made, so that an event takes no memory; else it grows for contracts alone.
+    pub(crate) fn note(&mut self, thread: u32, deed: Deed)
         requires thread { thread < 256 }
-        requires room { length (view self.old).log < (view self.old).capacity }
-        ensures { view self.new ≡ noted (view self.old) (entry thread act) }
-    {
-        self.rest.log.push_reserved(Entry {
-            thread: thread as u8,
-            act,
-        });
-    }
-
-    /// The number of the object at an address.
-    pub(crate) fn number_at(&self, address: u32) -> u64
-        requires { IsSome ((maps (view self.now)).address address) }
-        ensures { (maps (view self.now)).address address ≡ Some result }
-    {
-        match value_at(&self.heap.names, address) {
-            Value::Ref(number) => number,
-            Value::Nil | Value::Num(_) => unreachable!(),
-        }
-    }
-
-    /// The number of the object that has a home, or 0 where the home has no name.
-    pub(crate) fn number_of_home(&self, home: u32) -> u32
-        ensures { (n : ℕ) → (maps (view self.now)).home home ≡ Some n → result ≡ n }
+        requires room { HasRoomForEntry (view self.old) }
+        ensures { view self.new ≡ noted (view self.old) (entry thread (act_named (maps (view self.old)) deed)) }
     {
         match &self.heap.names {
-            Some(names) => names.homes.get(home).unwrap_or(0),
-            None => 0,
+            Some(names) => self.rest.log.push_reserved(Entry {
+                thread: thread as u8,
+                act: act_of(names, deed),
+            }),
+            None => self.rest.told = Ghost::pick(&(&*self, thread, deed)),
         }
+    }
+
+    /// Gives the object at an address its number.
+    pub(crate) fn name(&mut self, address: u32, naming: Naming)
+        requires first { 1 ≤ address }
+        requires last { address ≤ length (numbers_of (view self.old).names) }
+        ensures { HasNamed (view self.old) (view self.new) address (number_given (view self.old).names naming) }
+    {
+        match &mut self.heap.names {
+            Some(names) => {
+                let number = number_for(names, naming);
+                names.addresses.set(address, number);
+            }
+            None => self.heap.maps = GhostMaps::pick(&(&self.heap, address, naming)),
+        }
+    }
+
+    /// Replaces a word of the space.
+    pub(crate) fn set_word(&mut self, at: u32, word: u64)
+        requires { IsWord (view self.old).space at }
+        ensures { HasSetWord (view self.old) (view self.new) at word }
+    {
+        self.heap.space.set_word(at, word);
     }
 
     /// Claims so many words, and answers their address. Where they end past the last word of the heap they are claimed
@@ -165,17 +238,6 @@ impl Core {
         let address = self.free;
         self.free += need;
         (self.free <= self.heap.space.words() + 1).then_some(address)
-    }
-
-    /// The slot that a place is.
-    pub(crate) fn slot_at(&self, place: Place) -> Slot
-        requires { HasPlace (view self.now) place }
-        ensures { SlotAt (maps (view self.now)) place result }
-    {
-        match place {
-            Place::Field { object, i } => Slot::Field(self.number_at(object), i),
-            Place::Global { g } => Slot::Global(g),
-        }
     }
 
     /// The word at a place.
@@ -197,7 +259,7 @@ impl Core {
             → PlaceChanges (state disk (view self.old)) (state disk (view self.new)) place word }
     {
         match place {
-            Place::Field { object, i } => self.heap.space.set_word(object + 2 + u32::from(i), word),
+            Place::Field { object, i } => self.set_word(object + 2 + u32::from(i), word),
             Place::Global { g } => set_global_word(&mut self.heap.globals, g, word),
         }
     }

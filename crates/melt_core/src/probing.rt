@@ -14,7 +14,7 @@ ghost use Rattle.melt_core.specs.Views.{numbers_of, stage_of, view};
 use crate::answer::{Pause, Refusal, StepResult};
 use crate::call::{Activation, Search, Stage};
 use crate::machine::Core;
-use crate::parts::set_name;
+use crate::parts::Naming;
 use melt_forward::{pack, unpack};
 use melt_model::Op;
 
@@ -120,8 +120,7 @@ impl Core {
             ..
         } = activation;
         self.heap.forward.items[search.tried as usize] = pack(search.home, address);
-        let number = self.number_of_home(search.home);
-        set_name(&mut self.heap.names, address, number);
+        self.name(address, Naming::Home { home: search.home });
     }
 
     /// Exchanges the forwarding word that was empty, if it still is. Whoever is first has made the object of the home.

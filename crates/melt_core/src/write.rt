@@ -10,8 +10,8 @@ ghost use Rattle.melt_core.specs.Views.{stage_of, view};
 use crate::answer::StepResult;
 use crate::call::{Access, Place, Stage};
 use crate::machine::Core;
-use crate::parts::{Cell, value_at};
-use melt_model::{Act, Op, Reply, Slot, Value};
+use crate::parts::{Cell, Deed, Touched};
+use melt_model::{Op, Reply};
 use melt_word::held_word;
 
 impl Core {
@@ -24,10 +24,9 @@ impl Core {
         ensures { Moves (view self.old) (view self.new) thread op result }
     {
         let address = self.register(thread, src);
-        let slot = self.slot_at(place);
-        let value = value_at(&self.heap.names, address);
         self.set_word_in(place, held_word(address));
-        self.note(thread, Act::Write { slot, value });
+        let touched = Touched::Reference { place, address };
+        self.note(thread, Deed::Write { touched });
         self.set_call(thread, None);
         StepResult::Answered(Reply::Done)
     }
@@ -40,11 +39,14 @@ impl Core {
         ensures { Moves (view self.old) (view self.new) thread op result }
     {
         let Cell { address, shape, j } = cell;
-        let slot = Slot::Cell(self.number_at(address), j);
-        let value = Value::Num(number);
         let at = address + 2 + u32::from(shape.refs) + u32::from(j);
-        self.heap.space.set_word(at, number);
-        self.note(thread, Act::Write { slot, value });
+        self.set_word(at, number);
+        let touched = Touched::Number {
+            object: address,
+            j,
+            number,
+        };
+        self.note(thread, Deed::Write { touched });
         self.set_call(thread, None);
         StepResult::Answered(Reply::Done)
     }

@@ -19,7 +19,7 @@ use Rattle.melt_pool.specs.Machines.{AreArmed, AreDisarmed, IsArmed}
 use Rattle.melt_pool.specs.Parts.{AreAway, IsAway}
 use Rattle.melt_pool.specs.Workers.{Brings, faults_of}
 use Rattle.melt_pool.specs.declared.worker.Worker.{Worker}
-use Rattle.melt_pool.proofs.Names.{is_none}
+use Rattle.melt_core.proofs.Nameless.{is_none}
 
 -- The elements before this one are done, and the others are as before.
 pub record DoneBelow {A : Type 0} (P : ℕ → A → A → Type 0) (k : ℕ) (olds news : List A) : Type 0 where

@@ -30,7 +30,8 @@ use Rattle.melt_pool.specs.Machines.{AreArmed, IsArmed}
 use Rattle.melt_pool.specs.Parts.{IsNameless, parts_view}
 use Rattle.melt_pool.specs.Workers.{image_of}
 use Rattle.melt_pool.specs.declared.worker.Worker.{Worker}
-use Rattle.melt_pool.proofs.Names.{is_none, names_hold}
+use Rattle.melt_core.proofs.Nameless.{is_none}
+use Rattle.melt_pool.proofs.Names.{names_hold}
 use Rattle.melt_pool.proofs.Passing.{all_by}
 
 -- an element that is there

@@ -15,7 +15,7 @@ use Rattle.melt_scion.specs.declared.heap.Heap.{Heap}
 use Rattle.melt_scion.specs.declared.heap.Names as name_table
 use Rattle.melt_scion.specs.declared.registers.Registers.{Registers}
 use Rattle.melt_core.specs.Epochs.{HasDropped, no_registers}
-use Rattle.melt_core.specs.Views.{IsQuiet, View, max_rest}
+use Rattle.melt_core.specs.Views.{IsQuiet, View, max_rest, names_for}
 use Rattle.melt_core.proofs.Resting.{dropped}
 use Rattle.melt_core.proofs.Values.{get_or_replicate}
 use Rattle.melt_epoch.specs.Mutators.{with_none}
@@ -26,8 +26,9 @@ use Rattle.melt_safepoint.specs.Shown.{Shown}
 use Rattle.melt_safepoint.specs.declared.collector.Collector.{Collector}
 use Rattle.melt_safepoint.specs.declared.ending.Left.{Left}
 use Rattle.melt_safepoint.proofs.Threads.{get_set_other, get_set_same}
-use Rattle.melt_pool.specs.Parts.{AreAway, IsAway, IsNameless, beside_of, names_for, parts_view}
-use Rattle.melt_pool.proofs.Names.{is_none, names_hold}
+use Rattle.melt_pool.specs.Parts.{AreAway, IsAway, IsNameless, beside_of, parts_view}
+use Rattle.melt_core.proofs.Nameless.{is_none}
+use Rattle.melt_pool.proofs.Names.{names_hold}
 
 -- no call is in flight
 pub still : (heap : Heap) (h : List Entry) (held : List Registers) → IsQuiet (parts_view heap h held)

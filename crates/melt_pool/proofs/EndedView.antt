@@ -48,7 +48,8 @@ use Rattle.melt_pool.specs.Beginning.{first_image, start_of, words_told}
 use Rattle.melt_pool.specs.Parts.{IsNameless, parts_view}
 use Rattle.melt_pool.proofs.AtRest.{found_at, registers_of}
 use Rattle.melt_pool.proofs.InUse.{TakesWords, grown, takes_words}
-use Rattle.melt_pool.proofs.Names.{is_none, names_hold, names_of_heap}
+use Rattle.melt_core.proofs.Nameless.{is_none}
+use Rattle.melt_pool.proofs.Names.{names_hold, names_of_heap}
 use Rattle.melt_pool.proofs.Passing.{all_at}
 
 -- the registers of mutators in order

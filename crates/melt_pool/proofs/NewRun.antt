@@ -22,7 +22,7 @@ use Rattle.melt_scion.specs.declared.heap.Heap.{Heap}
 use Rattle.melt_scion.specs.declared.registers.Registers.{Registers}
 use Rattle.melt_scion.proofs.Starting.{nothing_at}
 use Rattle.melt_core.specs.Epochs.{no_registers}
-use Rattle.melt_core.specs.Views.{IsQuiet, View, call_of, held_values, registers_in, values_of}
+use Rattle.melt_core.specs.Views.{IsQuiet, View, call_of, held_values, names_for, registers_in, values_of}
 use Rattle.melt_core.proofs.Values.{get_or_replicate}
 use Rattle.melt_epoch.specs.declared.mutator.Mutator.{Mutator}
 use Rattle.melt_safepoint.specs.Collections.{NoneForwarded}
@@ -37,7 +37,7 @@ use Rattle.melt_safepoint.specs.declared.thread.ThreadState.{ThreadState}
 use Rattle.melt_safepoint.proofs.Closing.{Run_new}
 use Rattle.melt_safepoint.proofs.Shown.{bare}
 use Rattle.melt_safepoint.proofs.Starting.{ends_new}
-use Rattle.melt_pool.specs.Parts.{AreAway, IsNameless, names_for, parts_view}
+use Rattle.melt_pool.specs.Parts.{AreAway, IsNameless, parts_view}
 use Rattle.melt_pool.proofs.NewStanding.{new_quiet, new_standing}
 
 -- a new heap that keeps no names is small enough for the words of an epoch

@@ -18,11 +18,11 @@ use Rattle.melt_scion.proofs.Starting.{FormedWords_start, IsEmpty, NoGaps_start,
 use Rattle.melt_scion.proofs.Tables.{scions_made}
 use Rattle.melt_core.specs.Epochs.{no_registers}
 use Rattle.melt_core.specs.Views.{InUse, IsQuiet, Standing, View, call_of, claimed, claimed_in, maps, maps_of, max_rest}
-use Rattle.melt_core.specs.Views.{state}
+use Rattle.melt_core.specs.Views.{names_along, names_for, state}
 use Rattle.melt_core.specs.declared.call.Call.{Call}
 use Rattle.melt_core.proofs.Values.{get_or_replicate}
 use Rattle.melt_safepoint.proofs.Shown.{bare}
-use Rattle.melt_pool.specs.Parts.{names_along, names_for, parts_view}
+use Rattle.melt_pool.specs.Parts.{parts_view}
 
 -- there is a place for the name of each address
 along_length : (pairs : List (ℕ × ℕ)) (most from : ℕ) → length (names_along pairs most from) ≡ most

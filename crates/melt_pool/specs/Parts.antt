@@ -1,31 +1,16 @@
 -- What a run of real threads shows between two epochs, by its parts: heap, history and registers. Its heap keeps no
 -- names; for contracts they are made of the maps that it has for them.
-use Rattle.std.specs.Prelude.{◌≡◌, ℕ, zero, suc, ◌+◌, ◌^◌, ◌≤◌, false, List, [], ◌∷◌, length, replicate, slice_get}
-use Rattle.std.specs.Prelude.{Option, None, Some}
-use Rattle.std.specs.FinMap.{from_entries}
+use Rattle.std.specs.Prelude.{◌≡◌, ℕ, ◌+◌, ◌^◌, ◌≤◌, false, List, length, replicate, slice_get, None, Some}
 use Rattle.std.specs.Option.{is_some}
 use Rattle.melt_model.specs.History.{made}
 use Rattle.melt_model.specs.declared.history.Entry.{Entry}
-use Rattle.melt_scion.specs.GhostMaps.{NamePairs, named}
-use Rattle.melt_scion.specs.declared.heap.Names as name_table
 use Rattle.melt_scion.specs.declared.heap.Heap.{Heap}
 use Rattle.melt_scion.specs.declared.registers.Registers.{Registers}
-use Rattle.melt_core.specs.Views.{View, max_rest, values_of}
+use Rattle.melt_core.specs.Epochs.{NamesWithin}
+use Rattle.melt_core.specs.Views.{View, max_rest, names_for, values_of}
 use Rattle.melt_epoch.specs.declared.mutator.Mutator.{Mutator}
 use Rattle.melt_rule.specs.Shown.{globals_from}
 use Rattle.melt_safepoint.specs.Resting.{Beside, rest_view}
-
--- the names that pairs give to so many addresses from this one on
-abbrev pub names_along : List (ℕ × ℕ) → (most from : ℕ) → List (Option ℕ)
-names_along pairs zero from = []
-names_along pairs (suc most) from = named pairs from ∷ names_along pairs most (suc from)
-
--- the names that a heap of so many words would keep
-abbrev pub names_for : ℕ → NamePairs → name_table.Names
-names_for words pairs = record {
-  addresses = names_along pairs.addresses words 1;
-  homes = record { names = from_entries pairs.homes; spare = 0 };
-}
 
 -- no history of a run is longer
 abbrev pub most_entries : ℕ
@@ -50,8 +35,7 @@ parts_view heap h registers = rest_view heap (beside_of heap h registers)
 -- alone.
 pub record IsNameless (heap : Heap) : Type 0 where
   pub nameless : is_some heap.names ≡ false
-  pub within : (address n : ℕ) → named heap.maps.addresses address ≡ Some n
-      → (1 ≤ address) × (address ≤ length heap.space.list)
+  pub within : NamesWithin heap
   pub some_forward : 1 ≤ length heap.forward
   pub few_globals : length heap.globals ≤ 255
   pub few_words : globals_from + length heap.globals + length heap.forward + length heap.space.list ≤ 2 ^ 32

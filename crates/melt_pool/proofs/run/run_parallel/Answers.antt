@@ -21,7 +21,7 @@ use Rattle.melt_pool.specs.Machines.{machine_row, parallel_view}
 use Rattle.melt_pool.specs.Parts.{AreAway, parts_view}
 use Rattle.melt_pool.specs.declared.worker.Worker.{Worker}
 use Rattle.melt_pool.proofs.MachineBegins.{begins_many, none_runs}
-use Rattle.melt_pool.proofs.Names.{is_none}
+use Rattle.melt_core.proofs.Nameless.{is_none}
 use Rattle.melt_pool.proofs.run.run_parallel.Given.{Over}
 use Rattle.melt_pool.proofs.run.run_parallel.Goals as goal
 use Rattle.melt_pool.proofs.run.run_parallel.Goals.{After-lend_all, In-Ok-go_through}

@@ -7,6 +7,7 @@ use Rattle.melt_core.specs.Events.{number_place}
 use Rattle.melt_core.specs.declared.answer.StepResult.TheVariants.{Answered}
 use Rattle.melt_core.specs.Views.{View, view}
 use Rattle.melt_core.proofs.Asked.{asks_over}
+use Rattle.melt_core.proofs.Noting.{headed_named}
 use Rattle.melt_core.proofs.Reading.{get_advances}
 use Rattle.melt_core.proofs.machine.Core.get.Goals as goal
 use Rattle.std.specs.Prelude.{None}
@@ -20,7 +21,7 @@ returns c = record {
       (sym c.set_call.ensures)
       (subst (λ (m : View). AdvancesOver disk v (with_call m c.args.thread None) c.args.thread c.args.op
       (Answered (reply.Num c.word-number.result))) (sym c.note.ensures)
-      (get_advances asks c.requires.stage c.number_at.ensures (c.word-number.ensures ∙ ap (word_at v.space)
+      (get_advances asks c.requires.stage (headed_named asks c.requires.stage) (c.word-number.ensures ∙ ap (word_at v.space)
       (let e : _ ≡ number_place c.args.cell.address c.args.cell.shape c.args.cell.j =
       omega (arith, c.from.ensures, c.from-2.ensures) in e))));
 }

@@ -1,13 +1,14 @@
 use Rattle.std.proofs.Common.{sym, subst}
 use Rattle.melt_word.specs.Words.{ref_word}
 use Rattle.melt_word.specs.declared.reference.Ref.TheVariants.{Clean}
-use Rattle.melt_core.specs.Changed.{HasRead, OnlyWords}
+use Rattle.melt_core.specs.Changed.{HasRead, IsNamedOrNone, OnlyWords}
 use Rattle.melt_core.specs.Known.{IsPlace}
 use Rattle.melt_core.specs.Views.{View, maps, state, view}
 use Rattle.melt_core.proofs.Asked.{asks_over}
 use Rattle.melt_core.proofs.Words.{only_place}
 use Rattle.melt_core.proofs.Loading.{IsCleared, cleared_known, cleared_loads, finds_null, finds_clean}
 use Rattle.melt_core.proofs.Loading.{untag_lost, untag_won, untag_place}
+use Rattle.melt_core.proofs.Noting.{held_named, named_some}
 use Rattle.melt_core.proofs.Objects.{either_tagged, tagged_is}
 use Rattle.melt_core.proofs.machine.Core.untag.Goals as goal
 
@@ -28,6 +29,27 @@ read-requires-in-Stale-clause-place c =
           (untag_place disk m.space m.globals is
           (either_tagged _ c.reference_in.result (c.reference_in.ensures disk) c.in-Stale.is) changes),
     )
+
+pub read-requires-in-Clean-clause-named : goal.read-requires-in-Clean-clause-named
+read-requires-in-Clean-clause-named c =
+    let disk = c.requires.asks.disk in
+    let v : View = view c.args.self.now in
+    let is : IsCleared disk v c.args.thread c.args.op c.args.looked.place c.args.looked.found c.args.looked.target
+    c.args.looked.dst =
+    record { asks = c.requires.asks.asks; at = c.requires.stage } in
+    held_named (maps v) (state disk v) c.in-Clean.current
+    (finds_clean c.args.thread c.args.op c.args.looked.place c.args.looked.dst c.requires.asks.asks.stands
+    (cleared_loads disk is) (cleared_known disk is).0.at (c.in-Clean.ensures disk)).may_hold
+
+pub read-requires-in-Stale-clause-named : goal.read-requires-in-Stale-clause-named
+read-requires-in-Stale-clause-named c =
+    let disk = c.requires.asks.disk in
+    let v : View = view c.args.self.now in
+    let is : IsCleared disk v c.args.thread c.args.op c.args.looked.place c.args.looked.found c.args.looked.target
+    c.args.looked.dst =
+    record { asks = c.requires.asks.asks; at = c.requires.stage } in
+    subst (λ (x : View). IsNamedOrNone x c.args.looked.target) (sym c.set_word_in.ensures.only)
+    (λ some. named_some ((maps v).address c.args.looked.target) (cleared_known disk is).1.named)
 
 pub returns-in-Null : goal.returns-in-Null
 returns-in-Null c = record {
