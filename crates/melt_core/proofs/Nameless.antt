@@ -8,8 +8,9 @@ use Rattle.std.specs.Cmp.{nat_cmp_total}
 use Rattle.std.specs.FinMap.{find, from_entries, get, get-from_entries}
 use Rattle.std.specs.Option.{is_some}
 use Rattle.std.specs.Ordering.{eq_by_cmp, nat_cmp}
-use Rattle.std.specs.Prelude.{◌==◌, Bool, Option, None, Some, slice_index_or}
-use Rattle.melt_scion.specs.GhostMaps.{NamePairs, named}
+use Rattle.std.specs.Prelude.{◌==◌, Bool, Option, None, Some, replicate, slice_index_or}
+use Rattle.melt_scion.specs.GhostMaps.{NamePairs, named, no_pairs}
+use Rattle.melt_scion.specs.Heaps.{no_names}
 use Rattle.melt_scion.specs.Names.{name_at}
 use Rattle.melt_core.specs.Views.{names_along, names_for}
 
@@ -76,6 +77,15 @@ homes_are pairs home = get-from_entries nat_cmp_total pairs home ∙ found pairs
 pub is_none : {A : Type 0} (o : Option A) → is_some o ≡ false → o ≡ None
 is_none None none = refl
 is_none (Some x) none = absurd (cc)
+
+-- without pairs nothing is named
+along_none : (most from : ℕ) → names_along [] most from ≡ replicate most None
+along_none zero from = refl
+along_none (suc most) from = ap (λ (names : List (Option ℕ)). None ∷ names) (along_none most (suc from))
+
+pub names_none : (words : ℕ) → names_for words no_pairs ≡ no_names words
+names_none words =
+    ap (λ (names : List (Option ℕ)). record (names_for words no_pairs) { addresses = names }) (along_none words 1)
 
 -- The pairs that give these names to the addresses from one on.
 abbrev pub pairs_along : ℕ → List (Option ℕ) → List (ℕ × ℕ)

@@ -2,7 +2,9 @@
 -- so that no other change of the heap touches them.
 use Rattle.std.proofs.Common.{◌≡◌, ◌≢◌, ℕ, zero, suc, ◌+◌, ◌<◌, ◌≤◌, List, length, refl, sym, ◌∙◌, ap, subst, arith, inl, inr}
 use Rattle.std.proofs.lemmas.Bool.{cases_lt}
-use Rattle.std.specs.Prelude.{Option, None, Some, false, unwrap_or}
+use Rattle.std.proofs.lemmas.Bool.Decides.{nat_tests}
+use Rattle.std.specs.Prelude.{◌^◌, Bool, true, false, nat_lt, vec_capacity, Option, None, Some, unwrap_or}
+use Rattle.std.specs.Option.{is_some}
 use Rattle.melt_scion.specs.Changes.{NameAppears}
 use Rattle.melt_scion.specs.GhostMaps.{NamePairs, numbered}
 use Rattle.melt_scion.specs.Placed.{Maps}
@@ -10,8 +12,9 @@ use Rattle.melt_scion.specs.declared.heap.Names as heap
 use Rattle.melt_space.specs.Space.{SpaceWords, SetsWord}
 use Rattle.melt_core.specs.Changed.{HasNamed, HasSetWord}
 use Rattle.melt_core.specs.Epochs.{core_of}
-use Rattle.melt_core.specs.Views.{maps_of, names_for, names_in, numbers_of, view}
+use Rattle.melt_core.specs.Views.{maps_of, names_for, names_in, numbers_of, room_in, stores, unbounded, view}
 use Rattle.melt_core.specs.declared.machine.Core.{Core}
+use Rattle.melt_core.specs.declared.machine.Rest.{Rest}
 use Rattle.melt_core.proofs.Nameless.{along_length, names_inside, names_outside, pair_here, pair_unlike, within_pairs}
 use Rattle.melt_core.proofs.Nameless.{within_same}
 
@@ -93,3 +96,11 @@ left_view core space pairs list is =
     (ap (names_for (length space.list)) is
     ∙ (within_same (length space.list) core.heap.maps
     ∙ ap (λ (words : List ℕ). names_for (length words) core.heap.maps) list))
+
+-- the history is stored where the heap keeps names: no vector has so much room as one that is not
+room_stores : (stored : Bool) (rest : Rest) → nat_lt (room_in stored rest) unbounded ≡ stored
+room_stores true rest = let small : vec_capacity rest.log < 2 ^ 63 = rest.log.small in grind (arith, nat_tests, small)
+room_stores false rest = refl
+
+pub stores_is : (core : Core) → stores (view core) ≡ is_some core.heap.names
+stores_is core = room_stores (is_some core.heap.names) core.rest

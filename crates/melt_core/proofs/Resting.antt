@@ -6,18 +6,21 @@ use Rattle.std.proofs.lemmas.Bool.{cases_eq}
 use Rattle.std.proofs.lemmas.List.{length-replicate}
 use Rattle.std.proofs.lemmas.List.Sums.{sum-map, sum_by-cons}
 use Rattle.std.specs.Prelude.{◌/◌, Bool, true, false, Option, None, Some}
-use Rattle.std.specs.Prelude.{replicate, vec_capacity, slice_set, slice_index, min}
+use Rattle.std.specs.Prelude.{replicate, unwrap_or, slice_set, slice_index, min}
 use Rattle.melt_model.specs.Alive.{words_of}
 use Rattle.melt_model.proofs.Sums.{CostsSum-empty}
 use Rattle.melt_space.specs.Space.{SpaceWords, word_at}
 use Rattle.melt_scion.specs.State.{State}
 use Rattle.melt_scion.specs.Placed.{Maps, MayHold, FormedWords, Holds}
 use Rattle.std.specs.FinMap.{get-empty}
+use Rattle.std.specs.Option.{is_some}
 use Rattle.std.specs.Ordering.{nat_cmp}
 use Rattle.melt_scion.specs.Scions.{empty_table}
 use Rattle.melt_scion.specs.Heaps.{AreScionsFor, OnDisk, no_homes_on, register_in, no_names, IsNewHeap}
 use Rattle.melt_scion.specs.Names.{name_at}
+use Rattle.melt_scion.specs.GhostMaps.{no_pairs}
 use Rattle.melt_scion.specs.declared.heap.Heap.{Heap}
+use Rattle.melt_scion.specs.declared.heap.Names as name_table
 use Rattle.melt_scion.proofs.Tables.{scions_made}
 use Rattle.melt_core.specs.declared.call.Call.{Call}
 use Rattle.melt_core.specs.declared.machine.Rest.{Rest}
@@ -31,10 +34,12 @@ use Rattle.melt_core.proofs.Staying.{known_stays}
 use Rattle.melt_core.proofs.Regions.{no_region_apart}
 use Rattle.melt_core.specs.Stages.{Fits}
 use Rattle.melt_core.specs.Epochs.{no_registers, IsNewRest, core_of, AtRest, HasDropped}
-use Rattle.melt_core.specs.Views.{View, InUse, view, maps, state, call_of, rest_of, max_rest}
+use Rattle.melt_core.specs.Views.{View, InUse, view, maps, state, call_of, rest_of, max_rest, names_in, names_for}
+use Rattle.melt_core.specs.Views.{history_in, room_in}
 use Rattle.melt_core.specs.Views.{held_values, claimed_in, claimed, Standing, IsQuiet}
 use Rattle.melt_core.specs.Changed.{stopped}
 use Rattle.melt_core.proofs.Claims.{bounded_stop}
+use Rattle.melt_core.proofs.Nameless.{names_none}
 use Rattle.melt_core.proofs.Values.{get_or_replicate}
 use Rattle.melt_core.proofs.Words.{same_behind}
 use Rattle.melt_core.proofs.Registers.{registers_set, registers_other}
@@ -280,17 +285,36 @@ stands_new told space {words} globals forward threads capacity size unused small
       };
     }
 
+-- a new heap has the names of no object, whether it keeps them or not
+pub names_new : (named : Bool) {words globals forward : ℕ} (heap : Heap) → IsNewHeap words globals forward named heap
+    → names_in heap ≡ no_names words
+names_new true {words} heap is_new =
+    ap (λ (o : Option name_table.Names). unwrap_or o (names_for (length heap.space.list) heap.maps)) is_new.names
+names_new false {words} heap is_new =
+    ap (λ (o : Option name_table.Names). unwrap_or o (names_for (length heap.space.list) heap.maps)) is_new.names
+    ∙ (ap (names_for (length heap.space.list)) is_new.maps
+    ∙ (ap (λ (n : ℕ). names_for n no_pairs) is_new.space.size ∙ names_none words))
+
+-- a new history is empty, whether it is stored or not
+pub history_new : (stored : Bool) {threads entries : ℕ} (rest : Rest) → IsNewRest threads entries rest
+    → history_in stored rest ≡ []
+history_new true rest is_new = is_new.history
+history_new false rest is_new = is_new.told
+
 -- before the first event
-pub start_at_rest : (told : Bool) {words globals forward threads entries : ℕ} {heap : Heap} {rest : Rest}
-    → words < 2 ^ 30 → threads ≤ 8 → IsNewHeap words globals forward true heap → IsNewRest threads entries rest
+pub start_at_rest : (told : Bool) {named : Bool} {words globals forward threads entries : ℕ} {heap : Heap} {rest : Rest}
+    → words < 2 ^ 30 → threads ≤ 8 → IsNewHeap words globals forward named heap → IsNewRest threads entries rest
     → AtRest told no_homes_on heap rest
 unfolding new_view
-start_at_rest told {words} {globals} {forward} {threads} {heap} {rest} small few is_new is_rest =
-    let same : new_view heap.space words globals forward threads (vec_capacity rest.log) ≡ view (core_of heap rest) = cc
+start_at_rest told {named} {words} {globals} {forward} {threads} {heap} {rest} small few is_new is_rest =
+    let stored : Bool = is_some heap.names in
+    let names : names_in heap ≡ no_names words = names_new named heap is_new in
+    let log : history_in stored rest ≡ [] = history_new stored rest is_rest in
+    let same : new_view heap.space words globals forward threads (room_in stored rest) ≡ view (core_of heap rest) = cc
     in
     record {
       stands = subst (Standing told no_homes_on) same
-          (stands_new told heap.space globals forward threads (vec_capacity rest.log) is_new.space.size
+          (stands_new told heap.space globals forward threads (room_in stored rest) is_new.space.size
           is_new.space.used small few);
       quiet = λ t. ap (λ (calls : List (Option Call)). get_or calls t None) is_rest.calls
           ∙ get_or_replicate threads t None;

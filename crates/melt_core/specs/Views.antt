@@ -1,6 +1,6 @@
 -- What a core shows, and when it stands for its history.
 use Rattle.std.specs.Prelude.{◌≡◌, ◌≢◌, ◌⊎◌, ℕ, zero, suc, ◌+◌, ◌*◌, ◌^◌, ◌<◌, ◌≤◌, Bool, true, List, [], ◌∷◌}
-use Rattle.std.specs.Prelude.{length, map}
+use Rattle.std.specs.Prelude.{length, map, nat_lt}
 use Rattle.std.specs.Prelude.{sum, slice_index, slice_index_or, vec_capacity}
 use Rattle.std.specs.Prelude.{Option, None, Some, IsSome, unwrap_or, if◌then◌else◌}
 use Rattle.std.specs.FinMap.{empty, from_entries}
@@ -185,6 +185,10 @@ claimed_in (Some c) = (region_of c.stage).words
 
 abbrev pub claimed : List (Option Call) → ℕ
 claimed calls = sum (map claimed_in calls)
+
+-- whether the history is stored
+abbrev pub stores : View → Bool
+stores v = nat_lt v.capacity unbounded
 
 -- some address has the number
 abbrev pub InUse : Maps → ℕ → Type 0

@@ -4,7 +4,8 @@ use Rattle.std.proofs.Common.{inl, inr}
 use Rattle.std.proofs.lemmas.Bool.{cases_eq}
 use Rattle.std.proofs.lemmas.List.{length-replicate}
 use Rattle.std.proofs.lemmas.List.Elements.{All-nil}
-use Rattle.std.specs.Prelude.{All, Option, IsSome, replicate}
+use Rattle.std.specs.Option.{is_some}
+use Rattle.std.specs.Prelude.{All, Bool, Option, Some, IsSome, replicate}
 use Rattle.melt_model.specs.History.{Legal}
 use Rattle.melt_model.specs.Standing.{Stands}
 use Rattle.melt_model.specs.Thread.{does}
@@ -22,8 +23,8 @@ use Rattle.melt_scion.specs.declared.heap.Heap.{Heap}
 use Rattle.melt_scion.specs.declared.heap.Names as name_table
 use Rattle.melt_scion.specs.declared.registers.Registers.{Registers}
 use Rattle.melt_core.specs.Answering.{with_entry}
-use Rattle.melt_core.specs.Views.{View, view, values_of, registers_in, held_values, IsQuiet, Standing}
-use Rattle.melt_core.specs.Epochs.{no_registers, IsNewRest, AtRest, core_of, HasFinished, HasDropped}
+use Rattle.melt_core.specs.Views.{View, view, values_of, registers_in, held_values, names_in, IsQuiet, Standing}
+use Rattle.melt_core.specs.Epochs.{no_registers, IsNewRest, AtRest, core_of, HasFinished, HasDropped, NamesWithin}
 use Rattle.melt_core.specs.Advances.{AdvancesOver, KeepsOthers, IsAnswered, Goes, Refuses, TellsDisk}
 use Rattle.melt_core.proofs.NoHomes.{as_told_by}
 use Rattle.melt_core.specs.declared.machine.Rest.{Rest}
@@ -32,13 +33,13 @@ use Rattle.melt_core.specs.declared.answer.Refusal.{Refusal}
 use Rattle.melt_core.specs.declared.answer.Refusal.TheVariants as refusal
 use Rattle.melt_core.specs.declared.answer.StepResult.{StepResult}
 use Rattle.melt_core.specs.declared.answer.StepResult.TheVariants.{Going, Answered, Refused}
-use Rattle.melt_core.proofs.Resting.{start_at_rest, stands_stopped}
+use Rattle.melt_core.proofs.Resting.{history_new, start_at_rest, stands_stopped}
 use Rattle.melt_step.specs.Choices.{SoFar, nothing_yet, with_reply, SetsSoFar, SetsBy, CollectsRest, Chosen, AreTold}
 use Rattle.melt_safepoint.proofs.TableModes.{dropped_keeps}
-use Rattle.melt_safepoint.specs.Resting.{Beside, NamesHeap, with_names_held, rest_view}
+use Rattle.melt_safepoint.specs.Resting.{Beside, LeavesHeap, NamesHeap, with_names_held, rest_view}
 use Rattle.melt_safepoint.proofs.Collecting.{RestsOver}
 use Rattle.melt_safepoint.proofs.PlannedRest.{Carried, PlannedOver, carried, leaves_heap, planned_over}
-use Rattle.melt_step.proofs.Resting.{beside_of, names_kept, names_left, only_view}
+use Rattle.melt_step.proofs.Resting.{beside_of, kept_still, names_kept, names_left, only_view}
 use Rattle.melt_step.proofs.Starting.{registers_new}
 use Rattle.melt_safepoint.proofs.Telling.{told_with, with_own, Stands_answers}
 
@@ -221,17 +222,19 @@ dropped_stands {threads} {globals} {disk} {v} {w} {all} {after} {t} a dropped ot
     }
 
 -- a run begins
-start_stands : {threads globals words forward entries : ℕ} {heap : Heap} {rest : Rest} (all : ℕ → SoFar)
-    → AtRest true no_homes_on heap rest → IsNewHeap words globals forward true heap → IsNewRest threads entries rest
+start_stands : {named : Bool} {threads globals words forward entries : ℕ} {heap : Heap} {rest : Rest}
+    (all : ℕ → SoFar) → AtRest true no_homes_on heap rest → IsNewHeap words globals forward named heap
+    → IsNewRest threads entries rest
     → ((t : ℕ) → all t ≡ nothing_yet) → AllStand threads globals no_homes_on (view (core_of heap rest)) all
 start_stands {threads} {globals} {words} {heap} {rest} all at_rest new_heap new_rest none =
     let v : View = view (core_of heap rest) in
     let count : length rest.held.items ≡ threads = ap length new_rest.held ∙ length-replicate threads no_registers in
+    let history : v.log ≡ [] = history_new (is_some heap.names) rest new_rest in
     let each : (t : ℕ) → StandsSoFar v t nothing_yet = λ t. record {
       registers = replicate 16 Nil;
-      told = subst (λ (h : List Entry). Stands h t [] [] (replicate 16 Nil)) (sym new_rest.history) (Stands_start t);
+      told = subst (λ (h : List Entry). Stands h t [] [] (replicate 16 Nil)) (sym history) (Stands_start t);
       in_registers = λ within open_.
-          sym (ap (held_values heap.names)
+          sym (ap (held_values v.names)
           (ap (λ (held : List Registers). registers_in held t) new_rest.held
           ∙ registers_new threads t (subst (λ (n : ℕ). t < n) count within)));
     } in
@@ -240,7 +243,7 @@ start_stands {threads} {globals} {words} {heap} {rest} all at_rest new_heap new_
       has_threads = count;
       words = ap length new_heap.globals_hold_nothing ∙ length-replicate globals 0;
       each = λ t. subst (StandsSoFar v t) (sym (none t)) (each t);
-      own = subst (All (λ (e : Entry). e.thread < threads)) (sym new_rest.history)
+      own = subst (All (λ (e : Entry). e.thread < threads)) (sym history)
           (All-nil (λ (e : Entry). e.thread < threads));
     }
 
@@ -270,28 +273,28 @@ told_as s stand =
 -- a collection
 collection_stands : {threads globals end end_after : ℕ} {image image_after : Option (List ℕ)} {all : ℕ → SoFar}
     {heap new : Heap} {rest after : Rest} → StandTold threads globals end image (view (core_of heap rest)) all
-    → IsQuiet (view (core_of heap rest)) → CollectsRest end end_after image image_after heap rest new after
-    → IsSome image_after → StandTold threads globals end_after image_after (view (core_of new after)) all
-collection_stands {threads} {globals} {end} {end_after} {image} {image_after} {heap} {new} {rest} {after} s quiet c
-    told =
+    → NamesWithin heap → IsQuiet (view (core_of heap rest))
+    → CollectsRest end end_after image image_after heap rest new after → IsSome image_after → StandTold threads globals end_after image_after (view (core_of new after)) all
+collection_stands {threads} {globals} {end} {end_after} {image} {image_after} {heap} {new} {rest} {after} s within
+    quiet c told =
     let stands : Standing true s.disk (view (core_of heap rest)) = s.all_stand.stands in
     let b : Beside = beside_of heap rest in
     let registers : List Registers = after.held.items in
     let rests : RestsOver true s.disk heap b =
-    record { stands = stands; quiet = quiet; names = names_kept heap stands.named stands.room } in
+    record { stands = stands; quiet = quiet; names = names_kept heap stands.room within } in
     let over : PlannedOver true c.phase s.disk heap new b registers end_after image_after c.journal =
     planned_over true c.phase s.disk heap new b registers end end_after image image_after c.journal rests s.ends
     s.tells.1 c.collects in
-    let names : NamesHeap new new.names =
-    names_left heap new stands.named
-    (leaves_heap true c.phase s.disk heap new b registers end_after image_after c.journal rests over) in
-    let moved : Carried true c.phase s.disk heap new b new.names registers end_after image_after c.journal =
-    carried true c.phase s.disk heap new b registers end_after image_after c.journal rests over new.names names
-    (record { threads = c.only.threads; before = c.only.before; after = c.only.behind }) in
-    let log : after.log ≡ rest.log = c.only.log in
-    let same : after.log.items ≡ rest.log.items = cc in
-    let shows : rest_view new (with_names_held b new.names registers) ≡ view (core_of new after) =
-    only_view heap new rest after c.only in
+    let leaves : LeavesHeap heap new =
+    leaves_heap true c.phase s.disk heap new b registers end_after image_after c.journal rests over in
+    let names : NamesHeap new (Some (names_in new)) = names_left heap new leaves in
+    let moved : Carried true c.phase s.disk heap new b (Some (names_in new)) registers end_after image_after c.journal =
+    carried true c.phase s.disk heap new b registers end_after image_after c.journal rests over (Some (names_in new))
+    names (record { threads = c.only.threads; before = c.only.before; after = c.only.behind }) in
+    let shows : rest_view new (with_names_held b (Some (names_in new)) registers) ≡ view (core_of new after) =
+    only_view heap new rest after (kept_still heap.names new.names leaves.keeps_names) c.only in
+    let same : (view (core_of new after)).log ≡ (view (core_of heap rest)).log =
+    ap (λ (w : View). w.log) (sym shows) in
     record {
       disk = moved.was.later;
       ends = moved.was.ends;
@@ -303,8 +306,8 @@ collection_stands {threads} {globals} {end} {end_after} {image} {image_after} {h
 -- they stand after each choice
 chosen_stands : (threads globals end : ℕ) (image : Option (List ℕ)) (v : View) (all : ℕ → SoFar)
     → Chosen threads globals end image v all → StandTold threads globals end image v all
-chosen_stands threads globals _ _ v all (Chosen.starts _ _ words forward entries heap rest small few new_heap new_rest
-    is none) =
+chosen_stands threads globals _ _ v all (Chosen.starts _ _ named words forward entries heap rest small few new_heap
+    new_rest is none) =
     record {
       disk = no_homes_on;
       ends = refl;
@@ -333,11 +336,11 @@ chosen_stands threads globals end image w all (Chosen.epoch _ _ v _ _ heap rest 
     told_as s (subst (λ (x : View). AllStand threads globals s.disk x all) (sym is)
     (epoch_stands s.all_stand (rests true s.disk s.all_stand.stands) finished))
 chosen_stands threads globals _ _ w all (Chosen.collection end end_after image image_after v _ _ heap new rest after
-    chosen was quiet collects told is) =
+    chosen was within quiet collects told is) =
     let s : StandTold threads globals end image v all = chosen_stands threads globals end image v all chosen in
     subst (λ (x : View). StandTold threads globals end_after image_after x all) (sym is)
-    (collection_stands (subst (λ (x : View). StandTold threads globals end image x all) was s) (subst IsQuiet was quiet)
-    collects told)
+    (collection_stands (subst (λ (x : View). StandTold threads globals end image x all) was s) within
+    (subst IsQuiet was quiet) collects told)
 
 -- threads that stand in a history were told what it gives them
 pub chosen_told : (threads globals end : ℕ) (image : Option (List ℕ)) (v : View) (all : ℕ → SoFar)

@@ -7,10 +7,9 @@ use Rattle.melt_trace.specs.Script.{Script}
 use Rattle.melt_scion.specs.Heaps.{HasMaps, OnDisk}
 use Rattle.melt_scion.specs.declared.heap.Heap.{Heap}
 use Rattle.melt_core.specs.declared.machine.Rest.{Rest}
-use Rattle.melt_core.specs.Epochs.{AtRest, HasFinished, core_of}
-use Rattle.melt_core.specs.Views.{IsQuiet, Standing, View, maps_of, view}
-use Rattle.melt_safepoint.specs.Collections.{LeavesAll, ShowsHeap}
-use Rattle.melt_safepoint.specs.declared.ending.Left.{Left}
+use Rattle.melt_core.specs.Epochs.{AtRest, HasFinished, NamesWithin, core_of}
+use Rattle.melt_core.specs.Views.{IsQuiet, Standing, View, names_in, view}
+use Rattle.melt_safepoint.specs.Collections.{ShowsHeap}
 use Rattle.std.proofs.Math.Nat.{min-eq_left}
 use Rattle.std.proofs.lemmas.List.Elements.{All-pop}
 use Rattle.std.specs.Prelude.{min, slice_index}
@@ -38,18 +37,20 @@ use Rattle.melt_safepoint.proofs.Cuts.{held_words_same}
 use Rattle.melt_safepoint.proofs.TableCounts.{counts_of}
 use Rattle.melt_safepoint.proofs.Tables.{Table_renewed}
 use Rattle.melt_safepoint.proofs.WordsMade.{made_same}
-use Rattle.melt_step.proofs.Resting.{names_are}
+use Rattle.melt_safepoint.specs.Resting.{NamesHeap}
+use Rattle.melt_step.proofs.Resting.{names_kept}
 use Rattle.melt_safepoint.proofs.Finishing.{finished_marked}
 
--- what a core shows that begins with a heap that keeps names is that heap
-pub shows_core : (heap : Heap) (rest : Rest) → IsSome heap.names → ShowsHeap heap (view (core_of heap rest))
-shows_core heap rest some = record {
+-- what a core shows that begins with a heap is that heap
+pub shows_core : (heap : Heap) (rest : Rest) → NamesHeap heap (Some (names_in heap))
+    → ShowsHeap heap (view (core_of heap rest))
+shows_core heap rest names = record {
   space = refl;
   scions = refl;
   globals = refl;
   forward = refl;
   free = refl;
-  has_maps = names_are heap.names heap.maps some;
+  has_maps = names.has;
 }
 
 -- the epoch has ended, and all stands as before
@@ -70,19 +71,13 @@ renewed_finish told disk v heap rest at_rest finished = record {
 }
 
 -- so it is left
-pub leaves_all : (v : View) (heap : Heap) (rest : Rest) (left : Left) → left.heap ≡ Some heap
-    → left.history ≡ rest.log.items → HasFinished v (view (core_of heap rest))
-    → ((told : Bool) (disk : OnDisk) → Standing told disk v → AtRest told disk heap rest) → LeavesAll v left
-leaves_all v heap rest left there history finished rests = record {
-  heap = heap;
-  there = there;
-  w = view (core_of heap rest);
-  log = history;
-  stands = λ told disk stands. (
-    renewed_finish told disk v heap rest (rests told disk stands) finished,
-    shows_core heap rest (rests told disk stands).stands.named,
-  );
-}
+pub leaves_so : (told : Bool) (disk : OnDisk) (v : View) (heap : Heap) (rest : Rest) → AtRest told disk heap rest
+    → HasFinished v (view (core_of heap rest)) → NamesWithin heap
+    → Renewed told disk v (view (core_of heap rest)) × ShowsHeap heap (view (core_of heap rest))
+leaves_so told disk v heap rest at_rest finished within = (
+  renewed_finish told disk v heap rest at_rest finished,
+  shows_core heap rest (names_kept heap at_rest.stands.room within),
+)
 
 -- A new epoch of a run has begun, in which all stands as before.
 pub record Renews (old new : Row) : Type 0 where
@@ -218,6 +213,12 @@ pub may_stands : (told : Bool) (script : Script) (config : Config) (shown : Show
     → MayRunEpoch told script config shown first run → (unpaid : ℕ) × StandsBut unpaid told script config shown run
 may_stands told script config shown run None may = (0, may.0)
 may_stands told script config shown run (Some t) may = (suc may.0, may.1.stands)
+
+-- no forwarding word is filled then
+pub may_settled : (told : Bool) (script : Script) (config : Config) (shown : Shown) (run : Row) (first : Option ℕ)
+    → MayRunEpoch told script config shown first run → NoneForwarded run.view
+may_settled told script config shown run None may = may.1
+may_settled told script config shown run (Some t) may = may.1.collected.none_forwarded
 
 -- it may go on once it has begun
 pub renews_may : (told : Bool) (script : Script) (config : Config) (shown : Shown) {old new : Row} (first : Option ℕ)

@@ -110,6 +110,19 @@ step_to_do {told} {finish} image {old} w t {s} after stands ends at goes turn =
     turn false disk under (stands_untold told disk old.view stands.table.stands) in
     to_do_within_set old.states t s after at (step_jobs goes step)
 
+-- the history has as much room as before
+pub step_capacity : {told : Bool} {script : Script} {config : Config} {shown : Shown} {finish : ℕ}
+    (image : Option (List ℕ)) {old : Row} (w : View) (t : ℕ) {s : ThreadState} (after : ThreadState)
+    → Goes told script config shown old → shown.end ≡ finish → TakesTurn finish image old.view w t s after
+    → w.capacity ≡ old.view.capacity
+step_capacity {told} {finish} image {old} w t {s} after stands ends turn =
+    let disk : OnDisk = stands.disk in
+    let under : Underlies false finish image disk =
+    record { ends = stands.under.ends ∙ ends; tells = λ wrong. absurd (let w : false ≡ true = wrong in cc) } in
+    let step : ThreadStep false disk old.view w t s after =
+    turn false disk under (stands_untold told disk old.view stands.table.stands) in
+    step.others.capacity
+
 -- a run whose threads made their calls again
 pub again_keeps : (shown : Shown) (old new : Row) (n : ℕ) → AgainBelow old.states new.states n
     → IsQuiet old.view → new.view ≡ old.view → new.collector ≡ old.collector → new.every ≡ old.every

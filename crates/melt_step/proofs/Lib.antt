@@ -9,4 +9,5 @@ pub mod LoneCalls
 pub mod Potentials
 pub mod Resting
 pub mod Starting
+pub mod Stored
 pub mod Turning

@@ -26,10 +26,11 @@ use Rattle.melt_scion.proofs.Starting.{NoObjects, IsEmpty, new_heap_empty, Tells
 use Rattle.melt_core.specs.declared.call.Call.{Call}
 use Rattle.melt_core.specs.declared.machine.Rest.{Rest}
 use Rattle.melt_core.specs.Views.{View, view, maps, maps_of, state, values_of, registers_in, held_values, call_of}
-use Rattle.melt_core.specs.Views.{IsQuiet, Standing}
+use Rattle.melt_core.specs.Views.{IsQuiet, Standing, history_in, names_in, room_in}
+use Rattle.std.specs.Option.{is_some}
 use Rattle.melt_core.specs.Epochs.{no_registers, IsNewRest, AtRest, core_of}
 use Rattle.melt_core.proofs.Disks.{stands_over, stands_untold}
-use Rattle.melt_core.proofs.Resting.{start_at_rest}
+use Rattle.melt_core.proofs.Resting.{history_new, names_new, start_at_rest}
 use Rattle.melt_core.proofs.Values.{get_or_replicate}
 use Rattle.melt_safepoint.specs.declared.thread.ThreadState.{ThreadState}
 use Rattle.melt_safepoint.specs.declared.thread.Mode.{Mode}
@@ -48,16 +49,16 @@ no_name words zero = refl
 no_name words (suc k) = get_or_replicate words k None
 
 -- a new heap tells the empty history over each disk without homes
-tells_new : (image : Option (List ℕ)) (words globals forward : ℕ) (heap : Heap) (rest : Rest) → words < 2 ^ 30
-    → IsNewHeap words globals forward true heap
-    → Tells [] (maps_of heap.names) (state_of heap rest.held.items (bare image))
-tells_new image words globals forward heap rest small new_heap =
+tells_new : (image : Option (List ℕ)) {named : Bool} (words globals forward : ℕ) (heap : Heap) (rest : Rest)
+    → words < 2 ^ 30 → IsNewHeap words globals forward named heap
+    → Tells [] (maps_of (Some (names_in heap))) (state_of heap rest.held.items (bare image))
+tells_new image {named} words globals forward heap rest small new_heap =
     let clear : IsEmpty (state_of heap rest.held.items no_homes_on) =
-    new_heap_empty heap rest.held.items words globals forward true small new_heap in
+    new_heap_empty heap rest.held.items words globals forward named small new_heap in
     let none : NoObjects (maps_of (Some (no_names words))) =
     record { address = no_name words; home = get-empty {X = ℕ} nat_cmp } in
-    Tells_start (maps_of heap.names) (state_of heap rest.held.items (bare image))
-    (subst (λ (names : Option name_table.Names). NoObjects (maps_of names)) (sym new_heap.names) none)
+    Tells_start (maps_of (Some (names_in heap))) (state_of heap rest.held.items (bare image))
+    (subst (λ (names : name_table.Names). NoObjects (maps_of (Some names))) (sym (names_new named heap new_heap)) none)
     (record {
       small = clear.small;
       forwards = clear.forwards;
@@ -69,10 +70,11 @@ tells_new image words globals forward heap rest small new_heap =
     })
 
 -- and so a new core stands over each
-pub bare_stands : (told : Bool) (image : Option (List ℕ)) (config : Config) {globals threads entries : ℕ} {heap : Heap}
-    {rest : Rest} → config.heap < 2 ^ 30 → threads ≤ 8 → IsNewHeap config.heap globals config.forward true heap
-    → IsNewRest threads entries rest → Standing told (bare image) (view (core_of heap rest))
-bare_stands told image config {globals} {heap} {rest} small few new_heap new_rest =
+pub bare_stands : (told : Bool) (image : Option (List ℕ)) (config : Config) {named : Bool}
+    {globals threads entries : ℕ} {heap : Heap} {rest : Rest} → config.heap < 2 ^ 30 → threads ≤ 8
+    → IsNewHeap config.heap globals config.forward named heap → IsNewRest threads entries rest
+    → Standing told (bare image) (view (core_of heap rest))
+bare_stands told image config {named} {globals} {heap} {rest} small few new_heap new_rest =
     let v : View = view (core_of heap rest) in
     let new : AtRest true no_homes_on heap rest =
     start_at_rest true small few new_heap new_rest in
@@ -95,7 +97,8 @@ bare_stands told image config {globals} {heap} {rest} small few new_heap new_res
       holds = record {
         formed = over.holds.formed;
         no_gaps = over.holds.no_gaps;
-        tells = λ is. subst (λ (h : List Entry). Tells h (maps v) (state (bare image) v)) (sym new_rest.history)
+        tells = λ is. subst (λ (h : List Entry). Tells h (maps v) (state (bare image) v))
+            (sym (history_new (is_some heap.names) rest new_rest))
             (tells_new image config.heap globals config.forward heap rest small new_heap);
       };
       legal = λ is. s.legal refl;
@@ -117,7 +120,7 @@ values_new : (script : Script) (entries t : ℕ) (heap : Heap) (rest : Rest)
     → IsNewRest (length script.programs) entries rest → t < length script.programs
     → values_of (view (core_of heap rest)) t ≡ replicate 16 Nil
 values_new script entries t heap rest new_rest below =
-    ap (held_values heap.names) (ap (λ (held : List Registers). registers_in held t) new_rest.held
+    ap (held_values (Some (names_in heap))) (ap (λ (held : List Registers). registers_in held t) new_rest.held
     ∙ registers_new (length script.programs) t below)
 
 -- a thread that was told nothing
@@ -137,8 +140,8 @@ Thread_new told script {entries} t {heap} {rest} {s} at_rest new_rest below new 
     let ops : List Op = operations script t in
     let none : values_of v t ≡ replicate 16 Nil = values_new script entries t heap rest new_rest below in
     let nothing : Stands v.log t (take 0 ops) [] (replicate 16 Nil) =
-    subst (λ (h : List Entry). Stands h t (take 0 ops) [] (replicate 16 Nil)) (sym new_rest.history)
-    (Stands_new t ops) in
+    subst (λ (h : List Entry). Stands h t (take 0 ops) [] (replicate 16 Nil))
+    (sym (history_new (is_some heap.names) rest new_rest)) (Stands_new t ops) in
     record {
       to_come = new.to_come ∙ ap (λ (rs : List Reply). drop (length rs) ops) (sym new.replies);
       within = omega (arith, ap length new.replies, ap length new.to_come);
@@ -160,20 +163,36 @@ Thread_new told script {entries} t {heap} {rest} {s} at_rest new_rest below new 
       room = omega (arith, ap length new.replies, ap length new.to_come, new.capacity);
     }
 
+-- there is room for all entries: it was taken, or the history is not stored
+room_new : (stored : Bool) {threads asked entries : ℕ} (rest : Rest) → IsNewRest threads asked rest
+    → entries ≤ 2 ^ 32 → (stored ≡ true → entries ≤ asked) → entries ≤ room_in stored rest
+room_new true rest new_rest few room =
+    let asked_room = new_rest.room in let enough = room refl in omega (arith, asked_room, enough)
+room_new false rest new_rest few room = omega (arith, few)
+
+-- a new heap keeps names where that was asked
+pub names_asked : (named : Bool) {words globals forward : ℕ} {heap : Heap} → IsNewHeap words globals forward named heap
+    → is_some heap.names ≡ named
+names_asked true new_heap = ap (λ (o : Option name_table.Names). is_some o) new_heap.names
+names_asked false new_heap = ap (λ (o : Option name_table.Names). is_some o) new_heap.names
+
 -- all threads stand before their first events
-pub Table_new : (told : Bool) {script : Script} (config : Config) {entries : ℕ} (image : Option (List ℕ)) {heap : Heap}
-    {rest : Rest} {states : List ThreadState} → config.heap < 2 ^ 30 → 1 ≤ config.forward
-    → config.forward ≤ most_forwards → length script.programs ≤ 8
-    → IsNewHeap config.heap script.globals config.forward true heap → IsNewRest (length script.programs) entries rest
-    → AreNewThreads script states entries
+pub Table_new : (told : Bool) {script : Script} (config : Config) {named : Bool} {entries asked : ℕ}
+    (image : Option (List ℕ)) {heap : Heap} {rest : Rest} {states : List ThreadState} → config.heap < 2 ^ 30
+    → 1 ≤ config.forward → config.forward ≤ most_forwards → length script.programs ≤ 8
+    → IsNewHeap config.heap script.globals config.forward named heap → IsNewRest (length script.programs) asked rest
+    → (named ≡ true → entries ≤ asked) → AreNewThreads script states entries
     → TableStands told script config (bare image) (view (core_of heap rest)) states
-Table_new told {script} config {entries} image {heap} {rest} {states} small least most few new_heap new_rest
-    new_states =
+Table_new told {script} config {named} {entries} {asked} image {heap} {rest} {states} small least most few new_heap
+    new_rest room new_states =
     let n : ℕ = length script.programs in
     let at_rest : AtRest true no_homes_on heap rest =
     start_at_rest true small few new_heap new_rest in
     let forwards : length heap.forward ≡ config.forward =
     ap length new_heap.nothing_forwarded ∙ length-replicate config.forward 0 in
+    let stored : Bool = is_some heap.names in
+    let kept : stored ≡ named = names_asked named new_heap in
+    let history : history_in stored rest ≡ [] = history_new stored rest new_rest in
     record {
       stands = bare_stands told image config small few new_heap new_rest;
       count = new_states.count;
@@ -185,14 +204,19 @@ Table_new told {script} config {entries} image {heap} {rest} {states} small leas
       each = λ t s at. Thread_new told script t at_rest new_rest
           (let below : t < length states = slice_get_within states t s at in omega (arith, new_states.count))
           (new_states.each t s at);
-      own = subst (All (λ (e : Entry). e.thread < n)) (sym new_rest.history) (All-nil (λ (e : Entry). e.thread < n));
-      ends = λ t s at. ends_new told rest.log.items config t new_states at;
+      own = subst (All (λ (e : Entry). e.thread < n)) (sym history) (All-nil (λ (e : Entry). e.thread < n));
+      ends = λ t s at. ends_new told (history_in stored rest) config t new_states at;
       due = λ t s at owes. absurd (elim (new_states.each t s at).mode [
         | inl runs ↦ let wrong : false ≡ true = ap owes_silent (sym runs.0) ∙ owes in cc
         | inr over ↦ let wrong : false ≡ true = ap owes_silent (sym over.0) ∙ owes in cc
       ]);
-      entries = omega (arith, ap length new_rest.history, new_states.entries, new_rest.room);
-      few = omega (arith, ap length new_rest.history, new_states.few);
+      entries = omega (
+        arith,
+        ap length history,
+        new_states.entries,
+        room_new stored rest new_rest (omega (arith, new_states.few)) (λ is. room (sym kept ∙ is)),
+      );
+      few = omega (arith, ap length history, new_states.few);
     }
 
 -- no thread waits
@@ -227,22 +251,23 @@ pub record Begins (told : Bool) (script : Script) (config : Config) (image : Opt
   pub history : v.log ≡ []
 
 -- so it begins
-pub begins_new : (told : Bool) {script : Script} {config : Config} {entries globals threads : ℕ}
+pub begins_new : (told : Bool) {script : Script} {config : Config} {named : Bool} {entries asked globals threads : ℕ}
     (image : Option (List ℕ)) {heap : Heap} {rest : Rest} {states : List ThreadState} → InRanges config
     → globals ≡ script.globals → threads ≡ length script.programs → threads ≤ 8
-    → IsNewHeap config.heap globals config.forward true heap → IsNewRest threads entries rest
-    → AreNewThreads script states entries → Begins told script config image (view (core_of heap rest)) states
-begins_new told {script} {config} {entries} {globals} image {heap} {rest} ranges all_globals all_threads eight is_heap
-    is_rest new_states =
-    let new_heap : IsNewHeap config.heap script.globals config.forward true heap =
-    subst (λ (n : ℕ). IsNewHeap config.heap n config.forward true heap) all_globals is_heap in
-    let new_rest : IsNewRest (length script.programs) entries rest =
-    subst (λ (n : ℕ). IsNewRest n entries rest) all_threads is_rest in
+    → IsNewHeap config.heap globals config.forward named heap → IsNewRest threads asked rest
+    → (named ≡ true → entries ≤ asked) → AreNewThreads script states entries
+    → Begins told script config image (view (core_of heap rest)) states
+begins_new told {script} {config} {named} {entries} {asked} {globals} image {heap} {rest} ranges all_globals all_threads
+    eight is_heap is_rest room new_states =
+    let new_heap : IsNewHeap config.heap script.globals config.forward named heap =
+    subst (λ (n : ℕ). IsNewHeap config.heap n config.forward named heap) all_globals is_heap in
+    let new_rest : IsNewRest (length script.programs) asked rest =
+    subst (λ (n : ℕ). IsNewRest n asked rest) all_threads is_rest in
     let at_rest : AtRest true no_homes_on heap rest =
     start_at_rest true (omega (arith, ranges.heap_most)) eight is_heap is_rest in
     record {
       table = Table_new told config image (omega (arith, ranges.heap_most)) ranges.forward_least ranges.forward_most
-          (omega (arith, all_threads, eight)) new_heap new_rest new_states;
+          (omega (arith, all_threads, eight)) new_heap new_rest room new_states;
       quiet = at_rest.quiet;
-      history = is_rest.history;
+      history = history_new (is_some heap.names) rest is_rest;
     }

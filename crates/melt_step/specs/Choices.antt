@@ -17,7 +17,7 @@ use Rattle.melt_scion.specs.declared.registers.Registers.{Registers}
 use Rattle.melt_move.specs.Planned.{CollectsPlanned}
 use Rattle.melt_core.specs.Views.{View, view, call_of, IsQuiet, Standing}
 use Rattle.melt_core.specs.Changed.{stopped}
-use Rattle.melt_core.specs.Epochs.{IsNewRest, AtRest, core_of, HasFinished, HasDropped}
+use Rattle.melt_core.specs.Epochs.{IsNewRest, AtRest, core_of, HasFinished, HasDropped, NamesWithin}
 use Rattle.melt_core.specs.Advances.{MayAdvance, Advances, TellsDisk}
 use Rattle.melt_core.specs.declared.machine.Rest.{Rest}
 use Rattle.melt_core.specs.declared.answer.StepResult.{StepResult}
@@ -55,6 +55,7 @@ pub record OnlyRegisters (rest after : Rest) : Type 0 where
   pub calls : after.calls.items ≡ rest.calls.items
   pub records : after.records.items ≡ rest.records.items
   pub log : after.log ≡ rest.log
+  pub told : after.told ≡ rest.told
   pub made : after.made ≡ rest.made
 
 -- A planned collection of some phase, of a heap and its registers and of a disk, with the end and the words that it
@@ -69,10 +70,10 @@ pub record CollectsRest (end end_after : ℕ) (told told_after : Option (List �
 -- A run so far, by any choices among what the public calls of a core and the planned collection do, each where it may
 -- be called: a new core and a disk without homes, an event of a thread over a reader that tells the words of the disk,
 -- the stop word set, an answer to a `collect`, a thread that drops its registers, a new epoch of a settled heap, and a
--- planned collection between two epochs, after which the disk tells its words still.
+-- planned collection between two epochs, after which the disk tells its words still. The heap keeps names or does not.
 pub data Chosen (threads globals : ℕ) : (end : ℕ) → (image : Option (List ℕ)) → View → (ℕ → SoFar) → Type 0 where
-  starts : (v : View) (all : ℕ → SoFar) (words forward entries : ℕ) (heap : Heap) (rest : Rest) → words < 2 ^ 30
-      → threads ≤ 8 → IsNewHeap words globals forward true heap → IsNewRest threads entries rest
+  starts : (v : View) (all : ℕ → SoFar) (named : Bool) (words forward entries : ℕ) (heap : Heap) (rest : Rest)
+      → words < 2 ^ 30 → threads ≤ 8 → IsNewHeap words globals forward named heap → IsNewRest threads entries rest
       → v ≡ view (core_of heap rest)
       → ((t : ℕ) → all t ≡ nothing_yet) → Chosen threads globals 1 (Some []) v all
   event : (end : ℕ) (image : Option (List ℕ)) (v w : View) (all after : ℕ → SoFar) (t : ℕ) (o : Op)
@@ -93,7 +94,7 @@ pub data Chosen (threads globals : ℕ) : (end : ℕ) → (image : Option (List 
       → Chosen threads globals end image w all
   collection : (end end_after : ℕ) (image image_after : Option (List ℕ)) (v w : View) (all : ℕ → SoFar)
       (heap new : Heap) (rest after : Rest) → Chosen threads globals end image v all → v ≡ view (core_of heap rest)
-      → IsQuiet v → CollectsRest end end_after image image_after heap rest new after → IsSome image_after
+      → NamesWithin heap → IsQuiet v → CollectsRest end end_after image image_after heap rest new after → IsSome image_after
       → w ≡ view (core_of new after) → Chosen threads globals end_after image_after w all
 
 -- There is one legal history, with entries of the threads alone; the replies that each thread has by now are those that

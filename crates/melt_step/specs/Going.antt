@@ -1,5 +1,5 @@
 -- A run by the written order inside an epoch.
-use Rattle.std.specs.Prelude.{◌≡◌, ◌≢◌, ℕ, ◌<◌, ◌≤◌, ◌⊎◌, Bool, true, false, List, [], length, Option, None, Some, slice_set}
+use Rattle.std.specs.Prelude.{◌≡◌, ◌≢◌, ℕ, ◌==◌, ◌<◌, ◌≤◌, ◌⊎◌, Bool, true, false, List, [], length, Option, None, Some, slice_set}
 use Rattle.melt_model.specs.declared.config.Config.{Config}
 use Rattle.melt_trace.specs.Script.{Script}
 use Rattle.melt_scion.specs.Heaps.{OnDisk}
@@ -19,11 +19,16 @@ use Rattle.melt_safepoint.specs.Threads.{DueBy}
 use Rattle.melt_safepoint.specs.declared.thread.ThreadState.{ThreadState}
 use Rattle.melt_step.specs.Lone.{CalledAlone}
 use Rattle.melt_step.specs.Made.{MakesInUse}
-use Rattle.melt_step.specs.declared.ordered.Ordered.{Ordered}
+use Rattle.melt_step.specs.Stored.{stored_view}
+use Rattle.melt_step.specs.declared.machine.Ordered.{Ordered}
 
 -- what a run by the written order shows
-abbrev pub core_view : Ordered → View
+abbrev pub core_view : {stored : ℕ} → Ordered stored → View
 core_view it = view it.core
+
+-- and to the engine, which knows by its type whether it stores its history
+abbrev pub kept_view : {stored : ℕ} → Ordered stored → View
+kept_view {stored} it = stored_view (stored == 1) (view it.core)
 
 -- A run stands inside an epoch as between two, but that calls may be in flight.
 pub record Goes (told : Bool) (script : Script) (config : Config) (shown : Shown) (run : Row) : Type 0 where

@@ -1,5 +1,6 @@
 pub mod Choices
 pub mod Going
+pub mod Stored
 pub mod Lone
 pub mod Made
 pub mod Turns

@@ -2,8 +2,8 @@
 //!
 //! A collection is made between two epochs. It takes the heap and lends the registers, and so the core is taken apart
 //! for it and put together again. Where it is refused these parts are left, and the report of the run is made of them.
-ghost use Rattle.std.specs.Prelude.{◌≡◌, IfOk, IfErr, OnErr, Err};
-ghost use Rattle.melt_core.specs.Views.{view};
+ghost use Rattle.std.specs.Prelude.{◌≡◌, [], IfOk, IfErr, OnErr, Err, if◌then◌else◌};
+ghost use Rattle.melt_core.specs.Views.{history_in, stores, view};
 ghost use Rattle.melt_io.specs.Outside.{Rose};
 ghost use Rattle.melt_move.specs.KeptDisk.{KeepsDisk};
 ghost use Rattle.melt_move.specs.Planned.{phase_done};
@@ -20,29 +20,32 @@ use melt_safepoint::{CollectRefusal, Collector, HeapRefusal, Left, collect_heap}
 use melt_scion::Heap;
 use std::alloc::Global;
 
-/// What is left of a run: its heap, if there is one, and the history.
-pub fn left_of(heap: Option<Heap>, rest: Rest) -> Left
+/// What is left of a run: its heap, if there is one, and the history, which was stored or not.
+pub fn left_of(heap: Option<Heap>, rest: Rest, stored: bool) -> Left
     ensures heap { result.heap ≡ heap }
-    ensures log { result.log ≡ rest.log.items }
-    ensures history { result.history ≡ rest.log.items }
+    ensures log { result.log ≡ (if stored then result.history else []) }
+    ensures history { result.history ≡ history_in stored rest }
 {
-    let history = Ghost::pick(&rest);
-    Left {
-        heap,
-        log: rest.into_history(),
-        history,
+    let history = Ghost::pick(&(&rest, stored));
+    let mut log = rest.into_history();
+    if !stored {
+        log.items.clear();
     }
+    Left { heap, log, history }
 }
 
-/// Makes a collection between two epochs: the one that is planned, or a Move where `force` says so.
+/// Makes a collection between two epochs: the one that is planned, or a Move where `force` says so. The history is
+/// stored where `stored` says so.
 pub fn collect_core<D: StaleDisk>(
     core: Core,
     alloc: Global,
     collector: &mut Collector,
     space: &mut StaleSpace<'_, D>,
     force: bool,
+    stored: bool,
 ) -> Result<Core, CollectRefusal>
-    requires { MayCollect space.old.end (view core) }
+    requires may { MayCollect space.old.end (view core) }
+    requires stored { stores (view core) ≡ stored }
     ensures collected { IfOk result (λ after. CollectsCore (phase_done force collector.old.plan.next)
         (shown_by D.image space.old) (shown_by D.image space.new) (view core) (view after) collector.old
         collector.new) }
@@ -51,7 +54,8 @@ pub fn collect_core<D: StaleDisk>(
     ensures journal_stays { OnErr result (collector.new.journal.items ≡ collector.old.journal.items) }
     ensures failed { (left : Left) → result ≡ Err (CollectRefusal.DiskFault left)
         → Rose (D.faults space.old.disk.now) (D.faults space.new.disk.now) }
-    ensures stores { IfErr result (RefusalStores (λ history. history)) }
+    ensures stored { IfOk result (λ after. stores (view after) ≡ stored) }
+    ensures stores { IfErr result (RefusalStores (λ history. if stored then history else [])) }
     ensures keeps { KeepsDisk D.image D.faults D.read_faults D.lends space.old space.new }
 {
     let (heap, mut rest) = core.finish();
@@ -60,11 +64,11 @@ pub fn collect_core<D: StaleDisk>(
         Ok(heap) => Ok(Core::begin(heap, rest)),
         Err(HeapRefusal::NoMemory) => Err(CollectRefusal::NoMemory),
         Err(HeapRefusal::DiskFull { heap, full }) => Err(CollectRefusal::DiskFull {
-            left: left_of(Some(heap), rest),
+            left: left_of(Some(heap), rest, stored),
             full,
         }),
         Err(HeapRefusal::DiskFault) => Err(CollectRefusal::DiskFault {
-            left: left_of(None, rest),
+            left: left_of(None, rest, stored),
         }),
     }
 }

@@ -1,11 +1,12 @@
 //! How the threads of a run go through an epoch by the written order of events.
-ghost use Rattle.std.specs.Prelude.{◌≡◌, ◌⊎◌, ℕ, ◌+◌, ◌<◌, ◌≤◌, length, Some, None, Bool, true, false, IsSome, IfSome};
+ghost use Rattle.std.specs.Prelude.{◌≡◌, ◌⊎◌, ℕ, ◌+◌, ◌<◌, ◌≤◌, [], length, Some, None, Bool, true, false, IsSome};
+ghost use Rattle.std.specs.Prelude.{IfSome, ◌==◌, if◌then◌else◌};
 ghost use Rattle.melt_model.specs.declared.config.Config.{Config};
 ghost use Rattle.melt_trace.specs.Script.{Script};
 ghost use Rattle.melt_scion.specs.Heaps.{OnDisk};
 ghost use Rattle.melt_core.specs.Epochs.{HasFinished};
 ghost use Rattle.melt_core.specs.Holdings.{IsSound};
-ghost use Rattle.melt_core.specs.Views.{IsQuiet, Standing, view};
+ghost use Rattle.melt_core.specs.Views.{IsQuiet, Standing, stores, view};
 ghost use Rattle.melt_safepoint.specs.Collections.{NoneForwarded};
 ghost use Rattle.melt_safepoint.specs.Ended.{EndedStands};
 ghost use Rattle.melt_safepoint.specs.Epochs.{EndsEpoch, RestsWell, SomeMayRun, to_do};
@@ -22,7 +23,7 @@ ghost use Rattle.melt_step.specs.Turns.{GoesAt};
 use crate::alone::call_alone;
 use crate::collector::left_of;
 use crate::events::make_events;
-use crate::ordered::Ordered;
+use crate::machine::Ordered;
 use melt_core::Core;
 use melt_io::RecordReader;
 use melt_model::Halt;
@@ -43,7 +44,9 @@ fn renew(core: Core) -> Core
 }
 
 /// Begins a new epoch of a run. No forwarding word is filled.
-pub fn begin_epoch<'a>(mut run: Run<'a, Ordered<'a>>) -> Run<'a, Ordered<'a>>
+pub fn begin_epoch<'a, const STORED: usize>(
+    mut run: Run<'a, Ordered<'a, STORED>>,
+) -> Run<'a, Ordered<'a, STORED>>
     requires quiet { IsQuiet (view run.machine.core) }
     requires none_forwarded { NoneForwarded (view run.machine.core) }
     requires sound { IsSound (view run.machine.core) }
@@ -66,27 +69,33 @@ pub fn begin_epoch<'a>(mut run: Run<'a, Ordered<'a>>) -> Run<'a, Ordered<'a>>
 
 /// What is left of a run when no reader can be lent: each thread that has not ended is
 /// halted, and the heap is given up.
-pub fn give_up<'a>(run: Run<'a, Ordered<'a>>) -> Ended<'a>
+pub fn give_up<'a, const STORED: usize>(run: Run<'a, Ordered<'a, STORED>>) -> Ended<'a>
     requires quiet { IsQuiet (view run.machine.core) }
+    requires stored { stores (view run.machine.core) ≡ (STORED == 1) }
     ensures stands { (told : Bool) (script : Script) (config : Config) (unpaid : ℕ) (shown : Shown)
         → StandsBut unpaid told script config shown (row_of core_view run.entry)
         → EndedStands told script config shown result }
     ensures lost { (faults : ℕ) → CountsLosses run.entry.states.items result.states.items faults faults }
     ensures halt { result.halt ≡ Some Halt.DiskFault }
     ensures journal { result.journal ≡ run.entry.collector.journal }
-    ensures stores { result.left.log ≡ result.left.history }
+    ensures stores { result.left.log ≡ (if STORED == 1 then result.left.history else []) }
 {
     let (states, journal) = (run.states, run.collector.journal);
     let (_heap, rest) = run.machine.core.finish();
-    halt_run(left_of(None, rest), states, journal, Halt::DiskFault)
+    halt_run(
+        left_of(None, rest, STORED == 1),
+        states,
+        journal,
+        Halt::DiskFault,
+    )
 }
 
 /// Makes the next event of a thread that can go on; or, where it goes on alone, its next call as far as that is made in
 /// one go. The homes on disk end before `end`.
 // (inlined, since one caller has threads that go on alone and the other has none)
 #[inline(always)]
-fn make_turn<R: RecordReader>(
-    run: &mut Run<'_, Ordered<'_>>,
+fn make_turn<R: RecordReader, const STORED: usize>(
+    run: &mut Run<'_, Ordered<'_, STORED>>,
     thread: u32,
     alone: bool,
     end: u32,
@@ -105,6 +114,7 @@ fn make_turn<R: RecordReader>(
     ensures lost { CountsLosses run.old.states.items run.new.states.items (R.faults reader.old)
         (R.faults reader.new) }
     ensures collector { run.new.collector ≡ run.old.collector }
+    ensures stored { stores (view run.new.machine.core) ≡ stores (view run.old.machine.core) }
 {
     let state = &mut run.states[thread as usize];
     make_events(
@@ -120,8 +130,8 @@ fn make_turn<R: RecordReader>(
 
 /// Makes the next event of the thread whose turn it is, and answers which one that is, if one can go on. The homes on
 /// disk end before `end`.
-pub fn take_turn<R: RecordReader>(
-    run: &mut Run<'_, Ordered<'_>>,
+pub fn take_turn<R: RecordReader, const STORED: usize>(
+    run: &mut Run<'_, Ordered<'_, STORED>>,
     end: u32,
     reader: &mut R,
 ) -> Option<u32>
@@ -139,6 +149,7 @@ pub fn take_turn<R: RecordReader>(
     ensures lost { CountsLosses run.old.states.items run.new.states.items (R.faults reader.old)
         (R.faults reader.new) }
     ensures collector { run.new.collector ≡ run.old.collector }
+    ensures stored { stores (view run.new.machine.core) ≡ stores (view run.old.machine.core) }
 {
     let machine = &mut run.machine;
     let thread = machine.turns.next(machine.trace, &run.states)?;
@@ -147,7 +158,12 @@ pub fn take_turn<R: RecordReader>(
 }
 
 /// Gives all events to a thread, until it cannot go on. No other is to be able to.
-fn give_all<R: RecordReader>(run: &mut Run<'_, Ordered<'_>>, thread: u32, end: u32, reader: &mut R)
+fn give_all<R: RecordReader, const STORED: usize>(
+    run: &mut Run<'_, Ordered<'_, STORED>>,
+    thread: u32,
+    end: u32,
+    reader: &mut R,
+)
     requires stands { SomeGoes end (R.image reader.old) (row_of core_view run.old) }
     requires stop { KnowsStop (view run.old.machine.core) run.old.states.items }
     requires there { thread < length run.old.states.items }
@@ -161,6 +177,7 @@ fn give_all<R: RecordReader>(run: &mut Run<'_, Ordered<'_>>, thread: u32, end: u
     ensures lost { CountsLosses run.old.states.items run.new.states.items (R.faults reader.old)
         (R.faults reader.new) }
     ensures collector { run.new.collector ≡ run.old.collector }
+    ensures stored { stores (view run.new.machine.core) ≡ stores (view run.old.machine.core) }
 {
     while run.states[thread as usize].can_go() {
         make_turn(run, thread, true, end, reader);
@@ -169,7 +186,11 @@ fn give_all<R: RecordReader>(run: &mut Run<'_, Ordered<'_>>, thread: u32, end: u
 
 /// Gives out events until no thread can go on. A thread that takes two events one after the other may be the only one
 /// that still can, and then takes the others without a turn for each.
-fn give_events<R: RecordReader>(run: &mut Run<'_, Ordered<'_>>, end: u32, reader: &mut R)
+fn give_events<R: RecordReader, const STORED: usize>(
+    run: &mut Run<'_, Ordered<'_, STORED>>,
+    end: u32,
+    reader: &mut R,
+)
     requires stands { SomeGoes end (R.image reader.old) (row_of core_view run.old) }
     requires stop { KnowsStop (view run.old.machine.core) run.old.states.items }
     ensures keeps { (shown : Shown) → shown.end ≡ end → shown.image ≡ R.image reader.old
@@ -180,6 +201,7 @@ fn give_events<R: RecordReader>(run: &mut Run<'_, Ordered<'_>>, end: u32, reader
     ensures lost { CountsLosses run.old.states.items run.new.states.items (R.faults reader.old)
         (R.faults reader.new) }
     ensures collector { run.new.collector ≡ run.old.collector }
+    ensures stored { stores (view run.new.machine.core) ≡ stores (view run.old.machine.core) }
 {
     // (no thread has this number)
     let mut last = u32::MAX;
@@ -193,8 +215,8 @@ fn give_events<R: RecordReader>(run: &mut Run<'_, Ordered<'_>>, end: u32, reader
 }
 
 /// Makes the call of a thread alone. Answers the words that it lacked, if it was refused for want of room.
-fn call<R: RecordReader>(
-    run: &mut Run<'_, Ordered<'_>>,
+fn call<R: RecordReader, const STORED: usize>(
+    run: &mut Run<'_, Ordered<'_, STORED>>,
     thread: u32,
     end: u32,
     reader: &mut R,
@@ -208,6 +230,7 @@ fn call<R: RecordReader>(
     ensures lost { CountsLosses run.old.states.items run.new.states.items (R.faults reader.old)
         (R.faults reader.new) }
     ensures collector { run.new.collector ≡ run.old.collector }
+    ensures stored { stores (view run.new.machine.core) ≡ stores (view run.old.machine.core) }
 {
     let state = &mut run.states[thread as usize];
     let Some(op) = state.op else {
@@ -225,7 +248,7 @@ fn call<R: RecordReader>(
 }
 
 /// The calls of the threads that wait are made again.
-fn resume(run: &mut Run<'_, Ordered<'_>>)
+fn resume<const STORED: usize>(run: &mut Run<'_, Ordered<'_, STORED>>)
     requires own { NoneOwn run.old.states.items }
     requires quiet { IsQuiet (view run.old.machine.core) }
     requires stop { (view run.old.machine.core).stop ≡ false }
@@ -242,7 +265,11 @@ fn resume(run: &mut Run<'_, Ordered<'_>>)
 }
 
 /// Lets all threads go on until none can. Those whose calls were refused make them again.
-fn go_on<R: RecordReader>(run: &mut Run<'_, Ordered<'_>>, end: u32, reader: &mut R)
+fn go_on<R: RecordReader, const STORED: usize>(
+    run: &mut Run<'_, Ordered<'_, STORED>>,
+    end: u32,
+    reader: &mut R,
+)
     requires stands { SomeGoes end (R.image reader.old) (row_of core_view run.old) }
     requires own { NoneOwn run.old.states.items }
     requires quiet { IsQuiet (view run.old.machine.core) }
@@ -254,6 +281,7 @@ fn go_on<R: RecordReader>(run: &mut Run<'_, Ordered<'_>>, end: u32, reader: &mut
     ensures lost { CountsLosses run.old.states.items run.new.states.items (R.faults reader.old)
         (R.faults reader.new) }
     ensures collector { run.new.collector ≡ run.old.collector }
+    ensures stored { stores (view run.new.machine.core) ≡ stores (view run.old.machine.core) }
 {
     resume(run);
     give_events(run, end, reader);
@@ -261,8 +289,8 @@ fn go_on<R: RecordReader>(run: &mut Run<'_, Ordered<'_>>, end: u32, reader: &mut
 
 /// Lets all threads go on until none can, in an epoch that has just begun. Where one is to be the first, it makes its
 /// call before; and where that lacks words, these are answered, and no other goes on.
-pub fn go_through<R: RecordReader>(
-    run: &mut Run<'_, Ordered<'_>>,
+pub fn go_through<R: RecordReader, const STORED: usize>(
+    run: &mut Run<'_, Ordered<'_, STORED>>,
     first: Option<u32>,
     end: u32,
     reader: &mut R,
@@ -274,6 +302,7 @@ pub fn go_through<R: RecordReader>(
         → EndsEpoch shown first (row_of core_view run.old) (row_of core_view run.new) result }
     ensures lost { CountsLosses run.old.states.items run.new.states.items (R.faults reader.old)
         (R.faults reader.new) }
+    ensures stored { stores (view run.new.machine.core) ≡ stores (view run.old.machine.core) }
 {
     match first {
         None => {

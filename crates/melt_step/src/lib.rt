@@ -6,6 +6,7 @@ mod choices;
 mod collector;
 mod epoch;
 mod events;
+mod machine;
 mod ordered;
 mod run;
 mod turns;

@@ -91,7 +91,7 @@ pub(super) fn run_over<D: StaleDisk>(
 {
     let trace = parse(alloc, text)?;
     let mut space = StaleSpace::new(disk, config.disk);
-    Ok(run_schedule(alloc, &trace, config, &mut space)?)
+    Ok(run_schedule(alloc, &trace, config, &mut space, true)?)
 }
 
 /// Compares what a run answered. The heap is lost where the disk failed, and nowhere else.

@@ -6,7 +6,7 @@ ghost use Rattle.melt_step.specs.Going.{SomeGoes, core_view};
 
 use super::given::{Wanted, copied, emptied, expect, leaving, run_over, usual};
 use crate::epoch::take_turn;
-use crate::ordered::Ordered;
+use crate::machine::Ordered;
 use crate::run::new_run;
 use melt_disk::StaleSpace;
 use melt_io::{RecordReader, SteadyDisk};
@@ -86,7 +86,7 @@ const LACKING: &[u8] =
 /// replies it has then. No thread can go on behind the last.
 fn expect_events<A: Abort, R: RecordReader>(
     rt: &A,
-    run: &mut Run<'_, Ordered<'_>>,
+    run: &mut Run<'_, Ordered<'_, 1>>,
     end: u32,
     reader: &mut R,
     events: &[(u32, usize)],
@@ -111,7 +111,7 @@ fn events_come_in_the_written_order(rt: HostRuntime) -> Result<(), Fail> {
     let config = usual(16, 0);
     let mut disk = SteadyDisk::new(alloc);
     let mut space = StaleSpace::new(&mut disk, config.disk);
-    let mut run = new_run(alloc, &trace, config, tells(&space))?;
+    let mut run = new_run::<1>(alloc, &trace, config, tells(&space))?;
     let Ok(mut reader) = space.lend(alloc) else {
         return Err("no reader".into());
     };

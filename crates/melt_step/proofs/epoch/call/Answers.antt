@@ -1,7 +1,8 @@
 -- The call is made, or lacks words.
-use Rattle.std.proofs.Common.{◌≡◌, ℕ, refl, subst}
+use Rattle.std.proofs.Common.{◌≡◌, ℕ, Bool, true, false, refl, ◌∙◌, subst}
 use Rattle.std.specs.Vec.{with_item}
-use Rattle.melt_core.specs.Views.{view}
+use Rattle.melt_core.specs.Views.{View, view}
+use Rattle.melt_core.proofs.Disks.{stands_untold}
 use Rattle.melt_safepoint.specs.Shown.{Shown}
 use Rattle.melt_safepoint.specs.Passing.{IsLacking}
 use Rattle.melt_safepoint.proofs.Losses.{counts_set}
@@ -9,6 +10,7 @@ use Rattle.melt_safepoint.proofs.Lacking.{lacking_here}
 use Rattle.melt_step.specs.Lone.{IsAloneReady}
 use Rattle.melt_safepoint.specs.Rows.{Row, row_of}
 use Rattle.melt_step.specs.Going.{MakesCall, core_view}
+use Rattle.melt_step.proofs.Stored.{capacity_stores}
 use Rattle.melt_step.proofs.First.{has_next, alone_ready, called_by, calls_first, makes_by}
 use Rattle.melt_step.proofs.epoch.call.Given.{Over}
 use Rattle.melt_step.proofs.epoch.call.Goals as goal
@@ -82,3 +84,14 @@ returns-clause-lost g c =
     let was = lacking g (goal.at.returns-clause-lost g c).After-index_mut-state in
     counts_set c.args.run.now.states.items c.args.thread c.index_mut-state.result.now c.call_alone.new.state _ _
     was.at c.call_alone.ensures.lost
+
+pub returns-clause-stored : goal.returns-clause-stored
+returns-clause-stored g c =
+    let v : View = view c.args.run.now.machine.core in
+    let awaits = c.requires.awaits in
+    let stands = awaits.3.1.3.stands in
+    let called = c.call_alone.ensures.called false stands.disk (record {
+      ends = stands.under.ends ∙ awaits.1;
+      tells = λ wrong. absurd (let w : false ≡ true = wrong in cc);
+    }) (stands_untold awaits.3.1.0 stands.disk v stands.table.stands) in
+    capacity_stores v (view c.call_alone.new.core) called.others.capacity

@@ -1,6 +1,6 @@
 -- What stood at the beginning stands on, over the same words, and nothing or less is to do.
 use Rattle.std.proofs.Common.{◌≡◌, ◌≤◌, length}
-use Rattle.melt_core.specs.Views.{view}
+use Rattle.melt_core.specs.Views.{stores, view}
 use Rattle.melt_safepoint.specs.Shown.{Shown}
 use Rattle.melt_safepoint.specs.Losses.{CountsLosses}
 use Rattle.melt_safepoint.specs.Epochs.{to_do}
@@ -19,6 +19,7 @@ invariant-loop-run g l = record {
   stop : KnowsStop (view l.run.machine.core) l.run.states.items;
   there : length l.run.states.items ≡ length l.fn.run.states.items;
   collector : l.run.collector ≡ l.fn.run.collector;
+  stored : stores (view l.run.machine.core) ≡ stores (view l.fn.run.machine.core);
   less : to_do l.run.states.items ≤ to_do l.fn.run.states.items;
   nearer : potential l.run.states.items (view l.run.machine.core).calls
       ≤ potential l.fn.run.states.items (view l.fn.run.machine.core).calls;

@@ -1,7 +1,7 @@
 -- What stood at the start of the epoch stands on, over the same words, and nothing or less is to do.
 use Rattle.std.proofs.Common.{◌≡◌, ◌<◌, ◌≤◌, length}
 use Rattle.std.specs.Prelude.{IfSome}
-use Rattle.melt_core.specs.Views.{view}
+use Rattle.melt_core.specs.Views.{stores, view}
 use Rattle.melt_safepoint.specs.Shown.{Shown}
 use Rattle.melt_safepoint.specs.Losses.{CountsLosses}
 use Rattle.melt_safepoint.specs.Epochs.{to_do}
@@ -19,6 +19,7 @@ invariant-loop-thread g l = record {
       → KeepsGoing shown (row_of core_view l.fn.run) (row_of core_view l.run);
   stop : KnowsStop (view l.run.machine.core) l.run.states.items;
   collector : l.run.collector ≡ l.fn.run.collector;
+  stored : stores (view l.run.machine.core) ≡ stores (view l.fn.run.machine.core);
   less : to_do l.run.states.items ≤ to_do l.fn.run.states.items;
   image : g.R.RecordReader.image l.reader ≡ g.R.RecordReader.image l.fn.reader;
   lost : CountsLosses l.fn.run.states.items l.run.states.items (g.R.RecordReader.faults l.fn.reader)

@@ -1,13 +1,21 @@
 -- All threads stand as they did, and are halted.
-use Rattle.std.proofs.Common.{◌≡◌, Vec, Global, ◌∙◌, ap}
+use Rattle.std.proofs.Common.{◌≡◌, Bool, Vec, Global, sym, ◌∙◌, ap}
 use Rattle.melt_model.specs.declared.reports.Journal.{Journal}
 use Rattle.melt_safepoint.proofs.Collected.{stands_failed}
 use Rattle.melt_safepoint.proofs.Halting.{halted_losses}
+use Rattle.melt_core.specs.Views.{history_in, view}
+use Rattle.melt_step.proofs.Stored.{names_as}
 use Rattle.melt_step.proofs.epoch.give_up.Goals as goal
 
 pub returns-clause-stands : goal.returns-clause-stands
-returns-clause-stands c = λ told script config unpaid shown stands.
-    stands_failed shown stands (c.left_of.ensures.heap, c.left_of.ensures.history ∙ c.finish-heap.ensures.finished.log)
+returns-clause-stands g c = λ told script config unpaid shown stands.
+    stands_failed shown stands (
+      c.left_of.ensures.heap,
+      c.left_of.ensures.history
+          ∙ (ap (λ (stored : Bool). history_in stored c.finish-heap.result.1) (sym (names_as (view c.args.run.machine.core) c.finish-heap.result.0 c.finish-heap.result.1
+          c.finish-heap.ensures.finished c.requires.stored))
+          ∙ c.finish-heap.ensures.finished.log),
+    )
     (record {
       left_is = c.halt_run.ensures.left;
       states = c.halt_run.ensures.states;
@@ -16,4 +24,4 @@ returns-clause-stands c = λ told script config unpaid shown stands.
     })
 
 pub returns-clause-lost : goal.returns-clause-lost
-returns-clause-lost c = λ faults. halted_losses c.args.run.states.items _ faults c.halt_run.ensures.states
+returns-clause-lost g c = λ faults. halted_losses c.args.run.states.items _ faults c.halt_run.ensures.states

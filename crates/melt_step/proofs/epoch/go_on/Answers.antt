@@ -8,17 +8,23 @@ use Rattle.melt_step.specs.Going.{core_view}
 use Rattle.melt_step.proofs.Going.{known_rests, stands_from}
 use Rattle.melt_step.proofs.epoch.go_on.Goals as goal
 
-pub give_events-requires-clause-stands : goal.give_events-requires-clause-stands
-give_events-requires-clause-stands g c =
+pub give_events-requires : goal.give_events-requires
+give_events-requires g c =
     let stands = c.requires.stands in (
-      stands.0,
-      stands.1,
-      stands.2,
+      omega arith,
       (
-        stands.3.0,
-        stands.3.1,
-        stands.3.2,
-        c.resume.ensures.keeps stands.0 stands.3.0 stands.3.1 stands.3.2 stands.3.3,
+        (
+          stands.0,
+          stands.1,
+          stands.2,
+          (
+            stands.3.0,
+            stands.3.1,
+            stands.3.2,
+            c.resume.ensures.keeps stands.0 stands.3.0 stands.3.1 stands.3.2 stands.3.3,
+          ),
+        ),
+        c.resume.ensures.stop,
       ),
     )
 

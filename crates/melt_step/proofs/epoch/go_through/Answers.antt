@@ -35,37 +35,27 @@ fewer g c =
     called_less c.args.run.now.states.items c.call.new.run.states.items c.in-Some.thread awaits.waits.0 awaits.waits.1
     (made g c c.requires.may.0 c.requires.may.1 c.requires.may.2).called
 
-pub go_on-requires-in-None-call-clause-stands : goal.go_on-requires-in-None-call-clause-stands
-go_on-requires-in-None-call-clause-stands g c =
-    let here = (goal.at.go_on-requires-in-None-call-clause-stands g c).In-None-call in
-    let may = awaited g here in (
-      c.requires.may.0,
-      c.requires.may.1,
-      c.requires.may.2 ∙ sym c.call.ensures.image,
+pub go_on-requires-in-None-call : goal.go_on-requires-in-None-call
+go_on-requires-in-None-call g c =
+    let here = (goal.at.go_on-requires-in-None-call g c).In-None-call in
+    let may = awaited g here in
+    let awaits = may.3.1 in
+    let called = made g here c.requires.may.0 c.requires.may.1 c.requires.may.2 in (
+      omega arith,
       (
-        may.0,
-        may.1,
-        may.2,
-        (made g here c.requires.may.0 c.requires.may.1 c.requires.may.2).keeps may.0 may.1 may.2 may.3.0 may.3.1,
+        (
+          c.requires.may.0,
+          c.requires.may.1,
+          c.requires.may.2 ∙ sym c.call.ensures.image,
+          (may.0, may.1, may.2, called.keeps may.0 may.1 may.2 may.3.0 may.3.1),
+        ),
+        (
+          called_own c.args.run.now.states.items c.call.new.run.states.items c.in-Some.thread awaits.waits.0 awaits.own
+              awaits.waits.1 called.called,
+          (called.quiet, called.stop),
+        ),
       ),
     )
-
-pub go_on-requires-in-None-call-clause-own : goal.go_on-requires-in-None-call-clause-own
-go_on-requires-in-None-call-clause-own g c =
-    let here = (goal.at.go_on-requires-in-None-call-clause-own g c).In-None-call in
-    let awaits = (awaited g here).3.1 in
-    called_own c.args.run.now.states.items c.call.new.run.states.items c.in-Some.thread awaits.waits.0 awaits.own
-    awaits.waits.1 (made g here c.requires.may.0 c.requires.may.1 c.requires.may.2).called
-
-pub go_on-requires-in-None-call-clause-quiet : goal.go_on-requires-in-None-call-clause-quiet
-go_on-requires-in-None-call-clause-quiet g c =
-    let here = (goal.at.go_on-requires-in-None-call-clause-quiet g c).In-None-call in
-    (made g here c.requires.may.0 c.requires.may.1 c.requires.may.2).quiet
-
-pub go_on-requires-in-None-call-clause-stop : goal.go_on-requires-in-None-call-clause-stop
-go_on-requires-in-None-call-clause-stop g c =
-    let here = (goal.at.go_on-requires-in-None-call-clause-stop g c).In-None-call in
-    (made g here c.requires.may.0 c.requires.may.1 c.requires.may.2).stop
 
 pub returns-in-None-clause-ends : goal.returns-in-None-clause-ends
 returns-in-None-clause-ends g c = λ shown ends shows.

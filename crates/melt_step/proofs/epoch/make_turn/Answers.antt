@@ -13,7 +13,8 @@ use Rattle.melt_safepoint.proofs.Tables.{Table_untold, table_ready}
 use Rattle.melt_safepoint.proofs.TableModes.{stop_known}
 use Rattle.melt_safepoint.specs.Rows.{row_of}
 use Rattle.melt_step.specs.Going.{core_view}
-use Rattle.melt_step.proofs.Going.{step_keeps, step_less, step_to_do}
+use Rattle.melt_step.proofs.Going.{step_capacity, step_keeps, step_less, step_to_do}
+use Rattle.melt_step.proofs.Stored.{capacity_stores}
 use Rattle.melt_step.proofs.epoch.make_turn.Goals as goal
 use Rattle.melt_step.proofs.epoch.make_turn.Goals.{After-index_mut-state}
 use Rattle.melt_step.proofs.epoch.make_turn.Given.{Over}
@@ -67,5 +68,8 @@ returns g c =
           c.make_events.ensures.step;
       image = c.make_events.ensures.image;
       collector = refl;
+      stored = capacity_stores (view c.args.run.now.machine.core) (view c.make_events.new.core)
+          (step_capacity _ (view c.make_events.new.core) c.args.thread after stands.3.3 stands.1
+          c.make_events.ensures.step);
       lost = counts_set states c.args.thread s after _ _ borrowed.0 c.make_events.ensures.lost;
     }

@@ -11,7 +11,7 @@ use Rattle.melt_step.proofs.Going.{again_keeps}
 use Rattle.melt_step.proofs.epoch.resume.Goals as goal
 
 pub loop-state-preserved : goal.loop-state-preserved
-loop-state-preserved c =
+loop-state-preserved g c =
     let below : c.loop-state.state-index < length c.loop-state.state-items =
     omega (arith, c.loop-state-test.true, c.loop-state.auto.state-items) in
     let state : ThreadState = get_or c.loop-state.state-items c.loop-state.state-index c.state-item.result in
@@ -21,7 +21,7 @@ loop-state-preserved c =
     (record { again = c.make_again.ensures.again; same = c.make_again.ensures.same })
 
 pub returns : goal.returns
-returns c =
+returns g c =
     let looped : AgainBelow c.args.run.now.states.items
     (with_items c.args.run.now.states c.loop-state.state-items).items c.loop-state.state-index =
     again_done c.args.run.now.states c.loop-state.state-items c.loop-state.state-index c.loop-state.invariant in

@@ -41,11 +41,11 @@ returns c = record {
       let v : View = view c.args.self.now in
       let known = copying_known disk v c.args.thread c.args.op c.args.activation c.args.stored asks c.requires.stage in
       let stored : (core : Core) (stage next : Stage) → stage ≡ next
-          → view core ≡ record v { space = (view core).space }
-          → AdvancesOver disk v (with_call (record v { space = (view core).space }) c.args.thread
-          (Some (record { op = c.args.op; stage = next }))) c.args.thread c.args.op Going
-          → AdvancesOver disk v (with_call (view core) c.args.thread
-          (Some (record { op = c.args.op; stage = stage }))) c.args.thread c.args.op Going =
+      → view core ≡ record v { space = (view core).space }
+      → AdvancesOver disk v (with_call (record v { space = (view core).space }) c.args.thread
+      (Some (record { op = c.args.op; stage = next }))) c.args.thread c.args.op Going
+      → AdvancesOver disk v (with_call (view core) c.args.thread
+      (Some (record { op = c.args.op; stage = stage }))) c.args.thread c.args.op Going =
       λ core stage next is only advances. subst (λ (m : View). AdvancesOver disk v (with_call m c.args.thread
       (Some (record { op = c.args.op; stage = stage }))) c.args.thread c.args.op Going) (sym only)
       (subst (λ (g : Stage). AdvancesOver disk v (with_call (record v { space = (view core).space })

@@ -13,8 +13,7 @@ use Rattle.melt_core.proofs.machine.Core.store_zero.Goals as goal
 pub set_stage-requires-clause-call : goal.set_stage-requires-clause-call
 set_stage-requires-clause-call c =
     let disk = c.requires.asks.disk in
-    let stage : Stage = Claimed c.args.claim.address c.args.claim.shape c.args.claim.stored c.args.claim.dst in
-    (
+    let stage : Stage = Claimed c.args.claim.address c.args.claim.shape c.args.claim.stored c.args.claim.dst in (
       stage,
       subst (λ (m : View). call_of m c.args.thread ≡ Some (record { op = c.args.op; stage = stage }))
           (sym c.set_word.ensures.only)
