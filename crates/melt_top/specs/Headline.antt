@@ -1,6 +1,6 @@
 -- What a call of the program does, from the words and the bytes read to the bytes written.
 use Rattle.std.specs.Prelude.{◌≡◌, ℕ, ◌+◌, ◌<◌, ◌≤◌, Bool, true, List, [], length, take, Option, None, Some, IfSome}
-use Rattle.std.specs.Prelude.{IsSome, ◌⊎◌, Ok, Err}
+use Rattle.std.specs.Prelude.{IsSome, ◌⊎◌, Ok, Err, if◌then◌else◌}
 use Rattle.melt_io.specs.Outside.{Rose, TakesFront, Appends}
 use Rattle.melt_model.specs.declared.history.Entry.{Entry}
 use Rattle.melt_model.specs.declared.reports.Report.{Report}
@@ -16,6 +16,7 @@ use Rattle.melt_top.specs.declared.command.Run.{Run}
 use Rattle.melt_gen.specs.Workloads.{generated}
 use Rattle.melt_trace.specs.Grammar.{canonical}
 use Rattle.melt_top.specs.declared.status.Status.{Status}
+use Rattle.melt_top.specs.declared.text.Texts.{Texts}
 use Rattle.melt_top.specs.declared.top.Way.{Way}
 use Rattle.melt_top.specs.declared.top.Way.TheVariants as way
 use Rattle.melt_top.specs.declared.status.Status.TheVariants as status
@@ -93,16 +94,16 @@ pub record TraceRefused (bytes : List ℕ) (disk : DiskChange) (due : Status) (o
   pub status : due ≡ status.Trace
   pub told : output ≡ refused_text line reason
 
--- what a run stores of its history: all, if it is by the written order, and nothing, if it is by real threads
-abbrev pub stored_by : Way → List Entry → List Entry
-stored_by way.Written h = h
-stored_by way.Running h = []
+-- what a run stores of its history: all, if it is by the written order and that is to be written; else nothing
+abbrev pub stored_by : Way → Texts → List Entry → List Entry
+stored_by way.Written texts h = if texts.log then h else []
+stored_by way.Running texts h = []
 
 -- The output is the text of a report of a run of the script. Where the disk tells its words, the replies are those of
--- one legal history, which is a value of the report: where the run is by the written order, its log has each entry of
--- it, which is written where that is asked; and what the run left of its heap stands for this history, over the words
--- that the disk has then. The disk's counts tell of each thread that could not read it, and of a run that it halted by
--- a fault.
+-- one legal history, which is a value of the report: where the run is by the written order and that is asked, its log
+-- has each entry of it, and is written; and what the run left of its heap stands for this history, over the words that
+-- the disk has then. The disk's counts tell of each thread that could not read it, and of a run that it halted by a
+-- fault.
 pub record RunDue (way : Way) (script : Script) (run : Run) (disk : DiskChange) (due : Status) (output : List ℕ)
     : Type 0 where
   pub report : Report
@@ -110,7 +111,7 @@ pub record RunDue (way : Way) (script : Script) (run : Run) (disk : DiskChange) 
   pub shown : Shown
   pub has_run : (told : Bool) → (told ≡ true → IsSome disk.before)
       → HasRun told script run.config shown report heap
-  pub logged : report.log ≡ stored_by way report.history
+  pub logged : report.log ≡ stored_by way run.texts report.history
   pub shows : shown.image ≡ disk.after
   pub counts : CountsFaults report disk.faults_before disk.faults_after disk.read_faults_before disk.read_faults_after
   pub status : due ≡ status_of report

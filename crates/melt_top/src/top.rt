@@ -18,7 +18,7 @@ use crate::text::report_text;
 use melt_disk::StaleSpace;
 use melt_gen::{GenRefusal, generate};
 use melt_io::{Gate, ReadRefusal, Sink, Source, StaleDisk, read_all, write_all};
-use melt_model::{Config, NoMemory, Report};
+use melt_model::{NoMemory, Report};
 use melt_pool::run_threads;
 use melt_scion::Heap;
 use melt_step::run_schedule;
@@ -61,29 +61,29 @@ pub enum Way {
     Running,
 }
 
-/// Runs a trace in a way.
+/// Runs a trace in a way. The history is stored where it is to be written, which is never that of real threads.
 fn run_by<X: Threads + Sync, D: StaleDisk, G: Gate + Sync>(
     rt: &X,
     alloc: Global,
     way: Way,
+    run: Run,
     trace: &Trace,
-    config: Config,
     space: &mut StaleSpace<'_, D>,
     gate: &G,
 ) -> Result<(Report, Option<Heap>), NoMemory>
-    requires ranges { InRanges config }
-    requires limit { space.old.limit ≡ config.disk }
+    requires ranges { InRanges run.config }
+    requires limit { space.old.limit ≡ run.config.disk }
     requires end { space.old.end ≡ 1 }
     ensures has_run { IfOk result (λ done. (told : Bool) → (told ≡ true → IsSome (D.image space.old.disk.now))
-        → HasRun told trace.now config (shown_by D.image space.new) done.0 done.1) }
+        → HasRun told trace.now run.config (shown_by D.image space.new) done.0 done.1) }
     ensures same_disk { space.new.disk.ghost_name ≡ space.old.disk.ghost_name }
     ensures counts { IfOk result (λ done. CountsFaults done.0 (D.faults space.old.disk.now)
         (D.faults space.new.disk.now) (D.read_faults space.old.disk.now) (D.read_faults space.new.disk.now)) }
-    ensures stored { IfOk result (λ done. done.0.log ≡ stored_by way done.0.history) }
+    ensures stored { IfOk result (λ done. done.0.log ≡ stored_by way run.texts done.0.history) }
 {
     match way {
-        Way::Written => run_schedule(alloc, trace, config, space),
-        Way::Running => run_threads(rt, alloc, trace, config, space, gate),
+        Way::Written => run_schedule(alloc, trace, run.config, space, run.texts.log),
+        Way::Running => run_threads(rt, alloc, trace, run.config, space, gate),
     }
 }
 
@@ -103,7 +103,7 @@ fn run_answer<X: Threads + Sync, D: StaleDisk, G: Gate + Sync>(
         answer.status answer.text.items) }
 {
     let mut space = StaleSpace::new(disk, run.config.disk);
-    let (report, _heap) = run_by(rt, alloc, way, trace, run.config, &mut space, gate)?;
+    let (report, _heap) = run_by(rt, alloc, way, run, trace, &mut space, gate)?;
     // What the run left of the disk is known once the space has handed it back.
     let _disk = space.into_disk();
     let text = report_text(alloc, &report, run.texts)?;
